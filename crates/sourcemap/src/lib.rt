@@ -1,0 +1,2 @@
+//! Source maps: read, asked, changed and written.
+#![tactic(auto)]

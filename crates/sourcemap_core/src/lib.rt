@@ -1,0 +1,6 @@
+//! The base of the source map library: faults, digits, range bits, token lists, the text of
+//! mappings, and the search for the closest token.
+#![tactic(auto)]
+
+pub mod errors;
+pub mod tokens;

@@ -1,0 +1,2 @@
+//! Source map records: the JSON values that stand for them, and the record that a value stands for.
+#![tactic(auto)]

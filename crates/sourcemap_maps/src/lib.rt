@@ -1,0 +1,2 @@
+//! Regular source maps and their tokens.
+#![tactic(auto)]
