@@ -4,13 +4,19 @@ use Rattle.std.specs.List.{AllByRecursion}
 use lib.IntN.{neg_ℤ}
 use Rattle.std.proofs.Math.Pow.{pow_mono}
 use Rattle.std.proofs.lemmas.Nat.{pow-add, pow_pos, mul-le}
-use Rattle.std.proofs.lemmas.List.{length_push, append-nil, append_assoc, take_more, take-append-drop, drop_more, take_all, length-take-le}
-use Rattle.std.proofs.lemmas.Bool.{and_parts, and_from, or_cases, or_parts, and_cases, cases_Bool, cases_lt, cases_eq, eqb-true, eqb-false, leb-true, ltb-true, ltb-false, lt-ltb, le-leb, le-ltb, lt-leb, cond-true, cond-false}
+use Rattle.std.proofs.lemmas.List.{length_push, length-append, append-nil, append_assoc, take_more, take-append-drop, drop_more, take_all, length-take-le}
+use Rattle.std.proofs.lemmas.Bool.{and_parts, and_from, or_cases, or_parts, and_cases, cases_Bool, cases_lt, cases_eq, eqb-true, eqb-false, leb-true, ltb-true, ltb-false, lt-ltb, le-leb, le-ltb, lt-leb, cond-true, cond-false, false_from_ne_true}
 use Rattle.std.proofs.lemmas.Bool.Decides.{nat_tests}
 use Rattle.sourcemap_core.specs.declared.errors.Error.{Error}
 use Rattle.sourcemap_core.specs.declared.errors.Error.TheVariants.{VlqLeftover, VlqNoValues, VlqOverflow, InvalidBase64}
 use Rattle.sourcemap_core.specs.Vlq.{digit_value, glyph, GoesOn, IsLast, data_of, raw_of, number_of, IsChain, IsSmall, IsGroup, Reads, IsUnfinished, GoesTo, NumberFault, BeginsWith, IsSound, HasFault, Answers, IsShortest, Spells, IsTooFar, Written}
 use Rattle.sourcemap_core.proofs.DigitLemmas.{digit_value-below, glyph-digit_value, digit_value-glyph}
+
+digit_value_cases : (c : ℕ) → (digit_value c ≡ None) ⊎ ((v : ℕ) × (digit_value c ≡ Some v))
+digit_value_cases c = some_cases (digit_value c) where
+  some_cases : (o : Option ℕ) → (o ≡ None) ⊎ ((v : ℕ) × (o ≡ Some v))
+  some_cases None = inl refl
+  some_cases (Some v) = inr (v, refl)
 
 -- ---- digits in a row
 
@@ -192,3 +198,210 @@ sum_of-more text n v raw bits h unfinished e room is_raw is_bits =
     let low : bits * 2 ^ (5 * n) < 2 ^ 64 = omega arith in
     let whole : bits * 2 ^ (5 * n) % 2 ^ 64 ≡ bits * 2 ^ (5 * n) = omega arith in
     (omega arith, small)
+
+-- ---- numbers put end to end
+
+pub Reads-push : (front group : List ℕ) (numbers : List ℤ) (n : ℤ) → Reads front numbers → IsGroup group n → Reads (front ++ group) (numbers ++ n ∷ [])
+Reads-push front group [] n reads is_group =
+    let e : front ++ group ≡ group ++ [] = ap (λ xs. xs ++ group) reads ∙ sym (append-nil group) in
+    (group, [], is_group, e, refl)
+Reads-push front group (m ∷ ms) n reads is_group =
+    let e : front ++ group ≡ reads.0 ++ (reads.1 ++ group) = ap (λ xs. xs ++ group) reads.3 ∙ append_assoc reads.0 reads.1 group in
+    (reads.0, reads.1 ++ group, reads.2, e, Reads-push reads.1 group ms n reads.4 is_group)
+
+-- the numbers read so far, and one more from what is left
+pub IsSound-more : (text rest behind : List ℕ) (front : List ℕ) (numbers : List ℤ) (n : ℤ)
+    → Reads front numbers → text ≡ front ++ rest → (b : BeginsWith rest n behind)
+    → Reads (front ++ b.group) (numbers ++ n ∷ []) × (text ≡ (front ++ b.group) ++ behind)
+IsSound-more text rest behind front numbers n reads split b =
+    (Reads-push front b.group numbers n reads b.is_group,
+     split ∙ (ap (λ xs. front ++ xs) b.split ∙ sym (append_assoc front b.group behind)))
+
+-- ---- a text reads in one way: what comes out, from the left
+
+is_small : List ℕ → Bool
+is_small digits = nat_le (length digits) 13 && nat_lt (raw_of digits) (2 ^ 63)
+
+is_small-true : (digits : List ℕ) → IsSmall digits → is_small digits ≡ true
+unfolding is_small
+is_small-true digits h = and_from _ _ (le-leb (length digits) 13 h.few) (lt-ltb (raw_of digits) (2 ^ 63) h.small)
+
+is_small-IsSmall : (digits : List ℕ) → is_small digits ≡ true → IsSmall digits
+unfolding is_small
+is_small-IsSmall digits h =
+    let parts = and_parts (nat_le (length digits) 13) (nat_lt (raw_of digits) (2 ^ 63)) h in
+    record { few = leb-true (length digits) 13 parts.0; small = ltb-true (raw_of digits) (2 ^ 63) parts.1 }
+
+with_number : ℤ → Result (List ℤ) Error → Result (List ℤ) Error
+with_number n (Ok ns) = Ok (n ∷ ns)
+with_number n (Err e) = Err e
+
+with_numbers : List ℤ → Result (List ℤ) Error → Result (List ℤ) Error
+with_numbers [] r = r
+with_numbers (n ∷ ns) r = with_number n (with_numbers ns r)
+
+-- what comes after a byte: `more` where it goes on, `next` behind the number's end
+after_digit : List ℕ → ℕ → Option ℕ → Result (List ℤ) Error → Result (List ℤ) Error → Result (List ℤ) Error
+after_digit whole c None more next = Err (InvalidBase64 c)
+after_digit whole c (Some v) more next =
+    if is_small whole then (if nat_lt v 32 then with_number (number_of (raw_of whole)) next else more) else Err VlqOverflow
+
+at_end : List ℕ → Result (List ℤ) Error
+at_end [] = Ok []
+at_end (c ∷ cs) = Err VlqLeftover
+
+scan_from : List ℕ → List ℕ → Result (List ℤ) Error
+scan_from part [] = at_end part
+scan_from part (c ∷ cs) = after_digit (part ++ c ∷ []) c (digit_value c) (scan_from (part ++ c ∷ []) cs) (scan_from [] cs)
+
+not_none : Result (List ℤ) Error → Result (List ℤ) Error
+not_none (Ok []) = Err VlqNoValues
+not_none (Ok (n ∷ ns)) = Ok (n ∷ ns)
+not_none (Err e) = Err e
+
+answer_of : List ℕ → Result (List ℤ) Error
+answer_of text = not_none (scan_from [] text)
+
+-- one byte that goes on
+scan-goes_on : (part cs : List ℕ) (c : ℕ) → GoesOn c → IsSmall (part ++ c ∷ []) → scan_from part (c ∷ cs) ≡ scan_from (part ++ c ∷ []) cs
+unfolding scan_from after_digit
+scan-goes_on part cs c (v, e, goes) small =
+    let fits : is_small (part ++ c ∷ []) ≡ true = is_small-true (part ++ c ∷ []) small in
+    let test : nat_lt v 32 ≡ false = le-ltb v 32 goes in
+    rw (e, fits, test) refl
+
+scan-last : (part cs : List ℕ) (c : ℕ) → IsLast c → IsSmall (part ++ c ∷ []) → scan_from part (c ∷ cs) ≡ with_number (number_of (raw_of (part ++ c ∷ []))) (scan_from [] cs)
+unfolding scan_from after_digit
+scan-last part cs c (v, e, last) small =
+    let fits : is_small (part ++ c ∷ []) ≡ true = is_small-true (part ++ c ∷ []) small in
+    let test : nat_lt v 32 ≡ true = lt-ltb v 32 last in
+    rw (e, fits, test) refl
+
+-- digits in front of small digits are small
+IsSmall-front : (xs ys : List ℕ) → IsSmall (xs ++ ys) → IsSmall xs
+IsSmall-front xs ys small =
+    let raw : raw_of (xs ++ ys) ≡ raw_of xs + 2 ^ (5 * length xs) * raw_of ys = raw_of-append xs ys in
+    let len : length (xs ++ ys) ≡ length xs + length ys = length-append xs ys in
+    let few : length (xs ++ ys) ≤ 13 = small.few in
+    let low : raw_of (xs ++ ys) < 2 ^ 63 = small.small in
+    record { few = omega arith; small = omega arith }
+
+one_by_one : (part cs : List ℕ) (c : ℕ) → part ++ c ∷ cs ≡ (part ++ c ∷ []) ++ cs
+one_by_one part cs c = sym (append_assoc part (c ∷ []) cs)
+
+IsSmall-first : (part cs : List ℕ) (c : ℕ) → IsSmall (part ++ c ∷ cs) → IsSmall (part ++ c ∷ [])
+IsSmall-first part cs c small = let P : List ℕ → Type 0 = IsSmall in IsSmall-front (part ++ c ∷ []) cs (subst P (one_by_one part cs c) small)
+
+scan-unfinished : (part xs rest : List ℕ) → AllByRecursion GoesOn xs → IsSmall (part ++ xs) → scan_from part (xs ++ rest) ≡ scan_from (part ++ xs) rest
+scan-unfinished part [] rest all small = ap (λ p. scan_from p rest) (sym (append-nil part))
+scan-unfinished part (c ∷ cs) rest all small =
+    let P : List ℕ → Type 0 = IsSmall in
+    let e : part ++ c ∷ cs ≡ (part ++ c ∷ []) ++ cs = one_by_one part cs c in
+    scan-goes_on part (cs ++ rest) c all.0 (IsSmall-first part cs c small)
+    ∙ (scan-unfinished (part ++ c ∷ []) cs rest all.1 (subst P e small) ∙ ap (λ p. scan_from p rest) (sym e))
+
+scan-chain : (part xs rest : List ℕ) → IsChain xs → IsSmall (part ++ xs)
+    → scan_from part (xs ++ rest) ≡ with_number (number_of (raw_of (part ++ xs))) (scan_from [] rest)
+scan-chain part [] rest chain small = absurd chain
+scan-chain part (c ∷ []) rest chain small = scan-last part rest c chain small
+scan-chain part (c ∷ d ∷ cs) rest chain small =
+    let P : List ℕ → Type 0 = IsSmall in
+    let e : part ++ c ∷ d ∷ cs ≡ (part ++ c ∷ []) ++ (d ∷ cs) = one_by_one part (d ∷ cs) c in
+    scan-goes_on part ((d ∷ cs) ++ rest) c chain.0 (IsSmall-first part (d ∷ cs) c small)
+    ∙ (scan-chain (part ++ c ∷ []) (d ∷ cs) rest chain.1 (subst P e small)
+    ∙ ap (λ p. with_number (number_of (raw_of p)) (scan_from [] rest)) (sym e))
+
+scan-group : (group rest : List ℕ) (n : ℤ) → IsGroup group n → scan_from [] (group ++ rest) ≡ with_number n (scan_from [] rest)
+scan-group group rest n g =
+    let small : IsSmall group = record { few = g.few; small = g.small } in
+    scan-chain [] group rest g.chain small ∙ ap (λ m. with_number m (scan_from [] rest)) (sym g.value)
+
+scan-reads : (front rest : List ℕ) (numbers : List ℤ) → Reads front numbers → scan_from [] (front ++ rest) ≡ with_numbers numbers (scan_from [] rest)
+unfolding with_numbers
+scan-reads front rest [] reads = ap (λ xs. scan_from [] (xs ++ rest)) reads
+scan-reads front rest (n ∷ ns) (group, behind, g, e, reads) =
+    ap (λ xs. scan_from [] (xs ++ rest)) e
+    ∙ (ap (λ xs. scan_from [] xs) (append_assoc group behind rest)
+    ∙ (scan-group group (behind ++ rest) n g ∙ ap (λ r. with_number n r) (scan-reads behind rest ns reads)))
+
+-- to the byte c
+scan-goes_to : (text part : List ℕ) (c : ℕ) → (to : GoesTo text part c) → scan_from [] text ≡ scan_from part (c ∷ to.more)
+scan-goes_to text part c to = ap (λ xs. scan_from [] xs) to.split ∙ scan-unfinished [] part (c ∷ to.more) to.unfinished.goes_on to.unfinished.fits
+
+scan-foreign : (part cs : List ℕ) (c : ℕ) → digit_value c ≡ None → scan_from part (c ∷ cs) ≡ Err (InvalidBase64 c)
+unfolding scan_from after_digit
+scan-foreign part cs c e = rw e refl
+
+scan-great : (part cs : List ℕ) (c : ℕ) → digit_value c ≢ None → ¬ IsSmall (part ++ c ∷ []) → scan_from part (c ∷ cs) ≡ Err VlqOverflow
+unfolding scan_from after_digit
+scan-great part cs c ne great =
+    let no : is_small (part ++ c ∷ []) ≡ false = false_from_ne_true _ (λ t. great (is_small-IsSmall (part ++ c ∷ []) t)) in
+    elim (digit_value_cases c) [
+      | inl none ↦ absurd (ne none)
+      | inr (v, e) ↦ rw (e, no) refl
+    ]
+
+scan-leftover : (c : ℕ) (cs : List ℕ) → IsUnfinished (c ∷ cs) → scan_from [] (c ∷ cs) ≡ Err VlqLeftover
+unfolding scan_from at_end
+scan-leftover c cs u =
+    ap (λ xs. scan_from [] xs) (sym (append-nil (c ∷ cs))) ∙ scan-unfinished [] (c ∷ cs) [] u.goes_on u.fits
+
+scan-fault : (rest : List ℕ) (e : Error) → NumberFault rest e → rest ≢ [] → scan_from [] rest ≡ Err e
+scan-fault rest (InvalidBase64 c) (part, to, none) ne = scan-goes_to rest part c to ∙ scan-foreign part to.more c none
+scan-fault rest VlqOverflow (part, c, to, some, great) ne = scan-goes_to rest part c to ∙ scan-great part to.more c some great
+scan-fault [] VlqLeftover u ne = absurd (ne refl)
+scan-fault (c ∷ cs) VlqLeftover u ne = scan-leftover c cs u
+scan-fault rest _ fault ne = absurd fault
+
+with_numbers-ok : (ns : List ℤ) → with_numbers ns (Ok []) ≡ Ok ns
+unfolding with_numbers with_number
+with_numbers-ok [] = refl
+with_numbers-ok (n ∷ ns) = ap (λ r. with_number n r) (with_numbers-ok ns)
+
+with_numbers-err : (ns : List ℤ) (e : Error) → with_numbers ns (Err e) ≡ Err e
+unfolding with_numbers with_number
+with_numbers-err [] e = refl
+with_numbers-err (n ∷ ns) e = ap (λ r. with_number n r) (with_numbers-err ns e)
+
+scan-numbers : (text : List ℕ) (numbers : List ℤ) → Reads text numbers → scan_from [] text ≡ Ok numbers
+unfolding scan_from at_end
+scan-numbers text numbers reads =
+    ap (λ xs. scan_from [] xs) (sym (append-nil text)) ∙ (scan-reads text [] numbers reads ∙ with_numbers-ok numbers)
+
+same-numbers : (text : List ℕ) (numbers : List ℤ) → Reads text numbers → numbers ≢ [] → Ok numbers ≡ answer_of text
+unfolding answer_of not_none
+same-numbers text [] reads ne = absurd (ne refl)
+same-numbers text (n ∷ ns) reads ne = sym (ap not_none (scan-numbers text (n ∷ ns) reads))
+
+same-fault : (text rest : List ℕ) (e : Error) → IsSound text rest → rest ≢ [] → NumberFault rest e → Err e ≡ answer_of text
+unfolding answer_of not_none
+same-fault text rest e sound ne fault =
+    let scanned : scan_from [] text ≡ Err e =
+        ap (λ xs. scan_from [] xs) sound.split ∙ (scan-reads sound.front rest sound.numbers sound.reads
+        ∙ (ap (λ r. with_numbers sound.numbers r) (scan-fault rest e fault ne) ∙ with_numbers-err sound.numbers e)) in
+    sym (ap not_none scanned)
+
+answer-same : (text : List ℕ) (answer : Result (List ℤ) Error) → Answers text answer → answer ≡ answer_of text
+unfolding answer_of not_none scan_from at_end
+answer-same text (Ok numbers) due = same-numbers text numbers due.0 due.1
+answer-same text (Err VlqNoValues) due = sym (ap answer_of due)
+answer-same text (Err e) due = same-fault text due.0 e due.1 due.2 due.3
+
+-- a text has one answer
+pub Answers-same : (text : List ℕ) (a b : Result (List ℤ) Error) → Answers text a → Answers text b → a ≡ b
+Answers-same text a b of_a of_b = answer-same text a of_a ∙ sym (answer-same text b of_b)
+
+pub HasFault-later : (text rest : List ℕ) → IsSound text rest → rest ≢ [] → (e : Error) → NumberFault rest e → HasFault text e
+HasFault-later text rest sound ne VlqNoValues fault = absurd fault
+HasFault-later text rest sound ne e fault = (rest, sound, ne, fault)
+
+pub IsGroup-nonempty : (group : List ℕ) (n : ℤ) → IsGroup group n → 0 < length group
+IsGroup-nonempty [] n g = absurd g.chain
+IsGroup-nonempty (c ∷ cs) n g = omega arith
+
+-- what is left behind a number is shorter
+pub BeginsWith-shorter : (text rest : List ℕ) (n : ℤ) → BeginsWith text n rest → length rest < length text
+BeginsWith-shorter text rest n b =
+    let some : 0 < length b.group = IsGroup-nonempty b.group n b.is_group in
+    let len : length text ≡ length b.group + length rest = ap length b.split ∙ length-append b.group rest in
+    omega arith
