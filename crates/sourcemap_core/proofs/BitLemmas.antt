@@ -1,11 +1,11 @@
 -- Texts of bits: what their digits say, and that bits have one shortest text.
-use Rattle.std.proofs.Common.{◌≡◌, ◌≢◌, ℕ, zero, suc, ◌+◌, ◌-◌, ◌*◌, ◌/◌, ◌%◌, ◌^◌, ◌<◌, ◌≤◌, ◌==◌, Bool, true, false, List, [], ◌∷◌, ◌++◌, length, take, drop, get_or, slice_get, map, Option, Some, None, unwrap_or, refl, sym, ◌∙◌, ap, subst, arith, inl, inr, ◌⊎◌, if◌then◌else◌, Result, Ok, Err, add-zero}
-use Rattle.std.specs.Prelude.{is_none, find}
+use Rattle.std.proofs.Common.{◌≡◌, ◌≢◌, ℕ, zero, suc, ◌+◌, ◌*◌, ◌/◌, ◌%◌, ◌^◌, ◌<◌, ◌≤◌, ◌==◌, Bool, true, false, List, [], ◌∷◌, ◌++◌, length, take, drop, get_or, slice_get, Option, Some, None, unwrap_or, refl, sym, ◌∙◌, ap, arith, inl, inr, if◌then◌else◌, Result, Ok, Err}
+use Rattle.std.specs.Prelude.{is_none}
 use Rattle.std.specs.List.{slice_index_or}
 use Rattle.std.specs.Option.{option_and_then}
 use Rattle.std.specs.Int.{bit_at}
 use Rattle.std.proofs.lemmas.Nat.{shr_le}
-use Rattle.std.proofs.lemmas.List.{length_push, length-append, append-nil, append_assoc, take-append-drop, drop_more, take_more}
+use Rattle.std.proofs.lemmas.List.{length_push, take-append-drop, drop_more, take_more}
 use Rattle.std.proofs.lemmas.Option.{slice_get_past}
 use Rattle.std.proofs.lemmas.Bool.{cases_lt, eqb-true, eqb-false, eq-eqb, ne_eqb}
 use Rattle.sourcemap_core.specs.declared.errors.Error.{Error}
@@ -38,7 +38,7 @@ pub IsForeign-at : (text : List ℕ) (n c : ℕ) → n < length text → first_f
     → IsForeign text (InvalidBase64 c)
 IsForeign-at text n c h none at e =
     let split : text ≡ take n text ++ c ∷ drop (n + 1) text =
-        sym (take-append-drop n text) ∙ (ap (λ rest. take n text ++ rest) (drop_more text n 0 h) ∙ ap (λ x. take n text ++ x ∷ drop (n + 1) text) at) in
+    sym (take-append-drop n text) ∙ (ap (λ rest. take n text ++ rest) (drop_more text n 0 h) ∙ ap (λ x. take n text ++ x ∷ drop (n + 1) text) at) in
     (c, ap first_foreign split ∙ first_foreign-at (take n text) (drop (n + 1) text) c none e, refl)
 
 pub first_foreign-more : (text : List ℕ) (n v : ℕ) → n < length text → first_foreign (take n text) ≡ None → digit_value (get_or text n 0) ≡ Some v
@@ -182,7 +182,7 @@ Begins-push bits part v begins low six =
             let place : 6 * length part + j % 6 ≡ j = omega arith in
             let value : value_at (part ++ glyph v ∷ []) (j / 6) ≡ v = ap (λ k. value_at (part ++ glyph v ∷ []) k) q ∙ value_at-last part (glyph v) v e in
             ap (λ w. bit_at w (j % 6) == 1) value ∙ (six (j % 6) (omega arith) ∙ ap (λ k. slice_index_or bits k false) place)
-      ]
+      ];
     }
 
 pub IsBitText-whole : (bits : List Bool) (part : List ℕ) (count : ℕ) → Begins bits part → length part ≡ count
@@ -190,19 +190,19 @@ pub IsBitText-whole : (bits : List Bool) (part : List ℕ) (count : ℕ) → Beg
     → (0 < count → (j : ℕ) × (j / 6 + 1 ≡ count) × (slice_index_or bits j false ≡ true))
     → IsBitText bits part
 IsBitText-whole bits part count begins len rest last = record {
-    digits = begins.digits;
-    each = λ j. elim (cases_lt j (6 * length part)) [
-      | inl within ↦ begins.each j within
-      | inr past ↦ bit_of-past part j (omega arith) ∙ sym (rest j (omega arith))
-    ];
-    short = λ k e zero_value.
+  digits = begins.digits;
+  each = λ j. elim (cases_lt j (6 * length part)) [
+    | inl within ↦ begins.each j within
+    | inr past ↦ bit_of-past part j (omega arith) ∙ sym (rest j (omega arith))
+  ];
+  short = λ k e zero_value.
       let l : (j : ℕ) × (j / 6 + 1 ≡ count) × (slice_index_or bits j false ≡ true) = last (omega arith) in
       let at : l.0 / 6 ≡ k = omega (arith, l.1) in
       let set : bit_of part l.0 ≡ true = begins.each l.0 (omega (arith, l.1)) ∙ l.2 in
       let unset : bit_of part l.0 ≡ false = bit_of-none part l.0 (ap (λ i. value_at part i) at ∙ zero_value) in
       let clash : true ≡ false = sym set ∙ unset in
-      cc clash
-  }
+      cc clash;
+}
 
 -- ---- bits have one shortest text
 
@@ -231,10 +231,10 @@ same_value v w lv lw same =
 values-same : (a b : List ℕ) → ((j : ℕ) → bit_of a j ≡ bit_of b j) → (k : ℕ) → value_at a k ≡ value_at b k
 values-same a b same k =
     same_value (value_at a k) (value_at b k) (value_at-below a k) (value_at-below b k) (λ i h.
-      let q : (6 * k + i) / 6 ≡ k = omega arith in
-      let r : (6 * k + i) % 6 ≡ i = omega arith in
-      let bit : bit_of a (6 * k + i) ≡ bit_of b (6 * k + i) = same (6 * k + i) in
-      rw (q, r) at bit)
+    let q : (6 * k + i) / 6 ≡ k = omega arith in
+    let r : (6 * k + i) % 6 ≡ i = omega arith in
+    let bit : bit_of a (6 * k + i) ≡ bit_of b (6 * k + i) = same (6 * k + i) in
+    rw (q, r) at bit)
 
 not_shorter : (a b : List ℕ) → ((k : ℕ) → value_at a k ≡ value_at b k) → ((k : ℕ) → length b ≡ k + 1 → value_at b k ≢ 0) → length b ≤ length a
 not_shorter a [] same short = omega arith

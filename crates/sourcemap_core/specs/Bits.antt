@@ -1,5 +1,5 @@
 -- Bits as digits of base 64: six bits a digit, lowest first.
-use Rattle.std.specs.Prelude.{◌≡◌, ◌≢◌, ℕ, ◌+◌, ◌*◌, ◌/◌, ◌%◌, ◌^◌, ◌<◌, ◌==◌, Bool, false, List, [], ◌∷◌, map, length, Option, Some, None, is_none, unwrap_or, find, slice_get, slice_index, Result, Ok, Err}
+use Rattle.std.specs.Prelude.{◌≡◌, ◌≢◌, ℕ, ◌+◌, ◌*◌, ◌/◌, ◌%◌, ◌<◌, ◌==◌, Bool, false, List, [], ◌∷◌, map, length, Option, Some, None, is_none, unwrap_or, find, slice_get, Result, Ok, Err}
 use Rattle.std.specs.List.{slice_index_or}
 use Rattle.std.specs.Option.{option_and_then}
 use Rattle.std.specs.Int.{bit_at}

@@ -103,7 +103,9 @@ fn value_from(bits: &[bool], place: usize) -> u8
     ensures small { result < 64 }
     ensures each { (k : ℕ) → k < 6 → (bit_at result k == 1) ≡ slice_index_or bits.now (place + k) false }
 {
-    bit_from(bits, place) + 2 * bit_from(bits, place + 1) + 4 * bit_from(bits, place + 2)
+    bit_from(bits, place)
+        + 2 * bit_from(bits, place + 1)
+        + 4 * bit_from(bits, place + 2)
         + 8 * bit_from(bits, place + 3)
         + 16 * bit_from(bits, place + 4)
         + 32 * bit_from(bits, place + 5)
@@ -116,3 +118,9 @@ fn bit_from(bits: &[bool], place: usize) -> u8
 {
     u8::from(bits.get(place).copied().unwrap_or(false))
 }
+
+// A text has one list of bits or one fault, and bits have one shortest text.
+fn bits_are_determined()
+    ensures one_answer { (text : List ℕ) (a b : Result (List Bool) Error) → BitAnswers text a → BitAnswers text b → a ≡ b }
+    ensures one_text { (bits : List Bool) (a b : List ℕ) → IsBitText bits a → IsBitText bits b → a ≡ b }
+{}

@@ -1,7 +1,7 @@
-use Rattle.std.proofs.Common.{◌≡◌, ℕ, ◌+◌, ◌<◌, List, Bool, ◌++◌, length, take, get_or, None, Some, Ok, Err, sym, ◌∙◌, ap, arith, refl, subst}
-use Rattle.std.proofs.lemmas.List.{take_all, take_more}
+use Rattle.std.proofs.Common.{◌≡◌, ◌<◌, ◌++◌, length, take, get_or, None, Some, Ok, Err, sym, ◌∙◌, ap, arith}
+use Rattle.std.proofs.lemmas.List.{take_all}
 use Rattle.sourcemap_core.specs.Vlq.{digit_value}
-use Rattle.sourcemap_core.specs.Bits.{first_foreign, AreBitsOf, IsForeign, six_of}
+use Rattle.sourcemap_core.specs.Bits.{first_foreign}
 use Rattle.sourcemap_core.specs.declared.errors.Error.TheVariants.{InvalidBase64}
 use Rattle.sourcemap_core.proofs.BitLemmas.{IsForeign-at, bits_of, bits_of-more, first_foreign-more, AreBitsOf-bits_of, BitAnswers-same}
 use Rattle.sourcemap_core.proofs.bits.decode_rmi.Goals as goal
@@ -22,12 +22,13 @@ loop-byte-preserved c =
     let text = c.as_bytes-byte-items.ensures.value in
     let within : c.loop-byte.byte-index < length c.args.text.now = omega (arith, ap length text) in
     let e : digit_value (get_or c.args.text.now c.loop-byte.byte-index 0) ≡ Some c.in-Some.value =
-        ap (λ t. digit_value (get_or t c.loop-byte.byte-index 0)) (sym text) ∙ (sym c.digit_of.ensures ∙ c.in-Some.is) in
-    let pushed : c.extend_from_slice.new.self.items ≡ c.loop-byte.bits.items ++ c.six_bits.result = c.in_ok-extend_from_slice.ensures.items in
-    (first_foreign-more c.args.text.now c.loop-byte.byte-index c.in-Some.value within c.loop-byte.invariant.0 e,
-     pushed ∙ (ap (λ bits. bits ++ c.six_bits.result) c.loop-byte.invariant.1
-     ∙ (ap (λ six. bits_of (take c.loop-byte.byte-index c.args.text.now) ++ six) c.six_bits.ensures
-     ∙ sym (bits_of-more c.args.text.now c.loop-byte.byte-index c.in-Some.value within e))))
+    ap (λ t. digit_value (get_or t c.loop-byte.byte-index 0)) (sym text) ∙ (sym c.digit_of.ensures ∙ c.in-Some.is) in
+    let pushed : c.extend_from_slice.new.self.items ≡ c.loop-byte.bits.items ++ c.six_bits.result = c.in_ok-extend_from_slice.ensures.items in (
+      first_foreign-more c.args.text.now c.loop-byte.byte-index c.in-Some.value within c.loop-byte.invariant.0 e,
+      pushed ∙ (ap (λ bits. bits ++ c.six_bits.result) c.loop-byte.invariant.1
+          ∙ (ap (λ six. bits_of (take c.loop-byte.byte-index c.args.text.now) ++ six) c.six_bits.ensures
+          ∙ sym (bits_of-more c.args.text.now c.loop-byte.byte-index c.in-Some.value within e))),
+    )
 
 pub returns-clause-answers : goal.returns-clause-answers
 returns-clause-answers c =

@@ -1,4 +1,4 @@
-use Rattle.std.proofs.Common.{◌≡◌, None, Some, sym, ◌∙◌, ap}
+use Rattle.std.proofs.Common.{◌≡◌, None, sym, ◌∙◌, ap}
 use Rattle.sourcemap_core.specs.Vlq.{digit_value}
 use Rattle.sourcemap_core.proofs.BitLemmas.{IsForeign-at, first_foreign-more}
 use Rattle.sourcemap_core.proofs.bits.test_digits.Goals as goal
