@@ -1,2 +1,4 @@
 pub mod Answer
+pub mod Bits
 pub mod Errors
+pub mod Vlq

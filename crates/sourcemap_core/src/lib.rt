@@ -2,5 +2,7 @@
 //! mappings, and the search for the closest token.
 #![tactic(auto)]
 
+pub mod bits;
 pub mod errors;
 pub mod tokens;
+pub mod vlq;

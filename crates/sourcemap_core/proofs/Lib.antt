@@ -1,0 +1,4 @@
+pub mod AnswerLemmas
+pub mod BitLemmas
+pub mod DigitLemmas
+pub mod VlqLemmas
