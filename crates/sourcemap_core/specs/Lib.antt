@@ -1,2 +1,4 @@
 pub mod Answer
 pub mod Errors
+pub mod Tokens
+pub mod Utils
