@@ -1,1 +1,2 @@
+pub mod SortLemmas
 pub mod UtilsLemmas
