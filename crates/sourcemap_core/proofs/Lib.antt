@@ -1,2 +1,3 @@
 pub mod SortLemmas
+pub mod TokensLemmas
 pub mod UtilsLemmas
