@@ -2,3 +2,6 @@ pub mod AnswerLemmas
 pub mod BitLemmas
 pub mod DigitLemmas
 pub mod VlqLemmas
+pub mod SortLemmas
+pub mod TokensLemmas
+pub mod UtilsLemmas

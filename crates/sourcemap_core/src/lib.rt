@@ -6,3 +6,4 @@ pub mod bits;
 pub mod errors;
 pub mod tokens;
 pub mod vlq;
+pub mod utils;
