@@ -1,2 +1,6 @@
 pub mod Answer
 pub mod Errors
+pub mod Vlq
+pub mod Bits
+pub mod Tokens
+pub mod Mappings

@@ -4,3 +4,4 @@
 
 pub mod errors;
 pub mod tokens;
+pub mod mappings;
