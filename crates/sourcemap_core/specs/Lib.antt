@@ -1,6 +1,6 @@
 pub mod Answer
-pub mod Errors
-pub mod Vlq
 pub mod Bits
-pub mod Tokens
+pub mod Errors
 pub mod Mappings
+pub mod Tokens
+pub mod Vlq
