@@ -3,4 +3,5 @@ pub mod Bits
 pub mod Errors
 pub mod Mappings
 pub mod Tokens
+pub mod Utils
 pub mod Vlq
