@@ -1,2 +1,4 @@
+pub mod AnswerLemmas
 pub mod DigitLemmas
+pub mod MappingsLemmas
 pub mod VlqLemmas
