@@ -1,4 +1,7 @@
 pub mod AnswerLemmas
 pub mod DigitLemmas
 pub mod MappingsLemmas
+pub mod SortLemmas
+pub mod TokensLemmas
+pub mod UtilsLemmas
 pub mod VlqLemmas

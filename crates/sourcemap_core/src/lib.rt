@@ -6,4 +6,5 @@ pub mod bits;
 pub mod errors;
 pub mod mappings;
 pub mod tokens;
+pub mod utils;
 pub mod vlq;
