@@ -1,5 +1,6 @@
 pub mod AnswerLemmas
 pub mod DigitLemmas
+pub mod MappingsAnswers
 pub mod MappingsLemmas
 pub mod SortLemmas
 pub mod TokensLemmas

@@ -9,11 +9,10 @@ use Rattle.sourcemap_core.specs.declared.tokens.RawToken.{RawToken}
 use Rattle.sourcemap_core.specs.declared.mappings.Sums.{Sums}
 use Rattle.sourcemap_core.specs.declared.mappings.Spot.{Spot}
 use Rattle.sourcemap_core.specs.declared.errors.Error.{Error}
-use Rattle.sourcemap_core.specs.declared.errors.Error.TheVariants.{VlqNoValues}
 use Rattle.sourcemap_core.specs.Bits.{first_foreign}
 use Rattle.sourcemap_core.specs.Mappings.{Counts, Segment, Line, LineText, line_tokens, page_tokens, token_of, segment_fault, PartsRead, PartsFault, LineRead, LineFault, LinesRead, LinesFault}
 use Rattle.sourcemap_core.specs.MappingsParts.{AreSteps, AreTextSums, AreSums, AddsParts, AddsLine}
-use Rattle.sourcemap_core.specs.Vlq.{IsGroup, Reads, BeginsWith, IsSound, NumberFault, HasFault}
+use Rattle.sourcemap_core.specs.Vlq.{Reads, IsSound}
 
 -- the first part ends where the first element passes
 pub slice_split_read : {X : Type 0} (p : X → Bool) (xs : List X) (i : ℕ) (d : X) → i < length xs → p (get_or xs i d) ≡ true → All (λ x. p x ≡ false) (take i xs) → slice_split p xs ≡ take i xs ∷ slice_split p (drop (i + 1) xs)
@@ -22,25 +21,6 @@ slice_split_read p xs i d lt e h =
     ∙ slice_split_at p (take i xs) (get_or xs i d) (drop (i + 1) xs) h e
 
 -- Numbers.
-
--- one more number behind a text of numbers
-pub Reads-append : (xs ys : List ℕ) (ns : List ℤ) (n : ℤ) → Reads xs ns → IsGroup ys n → Reads (xs ++ ys) (ns ++ n ∷ [])
-Reads-append xs ys [] n h g = (ys, [], g, ap (λ zs. zs ++ ys) h ∙ sym (append-nil ys), refl)
-Reads-append xs ys (m ∷ ms) n (group, rest, is, split, h) g =
-    (group, rest ++ ys, is, ap (λ zs. zs ++ ys) split ∙ append_assoc group rest ys, Reads-append rest ys ms n h g)
-
-pub IsSound-more : (text rest behind : List ℕ) (n : ℤ) (s : IsSound text rest) → BeginsWith rest n behind → (t : IsSound text behind) × (t.numbers ≡ s.numbers ++ n ∷ [])
-IsSound-more text rest behind n s b =
-    (record {
-      front = s.front ++ b.group;
-      numbers = s.numbers ++ n ∷ [];
-      reads = Reads-append s.front b.group s.numbers n s.reads b.is_group;
-      split = s.split ∙ ap (λ zs. s.front ++ zs) b.split ∙ sym (append_assoc s.front b.group behind);
-    }, refl)
-
-pub HasFault-from : (text rest : List ℕ) (e : Error) → IsSound text rest → rest ≢ [] → NumberFault rest e → HasFault text e
-HasFault-from text rest VlqNoValues s ne f = absurd f
-HasFault-from text rest e s ne f = (rest, s, ne, f)
 
 zero_steps : (k : ℕ) → slice_index (0 ∷ 0 ∷ 0 ∷ 0 ∷ 0 ∷ []) k ≡ 0
 zero_steps zero = refl
@@ -70,7 +50,7 @@ PartsFault-segment counts before here (c ∷ cs) s e ne reads fault =
 pub AddsParts-segment : (counts : Counts) (spot : Spot) (bits : List ℕ) (before here : List Segment) (part : List ℕ) (numbers : List ℤ) (token : RawToken) (old new : List RawToken) (sums : Sums)
     → (length part == 0) ≡ false → Reads part numbers
     → let s : Segment = record { place = spot.place; numbers = numbers } in
-      segment_fault counts (before ++ (here ++ s ∷ [])) s ≡ None
+    segment_fault counts (before ++ (here ++ s ∷ [])) s ≡ None
     → token ≡ token_of spot.line bits (here ++ s ∷ []) (before ++ (here ++ s ∷ [])) s
     → new ≡ old ++ token ∷ [] → AreSums before (here ++ s ∷ []) sums
     → AddsParts counts spot bits before here (part ∷ []) old new sums
@@ -93,9 +73,11 @@ PartsRead-cons counts place before [] parts ss later h rest =
     (subst (λ zs. PartsRead counts (place + 1) zs parts later) (ap (λ zs. before ++ zs) none ∙ append-nil before) rest)
 PartsRead-cons counts place before (c ∷ cs) parts [] later h rest = absurd h
 PartsRead-cons counts place before (c ∷ cs) parts (s ∷ ss) later h rest =
-    let none : ss ≡ [] = h.1 in
-    (h.0, subst (λ zs. PartsRead counts (place + 1) (before ++ s ∷ []) parts (zs ++ later)) (sym none)
-      (subst (λ zs. PartsRead counts (place + 1) (before ++ s ∷ zs) parts later) none rest))
+    let none : ss ≡ [] = h.1 in (
+      h.0,
+      subst (λ zs. PartsRead counts (place + 1) (before ++ s ∷ []) parts (zs ++ later)) (sym none)
+          (subst (λ zs. PartsRead counts (place + 1) (before ++ s ∷ zs) parts later) none rest),
+    )
 
 PartsFault-here : (counts : Counts) (place : ℕ) (before : List Segment) (part : List ℕ) (parts : List (List ℕ)) (e : Error)
     → PartsFault counts place before (part ∷ []) e → PartsFault counts place before (part ∷ parts) e
@@ -118,7 +100,7 @@ line_tokens-append n bits before here [] ys = ap (λ zs. line_tokens n bits befo
 line_tokens-append n bits before here (x ∷ xs) ys =
     ap (λ ts. token_of n bits (here ++ x ∷ []) (before ++ (here ++ x ∷ [])) x ∷ ts)
     (line_tokens-append n bits before (here ++ x ∷ []) xs ys
-      ∙ ap (λ zs. line_tokens n bits before (here ++ x ∷ []) xs ++ line_tokens n bits before zs ys) (append_assoc here (x ∷ []) xs))
+    ∙ ap (λ zs. line_tokens n bits before (here ++ x ∷ []) xs ++ line_tokens n bits before zs ys) (append_assoc here (x ∷ []) xs))
 
 -- what is read of the parts `all` of line n, behind the segments `before`: its first `place` parts
 pub record PartsSoFar (counts : Counts) (n : ℕ) (bits : List ℕ) (before : List Segment) (all : List (List ℕ)) (place : ℕ) (left : List (List ℕ)) (old new : List RawToken) (sums : Sums) : Type 0 where
@@ -149,18 +131,18 @@ module _ (counts : Counts) (spot : Spot) (bits : List ℕ) (before : List Segmen
       record {
         here = here ++ ss;
         read = λ later r.
-          subst (λ zs. PartsRead counts 0 before all zs) (sym (append_assoc here ss later))
-          (so_far.read (ss ++ later)
+            subst (λ zs. PartsRead counts 0 before all zs) (sym (append_assoc here ss later))
+            (so_far.read (ss ++ later)
             (PartsRead-cons counts spot.place (before ++ here) part parts ss later adds.read
-              (subst (λ zs. PartsRead counts (spot.place + 1) zs parts later) (sym (append_assoc before here ss)) r)));
+            (subst (λ zs. PartsRead counts (spot.place + 1) zs parts later) (sym (append_assoc before here ss)) r)));
         fault = λ e f.
-          so_far.fault e
-          (PartsFault-later counts spot.place (before ++ here) part parts ss e adds.read
+            so_far.fault e
+            (PartsFault-later counts spot.place (before ++ here) part parts ss e adds.read
             (subst (λ zs. PartsFault counts (spot.place + 1) zs parts e) (sym (append_assoc before here ss)) f));
         tokens =
-          adds.tokens ∙ ap (λ zs. zs ++ line_tokens spot.line bits before here ss) so_far.tokens
-          ∙ append_assoc old (line_tokens spot.line bits before [] here) (line_tokens spot.line bits before here ss)
-          ∙ ap (λ zs. old ++ zs) (sym (line_tokens-append spot.line bits before [] here ss));
+            adds.tokens ∙ ap (λ zs. zs ++ line_tokens spot.line bits before here ss) so_far.tokens
+            ∙ append_assoc old (line_tokens spot.line bits before [] here) (line_tokens spot.line bits before here ss)
+            ∙ ap (λ zs. old ++ zs) (sym (line_tokens-append spot.line bits before [] here ss));
         sums_after = adds.sums_after;
       }
 
@@ -176,8 +158,8 @@ pub AddsParts-all : (counts : Counts) (n place : ℕ) (bits : List ℕ) (before 
 AddsParts-all counts n place bits before all old new sums so_far = record {
   segments = so_far.here;
   read =
-    subst (λ zs. PartsRead counts 0 zs all so_far.here) (sym (append-nil before))
-    (subst (λ zs. PartsRead counts 0 before all zs) (append-nil so_far.here) (so_far.read [] refl));
+      subst (λ zs. PartsRead counts 0 zs all so_far.here) (sym (append-nil before))
+      (subst (λ zs. PartsRead counts 0 before all zs) (append-nil so_far.here) (so_far.read [] refl));
   tokens = so_far.tokens;
   sums_after = so_far.sums_after;
 }
@@ -206,12 +188,12 @@ module _ (counts : Counts) (all : List LineText) (n : ℕ) (text : LineText) (le
         before = before ++ line.segments;
         page = page ++ line ∷ [];
         read = λ later r.
-          subst (λ zs. LinesRead counts 0 [] all zs) (sym (append_assoc page (line ∷ []) later)) (so_far.read (line ∷ later) (adds.read, r));
+            subst (λ zs. LinesRead counts 0 [] all zs) (sym (append_assoc page (line ∷ []) later)) (so_far.read (line ∷ later) (adds.read, r));
         fault = λ e f. so_far.fault e (inr (line, adds.read, f));
         tokens_read = λ later.
-          ap (page_tokens 0 []) (append_assoc page (line ∷ []) later) ∙ so_far.tokens_read (line ∷ later)
-          ∙ sym (append_assoc old ts (page_tokens (n + 1) (before ++ line.segments) later))
-          ∙ ap (λ zs. zs ++ page_tokens (n + 1) (before ++ line.segments) later) (sym adds.tokens);
+            ap (page_tokens 0 []) (append_assoc page (line ∷ []) later) ∙ so_far.tokens_read (line ∷ later)
+            ∙ sym (append_assoc old ts (page_tokens (n + 1) (before ++ line.segments) later))
+            ∙ ap (λ zs. zs ++ page_tokens (n + 1) (before ++ line.segments) later) (sym adds.tokens);
         sums_after = adds.sums_after;
       }
 
@@ -234,9 +216,11 @@ PageSoFar-none counts all = record {
 -- all lines are read
 pub PageSoFar-all : (counts : Counts) (all : List LineText) (n : ℕ) (tokens : List RawToken) (sums : Sums) → PageSoFar counts all n [] tokens sums
     → (page : List Line) × LinesRead counts 0 [] all page × (tokens ≡ page_tokens 0 [] page)
-PageSoFar-all counts all n tokens sums so_far =
-    (so_far.page, subst (λ zs. LinesRead counts 0 [] all zs) (append-nil so_far.page) (so_far.read [] refl),
-      sym (append-nil tokens) ∙ sym (so_far.tokens_read []) ∙ ap (page_tokens 0 []) (append-nil so_far.page))
+PageSoFar-all counts all n tokens sums so_far = (
+  so_far.page,
+  subst (λ zs. LinesRead counts 0 [] all zs) (append-nil so_far.page) (so_far.read [] refl),
+  sym (append-nil tokens) ∙ sym (so_far.tokens_read []) ∙ ap (page_tokens 0 []) (append-nil so_far.page),
+)
 
 -- a line that is empty
 pub AddsLine-none : (counts : Counts) (n : ℕ) (before : List Segment) (text bits : List ℕ) (old : List RawToken) (sums : Sums) → (length text == 0) ≡ true → AreTextSums before sums → AddsLine counts n before (text, bits) old old sums

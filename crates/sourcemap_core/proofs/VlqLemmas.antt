@@ -128,7 +128,7 @@ IsUnfinished-more text n v h unfinished e goes room =
     let on : GoesOn c = (v, e, goes) in
     rw (take_more text n 0 h) (record {
       goes_on = GoesOn-push (take n text) c unfinished.goes_on on;
-      fits = has_room-small (take n text) c n unfinished len room'
+      fits = has_room-small (take n text) c n unfinished len room';
     })
 
 pub raw_of-more : (text : List ℕ) (n v : ℕ) → n < length text → digit_value (get_or text n 0) ≡ Some v
@@ -157,7 +157,7 @@ BeginsWith-last text n v h unfinished e last room =
     record {
       group = take (n + 1) text;
       is_group = record { chain = rw more chain; few = fits'.few; small = fits'.small; value = refl };
-      split = sym (take-append-drop (n + 1) text)
+      split = sym (take-append-drop (n + 1) text);
     }
 
 pub NumberFault-foreign : (text : List ℕ) (n c : ℕ) → n < length text → IsUnfinished (take n text)
@@ -216,9 +216,10 @@ Reads-push front group (m ∷ ms) n reads is_group =
 pub IsSound-more : (text rest behind : List ℕ) (front : List ℕ) (numbers : List ℤ) (n : ℤ)
     → Reads front numbers → text ≡ front ++ rest → (b : BeginsWith rest n behind)
     → Reads (front ++ b.group) (numbers ++ n ∷ []) × (text ≡ (front ++ b.group) ++ behind)
-IsSound-more text rest behind front numbers n reads split b =
-    (Reads-push front b.group numbers n reads b.is_group,
-     split ∙ (ap (λ xs. front ++ xs) b.split ∙ sym (append_assoc front b.group behind)))
+IsSound-more text rest behind front numbers n reads split b = (
+  Reads-push front b.group numbers n reads b.is_group,
+  split ∙ (ap (λ xs. front ++ xs) b.split ∙ sym (append_assoc front b.group behind)),
+)
 
 -- ---- a text reads in one way: what comes out, from the left
 
@@ -380,8 +381,8 @@ same-fault : (text rest : List ℕ) (e : Error) → IsSound text rest → rest �
 unfolding answer_of not_none
 same-fault text rest e sound ne fault =
     let scanned : scan_from [] text ≡ Err e =
-        ap (λ xs. scan_from [] xs) sound.split ∙ (scan-reads sound.front rest sound.numbers sound.reads
-        ∙ (ap (λ r. with_numbers sound.numbers r) (scan-fault rest e fault ne) ∙ with_numbers-err sound.numbers e)) in
+    ap (λ xs. scan_from [] xs) sound.split ∙ (scan-reads sound.front rest sound.numbers sound.reads
+    ∙ (ap (λ r. with_numbers sound.numbers r) (scan-fault rest e fault ne) ∙ with_numbers-err sound.numbers e)) in
     sym (ap not_none scanned)
 
 answer-same : (text : List ℕ) (answer : Result (List ℤ) Error) → Answers text answer → answer ≡ answer_of text
@@ -448,9 +449,9 @@ total_of-number r =
           odd_total r (r / 2) whole number
     ]
   where
-  odd_total : (r h : ℕ) → r ≡ 2 * h + 1 → number_of r ≡ neg_ℤ (pos h) → (r ≡ 1) ⊎ (total_of (number_of r) ≡ r)
-  odd_total r zero whole number = inl whole
-  odd_total r (suc h) whole number = inr (ap total_of number ∙ sym whole)
+    odd_total : (r h : ℕ) → r ≡ 2 * h + 1 → number_of r ≡ neg_ℤ (pos h) → (r ≡ 1) ⊎ (total_of (number_of r) ≡ r)
+    odd_total r zero whole number = inl whole
+    odd_total r (suc h) whole number = inr (ap total_of number ∙ sym whole)
 
 pub IsGroup-raw : (group : List ℕ) (n : ℤ) → IsGroup group n → (raw_of group ≡ 1) ⊎ (raw_of group ≡ total_of n)
 IsGroup-raw group n g =
@@ -458,7 +459,6 @@ IsGroup-raw group n g =
       | inl one ↦ inl one
       | inr same ↦ inr (sym same ∙ ap total_of (sym g.value))
     ]
-
 
 -- of equal digits in number, and of equal worth, are equal
 digit_from-last : (c d : ℕ) → IsLast c → IsLast d → data_of c ≡ data_of d → c ≡ d
@@ -661,8 +661,8 @@ IsShortest-last part n left all low near e some =
         chain = IsChain-push part c all (IsLast-glyph left low);
         few = few_digits (length part) (length (part ++ c ∷ [])) (total_of n) len small heavy;
         small = rw raw small;
-        value = sym (ap number_of raw ∙ number_of-total n)
+        value = sym (ap number_of raw ∙ number_of-total n);
       };
       shortest = λ other g. no_shorter (length part) (length (part ++ c ∷ [])) n other g len heavy;
-      unsigned_zero = λ one. total_of-not_one n (sym raw ∙ one)
+      unsigned_zero = λ one. total_of-not_one n (sym raw ∙ one);
     }

@@ -1,16 +1,19 @@
 //! The text of mappings, read: lines between `;`, the parts of a line between `,`.
-ghost use Rattle.std.specs.Prelude.{◌≡◌, ℕ, ◌+◌, ◌<◌, ◌==◌, ℤ, List, [], ◌∷◌, ◌++◌, length, nat_lt, min, ◌||◌, if◌then◌else◌, IsTrue, Some, None, is_none, IfSome, MatchOption, MatchResult, IfOk, IfErr, unsigned_abs, pos, ◌^◌};
+ghost use Rattle.std.specs.Prelude.{◌≡◌, ℕ, ◌+◌, ◌<◌, ◌==◌, ℤ, List, [], ◌∷◌, ◌++◌, length, nat_lt, min, Result, ◌||◌, if◌then◌else◌, IsTrue, Some, None, is_none, IfSome, MatchOption, MatchResult, IfOk, IfErr, unsigned_abs, pos, ◌^◌};
 ghost use Rattle.std.specs.Option.{option_map_or};
 ghost use Rattle.std.specs.List.{slice_split};
 ghost use Rattle.std.specs.Int.{int_rem_euclid};
-ghost use Rattle.sourcemap_core.specs.Answer.{IsAnswer, UnlessMemory};
+ghost use Rattle.sourcemap_core.specs.Answer.{IsAnswer, Gives, UnlessMemory};
 ghost use Rattle.sourcemap_core.specs.Bits.{bit_of, first_foreign};
-ghost use Rattle.sourcemap_core.specs.Mappings.{MappingsAnswer, Segment, PartsFault, LineFault, LinesRead, LinesFault, beside, line_texts, page_tokens, Line, segment_fault, token_of};
+ghost use Rattle.sourcemap_core.specs.declared.errors.Error.{Error};
+ghost use Rattle.sourcemap_core.specs.declared.tokens.RawToken.{RawToken};
+ghost use Rattle.sourcemap_core.specs.Mappings.{Counts, MappingsAnswer, Segment, PartsFault, LineFault, LinesRead, LinesFault, beside, line_texts, page_tokens, Line, segment_fault, token_of};
 ghost use Rattle.sourcemap_core.specs.MappingsParts.{AreSteps, AreTextSums, AreSums, AddsParts, AddsLine, counts_of, lines_left};
+ghost use Rattle.sourcemap_core.specs.Tokens.{AreInOrder, AllWithin};
 ghost use Rattle.sourcemap_core.specs.Vlq.{Reads, HasFault, digit_value};
 
 use crate::errors::{Error, Result};
-use crate::tokens::RawToken;
+use crate::tokens::{RawToken, sort_tokens};
 use crate::vlq::{digit_of, next_number};
 use std::alloc::Global;
 
@@ -86,7 +89,10 @@ fn read_numbers(part: &[u8]) -> Result<Numbers>
     ensures read { IfOk result (λ read. (numbers : List ℤ) × Reads part.now numbers × AreSteps numbers read) }
     ensures fault { IfErr result (λ e. HasFault part.now e) }
 {
-    let mut read = Numbers { count: 0, steps: [0; 5] };
+    let mut read = Numbers {
+        count: 0,
+        steps: [0; 5],
+    };
     let mut rest = part;
     while !rest.is_empty() {
         let (number, behind) = next_number(rest)?;
@@ -124,7 +130,7 @@ fn is_size(count: u32) -> bool
 fn check(count: u32, sums: Sums, limits: Limits) -> Result<()>
     ensures { (before here : List Segment) (s : Segment) → AreSums before here sums → count ≡ min (length s.numbers) 4294967295
         → MatchResult result (λ _. segment_fault (counts_of limits) (before ++ here) s ≡ None)
-            (λ e. segment_fault (counts_of limits) (before ++ here) s ≡ Some e) }
+        (λ e. segment_fault (counts_of limits) (before ++ here) s ≡ Some e) }
 {
     if !is_size(count) {
         return Err(Error::BadSegmentSize(count));
@@ -284,13 +290,24 @@ fn next_bits(ranges: Option<&[u8]>) -> (&[u8], Option<&[u8]>)
 }
 
 // The tokens of the lines, in order of the text.
-fn read_lines(alloc: Global, mappings: &[u8], ranges: &[u8], limits: Limits) -> Result<Vec<RawToken>>
+fn read_lines(
+    alloc: Global,
+    mappings: &[u8],
+    ranges: &[u8],
+    limits: Limits,
+) -> Result<Vec<RawToken>>
     ensures read { IfOk result (λ v. (page : List Line) × LinesRead (counts_of limits) 0 [] (line_texts mappings.now ranges.now) page
         × (v.items ≡ page_tokens 0 [] page)) }
     ensures fault { IfErr result (λ e. UnlessMemory e (LinesFault (counts_of limits) 0 [] (line_texts mappings.now ranges.now) e)) }
 {
     let mut tokens = Vec::with_capacity(alloc, (mappings.len() / 5 + 1).min(1 << 20))?;
-    let mut sums = Sums { column: 0, source: 0, line: 0, source_column: 0, name: 0 };
+    let mut sums = Sums {
+        column: 0,
+        source: 0,
+        line: 0,
+        source_column: 0,
+        name: 0,
+    };
     let mut lines = mappings;
     let mut ranges = Some(ranges);
     let mut number = 0;
@@ -308,7 +325,10 @@ fn read_lines(alloc: Global, mappings: &[u8], ranges: &[u8], limits: Limits) -> 
 }
 
 /// The tokens that the texts of mappings and of range bits stand for, in order of destination, for
-/// a map of so many sources and names; else the first fault, as `MappingsAnswer` says.
+/// a map of so many sources and names; else the first fault from the left. Of a line that is not
+/// empty that is `IncompatibleSourceMap` past line 4294967295, then `InvalidBase64` in its range
+/// bits, then that of its first faulty segment: a fault of its digits, `BadSegmentSize`,
+/// `BadSourceReference` or `BadNameReference`, tested in this order.
 pub fn parse_mappings(
     alloc: Global,
     mappings: &str,
@@ -318,8 +338,20 @@ pub fn parse_mappings(
 ) -> Result<Vec<RawToken>>
     ensures answer { IsAnswer (λ v. v.items)
         (MappingsAnswer mappings.now ranges.now (record { sources = sources; names = names })) result }
+    ensures only { (due : Result (List RawToken) Error)
+        → MappingsAnswer mappings.now ranges.now (record { sources = sources; names = names }) due
+        → Gives (λ v. v.items) result due }
+    ensures in_order { IfOk result (λ v. AreInOrder v.items) }
+    ensures within { IfOk result (λ v. AllWithin sources names v.items) }
 {
     let limits = Limits { sources, names };
-    let tokens = read_lines(alloc, mappings.as_bytes(), ranges.as_bytes(), limits)?;
+    let mut tokens = read_lines(alloc, mappings.as_bytes(), ranges.as_bytes(), limits)?;
+    sort_tokens(&mut tokens)?;
     Ok(tokens)
 }
+
+/// Two texts, of mappings and of range bits, have one answer.
+pub fn mappings_determine_one_answer()
+    ensures { (mappings ranges : List ℕ) (counts : Counts) (a b : Result (List RawToken) Error)
+        → MappingsAnswer mappings ranges counts a → MappingsAnswer mappings ranges counts b → a ≡ b }
+{}

@@ -10,7 +10,7 @@ abbrev pub invariant-loop-sums : goal.invariant-loop-sums
 invariant-loop-sums l = record {
   places : l.place + length l.rest ≤ length l.text;
   so_far : (before : List Segment) → AreTextSums before l.fn.sums
-    → PartsSoFar (counts_of l.limits) l.line l.bits before (slice_split (λ b. b == 44) l.text) l.place (slice_split (λ b. b == 44) l.rest) l.initial.tokens.items l.tokens.items l.sums;
+      → PartsSoFar (counts_of l.limits) l.line l.bits before (slice_split (λ b. b == 44) l.text) l.place (slice_split (λ b. b == 44) l.rest) l.initial.tokens.items l.tokens.items l.sums;
 }
 
 abbrev pub decreases-loop-sums : goal.decreases-loop-sums

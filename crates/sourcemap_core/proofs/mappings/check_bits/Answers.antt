@@ -11,10 +11,12 @@ loop-byte-preserved c =
     ∙ cond-false _ _ _ (sym c.is_foreign.ensures ∙ c.if-is_foreign.false)
 
 pub returns-then-is_foreign : goal.returns-then-is_foreign
-returns-then-is_foreign c =
-    (get_or c.args.bits.now c.loop-byte.byte-index 0,
-      c.loop-byte.invariant ∙ at_drop_more first_foreign c.args.bits.now c.loop-byte.byte-index 0 c.loop-byte-test.true
-      ∙ cond-true _ _ _ (sym c.is_foreign.ensures ∙ c.if-is_foreign.true), cc)
+returns-then-is_foreign c = (
+  get_or c.args.bits.now c.loop-byte.byte-index 0,
+  c.loop-byte.invariant ∙ at_drop_more first_foreign c.args.bits.now c.loop-byte.byte-index 0 c.loop-byte-test.true
+      ∙ cond-true _ _ _ (sym c.is_foreign.ensures ∙ c.if-is_foreign.true),
+  cc,
+)
 
 pub returns : goal.returns
 returns c = c.loop-byte.invariant ∙ at_drop_all first_foreign c.args.bits.now c.loop-byte.byte-index c.loop-byte-test.false

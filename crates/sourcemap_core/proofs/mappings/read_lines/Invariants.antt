@@ -9,7 +9,7 @@ abbrev pub invariant-loop-tokens : goal.invariant-loop-tokens
 invariant-loop-tokens l = record {
   numbers : l.number + length l.lines ≤ length l.mappings;
   so_far : PageSoFar (counts_of l.limits) (line_texts l.fn.mappings l.fn.ranges) l.number
-    (beside (slice_split (λ b. b == 59) l.lines) (lines_left l.ranges)) l.tokens.items l.sums;
+      (beside (slice_split (λ b. b == 59) l.lines) (lines_left l.ranges)) l.tokens.items l.sums;
 }
 
 abbrev pub decreases-loop-tokens : goal.decreases-loop-tokens

@@ -5,7 +5,6 @@ use Rattle.std.proofs.lemmas.Bool.{eqb-true, eqb-false, eq-eqb}
 use Rattle.std.proofs.lemmas.Grind.{common_steps}
 use Rattle.std.proofs.lemmas.Int.{ints, to_z-of_z}
 use Rattle.std.specs.Prelude.{vec_len}
-
 use Rattle.sourcemap_core.specs.Answer.{UnlessMemory, IsAnswer, Gives}
 use Rattle.sourcemap_core.specs.Vlq.{Reads, Answers, HasFault, NumberFault, IsSound, BeginsWith}
 use Rattle.sourcemap_core.specs.declared.errors.Error.{Error}
@@ -13,8 +12,6 @@ use Rattle.sourcemap_core.specs.declared.errors.Error.TheVariants.{VlqNoValues}
 use Rattle.sourcemap_core.proofs.AnswerLemmas.{Gives-only, UnlessMemory-from}
 use Rattle.sourcemap_core.proofs.VlqLemmas.{Answers-same, IsSound-more, HasFault-later}
 use Rattle.sourcemap_core.proofs.vlq.parse_vlq_segment.Goals as goal
-
-
 
 pub returns-in_err-number-clause-only : goal.returns-in_err-number-clause-only
 returns-in_err-number-clause-only c answer due =
