@@ -6,13 +6,15 @@ use lib.Signed.{lt_z}
 use mir.Val.{bool_byte}
 use Rattle.std.proofs.Math.Pow.{pow_mono}
 use Rattle.std.proofs.lemmas.Nat.{pow-add, pow_pos, mul-le}
-use Rattle.std.proofs.lemmas.List.{length_push, length-append, append-nil, append_assoc, take_more, take-append-drop, drop_more, take_all, length-take-le}
+use Rattle.std.proofs.lemmas.List.{length_push, length-append, append-nil, append_assoc, take_more, take-append-drop, drop_more, take_all, length-take-le, get_or_default}
 use Rattle.std.proofs.lemmas.Bool.{and_parts, and_from, or_cases, or_parts, and_cases, cases_Bool, cases_lt, cases_eq, eqb-true, eqb-false, leb-true, ltb-true, ltb-false, lt-ltb, le-leb, le-ltb, lt-leb, cond-true, cond-false, false_from_ne_true}
 use Rattle.std.proofs.lemmas.List.Elements.{All-from_recursion}
 use Rattle.std.proofs.lemmas.Bool.Decides.{nat_tests}
 use Rattle.sourcemap_core.specs.declared.errors.Error.{Error}
 use Rattle.sourcemap_core.specs.declared.errors.Error.TheVariants.{VlqLeftover, VlqNoValues, VlqOverflow, InvalidBase64}
 use Rattle.sourcemap_core.specs.Vlq.{digit_value, glyph, GoesOn, IsLast, data_of, raw_of, number_of, IsChain, IsSmall, IsGroup, Reads, IsUnfinished, GoesTo, NumberFault, BeginsWith, IsSound, HasFault, Answers, IsShortest, Spells, IsTooFar, Written}
+use Rattle.sourcemap_core.specs.Answer.{UnlessMemory}
+use Rattle.sourcemap_core.proofs.AnswerLemmas.{UnlessMemory-weaker}
 use Rattle.sourcemap_core.proofs.DigitLemmas.{digit_value-below, glyph-digit_value, digit_value-glyph}
 
 digit_value_cases : (c : ℕ) → (digit_value c ≡ None) ⊎ ((v : ℕ) × (digit_value c ≡ Some v))
@@ -666,3 +668,12 @@ IsShortest-last part n left all low near e some =
       shortest = λ other g. no_shorter (length part) (length (part ++ c ∷ [])) n other g len heavy;
       unsigned_zero = λ one. total_of-not_one n (sym raw ∙ one);
     }
+
+-- a refusal of one of the numbers
+pub Written-refused : (numbers : List ℤ) (k : ℕ) (e : Error) → k < length numbers
+    → UnlessMemory e ((e ≡ VlqOverflow) × IsTooFar (get_or numbers k (pos 0))) → UnlessMemory e (Written numbers (Err e))
+Written-refused numbers k e lt refused =
+    let n : ℤ = get_or numbers k (pos 0) in
+    UnlessMemory-weaker e (λ (w : (e ≡ VlqOverflow) × IsTooFar n).
+      let P : Error → Type 0 = λ x. Written numbers (Err x) in
+      subst P (sym w.0) (k, n, lt, get_or_default numbers k n (pos 0) lt, w.1)) refused
