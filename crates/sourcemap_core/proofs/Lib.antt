@@ -1,6 +1,11 @@
 pub mod AnswerLemmas
 pub mod BitLemmas
 pub mod DigitLemmas
+pub mod MappingsAnswers
+pub mod MappingsLemmas
+pub mod SortLemmas
+pub mod TokensLemmas
+pub mod UtilsLemmas
 pub mod VlqLemmas
 pub mod SortLemmas
 pub mod TokensLemmas

@@ -4,6 +4,7 @@
 
 pub mod bits;
 pub mod errors;
+pub mod mappings;
 pub mod tokens;
 pub mod vlq;
 pub mod utils;
