@@ -7,6 +7,3 @@ pub mod SortLemmas
 pub mod TokensLemmas
 pub mod UtilsLemmas
 pub mod VlqLemmas
-pub mod SortLemmas
-pub mod TokensLemmas
-pub mod UtilsLemmas
