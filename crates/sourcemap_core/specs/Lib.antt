@@ -1,5 +1,6 @@
 pub mod Answer
 pub mod Errors
+pub mod Utils
 pub mod Vlq
 pub mod Bits
 pub mod Tokens
