@@ -1,7 +1,8 @@
 pub mod Answer
+pub mod Bits
 pub mod Errors
+pub mod Mappings
+pub mod MappingsWritten
+pub mod Tokens
 pub mod Utils
 pub mod Vlq
-pub mod Bits
-pub mod Tokens
-pub mod Mappings
