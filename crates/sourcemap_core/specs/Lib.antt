@@ -6,3 +6,4 @@ pub mod MappingsWritten
 pub mod Tokens
 pub mod Utils
 pub mod Vlq
+pub mod WritingSteps

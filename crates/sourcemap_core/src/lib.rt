@@ -5,5 +5,6 @@
 pub mod bits;
 pub mod errors;
 pub mod mappings;
+pub mod mappings_written;
 pub mod tokens;
 pub mod vlq;
