@@ -1,2 +1,5 @@
 pub mod DigitLemmas
 pub mod WritingLemmas
+pub mod WrittenTokens
+pub mod WrittenLines
+pub mod WrittenSegments
