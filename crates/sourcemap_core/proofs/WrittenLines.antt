@@ -2,6 +2,7 @@
 use Rattle.std.proofs.Common.{◌≡◌, ℕ, ◌+◌, ◌-◌, ◌<◌, ◌≤◌, suc, zero, List, [], ◌∷◌, ◌++◌, length, replicate, Option, Some, None, MatchOption, refl, sym, ap, subst, ◌∙◌, inl, inr, ◌⊎◌, ⊎_elim, append_assoc, append-nil, length-append, add-suc, arith}
 use Rattle.std.specs.List.{join_with_byte, last_or, flat_map}
 use Rattle.std.proofs.lemmas.Bool.{cases_lt, cases_eq}
+use Rattle.std.proofs.lemmas.List.{nil_from_length}
 use Rattle.sourcemap_core.specs.declared.tokens.RawToken.{RawToken}
 use Rattle.sourcemap_core.specs.MappingsWritten.{EachLine, LineByLine, line_count}
 
@@ -146,3 +147,7 @@ pub Reached-last : (P : ℕ → List ℕ → Type 0) (line : ℕ) (text : List �
     → line + 1 ≡ line_count tokens → Reached P line text → LineByLine P tokens text
 Reached-last P line text tokens at r =
     subst (λ (t : List ℕ). LineByLine P tokens t) (sym r.is) (Ended-last P line r.above r.here tokens at r.ends r.on)
+
+pub Ended-zero : (P : ℕ → List ℕ → Type 0) (line : ℕ) (text : List ℕ) → line ≡ 0 → Ended P line text → text ≡ []
+unfolding ended
+Ended-zero P line text at e = e.is ∙ ap ended (nil_from_length e.parts (e.count ∙ at))

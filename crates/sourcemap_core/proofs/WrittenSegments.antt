@@ -1,16 +1,18 @@
 -- The text of mappings as it grows by one token.
-use Rattle.std.proofs.Common.{◌≡◌, ◌≢◌, ℕ, ◌+◌, ◌-◌, ◌<◌, ◌≤◌, ◌==◌, ◌^◌, Bool, true, false, cond, List, [], ◌∷◌, ◌++◌, length, replicate, filter, Option, Some, None, MatchOption, refl, sym, ap, subst, ◌∙◌, inl, inr, ◌⊎◌, ⊎_elim, append_assoc, append-nil, arith}
+use Rattle.std.proofs.Common.{◌≡◌, ◌≢◌, ℕ, ◌+◌, ◌-◌, ◌<◌, ◌≤◌, ◌==◌, ◌^◌, Bool, true, false, cond, suc, zero, List, [], ◌∷◌, ◌++◌, length, take, get_or, add-one, replicate, filter, Option, Some, None, MatchOption, refl, sym, ap, subst, ◌∙◌, inl, inr, ◌⊎◌, ⊎_elim, append_assoc, append-nil, arith}
 use Rattle.std.specs.List.{join_with_byte, last_or, AllByRecursion}
 use Rattle.std.specs.Option.{option_map_or}
-use Rattle.std.proofs.lemmas.Bool.{cases_lt, cases_eq, eqb-true}
+use Rattle.std.specs.Ordering.{is_lt}
+use Rattle.std.proofs.lemmas.Bool.{cases_lt, cases_eq}
+use Rattle.std.proofs.lemmas.List.{take_more}
 use Rattle.std.proofs.lemmas.Bool.Decides.{nat_tests}
 use Rattle.sourcemap_core.specs.declared.tokens.RawToken.{RawToken}
-use Rattle.sourcemap_core.specs.Tokens.{without_repeats}
+use Rattle.sourcemap_core.specs.Tokens.{AreInOrder, position_cmp, destination, without_repeats}
 use Rattle.sourcemap_core.specs.Vlq.{Spells}
 use Rattle.sourcemap_core.specs.MappingsWritten.{is_on, is_above, has_source, has_name, last_field, base, numbers, AreSegments, IsLine, IsWritten, line_count}
 use Rattle.sourcemap_core.specs.WritingSteps.{Adds, repeats, follows, gap, at_line, moved}
 use Rattle.sourcemap_core.proofs.WrittenTokens.{UpTo, Rises, Rises-push, all_push, all_weaker, cut_at, none_on, filter_push_no, filter_push_yes, last_or-push, last_field-push_no, last_field-push_yes, without_repeats-repeat, without_repeats-more, same_line, on_yes, on_no, below_yes, below_no}
-use Rattle.sourcemap_core.proofs.WrittenLines.{Reached, Reached-turn, Reached-more, Reached-last, Ended-none}
+use Rattle.sourcemap_core.proofs.WrittenLines.{Reached, Reached-turn, Reached-more, Reached-last, Ended-none, Ended-zero}
 
 -- What segments are taken against.
 
@@ -183,7 +185,7 @@ grown : (names line : ℕ) (ts : List RawToken) (previous : Option RawToken) (t 
     → Reached (IsLine names (ts ++ t ∷ [])) t.dst_line ((text ++ gap previous line t) ++ digits)
 grown names line ts previous t text digits h rises u s spelled r =
     let n = t.dst_line in
-    let ends = replicate (n - line) 59 in
+    let ends : List ℕ = replicate (n - line) 59 in
     let some_comma = comma (filter (is_on n) ts) in
     let upto : UpTo n ts = all_weaker (λ v. v.dst_line ≤ line) (λ v. v.dst_line ≤ n) (λ v k. omega arith) ts u in
     let turned = Reached-turn (IsLine names ts) line n text h (λ m k. IsLine-blank names line m ts u k) r in
@@ -226,3 +228,48 @@ Writing-more names done previous against text new t e h adds w =
       last = sym (last_or-push None done t);
       reached = subst (λ (us : List RawToken). Reached (IsLine names us) n new) more reached;
     }
+
+-- The whole text.
+
+line_from_order : (p q : ℕ × ℕ) → is_lt (position_cmp q p) ≡ false → p.0 ≤ q.0
+line_from_order p q e = grind (arith, nat_tests)
+
+some_inj : (p q : RawToken) → Some p ≡ Some q → p ≡ q
+some_inj p q e = cc
+
+-- the next token stands on the line of what the text has come to, or below it
+pub next_line : (names i : ℕ) (tokens : List RawToken) (previous : Option RawToken) (against t d : RawToken) (text : List ℕ)
+    → AreInOrder tokens → i < length tokens → t ≡ get_or tokens i d → Writing names (take i tokens) previous against text
+    → against.dst_line ≤ t.dst_line
+next_line names i tokens None against t d text order h at w = (let zero_line = w.stands.0 in omega arith)
+next_line names zero tokens (Some p) against t d text order h at w = absurd (let last = w.last in cc)
+next_line names (suc k) tokens (Some p) against t d text order h at w =
+    let before = get_or tokens k d in
+    let last : last_or None (take (suc k) tokens) ≡ Some before =
+        ap (λ (n : ℕ). last_or None (take n tokens)) (sym (add-one k))
+        ∙ ap (last_or None) (take_more tokens k d (omega arith)) ∙ last_or-push None (take k tokens) before in
+    let is : p ≡ before = some_inj p before (w.last ∙ last) in
+    let sorted = line_from_order (destination before) (destination (get_or tokens (k + 1) d)) (order k d (omega arith) (omega arith)) in
+    let here : get_or tokens (k + 1) d ≡ t = ap (λ (n : ℕ). get_or tokens n d) (add-one k) ∙ sym at in
+    let on : p.dst_line ≡ against.dst_line = w.stands.0 in
+    let line : p.dst_line ≡ before.dst_line = ap (λ (u : RawToken). u.dst_line) is in
+    let its_line : (get_or tokens (k + 1) d).dst_line ≡ t.dst_line = ap (λ (u : RawToken). u.dst_line) here in
+    omega arith
+
+nothing_yet : (names : ℕ) (line : ℕ) (ts : List RawToken) (text : List ℕ) → line ≡ 0 → ts ≡ [] → Reached (IsLine names ts) line text → text ≡ []
+nothing_yet names line ts text at none r =
+    let line_is : IsLine names [] line r.here = subst (λ (us : List RawToken). IsLine names us line r.here) none r.on in
+    let here : r.here ≡ [] = line_is.2 ∙ ap (join_with_byte 44) line_is.1 in
+    let above : r.above ≡ [] = Ended-zero (IsLine names ts) line r.above at r.ends in
+    r.is ∙ ap (λ x. x ++ r.here) above ∙ here
+
+pub Writing-end : (names : ℕ) (tokens : List RawToken) (previous : Option RawToken) (against : RawToken) (text : List ℕ)
+    → Writing names tokens previous against text → IsWritten names tokens text
+Writing-end names tokens None against text w =
+    ([], sym (ap (λ o. option_map_or (λ t. t.dst_line + 1) o 0) (sym w.last)), tt,
+     nothing_yet names against.dst_line (without_repeats tokens) text w.stands.0 w.stands.1 w.reached)
+Writing-end names tokens (Some p) against text w =
+    let on : p.dst_line ≡ against.dst_line = w.stands.0 in
+    Reached-last (IsLine names (without_repeats tokens)) against.dst_line text tokens
+        (ap (λ n. n + 1) (sym on) ∙ ap (λ o. option_map_or (λ t. t.dst_line + 1) o 0) w.last)
+        w.reached
