@@ -1,5 +1,7 @@
+pub mod AnswerLemmas
 pub mod DigitLemmas
+pub mod VlqLemmas
 pub mod WritingLemmas
-pub mod WrittenTokens
 pub mod WrittenLines
 pub mod WrittenSegments
+pub mod WrittenTokens

@@ -10,6 +10,7 @@ ghost use Rattle.sourcemap_core.specs.declared.errors.Error.TheVariants.{OutOfMe
 
 use crate::errors::{Error, Result};
 use crate::tokens::RawToken;
+use crate::vlq::push_number;
 use std::alloc::{AllocError, Global};
 
 // The id that names nothing.
@@ -28,15 +29,6 @@ const START: RawToken = RawToken {
 
 // For how many tokens room is made at first, six bytes each.
 const FIRST_TOKENS: usize = 1 << 28;
-
-fn push_number(text: &mut String, number: i64) -> Result<()>
-    ensures written { OnOk result ((digits : List ℕ) × IsShortest digits number × (string_bytes text.new ≡ string_bytes text.old ++ digits)) }
-    ensures refused { IfErr result (λ e. UnlessMemory e ((e ≡ VlqOverflow) × IsTooFar number)) }
-{
-    let _ = text;
-    let _ = number;
-    Err(Error::OutOfMemory)
-}
 
 #[inline]
 fn has_source(token: RawToken) -> bool
