@@ -1,5 +1,8 @@
 pub mod AnswerLemmas
 pub mod DigitLemmas
+pub mod SortLemmas
+pub mod TokensLemmas
+pub mod UtilsLemmas
 pub mod VlqLemmas
 pub mod WritingLemmas
 pub mod WrittenLines

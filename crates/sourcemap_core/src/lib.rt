@@ -7,4 +7,5 @@ pub mod errors;
 pub mod mappings;
 pub mod mappings_written;
 pub mod tokens;
+pub mod utils;
 pub mod vlq;
