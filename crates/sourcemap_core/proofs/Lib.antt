@@ -8,3 +8,4 @@ pub mod WritingLemmas
 pub mod WrittenLines
 pub mod WrittenSegments
 pub mod WrittenTokens
+pub mod WrittenSums
