@@ -9,3 +9,5 @@ pub mod WrittenLines
 pub mod WrittenSegments
 pub mod WrittenTokens
 pub mod WrittenSums
+pub mod WrittenBytes
+pub mod WrittenReadBack

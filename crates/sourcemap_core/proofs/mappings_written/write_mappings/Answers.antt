@@ -4,6 +4,7 @@ use Rattle.sourcemap_core.specs.declared.tokens.RawToken.{RawToken}
 use Rattle.sourcemap_core.specs.MappingsWritten.{numbers, base}
 use Rattle.sourcemap_core.specs.WritingSteps.{Adds, repeats, gap, at_line, moved}
 use Rattle.sourcemap_core.proofs.WrittenSums.{sum_same}
+use Rattle.sourcemap_core.proofs.WrittenReadBack.{reads_back}
 use Rattle.sourcemap_core.proofs.WrittenSegments.{Writing, Writing-none, Writing-repeat, Writing-more, Writing-end, next_line}
 use Rattle.sourcemap_core.proofs.mappings_written.write_mappings.Goals as goal
 use Rattle.sourcemap_core.proofs.mappings_written.write_mappings.Goals.{then-not-is_repeat+in_ok-against, else-not-is_repeat}
