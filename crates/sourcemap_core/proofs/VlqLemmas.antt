@@ -1,5 +1,5 @@
 -- Groups of digits: how they are made digit by digit, and that a text reads in one way.
-use Rattle.std.proofs.Common.{◌≡◌, ◌≢◌, ℕ, zero, suc, ◌+◌, ◌-◌, ◌*◌, ◌/◌, ◌%◌, ◌^◌, ◌<◌, ◌≤◌, ◌==◌, ◌&&◌, ◌||◌, Bool, true, false, nat_lt, nat_le, List, [], ◌∷◌, ◌++◌, length, take, drop, get_or, Option, Some, None, unwrap_or, refl, sym, ◌∙◌, ap, subst, arith, inl, inr, ◌⊎◌, if◌then◌else◌, Result, Ok, Err, ℤ, pos, negsuc, unsigned_abs, Any}
+use Rattle.std.proofs.Common.{◌≡◌, ◌≢◌, ℕ, zero, suc, ◌+◌, ◌*◌, ◌/◌, ◌%◌, ◌^◌, ◌<◌, ◌≤◌, ◌==◌, ◌&&◌, ◌||◌, Bool, true, false, nat_lt, nat_le, List, [], ◌∷◌, ◌++◌, length, take, drop, get_or, Option, Some, None, unwrap_or, refl, sym, ◌∙◌, ap, subst, arith, inl, inr, ◌⊎◌, if◌then◌else◌, Result, Ok, Err, ℤ, pos, negsuc, unsigned_abs, Any}
 use Rattle.std.specs.List.{AllByRecursion}
 use lib.IntN.{neg_ℤ}
 use lib.Signed.{lt_z}
@@ -7,9 +7,8 @@ use mir.Val.{bool_byte}
 use Rattle.std.proofs.Math.Pow.{pow_mono}
 use Rattle.std.proofs.lemmas.Nat.{pow-add, pow_pos, mul-le}
 use Rattle.std.proofs.lemmas.List.{length_push, length-append, append-nil, append_assoc, take_more, take-append-drop, drop_more, take_all, length-take-le, get_or_default}
-use Rattle.std.proofs.lemmas.Bool.{and_parts, and_from, or_cases, or_parts, and_cases, cases_Bool, cases_lt, cases_eq, eqb-true, eqb-false, leb-true, ltb-true, ltb-false, lt-ltb, le-leb, le-ltb, lt-leb, cond-true, cond-false, false_from_ne_true}
+use Rattle.std.proofs.lemmas.Bool.{and_parts, and_from, or_cases, or_parts, and_cases, cases_lt, cases_eq, eqb-true, eqb-false, leb-true, ltb-true, ltb-false, lt-ltb, le-leb, le-ltb, false_from_ne_true}
 use Rattle.std.proofs.lemmas.List.Elements.{All-from_recursion}
-use Rattle.std.proofs.lemmas.Bool.Decides.{nat_tests}
 use Rattle.sourcemap_core.specs.declared.errors.Error.{Error}
 use Rattle.sourcemap_core.specs.declared.errors.Error.TheVariants.{VlqLeftover, VlqNoValues, VlqOverflow, InvalidBase64}
 use Rattle.sourcemap_core.specs.Vlq.{digit_value, glyph, GoesOn, IsLast, data_of, raw_of, number_of, IsChain, IsSmall, IsGroup, Reads, IsUnfinished, GoesTo, NumberFault, BeginsWith, IsSound, HasFault, Answers, IsShortest, Spells, IsTooFar, Written}
@@ -130,7 +129,7 @@ IsUnfinished-more text n v h unfinished e goes room =
     let on : GoesOn c = (v, e, goes) in
     rw (take_more text n 0 h) (record {
       goes_on = GoesOn-push (take n text) c unfinished.goes_on on;
-      fits = has_room-small (take n text) c n unfinished len room'
+      fits = has_room-small (take n text) c n unfinished len room';
     })
 
 pub raw_of-more : (text : List ℕ) (n v : ℕ) → n < length text → digit_value (get_or text n 0) ≡ Some v
@@ -159,7 +158,7 @@ BeginsWith-last text n v h unfinished e last room =
     record {
       group = take (n + 1) text;
       is_group = record { chain = rw more chain; few = fits'.few; small = fits'.small; value = refl };
-      split = sym (take-append-drop (n + 1) text)
+      split = sym (take-append-drop (n + 1) text);
     }
 
 pub NumberFault-foreign : (text : List ℕ) (n c : ℕ) → n < length text → IsUnfinished (take n text)
@@ -218,9 +217,10 @@ Reads-push front group (m ∷ ms) n reads is_group =
 pub IsSound-more : (text rest behind : List ℕ) (front : List ℕ) (numbers : List ℤ) (n : ℤ)
     → Reads front numbers → text ≡ front ++ rest → (b : BeginsWith rest n behind)
     → Reads (front ++ b.group) (numbers ++ n ∷ []) × (text ≡ (front ++ b.group) ++ behind)
-IsSound-more text rest behind front numbers n reads split b =
-    (Reads-push front b.group numbers n reads b.is_group,
-     split ∙ (ap (λ xs. front ++ xs) b.split ∙ sym (append_assoc front b.group behind)))
+IsSound-more text rest behind front numbers n reads split b = (
+  Reads-push front b.group numbers n reads b.is_group,
+  split ∙ (ap (λ xs. front ++ xs) b.split ∙ sym (append_assoc front b.group behind)),
+)
 
 -- ---- a text reads in one way: what comes out, from the left
 
@@ -382,8 +382,8 @@ same-fault : (text rest : List ℕ) (e : Error) → IsSound text rest → rest �
 unfolding answer_of not_none
 same-fault text rest e sound ne fault =
     let scanned : scan_from [] text ≡ Err e =
-        ap (λ xs. scan_from [] xs) sound.split ∙ (scan-reads sound.front rest sound.numbers sound.reads
-        ∙ (ap (λ r. with_numbers sound.numbers r) (scan-fault rest e fault ne) ∙ with_numbers-err sound.numbers e)) in
+    ap (λ xs. scan_from [] xs) sound.split ∙ (scan-reads sound.front rest sound.numbers sound.reads
+    ∙ (ap (λ r. with_numbers sound.numbers r) (scan-fault rest e fault ne) ∙ with_numbers-err sound.numbers e)) in
     sym (ap not_none scanned)
 
 answer-same : (text : List ℕ) (answer : Result (List ℤ) Error) → Answers text answer → answer ≡ answer_of text
@@ -450,9 +450,9 @@ total_of-number r =
           odd_total r (r / 2) whole number
     ]
   where
-  odd_total : (r h : ℕ) → r ≡ 2 * h + 1 → number_of r ≡ neg_ℤ (pos h) → (r ≡ 1) ⊎ (total_of (number_of r) ≡ r)
-  odd_total r zero whole number = inl whole
-  odd_total r (suc h) whole number = inr (ap total_of number ∙ sym whole)
+    odd_total : (r h : ℕ) → r ≡ 2 * h + 1 → number_of r ≡ neg_ℤ (pos h) → (r ≡ 1) ⊎ (total_of (number_of r) ≡ r)
+    odd_total r zero whole number = inl whole
+    odd_total r (suc h) whole number = inr (ap total_of number ∙ sym whole)
 
 pub IsGroup-raw : (group : List ℕ) (n : ℤ) → IsGroup group n → (raw_of group ≡ 1) ⊎ (raw_of group ≡ total_of n)
 IsGroup-raw group n g =
@@ -460,7 +460,6 @@ IsGroup-raw group n g =
       | inl one ↦ inl one
       | inr same ↦ inr (sym same ∙ ap total_of (sym g.value))
     ]
-
 
 -- of equal digits in number, and of equal worth, are equal
 digit_from-last : (c d : ℕ) → IsLast c → IsLast d → data_of c ≡ data_of d → c ≡ d
@@ -663,10 +662,10 @@ IsShortest-last part n left all low near e some =
         chain = IsChain-push part c all (IsLast-glyph left low);
         few = few_digits (length part) (length (part ++ c ∷ [])) (total_of n) len small heavy;
         small = rw raw small;
-        value = sym (ap number_of raw ∙ number_of-total n)
+        value = sym (ap number_of raw ∙ number_of-total n);
       };
       shortest = λ other g. no_shorter (length part) (length (part ++ c ∷ [])) n other g len heavy;
-      unsigned_zero = λ one. total_of-not_one n (sym raw ∙ one)
+      unsigned_zero = λ one. total_of-not_one n (sym raw ∙ one);
     }
 
 -- a refusal of one of the numbers
@@ -675,5 +674,14 @@ pub Written-refused : (numbers : List ℤ) (k : ℕ) (e : Error) → k < length 
 Written-refused numbers k e lt refused =
     let n : ℤ = get_or numbers k (pos 0) in
     UnlessMemory-weaker e (λ (w : (e ≡ VlqOverflow) × IsTooFar n).
-      let P : Error → Type 0 = λ x. Written numbers (Err x) in
-      subst P (sym w.0) (k, n, lt, get_or_default numbers k n (pos 0) lt, w.1)) refused
+    let P : Error → Type 0 = λ x. Written numbers (Err x) in
+    subst P (sym w.0) (k, n, lt, get_or_default numbers k n (pos 0) lt, w.1)) refused
+
+-- a number of one digit
+pub BeginsWith-first : (text : List ℕ) (v : ℕ) → 0 < length text → digit_value (get_or text 0 0) ≡ Some v → v < 32
+    → BeginsWith text (number_of v) (drop 1 text)
+BeginsWith-first text v h e last =
+    let sum = sum_of-more text 0 v 0 (v % 32) h IsUnfinished-nil e refl refl refl in
+    let raw : v ≡ raw_of (take 1 text) = omega (arith, sum.0) in
+    let begins : BeginsWith text (number_of (raw_of (take 1 text))) (drop 1 text) = BeginsWith-last text 0 v h IsUnfinished-nil e last refl in
+    rw raw begins

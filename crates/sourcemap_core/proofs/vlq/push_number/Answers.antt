@@ -1,10 +1,10 @@
-use Rattle.std.proofs.Common.{◌≡◌, ℕ, ◌+◌, ◌*◌, ◌/◌, ◌%◌, ◌^◌, ◌<◌, ◌≤◌, List, [], ◌∷◌, ◌++◌, length, string_bytes, sym, ◌∙◌, ap, arith, ℤ, pos, unsigned_abs, to_z, of_z, w64}
+use Rattle.std.proofs.Common.{◌≡◌, ℕ, ◌+◌, ◌*◌, ◌%◌, ◌^◌, ◌<◌, List, [], ◌∷◌, ◌++◌, string_bytes, ◌∙◌, ap, arith, pos, unsigned_abs, to_z, of_z, w64}
 use mir.Val.{bool_byte}
 use lib.Signed.{lt_z}
 use Rattle.std.proofs.lemmas.Int.{to_z-of_z}
 use Rattle.std.specs.List.{AllByRecursion}
 use Rattle.std.proofs.lemmas.List.{append_assoc}
-use Rattle.sourcemap_core.specs.Vlq.{raw_of, GoesOn, glyph, IsShortest}
+use Rattle.sourcemap_core.specs.Vlq.{GoesOn, glyph}
 use Rattle.sourcemap_core.proofs.DigitLemmas.{glyph-ascii}
 use Rattle.sourcemap_core.proofs.VlqLemmas.{GoesOn-push, GoesOn-glyph, raw_of-split, IsShortest-last, total_of, total_of-parts}
 use Rattle.sourcemap_core.proofs.vlq.push_number.Goals as goal
@@ -17,8 +17,8 @@ loop-raw-preserved c =
     let code : c.from-in-loop-raw.result ≡ digit = c.from-in-loop-raw.ensures ∙ c.glyph_of.ensures in
     let ascii : digit < 128 = glyph-ascii (left % 32 + 32) (omega arith) in
     let written : string_bytes c.push.new.self ≡ string_bytes c.args.text.now ++ (part ++ digit ∷ []) =
-        c.in_ok-push.ensures.bytes ∙ (ap (λ xs. string_bytes c.loop-raw.text ++ xs) (c.in_ok-push.ensures.ascii (omega arith) ∙ ap (λ x. x ∷ []) code)
-        ∙ (ap (λ xs. xs ++ digit ∷ []) c.loop-raw.invariant.1 ∙ append_assoc (string_bytes c.args.text.now) part (digit ∷ []))) in
+    c.in_ok-push.ensures.bytes ∙ (ap (λ xs. string_bytes c.loop-raw.text ++ xs) (c.in_ok-push.ensures.ascii (omega arith) ∙ ap (λ x. x ∷ []) code)
+    ∙ (ap (λ xs. xs ++ digit ∷ []) c.loop-raw.invariant.1 ∙ append_assoc (string_bytes c.args.text.now) part (digit ∷ []))) in
     let all : AllByRecursion GoesOn (part ++ digit ∷ []) = GoesOn-push part digit c.loop-raw.invariant.2 (GoesOn-glyph (left % 32) (omega arith)) in
     (part ++ digit ∷ [], written, all, raw_of-split part _ left c.loop-raw.invariant.3, λ _. omega arith)
 
@@ -30,8 +30,8 @@ returns-clause-written c =
     let code : c.from-2.result ≡ digit = c.from-2.ensures ∙ c.glyph_of-2.ensures in
     let ascii : digit < 128 = glyph-ascii left (omega arith) in
     let written : string_bytes c.push-2.new.self ≡ string_bytes c.args.text.now ++ (part ++ digit ∷ []) =
-        c.in_ok-push-2.ensures.bytes ∙ (ap (λ xs. string_bytes c.loop-raw.text ++ xs) (c.in_ok-push-2.ensures.ascii (omega arith) ∙ ap (λ x. x ∷ []) code)
-        ∙ (ap (λ xs. xs ++ digit ∷ []) c.loop-raw.invariant.1 ∙ append_assoc (string_bytes c.args.text.now) part (digit ∷ []))) in
+    c.in_ok-push-2.ensures.bytes ∙ (ap (λ xs. string_bytes c.loop-raw.text ++ xs) (c.in_ok-push-2.ensures.ascii (omega arith) ∙ ap (λ x. x ∷ []) code)
+    ∙ (ap (λ xs. xs ++ digit ∷ []) c.loop-raw.invariant.1 ∙ append_assoc (string_bytes c.args.text.now) part (digit ∷ []))) in
     let whole : to_z w64 (of_z w64 c.args.number) ≡ c.args.number = to_z-of_z w64 c.args.number c.ranges.number in
     let magnitude : c.unsigned_abs-magnitude.result ≡ unsigned_abs c.args.number = c.unsigned_abs-magnitude.ensures.value ∙ ap unsigned_abs whole in
     let near : unsigned_abs c.args.number < 2 ^ 62 = omega (arith, c.if-magnitude.false) in
