@@ -6,9 +6,9 @@ pub mod TokensLemmas
 pub mod UtilsLemmas
 pub mod VlqLemmas
 pub mod WritingLemmas
-pub mod WrittenLines
-pub mod WrittenSegments
-pub mod WrittenTokens
-pub mod WrittenSums
 pub mod WrittenBytes
+pub mod WrittenLines
 pub mod WrittenReadBack
+pub mod WrittenSegments
+pub mod WrittenSums
+pub mod WrittenTokens

@@ -15,7 +15,7 @@ use Rattle.std.proofs.lemmas.Nat.Bits.{bit_at-zero}
 use Rattle.sourcemap_core.proofs.TokensLemmas.{All-without_repeats, in_order-ordered, AreInOrder-reduced}
 use Rattle.sourcemap_core.proofs.VlqLemmas.{Spells-Reads}
 use Rattle.sourcemap_core.proofs.WrittenTokens.{UpTo, Rises, above_more, last_field-push_yes, on_yes}
-use Rattle.sourcemap_core.proofs.WrittenSums.{IsSound, segment_of, Carries, Carries-none, Carries-more, column_more, segment_sound, token_back}
+use Rattle.sourcemap_core.proofs.WrittenSums.{IsSound, IsSmall, all_sound_from, segment_of, Carries, Carries-none, Carries-more, column_more, segment_sound, token_back}
 use Rattle.sourcemap_core.proofs.WrittenBytes.{IsFree, IsMark, Spells-free, Spells-nonempty, digits_free, join_free, split_join}
 
 -- Segments of a line.
@@ -308,9 +308,8 @@ none_any (t ∷ ts) e = go t.is_range refl e (none_any ts) where
     go false is h rest = (is, rest h)
 
 -- the text of range bits, empty where there is none
-abbrev pub range_text : Option (List ℕ) → List ℕ
-range_text None = []
-range_text (Some text) = text
+abbrev range_text : Option (List ℕ) → List ℕ
+range_text ranges = option_map_or (λ bits. bits) ranges []
 
 some_lines : (t : RawToken) (ts : List RawToken) → 0 < line_count (t ∷ ts)
 some_lines t [] = omega arith
@@ -334,22 +333,22 @@ texts_fit names tokens text (Some bits) some written is =
 
 -- the texts of tokens in order stand for what is left of them
 pub reads_back : (sources names : ℕ) (tokens : List RawToken) (text : List ℕ) (ranges : Option (List ℕ))
-    → sources < 2 ^ 32 → names < 2 ^ 32 → AreInOrder tokens → AllByRecursion (IsSound sources names) tokens
+    → sources < 2 ^ 32 → names < 2 ^ 32 → AreInOrder tokens → AllWithin sources names tokens → AllByRecursion IsSmall (without_repeats tokens)
     → Rises (without_repeats tokens) → filter (is_above (line_count tokens)) (without_repeats tokens) ≡ without_repeats tokens
     → IsWritten names tokens text → IsRangeText tokens ranges
     → MappingsAnswer text (range_text ranges) (record { sources = sources; names = names }) (Ok (reduced names tokens))
-reads_back sources names [] text None few few_names order sound rises upto written is =
+reads_back sources names [] text None few few_names order within small rises upto written is =
     let text_is : text ≡ [] = written.3 ∙ ap (join_with_byte 59) (nil_from_length written.0 written.1) in
     subst (λ (t : List ℕ). MappingsAnswer t [] (record { sources = sources; names = names }) (Ok [])) (sym text_is)
         (record { bits = []; segments = [] } ∷ [], (refl, refl), refl)
-reads_back sources names [] text (Some bits) few few_names order sound rises upto written is = absurd (let no = is.0 in cc)
-reads_back sources names (t ∷ rest) text ranges few few_names order sound rises upto written is =
+reads_back sources names [] text (Some bits) few few_names order within small rises upto written is = absurd (let no = is.0 in cc)
+reads_back sources names (t ∷ rest) text ranges few few_names order within small rises upto written is =
     let tokens = t ∷ rest in
     let ts = without_repeats tokens in
     let texts = line_texts text (range_text ranges) in
     let some = some_lines t rest in
     let each = texts_fit names tokens text ranges some written is in
-    let all_sound = All-without_repeats (IsSound sources names) tokens sound in
+    let all_sound = all_sound_from sources names ts few (All-without_repeats (IsWithin sources names) tokens within) small in
     let begun : Carries names (filter (is_above 0) ts) [] = subst (λ (us : List RawToken). Carries names us []) (sym (none_above_first ts)) (Carries-none names) in
     let back = page_back sources names 0 ts [] texts few few_names all_sound rises begun each in
     let lines = lines_split (IsLine names ts) tokens text some (IsLine-free names ts) written in

@@ -11,7 +11,8 @@ use Rattle.sourcemap_core.specs.Tokens.{AreInOrder, position_cmp, destination, w
 use Rattle.sourcemap_core.specs.Vlq.{Spells}
 use Rattle.sourcemap_core.specs.MappingsWritten.{is_on, is_above, has_source, has_name, last_field, base, numbers, AreSegments, IsLine, IsWritten, line_count}
 use Rattle.sourcemap_core.specs.WritingSteps.{Adds, repeats, follows, gap, at_line, moved}
-use Rattle.sourcemap_core.proofs.WrittenTokens.{UpTo, Rises, Rises-push, all_push, all_weaker, cut_at, none_on, filter_push_no, filter_push_yes, last_or-push, last_field-push_no, last_field-push_yes, without_repeats-repeat, without_repeats-more, same_line, on_yes, on_no, below_yes, below_no}
+use Rattle.sourcemap_core.proofs.WrittenSums.{IsSmall}
+use Rattle.sourcemap_core.proofs.WrittenTokens.{UpTo, Rises, Rises-push, all_push, all_weaker, all_above, cut_at, none_on, filter_push_no, filter_push_yes, last_or-push, last_field-push_no, last_field-push_yes, without_repeats-repeat, without_repeats-more, same_line, on_yes, on_no, below_yes, below_no}
 use Rattle.sourcemap_core.proofs.WrittenLines.{Reached, Reached-turn, Reached-more, Reached-last, Ended-none, Ended-zero}
 
 -- What segments are taken against.
@@ -116,17 +117,19 @@ Stands line ts (Some p) = (p.dst_line ≡ line) × ((u : RawToken) × (us : List
 
 -- the text, what the next segment is taken against, and the token before, where `done` are the tokens so far
 pub record Writing (names : ℕ) (done : List RawToken) (previous : Option RawToken) (against : RawToken) (text : List ℕ) : Type 0 where
-  rises : Rises (without_repeats done)
-  upto : UpTo against.dst_line (without_repeats done)
-  against_is : against ≡ base names against.dst_line (without_repeats done)
-  stands : Stands against.dst_line (without_repeats done) previous
-  last : previous ≡ last_or None done
-  reached : Reached (IsLine names (without_repeats done)) against.dst_line text
+  pub rises : Rises (without_repeats done)
+  pub upto : UpTo against.dst_line (without_repeats done)
+  pub small : AllByRecursion IsSmall (without_repeats done)
+  pub against_is : against ≡ base names against.dst_line (without_repeats done)
+  pub stands : Stands against.dst_line (without_repeats done) previous
+  pub last : previous ≡ last_or None done
+  pub reached : Reached (IsLine names (without_repeats done)) against.dst_line text
 
 pub Writing-none : (names : ℕ) → Writing names [] None (base names 0 []) []
 Writing-none names = record {
   rises = tt;
   upto = tt;
+  small = tt;
   against_is = refl;
   stands = (refl, refl);
   last = refl;
@@ -145,6 +148,7 @@ Writing-repeat names done previous against text t e w =
     record {
       rises = subst (λ (ts : List RawToken). Rises ts) same w.rises;
       upto = subst (λ (ts : List RawToken). UpTo against.dst_line ts) same w.upto;
+      small = subst (λ (ts : List RawToken). AllByRecursion IsSmall ts) same w.small;
       against_is = subst (λ (ts : List RawToken). against ≡ base names against.dst_line ts) same w.against_is;
       stands = subst (λ (ts : List RawToken). Stands against.dst_line ts (Some t)) same
         (stands_repeat against.dst_line (without_repeats done) previous t e w.stands);
@@ -203,9 +207,9 @@ grown names line ts previous t text digits h rises u s spelled r =
 pub Writing-more : (names : ℕ) (done : List RawToken) (previous : Option RawToken) (against : RawToken) (text new : List ℕ) (t : RawToken)
     → repeats previous t ≡ false → against.dst_line ≤ t.dst_line
     → Adds (numbers names (at_line against t.dst_line) t) (text ++ gap previous against.dst_line t) new
-    → Writing names done previous against text
+    → IsSmall t → Writing names done previous against text
     → Writing names (done ++ t ∷ []) (Some t) (moved names (at_line against t.dst_line) t) new
-Writing-more names done previous against text new t e h adds w =
+Writing-more names done previous against text new t e h adds small w =
     let ts = without_repeats done in
     let more : ts ++ t ∷ [] ≡ without_repeats (done ++ t ∷ []) = sym (without_repeats-more done t (subst (λ (o : Option RawToken). repeats o t ≡ false) w.last e)) in
     let line = against.dst_line in
@@ -221,6 +225,7 @@ Writing-more names done previous against text new t e h adds w =
     let full = some_last (filter (is_on n) ts) t in
     record {
       rises = subst (λ (us : List RawToken). Rises us) more (Rises-push ts t w.rises upto);
+      small = subst (λ (us : List RawToken). AllByRecursion IsSmall us) more (all_push IsSmall ts t w.small small);
       upto = subst (λ (us : List RawToken). UpTo n us) more (all_push (λ v. v.dst_line ≤ n) ts t upto (omega arith));
       against_is = subst (λ (us : List RawToken). moved names (at_line against n) t ≡ base names n us) more last_is;
       stands = (refl, subst (λ (us : List RawToken). (u : RawToken) × (vs : List RawToken) × (filter (is_on n) us ≡ u ∷ vs)) more
@@ -255,6 +260,17 @@ next_line names (suc k) tokens (Some p) against t d text order h at w =
     let line : p.dst_line ≡ before.dst_line = ap (λ (u : RawToken). u.dst_line) is in
     let its_line : (get_or tokens (k + 1) d).dst_line ≡ t.dst_line = ap (λ (u : RawToken). u.dst_line) here in
     omega arith
+
+-- the lines of what was written are those of the tokens
+pub all_lines : (names : ℕ) (tokens : List RawToken) (previous : Option RawToken) (against : RawToken) (text : List ℕ)
+    → Writing names tokens previous against text → filter (is_above (line_count tokens)) (without_repeats tokens) ≡ without_repeats tokens
+all_lines names tokens None against text w =
+    ap (filter (is_above (line_count tokens))) w.stands.1 ∙ sym w.stands.1
+all_lines names tokens (Some p) against text w =
+    let on : p.dst_line ≡ against.dst_line = w.stands.0 in
+    let count : line_count tokens ≡ against.dst_line + 1 =
+        ap (λ o. option_map_or (λ t. t.dst_line + 1) o 0) (sym w.last) ∙ ap (λ n. n + 1) on in
+    ap (λ n. filter (is_above n) (without_repeats tokens)) count ∙ all_above against.dst_line (without_repeats tokens) w.upto
 
 nothing_yet : (names : ℕ) (line : ℕ) (ts : List RawToken) (text : List ℕ) → line ≡ 0 → ts ≡ [] → Reached (IsLine names ts) line text → text ≡ []
 nothing_yet names line ts text at none r =

@@ -1,6 +1,7 @@
 -- The sums of what was written give the tokens back.
 use Rattle.std.proofs.Common.{◌≡◌, ◌≢◌, ℕ, ◌+◌, ◌-◌, ◌*◌, ◌/◌, ◌%◌, ◌^◌, ◌<◌, ◌≤◌, ◌==◌, ◌&&◌, nat_lt, nat_le, Bool, true, false, cond, List, [], ◌∷◌, ◌++◌, length, sum_by, map, Option, Some, None, ℤ, pos, ◌-ℤ◌, unsigned_abs, refl, sym, ap, subst, ◌∙◌, inl, inr, ◌⊎◌, ⊎_elim, append_assoc, append-nil, add-zero, arith, slice_get}
 use Rattle.std.specs.Option.{option_map_or}
+use Rattle.std.specs.List.{AllByRecursion}
 use Rattle.std.specs.Int.{int_rem_euclid}
 use Rattle.std.proofs.lemmas.Bool.{cases_lt, cases_eq, eqb-true}
 use Rattle.std.proofs.lemmas.Bool.Decides.{nat_tests}
@@ -13,6 +14,7 @@ use Rattle.sourcemap_core.specs.Bits.{bit_of}
 use Rattle.sourcemap_core.specs.Tokens.{IsWithin, with_sound_name}
 use Rattle.sourcemap_core.specs.Mappings.{Counts, Segment, step, sum_at, has_number, field, token_of, segment_fault}
 use Rattle.sourcemap_core.specs.MappingsWritten.{is_on, has_source, has_name, last_field, base, difference, numbers}
+use Rattle.sourcemap_core.specs.WritingSteps.{HasSmallPlaces}
 use Rattle.sourcemap_core.proofs.WritingLemmas.{numbers_by, numbers_are}
 use Rattle.sourcemap_core.proofs.WrittenTokens.{last_field-push_no, last_field-push_yes, on_yes}
 
@@ -87,6 +89,37 @@ name_is names t e = grind (arith, nat_tests)
 
 no_name : (names : ℕ) (t : RawToken) → has_source t ≡ true → has_name names t ≡ false → names ≤ t.name_id
 no_name names t s e = grind (arith, nat_tests)
+
+-- the fields of a token that are written have 32 bits
+abbrev pub IsSmall : RawToken → Type 0
+IsSmall t = (t.dst_line < 2 ^ 32) × HasSmallPlaces t
+
+sound_by : (sources names : ℕ) (t : RawToken) (b : Bool) → has_source t ≡ b → sources < 2 ^ 32 → IsWithin sources names t → IsSmall t → IsSound sources names t
+sound_by sources names t true source few within small = record {
+  dst_line = small.0;
+  dst_col = small.1.0;
+  src_line = (small.1.1 source).0;
+  src_col = (small.1.1 source).1;
+  within = within;
+  }
+sound_by sources names t false source few within small =
+    let nothing : t.src_id ≡ 4294967295 = bare_is names t source in
+    let fields = within (omega arith) in
+    let no_line : t.src_line ≡ 4294967295 = fields.1 in
+    let no_place : t.src_col ≡ 4294967295 = fields.2 in
+    record {
+      dst_line = small.0;
+      dst_col = small.1.0;
+      src_line = omega arith;
+      src_col = omega arith;
+      within = within;
+    }
+
+pub all_sound_from : (sources names : ℕ) (ts : List RawToken) → sources < 2 ^ 32 → AllByRecursion (IsWithin sources names) ts → AllByRecursion IsSmall ts
+    → AllByRecursion (IsSound sources names) ts
+all_sound_from sources names [] few within small = tt
+all_sound_from sources names (t ∷ ts) few within small =
+    (sound_by sources names t (has_source t) refl few within.0 small.0, all_sound_from sources names ts few within.1 small.1)
 
 -- the sums over some segments are the fields of the tokens written last
 pub record Carries (names : ℕ) (before : List RawToken) (all : List Segment) : Type 0 where

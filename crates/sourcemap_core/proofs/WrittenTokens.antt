@@ -133,7 +133,7 @@ none_above n [] all = refl
 none_above n (t ∷ ts) all =
     ap (λ b. cond b (t ∷ filter (is_above n) ts) (filter (is_above n) ts)) (below_no t.dst_line n all.0) ∙ none_above n ts all.1
 
-all_above : (n : ℕ) (ts : List RawToken) → UpTo n ts → filter (is_above (n + 1)) ts ≡ ts
+pub all_above : (n : ℕ) (ts : List RawToken) → UpTo n ts → filter (is_above (n + 1)) ts ≡ ts
 all_above n [] all = refl
 all_above n (t ∷ ts) all =
     let line : t.dst_line ≤ n = all.0 in

@@ -3,9 +3,8 @@ use Rattle.std.proofs.lemmas.List.{take_more, take_all}
 use Rattle.sourcemap_core.specs.declared.tokens.RawToken.{RawToken}
 use Rattle.sourcemap_core.specs.MappingsWritten.{numbers, base}
 use Rattle.sourcemap_core.specs.WritingSteps.{Adds, repeats, gap, at_line, moved}
-use Rattle.sourcemap_core.proofs.WrittenSums.{sum_same}
 use Rattle.sourcemap_core.proofs.WrittenReadBack.{reads_back}
-use Rattle.sourcemap_core.proofs.WrittenSegments.{Writing, Writing-none, Writing-repeat, Writing-more, Writing-end, next_line}
+use Rattle.sourcemap_core.proofs.WrittenSegments.{Writing, Writing-none, Writing-repeat, Writing-more, Writing-end, all_lines, next_line}
 use Rattle.sourcemap_core.proofs.mappings_written.write_mappings.Goals as goal
 use Rattle.sourcemap_core.proofs.mappings_written.write_mappings.Goals.{then-not-is_repeat+in_ok-against, else-not-is_repeat}
 
@@ -26,7 +25,7 @@ loop-token-preserved c =
         let line = next_line c.args.names i tokens c.loop-token.previous c.loop-token.against token (base 0 0 []) (string_bytes c.loop-token.text)
             c.requires (omega arith) refl c.loop-token.invariant in
         let grown = Writing-more c.args.names (take i tokens) c.loop-token.previous c.loop-token.against (string_bytes c.loop-token.text)
-            (string_bytes w.push_token.new.text) token new line w.in_ok-against.ensures.text c.loop-token.invariant in
+            (string_bytes w.push_token.new.text) token new line w.in_ok-against.ensures.text w.in_ok-against.ensures.small c.loop-token.invariant in
         let next = w.against-is ∙ w.in_ok-against.ensures.next in
         subst (λ (ts : List RawToken). Writing c.args.names ts (Some token) c.if-not-is_repeat.against (string_bytes c.if-not-is_repeat.text)) (sym more)
         (subst (λ (t : List ℕ). Writing c.args.names (take i tokens ++ token ∷ []) (Some token) c.if-not-is_repeat.against t) (sym (ap string_bytes w.text-is))
@@ -45,3 +44,14 @@ returns-clause-text c =
     Writing-end c.args.names tokens c.loop-token.previous c.loop-token.against (string_bytes c.loop-token.text)
         (subst (λ (ts : List RawToken). Writing c.args.names ts c.loop-token.previous c.loop-token.against (string_bytes c.loop-token.text))
             (take_all c.loop-token.token-index tokens (omega arith)) c.loop-token.invariant)
+
+pub returns-clause-reads_back : goal.returns-clause-reads_back
+returns-clause-reads_back c sources few within ranges is =
+    let tokens = c.args.tokens.now in
+    let text = string_bytes c.loop-token.text in
+    let done : Writing c.args.names tokens c.loop-token.previous c.loop-token.against text =
+        subst (λ (ts : List RawToken). Writing c.args.names ts c.loop-token.previous c.loop-token.against text)
+            (take_all c.loop-token.token-index tokens (omega arith)) c.loop-token.invariant in
+    reads_back sources c.args.names tokens text ranges few (omega arith) c.requires within done.small done.rises
+        (all_lines c.args.names tokens c.loop-token.previous c.loop-token.against text done)
+        (Writing-end c.args.names tokens c.loop-token.previous c.loop-token.against text done) is
