@@ -12,3 +12,4 @@ pub mod WrittenReadBack
 pub mod WrittenSegments
 pub mod WrittenSums
 pub mod WrittenTokens
+pub mod WrittenWalk
