@@ -8,6 +8,7 @@ pub mod VlqLemmas
 pub mod WritingLemmas
 pub mod WrittenBytes
 pub mod WrittenLines
+pub mod WrittenRanges
 pub mod WrittenReadBack
 pub mod WrittenSegments
 pub mod WrittenSums

@@ -11,11 +11,11 @@ use Rattle.sourcemap_core.specs.Bits.{bit_of, first_foreign, IsBitText}
 use Rattle.sourcemap_core.specs.Vlq.{Spells}
 use Rattle.sourcemap_core.specs.Mappings.{Counts, Segment, Line, LineText, sum_at, token_of, line_tokens, page_tokens, segment_fault, PartsRead, LineRead, LinesRead, beside, line_texts, MappingsAnswer}
 use Rattle.sourcemap_core.specs.MappingsWritten.{is_on, is_above, last_field, base, numbers, AreSegments, IsLine, IsRangeLine, EachLine, LineByLine, line_count, IsWritten, IsRangeText}
-use Rattle.std.proofs.lemmas.Nat.Bits.{bit_at-zero}
 use Rattle.sourcemap_core.proofs.TokensLemmas.{All-without_repeats, in_order-ordered, AreInOrder-reduced}
 use Rattle.sourcemap_core.proofs.VlqLemmas.{Spells-Reads}
 use Rattle.sourcemap_core.proofs.WrittenTokens.{UpTo, Rises, above_more, last_field-push_yes, on_yes}
 use Rattle.sourcemap_core.proofs.WrittenSums.{IsSound, IsSmall, all_sound_from, segment_of, Carries, Carries-none, Carries-more, column_more, segment_sound, token_back}
+use Rattle.sourcemap_core.proofs.WrittenRanges.{no_bit}
 use Rattle.sourcemap_core.proofs.WrittenBytes.{IsFree, IsMark, Spells-free, Spells-nonempty, digits_free, join_free, split_join}
 
 -- Segments of a line.
@@ -287,8 +287,6 @@ fit_range : (ts : List RawToken) (m : ℕ) (bits : List ℕ) → IsRangeLine ts 
 unfolding FitBits Flags
 fit_range ts m bits is = (is.digits, λ k h. ap (bit_of bits) (zero-add k) ∙ is.each k)
 
-no_bit : (j : ℕ) → bit_of [] j ≡ false
-no_bit j = ap (λ n. n == 1) (bit_at-zero (j % 6))
 
 none_range : (ts : List RawToken) (k : ℕ) → AllByRecursion (λ t. t.is_range ≡ false) ts → slice_index_or (map (λ t. t.is_range) ts) k false ≡ false
 none_range [] k all = refl

@@ -108,3 +108,9 @@ pub all_lines : (line : ℕ) (tokens : List RawToken) (previous : Option RawToke
 all_lines line tokens None w = ap (filter (is_above (line_count tokens))) w.stands.1 ∙ sym w.stands.1
 all_lines line tokens (Some p) w =
     ap (λ n. filter (is_above n) (without_repeats tokens)) (sym (count_is line tokens p w)) ∙ all_above line (without_repeats tokens) w.upto
+
+pub Walked-repeat_here : (line : ℕ) (done : List RawToken) (previous : Option RawToken) (t : RawToken) → repeats previous t ≡ true
+    → Walked line done previous → Walked t.dst_line (done ++ t ∷ []) (Some t)
+Walked-repeat_here line done previous t e w =
+    let walked = Walked-repeat line done previous t e w in
+    subst (λ (n : ℕ). Walked n (done ++ t ∷ []) (Some t)) (sym walked.stands.0) walked
