@@ -7,6 +7,7 @@ pub mod UtilsLemmas
 pub mod VlqLemmas
 pub mod WritingLemmas
 pub mod WrittenBytes
+pub mod WrittenLaws
 pub mod WrittenLines
 pub mod WrittenRanges
 pub mod WrittenReadBack

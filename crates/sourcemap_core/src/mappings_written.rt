@@ -1,5 +1,6 @@
 //! The texts that a list of tokens is written as.
 ghost use Rattle.std.specs.Prelude.{◌≡◌, ℕ, ◌+◌, ◌-◌, ◌<◌, ◌≤◌, ◌^◌, List, [], ◌∷◌, ◌++◌, replicate, if◌then◌else◌, OnOk, IfOk, IfErr, string_bytes, ℤ, unsigned_abs, option_map, Option, Bool, false};
+ghost use Rattle.std.specs.List.{list_any};
 ghost use Rattle.std.specs.Option.{option_map_or};
 ghost use Rattle.sourcemap_core.specs.Answer.{UnlessMemory};
 ghost use Rattle.sourcemap_core.specs.Vlq.{IsShortest, IsTooFar};
@@ -8,6 +9,7 @@ ghost use Rattle.sourcemap_core.specs.Tokens.{AreInOrder, AllWithin, without_rep
 ghost use Rattle.sourcemap_core.specs.Mappings.{MappingsAnswer};
 ghost use Rattle.sourcemap_core.specs.MappingsWritten.{has_source, has_name, difference, numbers, LineByLine, IsRangeLine, IsWritten, IsRangeText};
 ghost use Rattle.sourcemap_core.specs.WritingSteps.{Adds, HasSmallPlaces, repeats, follows, gap, at_line, moved};
+ghost use Rattle.sourcemap_core.specs.declared.tokens.RawToken.{RawToken};
 ghost use Rattle.sourcemap_core.specs.declared.errors.Error.TheVariants.{OutOfMemory, VlqOverflow};
 
 use crate::bits::push_bits;
@@ -196,10 +198,16 @@ pub fn write_range_mappings(alloc: Global, tokens: &[RawToken]) -> Result<Option
     ensures text { IfOk result (λ o. IsRangeText tokens.now (option_map string_bytes o)) }
     ensures memory { IfErr result (λ e. e ≡ OutOfMemory) }
 {
-    if !tokens.iter().any(|token| token.is_range) {
+    if !has_range(tokens) {
         return Ok(None);
     }
     Ok(Some(range_text(alloc, tokens)?))
+}
+
+fn has_range(tokens: &[RawToken]) -> bool
+    ensures { result ≡ list_any (λ t. t.is_range) tokens.now }
+{
+    tokens.iter().any(|token| token.is_range)
 }
 
 // The text of range bits of some tokens.
@@ -227,3 +235,10 @@ fn range_text(alloc: Global, tokens: &[RawToken]) -> Result<String>
     push_bits(&mut text, flags.as_slice())?;
     Ok(text)
 }
+
+/// Says that the written texts are determined: tokens have one text of mappings for so many names, and
+/// one text of range bits.
+pub fn written_texts_are_determined()
+    ensures one_text { (names : ℕ) (tokens : List RawToken) (a b : List ℕ) → IsWritten names tokens a → IsWritten names tokens b → a ≡ b }
+    ensures one_range_text { (tokens : List RawToken) (a b : Option (List ℕ)) → IsRangeText tokens a → IsRangeText tokens b → a ≡ b }
+{}
