@@ -32,8 +32,8 @@ pub IsWritten-same : (names : ℕ) (tokens : List RawToken) (a b : List ℕ) →
 IsWritten-same names tokens a b x y =
     let ts = without_repeats tokens in
     LineByLine-same (IsLine names ts)
-        (λ m s t ls lt. ls.2 ∙ ap (join_with_byte 44) (AreSegments-same names (filter (is_above m) ts) (filter (is_on m) ts) ls.0 lt.0 ls.1 lt.1) ∙ sym lt.2)
-        tokens a b x y
+    (λ m s t ls lt. ls.2 ∙ ap (join_with_byte 44) (AreSegments-same names (filter (is_above m) ts) (filter (is_on m) ts) ls.0 lt.0 ls.1 lt.1) ∙ sym lt.2)
+    tokens a b x y
 
 pub IsRangeText-same : (tokens : List RawToken) (a b : Option (List ℕ)) → IsRangeText tokens a → IsRangeText tokens b → a ≡ b
 IsRangeText-same tokens None None x y = refl
@@ -41,4 +41,4 @@ IsRangeText-same tokens None (Some b) x y = absurd (let no = sym x ∙ y.0 in cc
 IsRangeText-same tokens (Some a) None x y = absurd (let no = sym y ∙ x.0 in cc)
 IsRangeText-same tokens (Some a) (Some b) x y =
     ap Some (LineByLine-same (IsRangeLine (without_repeats tokens))
-        (λ m s t ls lt. IsBitText-same (map (λ u. u.is_range) (filter (is_on m) (without_repeats tokens))) s t ls lt) tokens a b x.1 y.1)
+    (λ m s t ls lt. IsBitText-same (map (λ u. u.is_range) (filter (is_on m) (without_repeats tokens))) s t ls lt) tokens a b x.1 y.1)

@@ -41,9 +41,9 @@ pub Ranging-turn : (line n : ℕ) (ts : List RawToken) (text bits : List ℕ) (f
     → IsBitText flags bits → Ranging line ts text flags → Ranging n ts ((text ++ bits) ++ replicate (n - line) 59) []
 Ranging-turn line n ts text bits flags h u is r = record {
   ended = Ended-turn (IsRangeLine ts) line n text bits h (λ m k. IsRangeLine-blank line m ts u k) r.ended
-    (subst (λ (fs : List Bool). IsBitText fs bits) r.flags_are is);
+      (subst (λ (fs : List Bool). IsBitText fs bits) r.flags_are is);
   flags_are = ap (map (λ t. t.is_range)) (sym (none_on line n ts u h));
-  }
+}
 
 pub Ranging-repeat : (line : ℕ) (done : List RawToken) (previous : Option RawToken) (t : RawToken) (n : ℕ) (text : List ℕ) (flags : List Bool)
     → repeats previous t ≡ true → Walked line done previous → Ranging n (without_repeats done) text flags
@@ -59,10 +59,10 @@ Ranging-more line done previous t text flags e w r =
     let grown : Ranging n (ts ++ t ∷ []) text (flags ++ t.is_range ∷ []) = record {
       ended = Ended-map (IsRangeLine ts) (IsRangeLine (ts ++ t ∷ [])) n text (λ m bits k is. IsRangeLine-kept m ts t bits k is) r.ended;
       flags_are =
-        ap (λ fs. fs ++ t.is_range ∷ []) r.flags_are
-        ∙ sym (map-append (λ u. u.is_range) (filter (is_on n) ts) (t ∷ []))
-        ∙ ap (map (λ u. u.is_range)) (sym (filter_push_yes (is_on n) ts t (on_yes n n refl)));
-      } in
+          ap (λ fs. fs ++ t.is_range ∷ []) r.flags_are
+          ∙ sym (map-append (λ u. u.is_range) (filter (is_on n) ts) (t ∷ []))
+          ∙ ap (map (λ u. u.is_range)) (sym (filter_push_yes (is_on n) ts t (on_yes n n refl)));
+    } in
     subst (λ (us : List RawToken). Ranging n us text (flags ++ t.is_range ∷ [])) (more_list line done previous t e w) grown
 
 pub Ranging-end : (line : ℕ) (tokens : List RawToken) (previous : Option RawToken) (text bits : List ℕ) (flags : List Bool)
@@ -70,9 +70,12 @@ pub Ranging-end : (line : ℕ) (tokens : List RawToken) (previous : Option RawTo
     → LineByLine (IsRangeLine (without_repeats tokens)) tokens (text ++ bits)
 Ranging-end line tokens None text bits flags is w r =
     let no_flags : flags ≡ [] = r.flags_are ∙ ap (λ ts. map (λ t. t.is_range) (filter (is_on line) ts)) w.stands.1 in
-    let no_bits : bits ≡ [] = IsBitText-same [] bits [] (subst (λ (fs : List Bool). IsBitText fs bits) no_flags is) IsBitText-nil in
-    ([], sym (ap (λ o. option_map_or (λ t. t.dst_line + 1) o 0) (sym w.last)), tt,
-     ap (λ t. t ++ bits) (Ended-zero (IsRangeLine (without_repeats tokens)) line text w.stands.0 r.ended) ∙ no_bits)
+    let no_bits : bits ≡ [] = IsBitText-same [] bits [] (subst (λ (fs : List Bool). IsBitText fs bits) no_flags is) IsBitText-nil in (
+      [],
+      sym (ap (λ o. option_map_or (λ t. t.dst_line + 1) o 0) (sym w.last)),
+      tt,
+      ap (λ t. t ++ bits) (Ended-zero (IsRangeLine (without_repeats tokens)) line text w.stands.0 r.ended) ∙ no_bits,
+    )
 Ranging-end line tokens (Some p) text bits flags is w r =
     Ended-last (IsRangeLine (without_repeats tokens)) line text bits tokens (count_is line tokens p w) r.ended
-        (subst (λ (fs : List Bool). IsBitText fs bits) r.flags_are is)
+    (subst (λ (fs : List Bool). IsBitText fs bits) r.flags_are is)

@@ -21,15 +21,15 @@ use Rattle.sourcemap_core.proofs.WrittenLines.{Reached, Reached-turn, Reached-mo
 field_by : (p : RawToken → Bool) (f : RawToken → ℕ) (ts : List RawToken) (t : RawToken)
     → cond (p t) (f t) (last_field p f ts) ≡ last_field p f (ts ++ t ∷ [])
 field_by p f ts t = by_test (p t) refl where
-    by_test : (b : Bool) → p t ≡ b → cond (p t) (f t) (last_field p f ts) ≡ last_field p f (ts ++ t ∷ [])
-    by_test true e = ap (λ b. cond b (f t) (last_field p f ts)) e ∙ sym (last_field-push_yes p f ts t e)
-    by_test false e = ap (λ b. cond b (f t) (last_field p f ts)) e ∙ sym (last_field-push_no p f ts t e)
+  by_test : (b : Bool) → p t ≡ b → cond (p t) (f t) (last_field p f ts) ≡ last_field p f (ts ++ t ∷ [])
+  by_test true e = ap (λ b. cond b (f t) (last_field p f ts)) e ∙ sym (last_field-push_yes p f ts t e)
+  by_test false e = ap (λ b. cond b (f t) (last_field p f ts)) e ∙ sym (last_field-push_no p f ts t e)
 
 pub moved_base : (names : ℕ) (ts : List RawToken) (t : RawToken)
     → moved names (base names t.dst_line ts) t ≡ base names t.dst_line (ts ++ t ∷ [])
 moved_base names ts t =
     let column : t.dst_col ≡ last_field (is_on t.dst_line) (λ u. u.dst_col) (ts ++ t ∷ []) =
-        sym (last_field-push_yes (is_on t.dst_line) (λ u. u.dst_col) ts t (on_yes t.dst_line t.dst_line refl)) in
+    sym (last_field-push_yes (is_on t.dst_line) (λ u. u.dst_col) ts t (on_yes t.dst_line t.dst_line refl)) in
     let id = field_by has_source (λ u. u.src_id) ts t in
     let line = field_by has_source (λ u. u.src_line) ts t in
     let place = field_by has_source (λ u. u.src_col) ts t in
@@ -40,14 +40,14 @@ pub turned_base : (names line n : ℕ) (ts : List RawToken) → line ≤ n → U
     → at_line (base names line ts) n ≡ base names n ts
 turned_base names line n ts h u = ⊎_elim
     (λ (past : line < n).
-        let off = on_no line n (λ e. omega arith) in
-        let column : last_field (is_on n) (λ t. t.dst_col) ts ≡ 0 = ap (λ us. option_map_or (λ t. t.dst_col) (last_or None us) 0) (none_on line n ts u past) in
-        ap (λ b. cond b (base names line ts) (record (base names line ts) { dst_line = n; dst_col = 0 })) off
-        ∙ ap (λ k. record (base names n ts) { dst_col = k }) (sym column))
+    let off = on_no line n (λ e. omega arith) in
+    let column : last_field (is_on n) (λ t. t.dst_col) ts ≡ 0 = ap (λ us. option_map_or (λ t. t.dst_col) (last_or None us) 0) (none_on line n ts u past) in
+    ap (λ b. cond b (base names line ts) (record (base names line ts) { dst_line = n; dst_col = 0 })) off
+    ∙ ap (λ k. record (base names n ts) { dst_col = k }) (sym column))
     (λ (not_past : n ≤ line).
-        let same : line ≡ n = omega arith in
-        ap (λ b. cond b (base names line ts) (record (base names line ts) { dst_line = n; dst_col = 0 })) (on_yes line n same)
-        ∙ ap (λ m. base names m ts) same)
+    let same : line ≡ n = omega arith in
+    ap (λ b. cond b (base names line ts) (record (base names line ts) { dst_line = n; dst_col = 0 })) (on_yes line n same)
+    ∙ ap (λ m. base names m ts) same)
     (cases_lt line n)
 
 -- Lines.
@@ -56,11 +56,12 @@ pub IsLine-kept : (names m : ℕ) (ts : List RawToken) (t : RawToken) (part : Li
     → IsLine names ts m part → IsLine names (ts ++ t ∷ []) m part
 IsLine-kept names m ts t part h line =
     let above = filter_push_no (is_above m) ts t (below_no t.dst_line m (omega arith)) in
-    let on = filter_push_no (is_on m) ts t (on_no t.dst_line m (λ e. omega arith)) in
-    (line.0,
-     subst (λ (us : List RawToken). AreSegments names us (filter (is_on m) (ts ++ t ∷ [])) line.0) (sym above)
-        (subst (λ (us : List RawToken). AreSegments names (filter (is_above m) ts) us line.0) (sym on) line.1),
-     line.2)
+    let on = filter_push_no (is_on m) ts t (on_no t.dst_line m (λ e. omega arith)) in (
+      line.0,
+      subst (λ (us : List RawToken). AreSegments names us (filter (is_on m) (ts ++ t ∷ [])) line.0) (sym above)
+          (subst (λ (us : List RawToken). AreSegments names (filter (is_above m) ts) us line.0) (sym on) line.1),
+      line.2,
+    )
 
 pub IsLine-blank : (names line m : ℕ) (ts : List RawToken) → UpTo line ts → line < m → IsLine names ts m []
 IsLine-blank names line m ts u h =
@@ -73,9 +74,11 @@ AreSegments-push names before [] t [] segment are spelled =
     (subst (λ (us : List RawToken). Spells (numbers names (base names t.dst_line us) t) segment) (append-nil before) spelled, refl)
 AreSegments-push names before [] t (s ∷ segments) segment are spelled = absurd cc
 AreSegments-push names before (u ∷ us) t [] segment are spelled = absurd are
-AreSegments-push names before (u ∷ us) t (s ∷ segments) segment are spelled =
-    (are.0, AreSegments-push names (before ++ u ∷ []) us t segments segment are.1
-        (subst (λ (ws : List RawToken). Spells (numbers names (base names t.dst_line ws) t) segment) (sym (append_assoc before (u ∷ []) us)) spelled))
+AreSegments-push names before (u ∷ us) t (s ∷ segments) segment are spelled = (
+  are.0,
+  AreSegments-push names (before ++ u ∷ []) us t segments segment are.1
+      (subst (λ (ws : List RawToken). Spells (numbers names (base names t.dst_line ws) t) segment) (sym (append_assoc before (u ∷ []) us)) spelled),
+)
 
 join_push : (segments : List (List ℕ)) (s segment : List ℕ)
     → join_with_byte 44 (s ∷ segments ++ segment ∷ []) ≡ join_with_byte 44 (s ∷ segments) ++ 44 ∷ segment
@@ -103,11 +106,12 @@ IsLine-more names ts t part segment rises upto spelled line =
     let above = filter_push_no (is_above n) ts t (below_no n n (omega arith)) in
     let on = filter_push_yes (is_on n) ts t (on_yes n n refl) in
     let here = subst (λ (us : List RawToken). Spells (numbers names (base names n us) t) segment) (sym (cut_at n ts rises upto)) spelled in
-    let are = AreSegments-push names (filter (is_above n) ts) (filter (is_on n) ts) t line.0 segment line.1 here in
-    (line.0 ++ segment ∷ [],
-     subst (λ (us : List RawToken). AreSegments names us (filter (is_on n) (ts ++ t ∷ [])) (line.0 ++ segment ∷ [])) (sym above)
-        (subst (λ (us : List RawToken). AreSegments names (filter (is_above n) ts) us (line.0 ++ segment ∷ [])) (sym on) are),
-     ap (λ x. x ++ (comma (filter (is_on n) ts) ++ segment)) line.2 ∙ sym (joined_more names _ _ line.0 segment line.1))
+    let are = AreSegments-push names (filter (is_above n) ts) (filter (is_on n) ts) t line.0 segment line.1 here in (
+      line.0 ++ segment ∷ [],
+      subst (λ (us : List RawToken). AreSegments names us (filter (is_on n) (ts ++ t ∷ [])) (line.0 ++ segment ∷ [])) (sym above)
+          (subst (λ (us : List RawToken). AreSegments names (filter (is_above n) ts) us (line.0 ++ segment ∷ [])) (sym on) are),
+      ap (λ x. x ++ (comma (filter (is_on n) ts) ++ segment)) line.2 ∙ sym (joined_more names _ _ line.0 segment line.1),
+    )
 
 -- What the writer of mappings knows.
 
@@ -124,7 +128,7 @@ Writing-none names = record {
   small = tt;
   against_is = refl;
   reached = record { above = []; here = []; ends = Ended-none (IsLine names []); on = ([], refl, refl); is = refl };
-  }
+}
 
 pub Writing-repeat : (names : ℕ) (done : List RawToken) (previous : Option RawToken) (against : RawToken) (text : List ℕ) (t : RawToken)
     → repeats previous t ≡ true → Writing names done previous against text → Writing names (done ++ t ∷ []) (Some t) against text
@@ -146,17 +150,17 @@ gap_is line ts None t h u s =
     ∙ ap (λ (us : List RawToken). replicate (t.dst_line - line) 59 ++ comma (filter (is_on t.dst_line) us)) (sym s.1)
 gap_is line ts (Some p) t h u s = ⊎_elim
     (λ (same : p.dst_line ≡ t.dst_line).
-        let no_line : t.dst_line - line ≡ 0 = (let on : p.dst_line ≡ line = s.0 in omega arith) in
-        let is_line : line ≡ t.dst_line = sym s.0 ∙ same in
-        let full : filter (is_on t.dst_line) ts ≡ s.1.0 ∷ s.1.1 = subst (λ (n : ℕ). filter (is_on n) ts ≡ s.1.0 ∷ s.1.1) is_line s.1.2 in
-        ap (λ b. cond b (44 ∷ []) (replicate (t.dst_line - line) 59)) (on_yes p.dst_line t.dst_line same)
-        ∙ ap (λ us. comma us) (sym full)
-        ∙ ap (λ (k : ℕ). replicate k 59 ++ comma (filter (is_on t.dst_line) ts)) (sym no_line))
+    let no_line : t.dst_line - line ≡ 0 = (let on : p.dst_line ≡ line = s.0 in omega arith) in
+    let is_line : line ≡ t.dst_line = sym s.0 ∙ same in
+    let full : filter (is_on t.dst_line) ts ≡ s.1.0 ∷ s.1.1 = subst (λ (n : ℕ). filter (is_on n) ts ≡ s.1.0 ∷ s.1.1) is_line s.1.2 in
+    ap (λ b. cond b (44 ∷ []) (replicate (t.dst_line - line) 59)) (on_yes p.dst_line t.dst_line same)
+    ∙ ap (λ us. comma us) (sym full)
+    ∙ ap (λ (k : ℕ). replicate k 59 ++ comma (filter (is_on t.dst_line) ts)) (sym no_line))
     (λ (off : p.dst_line ≢ t.dst_line).
-        let past : line < t.dst_line = (let on : p.dst_line ≡ line = s.0 in omega arith) in
-        ap (λ b. cond b (44 ∷ []) (replicate (t.dst_line - line) 59)) (on_no p.dst_line t.dst_line off)
-        ∙ sym (append-nil (replicate (t.dst_line - line) 59))
-        ∙ ap (λ us. replicate (t.dst_line - line) 59 ++ comma us) (sym (none_on line t.dst_line ts u past)))
+    let past : line < t.dst_line = (let on : p.dst_line ≡ line = s.0 in omega arith) in
+    ap (λ b. cond b (44 ∷ []) (replicate (t.dst_line - line) 59)) (on_no p.dst_line t.dst_line off)
+    ∙ sym (append-nil (replicate (t.dst_line - line) 59))
+    ∙ ap (λ us. replicate (t.dst_line - line) 59 ++ comma us) (sym (none_on line t.dst_line ts u past)))
     (cases_eq p.dst_line t.dst_line)
 
 -- a gap and the segment of a token added
@@ -171,15 +175,15 @@ grown names line ts previous t text digits h rises u s spelled r =
     let upto = upto_next line n ts h u in
     let turned = Reached-turn (IsLine names ts) line n text h (λ m k. IsLine-blank names line m ts u k) r in
     let more = Reached-more (IsLine names ts) (IsLine names (ts ++ t ∷ [])) n (text ++ ends) (some_comma ++ digits)
-        (λ m part k line_is. IsLine-kept names m ts t part k line_is)
-        (λ part line_is. IsLine-more names ts t part digits rises upto spelled line_is)
-        turned in
+    (λ m part k line_is. IsLine-kept names m ts t part k line_is)
+    (λ part line_is. IsLine-more names ts t part digits rises upto spelled line_is)
+    turned in
     subst (λ (x : List ℕ). Reached (IsLine names (ts ++ t ∷ [])) n x)
-        (append_assoc text ends (some_comma ++ digits)
-        ∙ ap (λ x. text ++ x) (sym (append_assoc ends some_comma digits))
-        ∙ ap (λ x. text ++ (x ++ digits)) (sym (gap_is line ts previous t h u s))
-        ∙ sym (append_assoc text (gap previous line t) digits))
-        more
+    (append_assoc text ends (some_comma ++ digits)
+    ∙ ap (λ x. text ++ x) (sym (append_assoc ends some_comma digits))
+    ∙ ap (λ x. text ++ (x ++ digits)) (sym (gap_is line ts previous t h u s))
+    ∙ sym (append_assoc text (gap previous line t) digits))
+    more
 
 pub Writing-more : (names : ℕ) (done : List RawToken) (previous : Option RawToken) (against : RawToken) (text new : List ℕ) (t : RawToken)
     → repeats previous t ≡ false → against.dst_line ≤ t.dst_line
@@ -194,7 +198,7 @@ Writing-more names done previous against text new t e h adds small w =
     let taken : at_line against n ≡ base names n ts = ap (λ (b : RawToken). at_line b n) w.against_is ∙ turned_base names line n ts h w.walked.upto in
     let spelled = subst (λ (b : RawToken). Spells (numbers names b t) adds.digits) taken adds.spelled in
     let reached = subst (λ (x : List ℕ). Reached (IsLine names (ts ++ t ∷ [])) n x) (sym adds.added)
-        (grown names line ts previous t text adds.digits h w.walked.rises w.walked.upto w.walked.stands spelled w.reached) in
+    (grown names line ts previous t text adds.digits h w.walked.rises w.walked.upto w.walked.stands spelled w.reached) in
     let last_is = ap (λ (b : RawToken). moved names b t) taken ∙ moved_base names ts t in
     record {
       walked = Walked-more line done previous t e h w.walked;
@@ -214,8 +218,11 @@ nothing_yet names line ts text at none r =
 
 pub Writing-end : (names : ℕ) (tokens : List RawToken) (previous : Option RawToken) (against : RawToken) (text : List ℕ)
     → Writing names tokens previous against text → IsWritten names tokens text
-Writing-end names tokens None against text w =
-    ([], sym (ap (λ o. option_map_or (λ t. t.dst_line + 1) o 0) (sym w.walked.last)), tt,
-     nothing_yet names against.dst_line (without_repeats tokens) text w.walked.stands.0 w.walked.stands.1 w.reached)
+Writing-end names tokens None against text w = (
+  [],
+  sym (ap (λ o. option_map_or (λ t. t.dst_line + 1) o 0) (sym w.walked.last)),
+  tt,
+  nothing_yet names against.dst_line (without_repeats tokens) text w.walked.stands.0 w.walked.stands.1 w.reached,
+)
 Writing-end names tokens (Some p) against text w =
     Reached-last (IsLine names (without_repeats tokens)) against.dst_line text tokens (count_is against.dst_line tokens p w.walked) w.reached

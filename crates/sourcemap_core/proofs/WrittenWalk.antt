@@ -69,8 +69,11 @@ Walked-more line done previous t e h w =
     record {
       rises = subst (λ (us : List RawToken). Rises us) more (Rises-push ts t w.rises upto);
       upto = subst (λ (us : List RawToken). UpTo n us) more (all_push (λ v. v.dst_line ≤ n) ts t upto (omega arith));
-      stands = (refl, subst (λ (us : List RawToken). (u : RawToken) × (vs : List RawToken) × (filter (is_on n) us ≡ u ∷ vs)) more
-        (full.0, full.1, filter_push_yes (is_on n) ts t (on_yes n n refl) ∙ full.2));
+      stands = (
+        refl,
+        subst (λ (us : List RawToken). (u : RawToken) × (vs : List RawToken) × (filter (is_on n) us ≡ u ∷ vs)) more
+            (full.0, full.1, filter_push_yes (is_on n) ts t (on_yes n n refl) ∙ full.2),
+      );
       last = sym (last_or-push None done t);
     }
 
@@ -89,8 +92,8 @@ next_line zero line tokens (Some p) t d order h at w = absurd (let last = w.last
 next_line (suc k) line tokens (Some p) t d order h at w =
     let before = get_or tokens k d in
     let last : last_or None (take (suc k) tokens) ≡ Some before =
-        ap (λ (n : ℕ). last_or None (take n tokens)) (sym (add-one k))
-        ∙ ap (last_or None) (take_more tokens k d (omega arith)) ∙ last_or-push None (take k tokens) before in
+    ap (λ (n : ℕ). last_or None (take n tokens)) (sym (add-one k))
+    ∙ ap (last_or None) (take_more tokens k d (omega arith)) ∙ last_or-push None (take k tokens) before in
     let is : p ≡ before = some_inj p before (w.last ∙ last) in
     let sorted = line_from_order (destination before) (destination (get_or tokens (k + 1) d)) (order k d (omega arith) (omega arith)) in
     let here : get_or tokens (k + 1) d ≡ t = ap (λ (n : ℕ). get_or tokens n d) (add-one k) ∙ sym at in
