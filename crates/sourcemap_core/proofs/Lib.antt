@@ -7,3 +7,13 @@ pub mod SortLemmas
 pub mod TokensLemmas
 pub mod UtilsLemmas
 pub mod VlqLemmas
+pub mod WritingLemmas
+pub mod WrittenBytes
+pub mod WrittenLaws
+pub mod WrittenLines
+pub mod WrittenRanges
+pub mod WrittenReadBack
+pub mod WrittenSegments
+pub mod WrittenSums
+pub mod WrittenTokens
+pub mod WrittenWalk

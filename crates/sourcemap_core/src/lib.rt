@@ -6,5 +6,8 @@ pub mod bits;
 pub mod errors;
 pub mod mappings;
 pub mod tokens;
+pub mod mappings_written;
+pub mod tokens;
+pub mod utils;
 pub mod vlq;
 pub mod utils;
