@@ -4,9 +4,7 @@ pub mod Errors
 pub mod Vlq
 pub mod Mappings
 pub mod MappingsParts
-pub mod Mappings
 pub mod MappingsWritten
 pub mod Tokens
 pub mod Utils
-pub mod Vlq
 pub mod WritingSteps

@@ -7,7 +7,5 @@ pub mod errors;
 pub mod mappings;
 pub mod tokens;
 pub mod mappings_written;
-pub mod tokens;
 pub mod utils;
 pub mod vlq;
-pub mod utils;
