@@ -14,6 +14,8 @@ ghost use Rattle.sourcemap_core.specs.Vlq.{Reads, HasFault};
 
 use crate::bits::{has_bit, test_digits};
 use crate::errors::{Error, Result};
+pub use crate::mappings_written::{write_mappings, write_range_mappings};
+pub use crate::tokens::tokens_in_order;
 use crate::tokens::{RawToken, sort_tokens};
 use crate::vlq::next_number;
 use std::alloc::Global;
@@ -102,7 +104,10 @@ fn read_numbers(line: &[u8]) -> Result<(Numbers, Option<&[u8]>)>
     ensures read { IfOk result (λ read. HasFirstPart line.now read.0 read.1) }
     ensures fault { IfErr result (λ e. HasPartFault line.now e) }
 {
-    let mut read = Numbers { count: 0, steps: [0; 5] };
+    let mut read = Numbers {
+        count: 0,
+        steps: [0; 5],
+    };
     let mut rest = line;
     while let Some((first, behind)) = rest.split_first() {
         if *first == b',' {
