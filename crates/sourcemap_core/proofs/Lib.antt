@@ -1,1 +1,3 @@
+pub mod InternerLemmas
+pub mod PathsLemmas
 pub mod UtilsLemmas

@@ -3,5 +3,7 @@
 #![tactic(auto)]
 
 pub mod errors;
+pub mod interner;
+pub mod paths;
 pub mod tokens;
 pub mod utils;
