@@ -1,5 +1,5 @@
 -- The places of distinct texts.
-use Rattle.std.proofs.Common.{◌≡◌, refl, sym, ap, subst, ◌∙◌, ℕ, zero, suc, ◌+◌, List, [], ◌∷◌, ◌++◌, length, Bool, true, false, cond, Some, None, Option, arith, inl, inr, ◌⊎◌, slice_get, zero-add}
+use Rattle.std.proofs.Common.{◌≡◌, refl, sym, ap, subst, ◌∙◌, ℕ, zero, suc, ◌+◌, ◌-◌, ◌≤◌, List, [], ◌∷◌, ◌++◌, length, Bool, true, false, cond, Some, None, Option, arith, inl, inr, ◌⊎◌, slice_get, zero-add}
 use Rattle.std.specs.List.{position_from}
 use Rattle.std.specs.Option.{option_or}
 use Rattle.std.specs.Str.{bytes_eq}
@@ -82,3 +82,23 @@ pub place_of-last : (texts : List (List ℕ)) (text : List ℕ) (count : ℕ) �
 place_of-last texts text count counted missing =
     let same : bytes_eq text text ≡ true = bytes_eq-refl text in
     rw (place_of-append texts text missing text, same, counted) refl
+
+place_from : (text : List ℕ) (i : ℕ) (texts : List (List ℕ)) (id : ℕ) → position_from (bytes_eq text) i texts ≡ Some id → (i ≤ id) × (slice_get texts (id - i) ≡ Some text)
+place_from text i [] id e = cc
+place_from text i (first ∷ texts) id e =
+    elim (cases_Bool (bytes_eq text first)) [
+      | inl h ↦
+          let same : text ≡ first = (bytes_eq-Decides text first).0 h in
+          let here : Some i ≡ Some id = rw h at e in
+          let place : i ≡ id = cc in
+          let none : id - i ≡ 0 = omega arith in
+          (omega arith, rw none (ap Some (sym same)))
+      | inr h ↦
+          let later = place_from text (i + 1) texts id (rw h at e) in
+          let place : id - i ≡ suc (id - (i + 1)) = omega (arith, later.0) in
+          (omega (arith, later.0), rw place later.1)
+    ]
+
+-- a text stands at its place
+pub slice_get-place_of : (text : List ℕ) (texts : List (List ℕ)) (id : ℕ) → place_of text texts ≡ Some id → slice_get texts id ≡ Some text
+slice_get-place_of text texts id e = let same : id - 0 ≡ id = omega arith in subst (λ n. slice_get texts n ≡ Some text) same (place_from text 0 texts id e).1

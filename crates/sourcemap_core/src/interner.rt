@@ -1,9 +1,9 @@
-ghost use Rattle.std.specs.Prelude.{◌≡◌, ℕ, List, [], ◌∷◌, ◌++◌, Some, cond, is_ok, if◌then◌else◌, ◌==◌, map, length, IsOk, IsSome, IfOk, IfErr, OnOk, OnErr, IfSome, option_map, slice_get, string_bytes};
+ghost use Rattle.std.specs.Prelude.{◌≡◌, ℕ, List, [], ◌∷◌, ◌++◌, Some, Err, cond, is_ok, if◌then◌else◌, ◌==◌, map, length, IsOk, IsSome, IfOk, IfErr, OnOk, OnErr, IfSome, option_map, slice_get, string_bytes};
 ghost use Rattle.std.specs.HashMap.{get_by_text};
 ghost use Rattle.std.specs.Str.{bytes_eq};
 ghost use Rattle.sourcemap_core.specs.Answer.{Gives};
 ghost use Rattle.sourcemap_core.specs.Interner.{place_of, AreDistinct, with_text, number_for};
-ghost use Rattle.sourcemap_core.specs.declared.errors.Error.TheVariants.{OutOfMemory};
+ghost use Rattle.sourcemap_core.specs.declared.errors.Error.TheVariants.{IncompatibleSourceMap, OutOfMemory};
 
 use crate::errors::{Error, Result};
 use std::alloc::Global;
@@ -53,9 +53,12 @@ impl Interner {
         ensures number { Gives (λ id. id) result (number_for self.old text.now) }
         ensures texts { OnOk result (self.new ≡ with_text self.old text.now) }
         ensures unchanged { OnErr result (self.new ≡ self.old) }
-        // equal texts have equal numbers
+        // equal texts have equal numbers, and a number leads back to its text
         ensures place { IfOk result (λ id. place_of text.now self.new ≡ Some id) }
+        ensures text { IfOk result (λ id. slice_get self.new id ≡ Some text.now) }
+        // only a new text for which there is room takes memory
         ensures known { IsSome (place_of text.now self.old) → IsOk result }
+        ensures full { number_for self.old text.now ≡ Err IncompatibleSourceMap → result ≡ Err IncompatibleSourceMap }
     {
         if let Some(id) = self.ids.get(text) {
             return Ok(*id);

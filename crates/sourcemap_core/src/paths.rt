@@ -32,6 +32,7 @@ pub fn find_common_prefix<'a, I: Iterator<Item = &'a str> + Drop>(
     owned_unless_bare(alloc, prefix.unwrap_or(""))
 }
 
+// Whether a text counts as a path.
 fn is_absolute(text: &str) -> bool
     ensures { result ≡ starts_at_root text.now }
 {
@@ -42,12 +43,14 @@ fn is_absolute(text: &str) -> bool
     }
 }
 
+// Whether a byte starts a part.
 fn is_separator(byte: u8) -> bool
     ensures { result ≡ separates byte }
 {
     byte == b'/' || byte == b'\\'
 }
 
+// A copy of the prefix, if it says something.
 fn owned_unless_bare(alloc: Global, prefix: &str) -> Result<Option<String>>
     ensures { Gives (option_map string_bytes) result (Ok (unless_bare prefix.now)) }
 {
@@ -85,6 +88,7 @@ fn common_length(a: &[u8], b: &[u8]) -> usize
     }
 }
 
+// Whether both texts have the same byte at the place `at`.
 fn has_same_byte(a: &[u8], b: &[u8], at: usize) -> bool
     ensures same { OnTrue result ((at < length a.now) × (at < length b.now) × (slice_index a.now at ≡ slice_index b.now at)) }
     ensures differ { OnFalse result (at < length a.now → at < length b.now → slice_index a.now at ≢ slice_index b.now at) }
