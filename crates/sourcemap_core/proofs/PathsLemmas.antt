@@ -1,8 +1,12 @@
 -- The common first parts of two paths, byte by byte.
 use Rattle.std.proofs.Common.{◌≡◌, ◌≢◌, refl, sym, ap, subst, ◌∙◌, ℕ, zero, suc, ◌+◌, ◌<◌, ◌≤◌, ◌==◌, ◌&&◌, ◌||◌, List, [], ◌∷◌, ◌++◌, length, take, drop, get_or, nat_le, Bool, true, false, cond, Some, None, Option, option_map, unwrap_or, filter, map, Bor, arith, inl, inr, eq-eqb, add-one}
+use Rattle.std.specs.Iterator.{DrainsIf}
+use Rattle.std.specs.Iterator.Runs.{Run}
 use Rattle.std.specs.List.{concat}
 use Rattle.std.specs.Str.{bytes_eq, IsUtf8, IsCharBoundary}
 use Rattle.std.proofs.Math.Seq.{drop-cons}
+use Rattle.std.proofs.iter.runs.Made.{took}
+use Rattle.std.proofs.lemmas.Iterator.{YieldsList, items_from_drains}
 use Rattle.std.proofs.lemmas.Bool.{cases_Bool, cases_lt, or_cases, eqb-true, ne_eqb, le-leb, lt-leb}
 use Rattle.std.proofs.lemmas.Slice.Eq.{bytes_eq-Decides}
 use Rattle.std.proofs.lemmas.Str.{IsCharBoundary-start, IsCharBoundary-end, IsCharBoundary-before_ascii}
@@ -141,12 +145,13 @@ pub start_of-taken : (texts : List (Bor (List ℕ))) (text : Bor (List ℕ)) →
 start_of-taken texts text e = ap start_of (parts_among-taken texts text e) ∙ start_of-append (parts_among texts) (parts_of text.now)
 
 -- the start of all, joined
-pub concat-first_parts : (lists : List (List (List ℕ))) (start : Option (Bor (List ℕ))) (none : Bor (List ℕ)) → none.now ≡ [] → option_map (λ s. parts_of s.now) start ≡ start_of lists
-    → (unwrap_or start none).now ≡ concat (first_parts lists)
-concat-first_parts [] None none e same = e
-concat-first_parts [] (Some s) none e same = cc
-concat-first_parts (parts ∷ lists) None none e same = cc
-concat-first_parts (parts ∷ lists) (Some s) none e same = let is : parts_of s.now ≡ first_parts (parts ∷ lists) = cc in sym (concat-parts_of s.now) ∙ ap concat is
+pub concat-first_parts : (lists : List (List (List ℕ))) (start : Option (Bor (List ℕ))) (none joined : Bor (List ℕ)) → none.now ≡ [] → joined ≡ unwrap_or start none
+    → option_map (λ s. parts_of s.now) start ≡ start_of lists → joined.now ≡ concat (first_parts lists)
+concat-first_parts [] None none joined empty is same = ap (λ t. t.now) is ∙ empty
+concat-first_parts [] (Some s) none joined empty is same = cc
+concat-first_parts (parts ∷ lists) None none joined empty is same = cc
+concat-first_parts (parts ∷ lists) (Some s) none joined empty is same =
+    let first : parts_of s.now ≡ first_parts (parts ∷ lists) = cc in ap (λ t. t.now) is ∙ sym (concat-parts_of s.now) ∙ ap concat first
 
 -- ---- where two texts part
 
@@ -442,3 +447,9 @@ IsCharBoundary-cut a (suc n) utf8 within before =
       | inl l ↦ IsCharBoundary-before_ascii a (suc n) l (separator-ascii _ (before (omega arith) l))
       | inr l ↦ (let end : length a ≡ suc n = omega arith in subst (IsCharBoundary a) end (IsCharBoundary-end a))
     ]
+
+-- ---- for callers: the items of a whole run are those of the list that the chain gives
+pub items-whole : {S A B : Type 0} {steps : S → Option A → S → Type 0} {v : A → B} {s : S} {all : List B} (run : Run steps) → run.from ≡ s → run.whole ≡ true
+    → YieldsList steps v s all → map v run.items ≡ all
+items-whole {S} {A} {B} {steps} {v} {s} {all} run from whole yields =
+    let drained = took run in items_from_drains run.items (subst (λ t. DrainsIf steps (Unit {0}) t run.items) from (drained.0, drained.1, λ _. drained.2 whole)) yields

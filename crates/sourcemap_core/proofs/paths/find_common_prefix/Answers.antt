@@ -1,8 +1,7 @@
 use Rattle.std.proofs.Common.{◌≡◌, ◌∙◌, List, ℕ, Ok, Option, Some, map, refl, option_map, string_bytes, sym, ap, subst, Bor}
-use Rattle.std.specs.List.{concat}
 use Rattle.std.proofs.iter.runs.Made.{run_of_exit}
 use Rattle.sourcemap_core.specs.Answer.{Gives}
-use Rattle.sourcemap_core.specs.Paths.{parts_of, common_prefix, unless_bare, first_parts}
+use Rattle.sourcemap_core.specs.Paths.{parts_of, common_prefix, unless_bare}
 use Rattle.sourcemap_core.proofs.PathsLemmas.{start_with, parts_among, start_of-taken, concat-first_parts}
 use Rattle.sourcemap_core.proofs.paths.find_common_prefix.Goals as goal
 use Rattle.sourcemap_core.proofs.paths.find_common_prefix.Goals.{in-Some-prefix, in-None-prefix}
@@ -22,10 +21,8 @@ loop-text-preserved-then-is_absolute g c =
 pub returns : goal.returns
 returns g c =
     let run = run_of_exit g.I.Iterator.next_gives _ c.loop-text.yielded c.loop-text.text-iterator c.loop-text.yielded_by _ c.in-None.ensures.steps in
-    let all = parts_among c.loop-text.yielded in
-    let joined : c.unwrap_or.result.now ≡ concat (first_parts all) = ap (λ start. start.now) c.unwrap_or.ensures ∙ concat-first_parts all c.loop-text.prefix _ refl c.loop-text.invariant in
-    let answer : Gives (option_map string_bytes) c.owned_unless_bare.result (Ok (unless_bare (concat (first_parts all)))) =
-    subst (λ prefix. Gives (option_map string_bytes) c.owned_unless_bare.result (Ok (unless_bare prefix))) joined c.owned_unless_bare.ensures in
+    let joined = concat-first_parts (parts_among c.loop-text.yielded) c.loop-text.prefix _ c.unwrap_or.result refl c.unwrap_or.ensures c.loop-text.invariant in
+    let answer = subst (λ prefix. Gives (option_map string_bytes) c.owned_unless_bare.result (Ok (unless_bare prefix))) joined c.owned_unless_bare.ensures in
     record {
       runs = (
         run.0,
