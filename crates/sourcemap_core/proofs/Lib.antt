@@ -5,6 +5,8 @@ pub mod MappingsAnswers
 pub mod MappingsLemmas
 pub mod SortLemmas
 pub mod TokensLemmas
+pub mod InternerLemmas
+pub mod PathsLemmas
 pub mod UtilsLemmas
 pub mod VlqLemmas
 pub mod WritingLemmas

@@ -5,6 +5,8 @@ pub mod Vlq
 pub mod Mappings
 pub mod MappingsParts
 pub mod MappingsWritten
+pub mod Interner
+pub mod Paths
 pub mod Tokens
 pub mod Utils
 pub mod WritingSteps

@@ -6,6 +6,8 @@ pub mod bits;
 pub mod errors;
 pub mod mappings;
 mod mappings_written;
+pub mod interner;
+pub mod paths;
 pub mod tokens;
 pub mod utils;
 pub mod vlq;

@@ -2,6 +2,7 @@ ghost use Rattle.std.specs.Prelude.{◌≡◌, ℕ, Some, IsTrue, IfSome, IsSort
 ghost use Rattle.std.specs.Ordering.{is_le};
 ghost use Rattle.sourcemap_core.specs.Utils.{GivesKey, closest};
 
+pub use crate::paths::find_common_prefix;
 use std::cmp::Ordering;
 
 /// The item closest to `key`, with its own index: of a slice in order of `map` the first item
