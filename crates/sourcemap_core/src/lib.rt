@@ -4,9 +4,9 @@
 
 pub mod bits;
 pub mod errors;
+pub mod interner;
 pub mod mappings;
 mod mappings_written;
-pub mod interner;
 pub mod paths;
 pub mod tokens;
 pub mod utils;
