@@ -2,4 +2,5 @@
 #![tactic(auto)]
 
 mod debug_id;
+mod fields;
 pub mod jsontypes;
