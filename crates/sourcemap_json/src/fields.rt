@@ -2,8 +2,8 @@
 ghost use Rattle.std.specs.Prelude.{◌≡◌, ℕ, List, Option, Some, Ok, map, option_map, string_bytes};
 ghost use Rattle.serde_json.specs.Data.{Data};
 ghost use Rattle.serde_json.specs.Find.{get_member};
-ghost use Rattle.serde_json.specs.View.{view, members_view};
-ghost use Rattle.sourcemap_json.specs.Fields.{Reads, KeepsOthers, any, text, small_number, or_null, list, at, needed};
+ghost use Rattle.serde_json.specs.View.{view, items_view, members_view};
+ghost use Rattle.sourcemap_json.specs.Fields.{Reads, KeepsOthers, any, text, small_number, or_null, items_read, list, at, needed};
 
 use serde_json::{Map, Value};
 use sourcemap_core::errors::{Error, JsonFault, Result};
@@ -88,15 +88,21 @@ impl<T: Field> Field for Vec<T> {
     ghost reading = { list T.reading };
 
     fn take(alloc: Global, value: Value) -> Result<Vec<T>> {
-        let Value::Array(items) = value else {
-            return Err(Error::BadJson(JsonFault::Shape));
-        };
-        let mut fields = Vec::with_capacity(alloc, items.len())?;
-        for item in items {
-            fields.push(T::take(alloc, item)?)?;
+        match value {
+            Value::Array(items) => take_items(alloc, items),
+            _ => Err(Error::BadJson(JsonFault::Shape)),
         }
-        Ok(fields)
     }
+}
+
+fn take_items<T: Field>(alloc: Global, items: Vec<Value>) -> Result<Vec<T>>
+    ensures { Reads (λ v. map T.see v.items) result (items_read T.reading (items_view items.items)) }
+{
+    let mut fields = Vec::with_capacity(alloc, items.len())?;
+    for item in items {
+        fields.push(T::take(alloc, item)?)?;
+    }
+    Ok(fields)
 }
 
 // The value of a key, taken out; the other keys keep theirs.
