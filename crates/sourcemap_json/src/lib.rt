@@ -1,2 +1,4 @@
 //! Source map records: the JSON values that stand for them, and the record that a value stands for.
 #![tactic(auto)]
+
+pub mod decoder;
