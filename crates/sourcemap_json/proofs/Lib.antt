@@ -1,1 +1,2 @@
 pub mod StripHeaderLemmas
+pub mod DataUrlLemmas
