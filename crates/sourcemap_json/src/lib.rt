@@ -7,3 +7,6 @@ pub mod jsontypes;
 mod parts;
 mod reading;
 mod writing;
+pub mod data_url;
+pub mod decoder;
+pub mod strip_header;
