@@ -56,15 +56,15 @@ comma_none v e = cc
 
 digit_no_comma : (c : ℕ) → digit_value c ≢ None → (c == 44) ≡ false
 digit_no_comma c digit = elim (cases_Bool (c == 44)) [
-    | inl is ↦ absurd (digit (ap digit_value (eqb-true c 44 is) ∙ comma_is_none))
-    | inr differs ↦ differs
-  ]
+  | inl is ↦ absurd (digit (ap digit_value (eqb-true c 44 is) ∙ comma_is_none))
+  | inr differs ↦ differs
+]
 
 no_comma : (c v : ℕ) → digit_value c ≡ Some v → (c == 44) ≡ false
 no_comma c v e = elim (cases_Bool (c == 44)) [
-    | inl is ↦ let at : c ≡ 44 = eqb-true c 44 is in let none : digit_value 44 ≡ Some v = subst (λ b. digit_value b ≡ Some v) at e in absurd (comma_none v none)
-    | inr differs ↦ differs
-  ]
+  | inl is ↦ let at : c ≡ 44 = eqb-true c 44 is in let none : digit_value 44 ≡ Some v = subst (λ b. digit_value b ≡ Some v) at e in absurd (comma_none v none)
+  | inr differs ↦ differs
+]
 
 Lacks-chain : (group : List ℕ) → IsChain group → Lacks group
 unfolding Lacks
@@ -87,9 +87,9 @@ slice_split_onto (x ∷ xs) ys m ms h e =
 slice_split_some : (xs : List ℕ) → (m : List ℕ) × (ms : List (List ℕ)) × (slice_split (λ b. b == 44) xs ≡ m ∷ ms)
 slice_split_some [] = ([], [], refl)
 slice_split_some (x ∷ xs) = elim (cases_Bool (x == 44)) [
-    | inl is ↦ ([], slice_split (λ b. b == 44) xs, slice_split-cons_yes (λ b. b == 44) x xs is)
-    | inr differs ↦ let rest = slice_split_some xs in (x ∷ rest.0, rest.1, slice_split-cons_no (λ b. b == 44) x xs differs ∙ ap (onto_first x) rest.2)
-  ]
+  | inl is ↦ ([], slice_split (λ b. b == 44) xs, slice_split-cons_yes (λ b. b == 44) x xs is)
+  | inr differs ↦ let rest = slice_split_some xs in (x ∷ rest.0, rest.1, slice_split-cons_no (λ b. b == 44) x xs differs ∙ ap (onto_first x) rest.2)
+]
 
 append_some : (xs ys : List ℕ) → ys ≢ [] → xs ++ ys ≢ []
 append_some [] ys some none = some none
@@ -104,9 +104,9 @@ HasPartFault-at line front rest part numbers c e whole reads lacks differs goes 
     let one : Lacks (c ∷ []) = unfold Lacks in (differs, tt) in
     let lacks_all : Lacks (front ++ (part ++ c ∷ [])) = Lacks-append front (part ++ c ∷ []) lacks (Lacks-append part (c ∷ []) (Lacks-goes_on part goes.unfinished.goes_on) one) in
     let text : line ≡ (front ++ (part ++ c ∷ [])) ++ goes.more =
-      whole ∙ ap (λ zs. front ++ zs) (goes.split ∙ sym (append_assoc part (c ∷ []) goes.more)) ∙ sym (append_assoc front (part ++ c ∷ []) goes.more) in
+    whole ∙ ap (λ zs. front ++ zs) (goes.split ∙ sym (append_assoc part (c ∷ []) goes.more)) ∙ sym (append_assoc front (part ++ c ∷ []) goes.more) in
     let cut : (front ++ (part ++ c ∷ [])) ++ behind.0 ≡ front ++ own =
-      append_assoc front (part ++ c ∷ []) behind.0 ∙ ap (λ zs. front ++ zs) (append_assoc part (c ∷ []) behind.0) in
+    append_assoc front (part ++ c ∷ []) behind.0 ∙ ap (λ zs. front ++ zs) (append_assoc part (c ∷ []) behind.0) in
     let some : own ≢ [] = append_some part (c ∷ behind.0) (λ none. cc) in
     record {
       part = front ++ own;
@@ -114,7 +114,7 @@ HasPartFault-at line front rest part numbers c e whole reads lacks differs goes 
       split = ap (slice_split (λ b. b == 44)) text ∙ slice_split_onto (front ++ (part ++ c ∷ [])) goes.more behind.0 behind.1 lacks_all behind.2 ∙ ap (λ p. p ∷ behind.1) cut;
       some = append_some front own some;
       fault = HasFault-later (front ++ own) own (record { front = front; numbers = numbers; reads = reads; split = refl }) some e
-        (fault behind.0 (record { more = behind.0; split = refl; unfinished = goes.unfinished }));
+          (fault behind.0 (record { more = behind.0; split = refl; unfinished = goes.unfinished }));
     }
 
 -- a number that the end of the part cuts off
@@ -140,20 +140,20 @@ HasPartFault-comma line rest c cs sound d (x ∷ xs) goes lacks first ne is =
     let text : line ≡ (front ++ part) ++ d ∷ goes.more = sound.split ∙ ap (λ zs. front ++ zs) goes.split ∙ sym (append_assoc front part (d ∷ goes.more)) in
     HasPartFault-cut line front rest part sound.numbers parts
     (ap (slice_split (λ b. b == 44)) text ∙ slice_split_onto (front ++ part) (d ∷ goes.more) [] parts lacks_all (slice_split-cons_yes (λ b. b == 44) d goes.more is)
-      ∙ ap (λ p. p ∷ parts) (append-nil (front ++ part)))
+    ∙ ap (λ p. p ∷ parts) (append-nil (front ++ part)))
     sound.reads (λ none. cc) goes.unfinished
 
 -- the first fault of a line behind some numbers, where no `,` comes next
 pub HasPartFault-from : (line rest : List ℕ) (c : ℕ) (cs : List ℕ) (sound : IsSound line rest) (e : Error) → Lacks sound.front → rest ≡ c ∷ cs → (c == 44) ≡ false
     → NumberFault rest e → HasPartFault line (fault_in_part e)
 HasPartFault-from line rest c cs sound (InvalidBase64 d) lacks first ne (part, goes, none) = elim (cases_Bool (d == 44)) [
-    | inl is ↦
-        subst (HasPartFault line) (sym (cond-true (d == 44) VlqLeftover (InvalidBase64 d) is))
-        (HasPartFault-comma line rest c cs sound d part goes lacks first ne is)
-    | inr differs ↦
-        subst (HasPartFault line) (sym (cond-false (d == 44) VlqLeftover (InvalidBase64 d) differs))
-        (HasPartFault-at line sound.front rest part sound.numbers d (InvalidBase64 d) sound.split sound.reads lacks differs goes (λ m at. (part, at, none)))
-  ]
+  | inl is ↦
+      subst (HasPartFault line) (sym (cond-true (d == 44) VlqLeftover (InvalidBase64 d) is))
+      (HasPartFault-comma line rest c cs sound d part goes lacks first ne is)
+  | inr differs ↦
+      subst (HasPartFault line) (sym (cond-false (d == 44) VlqLeftover (InvalidBase64 d) differs))
+      (HasPartFault-at line sound.front rest part sound.numbers d (InvalidBase64 d) sound.split sound.reads lacks differs goes (λ m at. (part, at, none)))
+]
 HasPartFault-from line rest c cs sound VlqOverflow lacks first ne (part, d, goes, digit, great) =
     HasPartFault-at line sound.front rest part sound.numbers d VlqOverflow sound.split sound.reads lacks (digit_no_comma d digit) goes (λ m at. (part, d, at, digit, great))
 HasPartFault-from line rest c cs sound VlqLeftover lacks first ne unfinished =
@@ -161,7 +161,7 @@ HasPartFault-from line rest c cs sound VlqLeftover lacks first ne unfinished =
     let lacks_all : Lacks (front ++ rest) = Lacks-append front rest lacks (Lacks-goes_on rest unfinished.goes_on) in
     HasPartFault-cut line front rest rest sound.numbers []
     (ap (slice_split (λ b. b == 44)) (sound.split ∙ sym (append-nil (front ++ rest))) ∙ slice_split_onto (front ++ rest) [] [] [] lacks_all refl
-      ∙ ap (λ p. p ∷ []) (append-nil (front ++ rest)))
+    ∙ ap (λ p. p ∷ []) (append-nil (front ++ rest)))
     sound.reads (λ none. let same : c ∷ cs ≡ [] = sym first ∙ none in cc) unfinished
 HasPartFault-from line rest c cs sound _ lacks first ne fault = absurd fault
 
@@ -175,9 +175,11 @@ read_none line =
 pub read_more : (line rest behind : List ℕ) (n : ℤ) (read : Numbers) (sound : IsSound line rest) → Lacks sound.front → BeginsWith rest n behind → AreSteps (sound.numbers ++ n ∷ []) read
     → (t : IsSound line behind) × Lacks t.front × AreSteps t.numbers read
 read_more line rest behind n read sound lacks begins steps =
-    let more = IsSound-more line rest behind sound.front sound.numbers n sound.reads sound.split begins in
-    (record { front = sound.front ++ begins.group; numbers = sound.numbers ++ n ∷ []; reads = more.0; split = more.1 },
-      Lacks-append sound.front begins.group lacks (Lacks-chain begins.group begins.is_group.chain), steps)
+    let more = IsSound-more line rest behind sound.front sound.numbers n sound.reads sound.split begins in (
+      record { front = sound.front ++ begins.group; numbers = sound.numbers ++ n ∷ []; reads = more.0; split = more.1 },
+      Lacks-append sound.front begins.group lacks (Lacks-chain begins.group begins.is_group.chain),
+      steps,
+    )
 
 -- the end of the line
 pub HasFirstPart-last : (line rest : List ℕ) (read : Numbers) (sound : IsSound line rest) → Lacks sound.front → AreSteps sound.numbers read → rest ≡ [] → HasFirstPart line read None
@@ -187,7 +189,7 @@ HasFirstPart-last line rest read sound lacks steps none =
       part = front;
       numbers = sound.numbers;
       split =
-        ap (slice_split (λ b. b == 44)) (sound.split ∙ ap (λ zs. front ++ zs) none) ∙ slice_split_onto front [] [] [] lacks refl ∙ ap (λ p. p ∷ []) (append-nil front);
+          ap (slice_split (λ b. b == 44)) (sound.split ∙ ap (λ zs. front ++ zs) none) ∙ slice_split_onto front [] [] [] lacks refl ∙ ap (λ p. p ∷ []) (append-nil front);
       shorter = tt;
       reads = sound.reads;
       steps = steps;
@@ -203,9 +205,9 @@ HasFirstPart-comma line rest c behind read sound lacks steps first is =
       part = front;
       numbers = sound.numbers;
       split =
-        ap (slice_split (λ b. b == 44)) text
-        ∙ slice_split_onto front (c ∷ behind.now) [] (slice_split (λ b. b == 44) behind.now) lacks (slice_split-cons_yes (λ b. b == 44) c behind.now is)
-        ∙ ap (λ p. p ∷ slice_split (λ b. b == 44) behind.now) (append-nil front);
+          ap (slice_split (λ b. b == 44)) text
+          ∙ slice_split_onto front (c ∷ behind.now) [] (slice_split (λ b. b == 44) behind.now) lacks (slice_split-cons_yes (λ b. b == 44) c behind.now is)
+          ∙ ap (λ p. p ∷ slice_split (λ b. b == 44) behind.now) (append-nil front);
       shorter = let size = ap length text ∙ length-append front (c ∷ behind.now) in omega arith;
       reads = sound.reads;
       steps = steps;

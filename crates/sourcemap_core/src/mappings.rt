@@ -102,7 +102,10 @@ fn read_numbers(line: &[u8]) -> Result<(Numbers, Option<&[u8]>)>
     ensures read { IfOk result (λ read. HasFirstPart line.now read.0 read.1) }
     ensures fault { IfErr result (λ e. HasPartFault line.now e) }
 {
-    let mut read = Numbers { count: 0, steps: [0; 5] };
+    let mut read = Numbers {
+        count: 0,
+        steps: [0; 5],
+    };
     let mut rest = line;
     while let Some((first, behind)) = rest.split_first() {
         if *first == b',' {
@@ -341,3 +344,87 @@ pub fn mappings_determine_one_answer()
     ensures { (mappings ranges : List ℕ) (counts : Counts) (a b : Result (List RawToken) Error)
         → MappingsAnswer mappings ranges counts a → MappingsAnswer mappings ranges counts b → a ≡ b }
 {}
+
+#[cfg(test)]
+mod tests {
+    use super::*;
+    use std::test::Fail;
+
+    // A token as its places, as `0:18=0:2:2#1+`: destination, source, name, and `+` for a range.
+    fn show(text: &mut String, token: RawToken) -> std::result::Result<(), Fail> {
+        let RawToken {
+            dst_line,
+            dst_col,
+            src_line,
+            src_col,
+            src_id,
+            name_id,
+            is_range,
+        } = token;
+        write!(text, " {dst_line}:{dst_col}")?;
+        if src_id != u32::MAX {
+            write!(text, "={src_id}:{src_line}:{src_col}")?;
+        }
+        if name_id != u32::MAX {
+            write!(text, "#{name_id}")?;
+        }
+        if is_range {
+            text.push('+')?;
+        }
+        Ok(())
+    }
+
+    fn read(
+        rt: &HostRuntime,
+        mappings: &str,
+        ranges: &str,
+        sources: u32,
+        names: u32,
+    ) -> std::result::Result<String, Fail> {
+        match parse_mappings(rt.alloc(), mappings, ranges, sources, names) {
+            Ok(tokens) => {
+                let mut text = String::new(rt.alloc());
+                for token in tokens.as_slice() {
+                    show(&mut text, *token)?;
+                }
+                Ok(text)
+            }
+            Err(fault) => Ok(format!(in rt.alloc(); "{fault}")?),
+        }
+    }
+
+    #[test]
+    fn reads_mappings(rt: HostRuntime) -> std::result::Result<(), Fail> {
+        let readme = "AAAA,GAAIA,GAAI,EACR,IAAIA,GAAK,EAAG,CACVC,MAAM";
+        let tokens =
+            " 0:0=0:0:0 0:3=0:0:4#0 0:6=0:0:8 0:8=0:1:0 0:12=0:1:4#0 0:15=0:1:9 0:17=0:1:12 0:18=0:2:2#1 0:24=0:2:8";
+        let overflow = "vlq decode caused an overflow";
+        let rows = [
+            (readme, "", 1, 2, tokens),
+            ("A;A", ";B", 0, 0, " 0:0 1:0+"),
+            ("A,,C", "E", 0, 0, " 0:0 0:1+"),
+            ("AAAO", "B", 1, 0, " 0:0=0:0:7+"),
+            ("AADA", "", 1, 0, " 0:0=0:4294967295:0"),
+            ("D,C", "B", 0, 0, " 0:0 0:4294967295+"),
+            ("ggggggggggggH", "", 0, 0, " 0:0"),
+            (";,;,", "", 0, 0, ""),
+            ("", "!;!", 0, 0, ""),
+            (";A", "!", 0, 0, " 1:0"),
+            ("A", "!", 0, 0, "invalid base64 character: !"),
+            ("A", "é", 0, 0, "invalid base64 character: Ã"),
+            ("Aé", "", 0, 0, "invalid base64 character: Ã"),
+            ("ggggggggggggI", "", 0, 0, overflow),
+            ("gggggggggggggA", "", 0, 0, overflow),
+            ("Ag,A", "", 0, 0, "leftover cur/shift in vlq decode"),
+            ("AAAAAA", "", 1, 0, "got 6 segments, expected 4 or 5"),
+            ("AAAA", "", 0, 0, "bad reference to source #0"),
+            ("ADAA", "", 1, 0, "bad reference to source #4294967295"),
+            ("AAAAA", "", 1, 0, "bad reference to name #0"),
+        ];
+        for (mappings, ranges, sources, names, want) in rows {
+            let got = read(&rt, mappings, ranges, sources, names)?;
+            assert_eq!(rt; got.as_str(), want, "at {mappings} {ranges}");
+        }
+        Ok(())
+    }
+}
