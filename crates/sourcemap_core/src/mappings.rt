@@ -1,5 +1,5 @@
 //! The text of mappings, read: lines between `;`, the parts of a line between `,`.
-ghost use Rattle.std.specs.Prelude.{◌≡◌, ℕ, ◌+◌, ◌<◌, ◌==◌, ℤ, List, [], ◌∷◌, ◌++◌, length, nat_lt, min, Result, ◌||◌, if◌then◌else◌, IsTrue, Some, None, is_none, IfSome, MatchOption, MatchResult, IfOk, IfErr, unsigned_abs, pos, ◌^◌};
+ghost use Rattle.std.specs.Prelude.{◌≡◌, ℕ, ◌+◌, ◌<◌, ◌≤◌, ◌==◌, ℤ, List, [], ◌∷◌, ◌++◌, length, nat_lt, min, Result, ◌||◌, if◌then◌else◌, IsTrue, Some, None, is_none, IfSome, MatchOption, MatchResult, IfOk, IfErr, unsigned_abs, pos, ◌^◌};
 ghost use Rattle.std.specs.Option.{option_map_or};
 ghost use Rattle.std.specs.List.{slice_split};
 ghost use Rattle.std.specs.Int.{int_rem_euclid};
@@ -8,7 +8,7 @@ ghost use Rattle.sourcemap_core.specs.Bits.{bit_of, first_foreign};
 ghost use Rattle.sourcemap_core.specs.declared.errors.Error.{Error};
 ghost use Rattle.sourcemap_core.specs.declared.tokens.RawToken.{RawToken};
 ghost use Rattle.sourcemap_core.specs.Mappings.{Counts, MappingsAnswer, Segment, PartsFault, LineFault, LinesRead, LinesFault, beside, line_texts, page_tokens, Line, segment_fault, token_of};
-ghost use Rattle.sourcemap_core.specs.MappingsParts.{AreSteps, AreTextSums, AreSums, AddsParts, AddsLine, counts_of, lines_left, fault_in_part, HasFirstPart, HasPartFault};
+ghost use Rattle.sourcemap_core.specs.MappingsParts.{AreSteps, AreTextSums, AreSums, AddsParts, AddsLine, counts_of, lines_of, lines_left, fault_in_part, HasFirstPart, HasPartFault};
 ghost use Rattle.sourcemap_core.specs.Tokens.{AreInOrder, AllWithin};
 ghost use Rattle.sourcemap_core.specs.Vlq.{Reads, HasFault};
 
@@ -49,19 +49,16 @@ struct Numbers {
     steps: [u32; 5],
 }
 
-// What stands before the first separator, and what stands behind it if there is one.
+// The first line of a text, and the text behind it if there is more.
 #[inline]
-fn cut(text: &[u8], separator: u8) -> (&[u8], Option<&[u8]>)
-    ensures split { slice_split (λ b. b == separator) text.now
-        ≡ result.0.now ∷ option_map_or (λ rest. slice_split (λ b. b == separator) rest.now) result.1 [] }
-    ensures shorter { IfSome result.1 (λ rest. length rest.now < length text.now) }
+fn cut(text: &str) -> (&str, Option<&str>)
+    ensures split { lines_of text.now ≡ result.0.now ∷ lines_left result.1 }
+    ensures shorter { option_map_or (λ rest. length rest.now + 1) result.1 0 ≤ length text.now }
 {
-    for (at, byte) in text.iter().enumerate() {
-        if *byte == separator {
-            return (&text[..at], Some(&text[at + 1..]));
-        }
+    match text.split_once(';') {
+        Some((line, behind)) => (line, Some(behind)),
+        None => (text, None),
     }
-    (text, None)
 }
 
 // A number as a step modulo 2^32.
@@ -269,22 +266,17 @@ fn add_line(
 
 // The next line of a text of range bits, empty where the text is at its end, and what stands behind it.
 #[inline]
-fn next_bits(ranges: Option<&[u8]>) -> (&[u8], Option<&[u8]>)
+fn next_bits(ranges: Option<&str>) -> (&str, Option<&str>)
     ensures { (line : List ℕ) (lines : List (List ℕ)) → beside (line ∷ lines) (lines_left ranges.entry) ≡ (line, result.0.now) ∷ beside lines (lines_left result.1) }
 {
     match ranges {
-        Some(text) => cut(text, b';'),
-        None => (&[], None),
+        Some(text) => cut(text),
+        None => ("", None),
     }
 }
 
 // The tokens of the lines, in order of the text.
-fn read_lines(
-    alloc: Global,
-    mappings: &[u8],
-    ranges: &[u8],
-    limits: Limits,
-) -> Result<Vec<RawToken>>
+fn read_lines(alloc: Global, mappings: &str, ranges: &str, limits: Limits) -> Result<Vec<RawToken>>
     ensures read { IfOk result (λ v. (page : List Line) × LinesRead (counts_of limits) 0 [] (line_texts mappings.now ranges.now) page
         × (v.items ≡ page_tokens 0 [] page)) }
     ensures fault { IfErr result (λ e. UnlessMemory e (LinesFault (counts_of limits) 0 [] (line_texts mappings.now ranges.now) e)) }
@@ -297,20 +289,25 @@ fn read_lines(
         source_column: 0,
         name: 0,
     };
-    let mut lines = mappings;
+    let mut lines = Some(mappings);
     let mut ranges = Some(ranges);
     let mut number = 0;
-    loop {
-        let (text, later) = cut(lines, b';');
+    while let Some(text) = lines {
+        let (line, later) = cut(text);
         let (bits, later_bits) = next_bits(ranges);
-        sums = add_line(&mut tokens, text, bits, number, sums, limits)?;
-        let Some(later) = later else {
-            return Ok(tokens);
-        };
+        sums = add_line(
+            &mut tokens,
+            line.as_bytes(),
+            bits.as_bytes(),
+            number,
+            sums,
+            limits,
+        )?;
         lines = later;
         ranges = later_bits;
         number += 1;
     }
+    Ok(tokens)
 }
 
 /// The tokens that the texts of mappings and of range bits stand for, in order of destination, for
@@ -334,7 +331,7 @@ pub fn parse_mappings(
     ensures within { IfOk result (λ v. AllWithin sources names v.items) }
 {
     let limits = Limits { sources, names };
-    let mut tokens = read_lines(alloc, mappings.as_bytes(), ranges.as_bytes(), limits)?;
+    let mut tokens = read_lines(alloc, mappings, ranges, limits)?;
     sort_tokens(&mut tokens)?;
     Ok(tokens)
 }
