@@ -3,6 +3,7 @@ pub mod BitLemmas
 pub mod DigitLemmas
 pub mod MappingsAnswers
 pub mod MappingsLemmas
+pub mod MappingsOrder
 pub mod SortLemmas
 pub mod TokensLemmas
 pub mod InternerLemmas

@@ -1,13 +1,14 @@
 -- What the steps of the reader of mappings come to.
-use Rattle.std.proofs.Common.{◌≡◌, ◌≢◌, ℕ, zero, suc, slice_index, ◌+◌, ◌^◌, ◌<◌, ◌==◌, true, false, Bool, List, [], ◌∷◌, ◌++◌, length, get_or, take, drop, All, Some, None, sym, ap, ◌∙◌, refl, subst, inl, inr, append_assoc, append-nil, take-append-drop, length-append, ℤ, arith, eqb-true}
+use Rattle.std.proofs.Common.{◌≡◌, ◌≢◌, ℕ, zero, suc, slice_index, ◌+◌, ◌^◌, ◌<◌, ◌==◌, true, false, Bool, List, [], ◌∷◌, ◌++◌, length, get_or, All, Some, None, sym, ap, ◌∙◌, refl, subst, inl, inr, append_assoc, append-nil, length-append, ℤ, arith, eqb-true}
 use Rattle.sourcemap_core.specs.Answer.{UnlessMemory}
 use Rattle.sourcemap_core.proofs.AnswerLemmas.{UnlessMemory-weaker}
 use Rattle.std.specs.List.{slice_split, onto_first, AllByRecursion}
 use Rattle.std.proofs.lemmas.Bool.{cases_Bool, cond-true, cond-false}
 use Rattle.std.specs.Borrow.{Bor}
 use Rattle.sourcemap_core.specs.declared.mappings.Numbers.{Numbers}
-use Rattle.std.proofs.lemmas.List.{drop_more}
-use Rattle.std.proofs.lemmas.List.Splits.{slice_split_at, slice_split-cons_yes, slice_split-cons_no}
+use Rattle.std.proofs.lemmas.List.Elements.{All-from_get_or}
+use Rattle.std.proofs.lemmas.Bool.Decides.{nat_tests}
+use Rattle.std.proofs.lemmas.List.Splits.{slice_split_none, slice_split_at, slice_split-cons_yes, slice_split-cons_no}
 use Rattle.sourcemap_core.specs.declared.tokens.RawToken.{RawToken}
 use Rattle.sourcemap_core.specs.declared.mappings.Sums.{Sums}
 use Rattle.sourcemap_core.specs.declared.mappings.Spot.{Spot}
@@ -15,15 +16,20 @@ use Rattle.sourcemap_core.specs.declared.errors.Error.{Error}
 use Rattle.sourcemap_core.specs.declared.errors.Error.TheVariants.{InvalidBase64, VlqLeftover, VlqOverflow}
 use Rattle.sourcemap_core.specs.Bits.{first_foreign}
 use Rattle.sourcemap_core.specs.Mappings.{Counts, Segment, Line, LineText, line_tokens, page_tokens, token_of, segment_fault, PartsRead, PartsFault, LineRead, LineFault, LinesRead, LinesFault}
-use Rattle.sourcemap_core.specs.MappingsParts.{AreSteps, AreTextSums, AreSums, AddsParts, AddsLine, HasFirstPart, HasPartFault, fault_in_part}
+use Rattle.sourcemap_core.specs.MappingsParts.{lines_of, AreSteps, AreTextSums, AreSums, AddsParts, AddsLine, HasFirstPart, HasPartFault, fault_in_part}
 use Rattle.sourcemap_core.specs.Vlq.{digit_value, GoesOn, IsLast, IsChain, IsUnfinished, GoesTo, NumberFault, BeginsWith, Reads, HasFault, IsSound}
 use Rattle.sourcemap_core.proofs.VlqLemmas.{HasFault-later, IsGroup-nonempty, IsSound-more}
 
--- the first part ends where the first element passes
-pub slice_split_read : {X : Type 0} (p : X → Bool) (xs : List X) (i : ℕ) (d : X) → i < length xs → p (get_or xs i d) ≡ true → All (λ x. p x ≡ false) (take i xs) → slice_split p xs ≡ take i xs ∷ slice_split p (drop (i + 1) xs)
-slice_split_read p xs i d lt e h =
-    ap (slice_split p) (sym (take-append-drop i xs) ∙ ap (λ zs. take i xs ++ zs) (drop_more xs i d lt))
-    ∙ slice_split_at p (take i xs) (get_or xs i d) (drop (i + 1) xs) h e
+-- The lines of a text.
+
+no_semicolon : (xs : List ℕ) → ((i : ℕ) → i < length xs → get_or xs i 0 ≢ 59) → All (λ b. (b == 59) ≡ false) xs
+no_semicolon xs h = All-from_get_or (λ b. (b == 59) ≡ false) xs 0 (λ i lt. let ne = h i lt in grind (arith, nat_tests))
+
+pub lines_of-last : (text : List ℕ) → ((i : ℕ) → i < length text → get_or text i 0 ≢ 59) → lines_of text ≡ text ∷ []
+lines_of-last text h = slice_split_none (λ b. b == 59) text (no_semicolon text h)
+
+pub lines_of-first : (text line behind : List ℕ) → text ≡ line ++ 59 ∷ behind → ((i : ℕ) → i < length line → get_or line i 0 ≢ 59) → lines_of text ≡ line ∷ lines_of behind
+lines_of-first text line behind e h = ap lines_of e ∙ slice_split_at (λ b. b == 59) line 59 behind (no_semicolon line h) refl
 
 -- Numbers.
 
@@ -406,7 +412,7 @@ module _ (counts : Counts) (all : List LineText) (n : ℕ) (text : LineText) (le
   PageSoFar-fault e so_far f = UnlessMemory-weaker e (λ h. so_far.fault e (inl h)) f
 
 -- before the first line
-pub PageSoFar-none : (counts : Counts) (all : List LineText) → PageSoFar counts all 0 all [] (record { column = 0; source = 0; line = 0; source_column = 0; name = 0 })
+pub PageSoFar-none : (counts : Counts) (all : List LineText) → PageSoFar counts all 0 all [] (record { rises = true; column = 0; source = 0; line = 0; source_column = 0; name = 0 })
 PageSoFar-none counts all = record {
   before = [];
   page = [];
