@@ -3,3 +3,4 @@ pub mod JsontypesLemmas
 pub mod FieldsLemmas
 pub mod DepthLemmas
 pub mod ReadingLemmas
+pub mod ReadBackLemmas
