@@ -1,11 +1,11 @@
 -- A record level by level.
-use Rattle.std.proofs.Common.{◌≡◌, List, [], ◌∷◌, Option, None, Some, Vec, Global, map, option_map, codes, string_bytes, refl, sym, ap, ◌∙◌}
+use Rattle.std.proofs.Common.{◌≡◌, ℕ, List, [], ◌∷◌, Option, None, Some, Vec, Global, map, option_map, codes, string_bytes, refl, sym, ap, ◌∙◌}
 use Rattle.std.proofs.lemmas.Iterator.Adapters.{option_map_id}
 use Rattle.serde_json.specs.Data.{Members, no_members, string, object, array, item}
 use Rattle.serde_json.specs.View.{view, items_of}
 use Rattle.sourcemap_json.specs.DebugId.{debug_id_text}
 use Rattle.sourcemap_json.specs.Fields.{put_if, written_number, written_or_null, written_list, at, any, text, small_number, or_null, list}
-use Rattle.sourcemap_json.specs.Jsontypes.{Fields, Section, Sections, Tree, flat, tree, tree_with, tree_step, section, section_step, sections_from, fields_view, text_view, debug_id_in, fields_in, scopes, scopes_view, written, written_sections, written_section, written_one, section_with, Place, written_fields, written_scopes}
+use Rattle.sourcemap_json.specs.Jsontypes.{Fields, Section, Sections, Tree, flat, tree, tree_with, tree_step, section, section_step, sections_from, fields_view, text_view, texts_view, debug_id_in, fields_in, scopes, scopes_view, written, written_sections, written_section, written_one, section_with, Place, written_fields, written_scopes}
 use Rattle.sourcemap_json.specs.declared.jsontypes.RawSection.{RawSection}
 use Rattle.sourcemap_json.specs.declared.jsontypes.RawSourceMap.{RawSourceMap, RawSourceMap-F, out-RawSourceMap, roll-RawSourceMap, fold_out-RawSourceMap, fold-roll-RawSourceMap, map-RawSourceMap}
 
@@ -130,3 +130,38 @@ fields_put r m0 m1 m2 m3 m4 m5 m6 m7 m8 m9 m10 m11 m12 m13 h0 h1 h2 h3 h4 h5 h6 
       same_items (option_map (λ n. n)) option_map_id r.x_facebook_offsets,
       option_map_id r.debug_id,
     )
+
+-- the fields of a copy
+pub fields_copied : (r s : RawSourceMap-F RawSection RawSourceMap) → r.version ≡ s.version → r.debug_id ≡ s.debug_id
+    → option_map view r.file ≡ option_map view s.file
+    → texts_view r.sources ≡ texts_view s.sources
+    → text_view r.source_root ≡ text_view s.source_root
+    → texts_view r.sources_content ≡ texts_view s.sources_content
+    → option_map (λ v. map view v.items) r.names ≡ option_map (λ v. map view v.items) s.names
+    → text_view r.range_mappings ≡ text_view s.range_mappings
+    → text_view r.mappings ≡ text_view s.mappings
+    → option_map (λ v. map (λ n. n) v.items) r.ignore_list ≡ option_map (λ v. map (λ n. n) v.items) s.ignore_list
+    → option_map (λ v. map (option_map (λ n. n)) v.items) r.x_facebook_offsets ≡ option_map (λ v. map (option_map (λ n. n)) v.items) s.x_facebook_offsets
+    → option_map (λ v. map string_bytes v.items) r.x_metro_module_paths ≡ option_map (λ v. map string_bytes v.items) s.x_metro_module_paths
+    → option_map (λ v. map (option_map (λ s. map scopes_view s.items)) v.items) r.x_facebook_sources ≡ option_map (λ v. map (option_map (λ s. map scopes_view s.items)) v.items) s.x_facebook_sources
+    → fields_view r ≡ fields_view s
+fields_copied r s version debug_id file sources source_root sources_content names range_mappings mappings ignore_list x_facebook_offsets x_metro_module_paths x_facebook_sources =
+    let same : (v : Option (Vec ℕ Global)) → _ = same_items (λ n. n) (λ n. refl) in
+    let same_or_none : (v : Option (Vec (Option ℕ) Global)) → _ = same_items (option_map (λ n. n)) option_map_id in
+    let numbers = sym (same r.ignore_list) ∙ ignore_list ∙ same s.ignore_list in
+    let offsets = sym (same_or_none r.x_facebook_offsets) ∙ x_facebook_offsets ∙ same_or_none s.x_facebook_offsets in
+    λ i. record {
+      version = version i;
+      file = file i;
+      sources = sources i;
+      source_root = source_root i;
+      sources_content = sources_content i;
+      names = names i;
+      range_mappings = range_mappings i;
+      mappings = mappings i;
+      ignore_list = numbers i;
+      x_facebook_offsets = offsets i;
+      x_metro_module_paths = x_metro_module_paths i;
+      x_facebook_sources = x_facebook_sources i;
+      debug_id = debug_id i;
+    }

@@ -5,3 +5,4 @@ pub mod DepthLemmas
 pub mod ReadingLemmas
 pub mod StripHeaderLemmas
 pub mod DataUrlLemmas
+pub mod ReadBackLemmas

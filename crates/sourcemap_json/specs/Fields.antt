@@ -4,8 +4,7 @@ use Rattle.std.specs.Prelude.{◌≡◌, ℕ, ◌^◌, option_and_then, List, []
 use Rattle.std.specs.Str.{bytes_eq}
 use Rattle.serde_json.specs.Data.{Data, null, boolean, number, string, array, object, unsigned, Items, no_items, item, Members, put}
 use Rattle.serde_json.specs.Find.{as_number, as_str, as_array, as_u64, get_member}
-use Rattle.serde_json.specs.View.{items_of, view}
-use Rattle.serde_json.specs.declared.value.Value.{Value}
+use Rattle.serde_json.specs.View.{items_of}
 use Rattle.sourcemap_core.specs.declared.errors.Error.{Error}
 use Rattle.sourcemap_core.specs.declared.errors.Error.TheVariants.{BadJson, OutOfMemory}
 use Rattle.sourcemap_core.specs.declared.errors.JsonFault.TheVariants.{Shape}
@@ -32,10 +31,10 @@ abbrev pub Reads : {X Y : Type 0} → (X → Y) → Result X Error → Option Y 
 Reads see (Ok x) reading = reading ≡ Some (see x)
 Reads see (Err e) reading = Refuses e reading
 
--- what a writer returned is this value
-abbrev pub Writes : Result Value Error → Data → Type 0
-Writes (Ok v) d = view v ≡ d
-Writes (Err e) _ = e ≡ OutOfMemory
+-- what was made, seen by `see`, is this; only memory may be wanting
+abbrev pub Makes : {X Y : Type 0} → (X → Y) → Result X Error → Y → Type 0
+Makes see (Ok x) seen = see x ≡ seen
+Makes see (Err e) _ = e ≡ OutOfMemory
 
 -- ---- reading
 

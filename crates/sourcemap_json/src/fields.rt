@@ -4,7 +4,7 @@ ghost use Rattle.serde_json.specs.Data.{Data, string};
 ghost use Rattle.serde_json.specs.Find.{get_member};
 ghost use Rattle.serde_json.specs.View.{view, items_view, members_view};
 ghost use Rattle.sourcemap_core.specs.declared.errors.Error.TheVariants.{OutOfMemory};
-ghost use Rattle.sourcemap_json.specs.Fields.{Reads, Writes, put_if, written_number, written_or_null, written_list, KeepsOthers, any, text, small_number, or_null, items_read, list, at, needed};
+ghost use Rattle.sourcemap_json.specs.Fields.{Reads, Makes, put_if, written_number, written_or_null, written_list, KeepsOthers, any, text, small_number, or_null, items_read, list, at, needed};
 
 use serde_json::{Map, Value, put};
 use sourcemap_core::errors::{Error, JsonFault, Result};
@@ -27,7 +27,11 @@ pub(crate) trait Field: Drop {
 
     // Leaves its texts to the value.
     fn give(self, alloc: Global) -> Result<Value>
-        ensures { Writes result (writing (see self)) };
+        ensures { Makes view result (writing (see self)) };
+
+    // The same, on its own.
+    fn duplicate(&self, alloc: Global) -> Result<Self>
+        ensures { Makes see result (see self.now) };
 }
 
 impl Field for Value {
@@ -45,6 +49,10 @@ impl Field for Value {
 
     fn give(self, _alloc: Global) -> Result<Value> {
         Ok(self)
+    }
+
+    fn duplicate(&self, _alloc: Global) -> Result<Value> {
+        Ok(self.clone()?)
     }
 }
 
@@ -67,6 +75,10 @@ impl Field for String {
     fn give(self, _alloc: Global) -> Result<Value> {
         Ok(Value::String(self))
     }
+
+    fn duplicate(&self, alloc: Global) -> Result<String> {
+        Ok(String::from_str(alloc, self.as_str())?)
+    }
 }
 
 impl Field for u32 {
@@ -87,6 +99,10 @@ impl Field for u32 {
 
     fn give(self, _alloc: Global) -> Result<Value> {
         Ok(Value::from(self))
+    }
+
+    fn duplicate(&self, _alloc: Global) -> Result<u32> {
+        Ok(*self)
     }
 }
 
@@ -112,6 +128,13 @@ impl<T: Field> Field for Option<T> {
             None => Ok(Value::Null),
         }
     }
+
+    fn duplicate(&self, alloc: Global) -> Result<Option<T>> {
+        match self {
+            Some(field) => Ok(Some(field.duplicate(alloc)?)),
+            None => Ok(None),
+        }
+    }
 }
 
 impl<T: Field> Field for Vec<T> {
@@ -132,6 +155,14 @@ impl<T: Field> Field for Vec<T> {
 
     fn give(self, alloc: Global) -> Result<Value> {
         Ok(Value::Array(give_items(alloc, self)?))
+    }
+
+    fn duplicate(&self, alloc: Global) -> Result<Vec<T>> {
+        let mut copies = Vec::with_capacity(alloc, self.len())?;
+        for field in self {
+            copies.push(field.duplicate(alloc)?)?;
+        }
+        Ok(copies)
     }
 }
 

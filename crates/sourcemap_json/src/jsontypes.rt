@@ -1,7 +1,9 @@
+use crate::copying::copy_map;
 pub use crate::debug_id::DebugId;
 use crate::reading::take_map;
+use crate::writing::give_map;
 use serde_json::Value;
-use sourcemap_core::errors::{Error, Result};
+use sourcemap_core::errors::Result;
 use std::alloc::Global;
 
 /// Where a section of an index map starts: line and column of the generated text, from 0, the
@@ -98,20 +100,20 @@ impl RawSourceMap {
     /// The record as a JSON value, its keys in the order of their bytes: null for a missing version
     /// or sources, and for a section's missing URL or map, while any other missing key is left out.
     /// Only want of memory refuses.
-    pub fn to_value(&self, _alloc: Global) -> Result<Value>
+    pub fn to_value(&self, alloc: Global) -> Result<Value>
         ensures value { Gives view result (Ok (written (tree self.now))) }
         ensures reads_back { IfOk result (λ v. IsFine (tree self.now)
             → record_of (view v) ≡ Some (tree self.now)) }
     {
-        Err(Error::OutOfMemory)
+        copy_map(self, alloc)?.into_value(alloc)
     }
 
     /// The same value as by `to_value`, with the texts of the record itself.
-    pub fn into_value(self, _alloc: Global) -> Result<Value>
+    pub fn into_value(self, alloc: Global) -> Result<Value>
         ensures value { Gives view result (Ok (written (tree self))) }
         ensures reads_back { IfOk result (λ v. IsFine (tree self)
             → record_of (view v) ≡ Some (tree self)) }
     {
-        Err(Error::OutOfMemory)
+        give_map(alloc, self)
     }
 }

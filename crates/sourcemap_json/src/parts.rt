@@ -30,6 +30,10 @@ impl Field for DebugId {
     fn give(self, alloc: Global) -> Result<Value> {
         Ok(Value::String(self.to_string(alloc)?))
     }
+
+    fn duplicate(&self, _alloc: Global) -> Result<DebugId> {
+        Ok(*self)
+    }
 }
 
 fn parsed_id(text: &String) -> Result<DebugId>
@@ -65,6 +69,10 @@ impl Field for RawSectionOffset {
         put_field(alloc, &mut members, "column", Some(self.column))?;
         Ok(Value::Object(members))
     }
+
+    fn duplicate(&self, _alloc: Global) -> Result<RawSectionOffset> {
+        Ok(*self)
+    }
 }
 
 fn take_offset(alloc: Global, mut members: Map<String, Value>) -> Result<RawSectionOffset>
@@ -97,6 +105,12 @@ impl Field for FacebookScopeMapping {
         put_field(alloc, &mut members, "names", Some(names))?;
         put_field(alloc, &mut members, "mappings", Some(mappings))?;
         Ok(Value::Object(members))
+    }
+
+    fn duplicate(&self, alloc: Global) -> Result<FacebookScopeMapping> {
+        let names = self.names.duplicate(alloc)?;
+        let mappings = self.mappings.duplicate(alloc)?;
+        Ok(FacebookScopeMapping { names, mappings })
     }
 }
 

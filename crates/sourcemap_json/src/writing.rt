@@ -3,7 +3,7 @@ ghost use Rattle.std.specs.Prelude.{◌≡◌, map, option_map, IfOk, IfErr};
 ghost use Rattle.serde_json.specs.Data.{array};
 ghost use Rattle.serde_json.specs.View.{view, items_of, members_view};
 ghost use Rattle.sourcemap_core.specs.declared.errors.Error.TheVariants.{OutOfMemory};
-ghost use Rattle.sourcemap_json.specs.Fields.{Writes, written_or_null};
+ghost use Rattle.sourcemap_json.specs.Fields.{Makes, written_or_null};
 ghost use Rattle.sourcemap_json.specs.Jsontypes.{flat, written, written_fields, written_one, section, tree};
 
 use crate::fields::put_field;
@@ -67,7 +67,7 @@ fn give_fields(alloc: Global, map: RawSourceMap) -> Result<Map<String, Value>>
 
 #[cycle(writing)]
 pub(crate) fn give_map(alloc: Global, mut map: RawSourceMap) -> Result<Value>
-    ensures { Writes result (written (tree map)) }
+    ensures { Makes view result (written (tree map)) }
 {
     let listed = match map.sections.take() {
         Some(sections) => Some(Value::Array(give_list(alloc, sections)?)),
@@ -92,7 +92,7 @@ fn give_list(alloc: Global, sections: Vec<RawSection>) -> Result<Vec<Value>>
 
 #[cycle(writing)]
 fn give_section(alloc: Global, part: RawSection) -> Result<Value>
-    ensures { Writes result (written_one (section part)) }
+    ensures { Makes view result (written_one (section part)) }
 {
     let RawSection { offset, url, map } = part;
     let inner = give_inner(alloc, map)?;
@@ -105,7 +105,7 @@ fn give_section(alloc: Global, part: RawSection) -> Result<Value>
 
 #[cycle(writing)]
 fn give_inner(alloc: Global, map: Option<Box<RawSourceMap>>) -> Result<Value>
-    ensures { Writes result (written_or_null written (option_map (λ b. tree b.value) map)) }
+    ensures { Makes view result (written_or_null written (option_map (λ b. tree b.value) map)) }
 {
     match map {
         Some(map) => give_map(alloc, Box::into_inner(map)),

@@ -25,6 +25,6 @@ give_map-returns t c =
     ] in
     view-Object c.put_field.new.members
     ∙ ap object (c.in_ok-put_field.ensures.ok
-        ∙ ap (λ v. put_if (codes "sections") v (members_view c.in_ok-members.members.entries)) (option_map_id _ ∙ listed)
-        ∙ ap (put_if (codes "sections") _) (c.in_ok-members.ensures.ok ∙ ap written_fields (flat-roll _)))
+    ∙ ap (λ v. put_if (codes "sections") v (members_view c.in_ok-members.members.entries)) (option_map_id _ ∙ listed)
+    ∙ ap (put_if (codes "sections") _) (c.in_ok-members.ensures.ok ∙ ap written_fields (flat-roll _)))
     ∙ sym (written-tree c.args.map)

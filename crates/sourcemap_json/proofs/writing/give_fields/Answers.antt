@@ -1,5 +1,5 @@
 use Rattle.std.proofs.Common.{◌∙◌, ap, sym}
-use Rattle.serde_json.specs.View.{members_view, members_of}
+use Rattle.serde_json.specs.View.{members_view}
 use Rattle.sourcemap_json.proofs.JsontypesLemmas.{flat-tree, fields_put}
 use Rattle.sourcemap_json.specs.Jsontypes.{written_fields}
 use Rattle.sourcemap_json.specs.declared.jsontypes.RawSourceMap.{out-RawSourceMap}
