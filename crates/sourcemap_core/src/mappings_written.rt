@@ -247,7 +247,7 @@ fn range_text(alloc: Global, tokens: &[RawToken]) -> Result<String>
     let mut text = String::new(alloc);
     let mut flags = Vec::new(alloc);
     let mut line = 0;
-    let mut previous = None;
+    let mut before = None;
     for token in tokens {
         if line != token.dst_line {
             push_bits(&mut text, flags.as_slice())?;
@@ -255,10 +255,10 @@ fn range_text(alloc: Global, tokens: &[RawToken]) -> Result<String>
             flags.clear();
             line = token.dst_line;
         }
-        if !is_repeat(previous, *token) {
+        if !is_repeat(before, *token) {
             flags.push(token.is_range)?;
         }
-        previous = Some(*token);
+        before = Some(*token);
     }
     push_bits(&mut text, flags.as_slice())?;
     Ok(text)
