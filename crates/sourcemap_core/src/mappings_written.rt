@@ -1,16 +1,13 @@
 //! The texts that a list of tokens is written as.
-ghost use Rattle.std.specs.Prelude.{◌≡◌, ℕ, ◌+◌, ◌-◌, ◌<◌, ◌≤◌, ◌^◌, List, [], ◌∷◌, ◌++◌, replicate, if◌then◌else◌, OnOk, IfOk, IfErr, string_bytes, ℤ, unsigned_abs, option_map, Option, Bool, false};
+ghost use Rattle.std.specs.Prelude.{◌≡◌, ℕ, ◌+◌, ◌-◌, ◌<◌, ◌^◌, List, [], ◌∷◌, ◌++◌, replicate, OnOk, IfOk, IfErr, string_bytes, option_map, Option, false};
 ghost use Rattle.std.specs.List.{list_any};
 ghost use Rattle.std.specs.Option.{option_map_or};
-ghost use Rattle.sourcemap_core.specs.Answer.{UnlessMemory};
-ghost use Rattle.sourcemap_core.specs.Vlq.{IsShortest, IsTooFar};
-ghost use Rattle.sourcemap_core.specs.Bits.{IsBitText};
 ghost use Rattle.sourcemap_core.specs.Tokens.{AreInOrder, AllWithin, without_repeats, reduced};
 ghost use Rattle.sourcemap_core.specs.Mappings.{MappingsAnswer};
 ghost use Rattle.sourcemap_core.specs.MappingsWritten.{has_source, has_name, difference, numbers, LineByLine, IsRangeLine, IsWritten, IsRangeText};
 ghost use Rattle.sourcemap_core.specs.WritingSteps.{Adds, HasSmallPlaces, repeats, follows, gap, at_line, moved};
 ghost use Rattle.sourcemap_core.specs.declared.tokens.RawToken.{RawToken};
-ghost use Rattle.sourcemap_core.specs.declared.errors.Error.TheVariants.{OutOfMemory, VlqOverflow};
+ghost use Rattle.sourcemap_core.specs.declared.errors.Error.TheVariants.{OutOfMemory};
 
 use crate::bits::push_bits;
 use crate::errors::{Error, Result};
