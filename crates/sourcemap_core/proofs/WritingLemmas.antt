@@ -1,5 +1,5 @@
 -- What the writers of mappings keep.
-use Rattle.std.proofs.Common.{◌≡◌, ℕ, ◌+◌, ◌-◌, List, [], ◌∷◌, ◌++◌, ℤ, Bool, true, false, cond, refl, sym, ap, subst, ◌∙◌, append_assoc, append-nil, arith}
+use Rattle.std.proofs.Common.{◌≡◌, ℕ, List, [], ◌∷◌, ◌++◌, ℤ, Bool, true, false, cond, refl, sym, ap, subst, ◌∙◌, append_assoc, append-nil}
 use Rattle.sourcemap_core.specs.Vlq.{Spells, IsShortest}
 use Rattle.sourcemap_core.specs.declared.tokens.RawToken.{RawToken}
 use Rattle.sourcemap_core.specs.MappingsWritten.{has_source, has_name, difference, numbers}

@@ -1,11 +1,11 @@
 -- The bytes of written texts: digits hold no `,` and no `;`, and joined parts split again.
-use Rattle.std.proofs.Common.{◌≡◌, ◌≢◌, ℕ, ◌+◌, ◌<◌, ◌≤◌, ◌==◌, Bool, true, false, cond, is_none, List, [], ◌∷◌, ◌++◌, length, Option, Some, None, ℤ, find, refl, sym, ap, subst, ◌∙◌, inl, inr, ◌⊎◌, ⊎_elim, append_assoc, append-nil, arith}
-use Rattle.std.specs.List.{join_with_byte, slice_split, AllByRecursion, All}
+use Rattle.std.proofs.Common.{◌≡◌, ◌≢◌, ℕ, ◌==◌, true, false, cond, is_none, List, [], ◌∷◌, ◌++◌, Option, Some, None, ℤ, refl, sym, ap, subst, ◌∙◌, ◌⊎◌, ⊎_elim, arith}
+use Rattle.std.specs.List.{join_with_byte, slice_split, AllByRecursion}
 use Rattle.std.proofs.lemmas.Bool.{cases_eq}
 use Rattle.std.proofs.lemmas.Bool.Decides.{nat_tests}
 use Rattle.std.proofs.lemmas.List.Elements.{All-from_recursion}
 use Rattle.std.proofs.lemmas.List.Splits.{slice_split_none, slice_split_at}
-use Rattle.sourcemap_core.specs.Vlq.{digit_value, GoesOn, IsLast, IsChain, IsGroup, IsShortest, Reads, Spells}
+use Rattle.sourcemap_core.specs.Vlq.{digit_value, IsChain, Spells}
 use Rattle.sourcemap_core.specs.Bits.{first_foreign}
 use Rattle.sourcemap_core.proofs.VlqLemmas.{IsGroup-nonempty}
 

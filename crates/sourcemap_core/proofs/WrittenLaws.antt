@@ -1,6 +1,6 @@
 -- Tokens have one text of mappings and one of range bits.
-use Rattle.std.proofs.Common.{◌≡◌, ℕ, ◌+◌, suc, Bool, true, false, List, [], ◌∷◌, ◌++◌, length, filter, map, Option, Some, None, refl, sym, ap, subst, ◌∙◌, arith}
-use Rattle.std.specs.List.{join_with_byte, list_any}
+use Rattle.std.proofs.Common.{◌≡◌, ℕ, ◌+◌, List, [], ◌∷◌, ◌++◌, length, filter, map, Option, Some, None, refl, sym, ap, ◌∙◌, arith}
+use Rattle.std.specs.List.{join_with_byte}
 use Rattle.sourcemap_core.specs.declared.tokens.RawToken.{RawToken}
 use Rattle.sourcemap_core.specs.Tokens.{without_repeats}
 use Rattle.sourcemap_core.specs.MappingsWritten.{is_on, is_above, base, numbers, AreSegments, IsLine, IsRangeLine, EachLine, LineByLine, IsWritten, IsRangeText}

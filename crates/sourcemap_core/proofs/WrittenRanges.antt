@@ -1,13 +1,12 @@
 -- The text of range bits as it grows by one token.
-use Rattle.std.proofs.Common.{◌≡◌, ◌≢◌, ℕ, ◌+◌, ◌-◌, ◌%◌, ◌<◌, ◌≤◌, ◌==◌, Bool, true, false, List, [], ◌∷◌, ◌++◌, length, map, filter, replicate, Option, Some, None, refl, sym, ap, subst, ◌∙◌, append_assoc, arith}
-use Rattle.std.specs.List.{last_or, join_with_byte}
+use Rattle.std.proofs.Common.{◌≡◌, ℕ, ◌+◌, ◌-◌, ◌%◌, ◌<◌, ◌==◌, Bool, true, false, List, [], ◌∷◌, ◌++◌, map, filter, replicate, Option, Some, None, refl, sym, ap, subst, ◌∙◌, arith}
 use Rattle.std.specs.Option.{option_map_or}
 use Rattle.std.proofs.lemmas.List.{map-append}
 use Rattle.std.proofs.lemmas.Nat.Bits.{bit_at-zero}
 use Rattle.sourcemap_core.specs.declared.tokens.RawToken.{RawToken}
 use Rattle.sourcemap_core.specs.Bits.{bit_of, IsBitText}
 use Rattle.sourcemap_core.specs.Tokens.{without_repeats}
-use Rattle.sourcemap_core.specs.MappingsWritten.{is_on, IsRangeLine, LineByLine, line_count}
+use Rattle.sourcemap_core.specs.MappingsWritten.{is_on, IsRangeLine, LineByLine}
 use Rattle.sourcemap_core.specs.WritingSteps.{repeats}
 use Rattle.sourcemap_core.proofs.BitLemmas.{IsBitText-same}
 use Rattle.sourcemap_core.proofs.WrittenTokens.{UpTo, none_on, filter_push_no, filter_push_yes, on_yes, on_no}

@@ -1,19 +1,17 @@
 -- What was written reads back.
-use Rattle.std.proofs.Common.{◌≡◌, ◌≢◌, ℕ, ◌+◌, ◌-◌, ◌%◌, ◌^◌, ◌||◌, ◌<◌, ◌≤◌, ◌==◌, suc, zero, Bool, true, false, cond, List, [], ◌∷◌, ◌++◌, length, map, filter, Option, Some, None, Ok, ℤ, refl, sym, ap, subst, ◌∙◌, inl, inr, ◌⊎◌, ⊎_elim, append_assoc, append-nil, arith, add-zero, zero-add}
+use Rattle.std.proofs.Common.{◌≡◌, ℕ, ◌+◌, ◌^◌, ◌||◌, ◌<◌, ◌≤◌, ◌==◌, suc, zero, Bool, true, false, cond, List, [], ◌∷◌, ◌++◌, length, map, filter, Option, Some, None, Ok, refl, sym, ap, subst, ◌∙◌, inl, inr, append_assoc, append-nil, arith, add-zero, zero-add}
 use Rattle.std.specs.List.{join_with_byte, slice_split, AllByRecursion, slice_index_or, last_or, list_any}
 use Rattle.std.specs.Option.{option_map_or}
 use Rattle.std.proofs.lemmas.List.{map-append, nil_from_length}
-use Rattle.std.proofs.lemmas.Bool.{cases_lt, cases_eq, eqb-true}
 use Rattle.std.proofs.lemmas.Bool.Decides.{nat_tests}
 use Rattle.sourcemap_core.specs.declared.tokens.RawToken.{RawToken}
 use Rattle.sourcemap_core.specs.Tokens.{AreInOrder, AllWithin, IsWithin, with_sound_name, without_repeats, reduced, in_order}
-use Rattle.sourcemap_core.specs.Bits.{bit_of, first_foreign, IsBitText}
-use Rattle.sourcemap_core.specs.Vlq.{Spells}
-use Rattle.sourcemap_core.specs.Mappings.{Counts, Segment, Line, LineText, sum_at, token_of, line_tokens, page_tokens, segment_fault, PartsRead, LineRead, LinesRead, beside, line_texts, MappingsAnswer}
+use Rattle.sourcemap_core.specs.Bits.{bit_of, first_foreign}
+use Rattle.sourcemap_core.specs.Mappings.{Segment, Line, LineText, sum_at, line_tokens, page_tokens, PartsRead, LineRead, LinesRead, beside, line_texts, MappingsAnswer}
 use Rattle.sourcemap_core.specs.MappingsWritten.{is_on, is_above, last_field, base, numbers, AreSegments, IsLine, IsRangeLine, EachLine, LineByLine, line_count, IsWritten, IsRangeText}
 use Rattle.sourcemap_core.proofs.TokensLemmas.{All-without_repeats, in_order-ordered, AreInOrder-reduced}
 use Rattle.sourcemap_core.proofs.VlqLemmas.{Spells-Reads}
-use Rattle.sourcemap_core.proofs.WrittenTokens.{UpTo, Rises, above_more, last_field-push_yes, on_yes}
+use Rattle.sourcemap_core.proofs.WrittenTokens.{Rises, above_more, last_field-push_yes, on_yes}
 use Rattle.sourcemap_core.proofs.WrittenSums.{IsSound, IsSmall, all_sound_from, segment_of, Carries, Carries-none, Carries-more, column_more, segment_sound, token_back}
 use Rattle.sourcemap_core.proofs.WrittenRanges.{no_bit}
 use Rattle.sourcemap_core.proofs.WrittenBytes.{IsFree, IsMark, Spells-free, Spells-nonempty, digits_free, join_free, split_join}

@@ -1,18 +1,15 @@
 -- The text of mappings as it grows by one token.
-use Rattle.std.proofs.Common.{◌≡◌, ◌≢◌, ℕ, ◌+◌, ◌-◌, ◌<◌, ◌≤◌, ◌==◌, ◌^◌, Bool, true, false, cond, suc, zero, List, [], ◌∷◌, ◌++◌, length, take, get_or, add-one, replicate, filter, Option, Some, None, MatchOption, refl, sym, ap, subst, ◌∙◌, inl, inr, ◌⊎◌, ⊎_elim, append_assoc, append-nil, arith}
+use Rattle.std.proofs.Common.{◌≡◌, ◌≢◌, ℕ, ◌+◌, ◌-◌, ◌<◌, ◌≤◌, Bool, true, false, cond, List, [], ◌∷◌, ◌++◌, replicate, filter, Option, Some, None, refl, sym, ap, subst, ◌∙◌, ⊎_elim, append_assoc, append-nil, arith}
 use Rattle.std.specs.List.{join_with_byte, last_or, AllByRecursion}
 use Rattle.std.specs.Option.{option_map_or}
-use Rattle.std.specs.Ordering.{is_lt}
 use Rattle.std.proofs.lemmas.Bool.{cases_lt, cases_eq}
-use Rattle.std.proofs.lemmas.List.{take_more}
-use Rattle.std.proofs.lemmas.Bool.Decides.{nat_tests}
 use Rattle.sourcemap_core.specs.declared.tokens.RawToken.{RawToken}
-use Rattle.sourcemap_core.specs.Tokens.{AreInOrder, position_cmp, destination, without_repeats}
+use Rattle.sourcemap_core.specs.Tokens.{without_repeats}
 use Rattle.sourcemap_core.specs.Vlq.{Spells}
-use Rattle.sourcemap_core.specs.MappingsWritten.{is_on, is_above, has_source, has_name, last_field, base, numbers, AreSegments, IsLine, IsWritten, line_count}
-use Rattle.sourcemap_core.specs.WritingSteps.{Adds, repeats, follows, gap, at_line, moved}
+use Rattle.sourcemap_core.specs.MappingsWritten.{is_on, is_above, has_source, has_name, last_field, base, numbers, AreSegments, IsLine, IsWritten}
+use Rattle.sourcemap_core.specs.WritingSteps.{Adds, repeats, gap, at_line, moved}
 use Rattle.sourcemap_core.proofs.WrittenSums.{IsSmall}
-use Rattle.sourcemap_core.proofs.WrittenTokens.{UpTo, Rises, Rises-push, all_push, all_weaker, all_above, cut_at, none_on, filter_push_no, filter_push_yes, last_or-push, last_field-push_no, last_field-push_yes, without_repeats-repeat, without_repeats-more, same_line, on_yes, on_no, below_yes, below_no}
+use Rattle.sourcemap_core.proofs.WrittenTokens.{UpTo, Rises, all_push, cut_at, none_on, filter_push_no, filter_push_yes, last_field-push_no, last_field-push_yes, on_yes, on_no, below_no}
 use Rattle.sourcemap_core.proofs.WrittenWalk.{Stands, Walked, Walked-none, Walked-repeat, Walked-more, same_list, more_list, upto_next, count_is}
 use Rattle.sourcemap_core.proofs.WrittenLines.{Reached, Reached-turn, Reached-more, Reached-last, Ended-none, Ended-zero}
 

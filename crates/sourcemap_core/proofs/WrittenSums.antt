@@ -1,9 +1,9 @@
 -- The sums of what was written give the tokens back.
-use Rattle.std.proofs.Common.{◌≡◌, ◌≢◌, ℕ, ◌+◌, ◌-◌, ◌*◌, ◌/◌, ◌%◌, ◌^◌, ◌<◌, ◌≤◌, ◌==◌, ◌&&◌, nat_lt, nat_le, Bool, true, false, cond, List, [], ◌∷◌, ◌++◌, length, sum_by, map, Option, Some, None, ℤ, pos, ◌-ℤ◌, unsigned_abs, refl, sym, ap, subst, ◌∙◌, inl, inr, ◌⊎◌, ⊎_elim, append_assoc, append-nil, add-zero, arith, slice_get}
+use Rattle.std.proofs.Common.{◌≡◌, ℕ, ◌+◌, ◌-◌, ◌%◌, ◌^◌, ◌<◌, ◌≤◌, ◌==◌, ◌&&◌, nat_lt, nat_le, Bool, true, false, cond, List, [], ◌∷◌, ◌++◌, length, sum_by, Option, Some, None, ℤ, pos, unsigned_abs, refl, sym, ap, ◌∙◌, ⊎_elim, add-zero, arith, slice_get}
 use Rattle.std.specs.Option.{option_map_or}
 use Rattle.std.specs.List.{AllByRecursion}
 use Rattle.std.specs.Int.{int_rem_euclid}
-use Rattle.std.proofs.lemmas.Bool.{cases_lt, cases_eq, eqb-true}
+use Rattle.std.proofs.lemmas.Bool.{cases_lt}
 use Rattle.std.proofs.lemmas.Bool.Decides.{nat_tests}
 use Rattle.std.proofs.lemmas.Int.{ints, int_rem_euclid_is}
 use Rattle.std.proofs.lemmas.List.Sums.{sum_by_push}
@@ -12,11 +12,11 @@ use Rattle.sourcemap_core.specs.declared.errors.Error.{Error}
 use Rattle.sourcemap_core.specs.declared.errors.Error.TheVariants.{BadSourceReference, BadNameReference}
 use Rattle.sourcemap_core.specs.Bits.{bit_of}
 use Rattle.sourcemap_core.specs.Tokens.{IsWithin, with_sound_name}
-use Rattle.sourcemap_core.specs.Mappings.{Counts, Segment, step, sum_at, has_number, field, token_of, segment_fault}
+use Rattle.sourcemap_core.specs.Mappings.{Counts, Segment, step, sum_at, field, token_of, segment_fault}
 use Rattle.sourcemap_core.specs.MappingsWritten.{is_on, has_source, has_name, last_field, base, difference, numbers}
 use Rattle.sourcemap_core.specs.WritingSteps.{HasSmallPlaces}
 use Rattle.sourcemap_core.proofs.WritingLemmas.{numbers_by, numbers_are}
-use Rattle.sourcemap_core.proofs.WrittenTokens.{last_field-push_no, last_field-push_yes, on_yes}
+use Rattle.sourcemap_core.proofs.WrittenTokens.{last_field-push_no, last_field-push_yes}
 
 -- Sums modulo 2^32.
 

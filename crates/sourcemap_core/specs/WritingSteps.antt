@@ -4,7 +4,7 @@ use Rattle.std.specs.Option.{option_map_or}
 use Rattle.sourcemap_core.specs.declared.tokens.RawToken.{RawToken}
 use Rattle.sourcemap_core.specs.Vlq.{Spells}
 use Rattle.sourcemap_core.specs.Tokens.{are_same}
-use Rattle.sourcemap_core.specs.MappingsWritten.{is_on, has_source, has_name}
+use Rattle.sourcemap_core.specs.MappingsWritten.{has_source, has_name}
 
 -- the shortest digits of some numbers were added to a text
 pub record Adds (numbers : List ℤ) (old new : List ℕ) : Type 0 where

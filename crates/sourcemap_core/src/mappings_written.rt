@@ -1,16 +1,13 @@
 //! The texts that a list of tokens is written as.
-ghost use Rattle.std.specs.Prelude.{◌≡◌, ℕ, ◌+◌, ◌-◌, ◌<◌, ◌≤◌, ◌^◌, List, [], ◌∷◌, ◌++◌, replicate, if◌then◌else◌, OnOk, IfOk, IfErr, string_bytes, ℤ, unsigned_abs, option_map, Option, Bool, false};
+ghost use Rattle.std.specs.Prelude.{◌≡◌, ℕ, ◌+◌, ◌-◌, ◌<◌, ◌^◌, List, [], ◌∷◌, ◌++◌, replicate, OnOk, IfOk, IfErr, string_bytes, option_map, Option, false};
 ghost use Rattle.std.specs.List.{list_any};
 ghost use Rattle.std.specs.Option.{option_map_or};
-ghost use Rattle.sourcemap_core.specs.Answer.{UnlessMemory};
-ghost use Rattle.sourcemap_core.specs.Vlq.{IsShortest, IsTooFar};
-ghost use Rattle.sourcemap_core.specs.Bits.{IsBitText};
 ghost use Rattle.sourcemap_core.specs.Tokens.{AreInOrder, AllWithin, without_repeats, reduced};
 ghost use Rattle.sourcemap_core.specs.Mappings.{MappingsAnswer};
 ghost use Rattle.sourcemap_core.specs.MappingsWritten.{has_source, has_name, difference, numbers, LineByLine, IsRangeLine, IsWritten, IsRangeText};
 ghost use Rattle.sourcemap_core.specs.WritingSteps.{Adds, HasSmallPlaces, repeats, follows, gap, at_line, moved};
 ghost use Rattle.sourcemap_core.specs.declared.tokens.RawToken.{RawToken};
-ghost use Rattle.sourcemap_core.specs.declared.errors.Error.TheVariants.{OutOfMemory, VlqOverflow};
+ghost use Rattle.sourcemap_core.specs.declared.errors.Error.TheVariants.{OutOfMemory};
 
 use crate::bits::push_bits;
 use crate::errors::{Error, Result};
@@ -247,7 +244,7 @@ fn range_text(alloc: Global, tokens: &[RawToken]) -> Result<String>
     let mut text = String::new(alloc);
     let mut flags = Vec::new(alloc);
     let mut line = 0;
-    let mut previous = None;
+    let mut before = None;
     for token in tokens {
         if line != token.dst_line {
             push_bits(&mut text, flags.as_slice())?;
@@ -255,10 +252,10 @@ fn range_text(alloc: Global, tokens: &[RawToken]) -> Result<String>
             flags.clear();
             line = token.dst_line;
         }
-        if !is_repeat(previous, *token) {
+        if !is_repeat(before, *token) {
             flags.push(token.is_range)?;
         }
-        previous = Some(*token);
+        before = Some(*token);
     }
     push_bits(&mut text, flags.as_slice())?;
     Ok(text)

@@ -6,6 +6,6 @@ use Rattle.sourcemap_core.proofs.mappings_written.range_text.Given as goal
 
 abbrev pub invariant-loop-token : goal.invariant-loop-token
 invariant-loop-token l = record {
-  walked : Walked l.line (take l.token-index l.tokens) l.previous;
+  walked : Walked l.line (take l.token-index l.tokens) l.before;
   ranging : Ranging l.line (without_repeats (take l.token-index l.tokens)) (string_bytes l.text) l.flags.items;
 }

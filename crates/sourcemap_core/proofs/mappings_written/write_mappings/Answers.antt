@@ -1,8 +1,8 @@
-use Rattle.std.proofs.Common.{◌≡◌, ℕ, ◌+◌, ◌≤◌, ◌<◌, List, [], ◌∷◌, ◌++◌, length, take, get_or, string_bytes, Option, Some, None, true, false, sym, ap, subst, ◌∙◌, refl, arith}
+use Rattle.std.proofs.Common.{◌≡◌, ℕ, ◌+◌, List, [], ◌∷◌, ◌++◌, take, get_or, string_bytes, Some, None, true, false, sym, ap, subst, ◌∙◌, refl, arith}
 use Rattle.std.proofs.lemmas.List.{take_more, take_all}
 use Rattle.sourcemap_core.specs.declared.tokens.RawToken.{RawToken}
-use Rattle.sourcemap_core.specs.MappingsWritten.{numbers, base}
-use Rattle.sourcemap_core.specs.WritingSteps.{Adds, repeats, gap, at_line, moved}
+use Rattle.sourcemap_core.specs.MappingsWritten.{base}
+use Rattle.sourcemap_core.specs.WritingSteps.{repeats}
 use Rattle.sourcemap_core.proofs.WrittenReadBack.{reads_back}
 use Rattle.sourcemap_core.proofs.WrittenSegments.{Writing, Writing-none, Writing-repeat, Writing-more, Writing-end}
 use Rattle.sourcemap_core.proofs.WrittenWalk.{all_lines, next_line}
