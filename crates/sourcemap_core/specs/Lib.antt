@@ -3,4 +3,5 @@ pub mod Errors
 pub mod Vlq
 pub mod Bits
 pub mod Tokens
+pub mod Utils
 pub mod Mappings
