@@ -1,7 +1,7 @@
 pub mod Answer
-pub mod Errors
-pub mod Vlq
 pub mod Bits
+pub mod Errors
+pub mod Mappings
 pub mod Tokens
 pub mod Utils
-pub mod Mappings
+pub mod Vlq

@@ -2,6 +2,8 @@
 //! mappings, and the search for the closest token.
 #![tactic(auto)]
 
+pub mod bits;
 pub mod errors;
-pub mod tokens;
 pub mod mappings;
+pub mod tokens;
+pub mod vlq;
