@@ -1,1 +1,4 @@
 pub mod DigitLemmas
+pub mod SortLemmas
+pub mod TokensLemmas
+pub mod UtilsLemmas

@@ -7,3 +7,4 @@ pub mod errors;
 pub mod mappings;
 pub mod tokens;
 pub mod vlq;
+pub mod utils;
