@@ -2,3 +2,4 @@ pub mod DigitLemmas
 pub mod SortLemmas
 pub mod TokensLemmas
 pub mod UtilsLemmas
+pub mod WritingLemmas

@@ -5,3 +5,5 @@ pub mod Mappings
 pub mod Tokens
 pub mod Utils
 pub mod Vlq
+pub mod MappingsWritten
+pub mod WritingSteps

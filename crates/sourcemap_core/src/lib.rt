@@ -8,3 +8,4 @@ pub mod mappings;
 pub mod tokens;
 pub mod vlq;
 pub mod utils;
+pub mod mappings_written;
