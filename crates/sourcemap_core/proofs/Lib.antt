@@ -3,3 +3,4 @@ pub mod SortLemmas
 pub mod TokensLemmas
 pub mod UtilsLemmas
 pub mod WritingLemmas
+pub mod VlqLemmas

@@ -1,6 +1,7 @@
 -- Numbers as digits of base 64: five bits of data a digit, least significant digit first. The bit
 -- worth 32 says that another digit of the same number follows.
-use Rattle.std.specs.Prelude.{◌≡◌, ◌≢◌, ℕ, ◌+◌, ◌-◌, ◌*◌, ◌/◌, ◌%◌, ◌^◌, ◌<◌, ◌≤◌, ◌==◌, ◌&&◌, Bool, nat_lt, nat_le, if◌then◌else◌, List, [], ◌∷◌, ◌++◌, length, Option, Some, None, unwrap_or, Result, Ok, Err, ℤ, pos, unsigned_abs, Any, All}
+use Rattle.std.specs.Prelude.{◌≡◌, ◌≢◌, ℕ, ◌+◌, ◌-◌, ◌*◌, ◌/◌, ◌%◌, ◌^◌, ◌<◌, ◌≤◌, ◌==◌, ◌&&◌, Bool, nat_lt, nat_le, if◌then◌else◌, List, [], ◌∷◌, ◌++◌, length, Option, Some, None, unwrap_or, Result, Ok, Err, ℤ, pos, unsigned_abs, Any}
+use Rattle.std.specs.List.{AllByRecursion}
 use lib.IntN.{neg_ℤ}
 use Rattle.sourcemap_core.specs.declared.errors.Error.{Error}
 use Rattle.sourcemap_core.specs.declared.errors.Error.TheVariants.{VlqLeftover, VlqNoValues, VlqOverflow, InvalidBase64}
@@ -68,14 +69,9 @@ abbrev pub Reads : List ℕ → List ℤ → Type 0
 Reads text [] = text ≡ []
 Reads text (n ∷ ns) = (group rest : List ℕ) × IsGroup group n × (text ≡ group ++ rest) × Reads rest ns
 
--- each digit goes on
-abbrev pub GoOn : List ℕ → Type 0
-GoOn [] = Unit {0}
-GoOn (c ∷ cs) = GoesOn c × GoOn cs
-
 -- digits of a number that is not at its end and not yet too great
 pub record IsUnfinished (part : List ℕ) : Type 0 where
-  pub goes_on : GoOn part
+  pub goes_on : AllByRecursion GoesOn part
   pub fits : IsSmall part
 
 -- a text begins with the digits `part` of an unfinished number, and the byte c comes next

@@ -1,6 +1,12 @@
 //! Numbers written as digits of base 64: the segments of a map's text.
-ghost use Rattle.std.specs.Prelude.{◌≡◌, ◌<◌};
-ghost use Rattle.sourcemap_core.specs.Vlq.{digit_value, glyph};
+ghost use Rattle.std.specs.Prelude.{◌≡◌, ℕ, ◌^◌, ◌<◌, ◌==◌, ◌&&◌, ◌||◌, nat_lt, ℤ, List, ◌++◌, Result, IfOk, IfErr, OnOk, string_bytes};
+ghost use Rattle.sourcemap_core.specs.declared.errors.Error.{Error};
+ghost use Rattle.sourcemap_core.specs.declared.errors.Error.TheVariants.{VlqOverflow};
+ghost use Rattle.sourcemap_core.specs.Answer.{UnlessMemory, IsAnswer, Gives};
+ghost use Rattle.sourcemap_core.specs.Vlq.{digit_value, glyph, number_of, BeginsWith, NumberFault, IsShortest, IsTooFar, Reads, Answers, Written};
+
+use crate::errors::{Error, Result};
+use std::alloc::Global;
 
 // The value of each byte, 64 where it is no digit.
 static VALUES: [u8; 256] = [
@@ -41,4 +47,97 @@ pub(crate) fn glyph_of(value: u8) -> u8
     ensures { result ≡ glyph value }
 {
     GLYPHS[value as usize]
+}
+
+// The number at the front of a text, and the text behind it; else the first fault of that number.
+#[inline]
+pub(crate) fn next_number(text: &[u8]) -> Result<(i64, &[u8])>
+    ensures number { IfOk result (λ read. BeginsWith text.now read.0 read.1.now) }
+    ensures fault { IfErr result (λ e. NumberFault text.now e) }
+{
+    let mut raw: u64 = 0;
+    for (place, byte) in text.iter().enumerate() {
+        let Some(digit) = digit_of(*byte) else {
+            return Err(Error::InvalidBase64(char::from(*byte)));
+        };
+        let bits = digit % 32;
+        if !has_room(place, bits) {
+            return Err(Error::VlqOverflow);
+        }
+        raw += u64::from(bits) << (5 * place);
+        if digit < 32 {
+            return Ok((number_from(raw), &text[place + 1..]));
+        }
+    }
+    Err(Error::VlqLeftover)
+}
+
+// Whether a number may have these bits at this place.
+#[inline]
+fn has_room(place: usize, bits: u8) -> bool
+    ensures { result ≡ (nat_lt place 12 || ((place == 12) && nat_lt bits 8)) }
+{
+    place < 12 || (place == 12 && bits < 8)
+}
+
+// Half of a raw value, negated if it is odd.
+#[inline]
+fn number_from(raw: u64) -> i64
+    requires { raw < 2 ^ 63 }
+    ensures { result ≡ number_of raw }
+{
+    let magnitude = (raw / 2) as i64;
+    if raw % 2 == 0 { magnitude } else { -magnitude }
+}
+
+// Writes the shortest digits of a number behind a text.
+pub(crate) fn push_number(text: &mut String, number: i64) -> Result<()>
+    ensures written { OnOk result ((digits : List ℕ) × IsShortest digits number × (string_bytes text.new ≡ string_bytes text.old ++ digits)) }
+    ensures refused { IfErr result (λ e. UnlessMemory e ((e ≡ VlqOverflow) × IsTooFar number)) }
+{
+    let magnitude = number.unsigned_abs();
+    if magnitude >= 1 << 62 {
+        return Err(Error::VlqOverflow);
+    }
+    let mut raw = 2 * magnitude + u64::from(number < 0);
+    while raw >= 32 {
+        text.push(char::from(glyph_of((raw % 32) as u8 + 32)))?;
+        raw /= 32;
+    }
+    text.push(char::from(glyph_of(raw as u8)))?;
+    Ok(())
+}
+
+/// The numbers of a segment. Answers `InvalidBase64` at a byte that is no digit, `VlqOverflow` at a
+/// number past 62 bits, `VlqLeftover` where the segment ends within a number, and `VlqNoValues` for
+/// the empty segment; the first of these from the left.
+pub fn parse_vlq_segment(alloc: Global, segment: &str) -> Result<Vec<i64>>
+    ensures answers { IsAnswer (λ numbers. numbers.items) (Answers segment.now) result }
+    ensures only { (answer : Result (List ℤ) Error) → Answers segment.now answer → Gives (λ numbers. numbers.items) result answer }
+{
+    let mut numbers = Vec::new(alloc);
+    let mut rest = segment.as_bytes();
+    while !rest.is_empty() {
+        let (number, behind) = next_number(rest)?;
+        numbers.push(number)?;
+        rest = behind;
+    }
+    if numbers.is_empty() {
+        return Err(Error::VlqNoValues);
+    }
+    Ok(numbers)
+}
+
+/// The segment of these numbers, each in its shortest digits. Answers `VlqOverflow` exactly if a
+/// number is 2^62 or more from 0.
+pub fn generate_vlq_segment(alloc: Global, numbers: &[i64]) -> Result<String>
+    ensures written { IsAnswer string_bytes (Written numbers.now) result }
+    ensures only { (answer : Result (List ℕ) Error) → Written numbers.now answer → Gives string_bytes result answer }
+    ensures reads_back { IfOk result (λ text. Reads (string_bytes text) numbers.now) }
+{
+    let mut text = String::new(alloc);
+    for number in numbers {
+        push_number(&mut text, *number)?;
+    }
+    Ok(text)
 }
