@@ -1,0 +1,3 @@
+pub mod DebugId
+pub mod Fields
+pub mod Jsontypes

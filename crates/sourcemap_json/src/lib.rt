@@ -1,2 +1,6 @@
 //! Source map records: the JSON values that stand for them, and the record that a value stands for.
 #![tactic(auto)]
+
+mod debug_id;
+mod fields;
+pub mod jsontypes;
