@@ -1,6 +1,6 @@
 -- The closest item, from the place where a search ends.
-use Rattle.std.proofs.Common.{◌≡◌, refl, sym, ap, subst, ◌∙◌, ℕ, zero, suc, ◌+◌, ◌-◌, ◌<◌, ◌≤◌, ◌==◌, List, [], ◌∷◌, length, get_or, Bool, true, false, cond, Some, None, Option, find, IsSortedByKey, arith, inl, inr, zero-add, ◌⊎◌}
-use Rattle.std.specs.List.{enumerate_from}
+use Rattle.std.proofs.Common.{◌≡◌, refl, sym, ap, subst, ◌∙◌, ℕ, zero, suc, ◌+◌, ◌-◌, ◌<◌, ◌≤◌, ◌==◌, List, [], ◌∷◌, length, get_or, Bool, true, false, cond, Some, None, Option, find, map, option_map, slice_get, IfSome, IsSortedByKey, arith, inl, inr, zero-add, ◌⊎◌}
+use Rattle.std.specs.List.{enumerate_from, AllByRecursion}
 use Rattle.std.specs.Option.{option_or}
 use Rattle.std.specs.Cmp.{IsTotalOrder}
 use Rattle.std.specs.Ordering.{is_lt, is_le, is_eq, ordering_index}
@@ -11,6 +11,8 @@ use Rattle.std.proofs.lemmas.Bool.{cases_lt}
 use Rattle.std.proofs.lemmas.Cmp.{is_lt_index, is_eq_index}
 use Rattle.std.proofs.lemmas.List.FromFn.{length-enumerate_from, get_or-enumerate_from}
 use Rattle.std.proofs.lemmas.List.{get_or_default}
+use Rattle.std.proofs.lemmas.List.Elements.{recursion_from_All}
+use Rattle.std.proofs.lemmas.Option.{slice_get-get_or}
 use Rattle.std.proofs.lemmas.List.Recursion.{found_at, found_nowhere}
 use Rattle.std.proofs.lemmas.List.Sorted.{searchable_from_sorted}
 use Rattle.sourcemap_core.specs.Utils.{find_last, closest_item, closest}
@@ -205,3 +207,65 @@ pub is_le-equal : (o : Ordering) → is_eq o ≡ true → is_le o ≡ true
 is_le-equal Less e = refl
 is_le-equal Equal e = refl
 is_le-equal Greater e = cc
+
+-- the closest item has what all items have
+module _ {X K : Type 0} (key : X → K) (cmp : K → K → Ordering) (P : X → Type 0) where
+  found_has : (t : X → Bool) (xs : List X) → AllByRecursion P xs → IfSome (find t xs) P
+  found_has t [] all = tt
+  found_has t (x ∷ xs) all = elim (t x) as (λ b. IfSome (cond b (Some x) (find t xs)) P) [ true ↦ all.0 | false ↦ found_has t xs all.1 ]
+
+  either_has : (o q : Option X) → IfSome o P → IfSome q P → IfSome (option_or o q) P
+  either_has None q first second = second
+  either_has (Some x) q first second = first
+
+  last_has : (t : X → Bool) (xs : List X) → AllByRecursion P xs → IfSome (find_last t xs) P
+  last_has t [] all = tt
+  last_has t (x ∷ xs) all =
+      either_has (find_last t xs) (cond (t x) (Some x) None) (last_has t xs all.1)
+      (elim (t x) as (λ b. IfSome (cond b (Some x) None) P) [ true ↦ all.0 | false ↦ tt ])
+
+  pub closest_item-has : (xs : List X) (p : K) → AllByRecursion P xs → IfSome (closest_item key cmp xs p) P
+  closest_item-has xs p all = either_has (find (λ x. is_eq (cmp (key x) p)) xs) (find_last (λ x. is_lt (cmp (key x) p)) xs) (found_has _ xs all) (last_has _ xs all)
+
+-- a change that keeps each key may be made before or after the search
+module _ {X Y K : Type 0} (key : X → K) (key' : Y → K) (cmp : K → K → Ordering) (change : X → Y) (kept : (x : X) → key' (change x) ≡ key x) where
+  find-change : (t : K → Bool) (xs : List X) → find (λ y. t (key' y)) (map change xs) ≡ option_map change (find (λ x. t (key x)) xs)
+  find-change t [] = refl
+  find-change t (x ∷ xs) =
+      rw (kept x, find-change t xs)
+      (elim (t (key x)) as (λ b. cond b (Some (change x)) (option_map change (find (λ x. t (key x)) xs)) ≡ option_map change (cond b (Some x) (find (λ x. t (key x)) xs))) [ true ↦ refl | false ↦ refl ])
+
+  or_change : (o q : Option X) → option_or (option_map change o) (option_map change q) ≡ option_map change (option_or o q)
+  or_change None q = refl
+  or_change (Some x) q = refl
+
+  find_last-change : (t : K → Bool) (xs : List X) → find_last (λ y. t (key' y)) (map change xs) ≡ option_map change (find_last (λ x. t (key x)) xs)
+  find_last-change t [] = refl
+  find_last-change t (x ∷ xs) =
+      let here : cond (t (key x)) (Some (change x)) None ≡ option_map change (cond (t (key x)) (Some x) None) =
+          elim (t (key x)) as (λ b. cond b (Some (change x)) None ≡ option_map change (cond b (Some x) None)) [ true ↦ refl | false ↦ refl ] in
+      rw (kept x, find_last-change t xs, here) (or_change (find_last (λ x. t (key x)) xs) (cond (t (key x)) (Some x) None))
+
+  pub closest_item-change : (xs : List X) (p : K) → closest_item key' cmp (map change xs) p ≡ option_map change (closest_item key cmp xs p)
+  closest_item-change xs p =
+      rw (find-change (λ k. is_eq (cmp k p)) xs, find_last-change (λ k. is_lt (cmp k p)) xs)
+      (or_change (find (λ x. is_eq (cmp (key x) p)) xs) (find_last (λ x. is_lt (cmp (key x) p)) xs))
+
+items_of_entries : {X : Type 0} (n : ℕ) (xs : List X) → map (λ (e : ℕ × X). e.1) (enumerate_from n xs) ≡ xs
+items_of_entries n [] = refl
+items_of_entries n (x ∷ xs) = ap (λ rest. x ∷ rest) (items_of_entries (n + 1) xs)
+
+module _ {X K : Type 0} (key : X → K) (cmp : K → K → Ordering) (xs : List X) (p : K) where
+  -- both forms of the closest item name one item
+  pub item-closest : option_map (λ (e : ℕ × X). e.1) (closest key cmp xs p) ≡ closest_item key cmp xs p
+  item-closest =
+      sym (closest_item-change (λ (e : ℕ × X). key e.1) key cmp (λ e. e.1) (λ e. refl) (enumerate_from 0 xs) p)
+      ∙ ap (λ items. closest_item key cmp items p) (items_of_entries 0 xs)
+
+  -- the place is the item's own
+  pub place-closest : IfSome (closest key cmp xs p) (λ e. slice_get xs e.0 ≡ Some e.1)
+  place-closest =
+      closest_item-has (λ (e : ℕ × X). key e.1) cmp (λ e. slice_get xs e.0 ≡ Some e.1) (enumerate_from 0 xs) p
+      (recursion_from_All (λ e. slice_get xs e.0 ≡ Some e.1) (enumerate_from 0 xs) (λ k d l.
+        let many = length-enumerate_from 0 xs in
+        rw (entry-at xs k d (omega arith)) (slice_get-get_or xs k d.1 (omega arith))))
