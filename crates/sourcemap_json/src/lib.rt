@@ -4,3 +4,4 @@
 mod debug_id;
 mod fields;
 pub mod jsontypes;
+mod reading;
