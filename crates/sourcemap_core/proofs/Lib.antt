@@ -1,3 +1,5 @@
+pub mod AnswerLemmas
+pub mod BitLemmas
 pub mod DigitLemmas
 pub mod SortLemmas
 pub mod TokensLemmas
