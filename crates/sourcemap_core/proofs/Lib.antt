@@ -5,4 +5,9 @@ pub mod SortLemmas
 pub mod TokensLemmas
 pub mod UtilsLemmas
 pub mod WritingLemmas
+pub mod MappingsAnswers
+pub mod MappingsLemmas
+pub mod SortLemmas
+pub mod TokensLemmas
+pub mod UtilsLemmas
 pub mod VlqLemmas

@@ -6,6 +6,6 @@ pub mod bits;
 pub mod errors;
 pub mod mappings;
 pub mod tokens;
-pub mod vlq;
 pub mod utils;
 pub mod mappings_written;
+pub mod vlq;
