@@ -11,3 +11,10 @@ pub mod SortLemmas
 pub mod TokensLemmas
 pub mod UtilsLemmas
 pub mod VlqLemmas
+pub mod WritingLemmas
+pub mod WrittenBytes
+pub mod WrittenLines
+pub mod WrittenReadBack
+pub mod WrittenSegments
+pub mod WrittenSums
+pub mod WrittenTokens
