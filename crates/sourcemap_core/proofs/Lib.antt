@@ -7,11 +7,7 @@ pub mod UtilsLemmas
 pub mod WritingLemmas
 pub mod MappingsAnswers
 pub mod MappingsLemmas
-pub mod SortLemmas
-pub mod TokensLemmas
-pub mod UtilsLemmas
 pub mod VlqLemmas
-pub mod WritingLemmas
 pub mod WrittenBytes
 pub mod WrittenLines
 pub mod WrittenReadBack
