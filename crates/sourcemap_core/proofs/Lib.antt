@@ -1,6 +1,9 @@
 pub mod AnswerLemmas
 pub mod BitLemmas
 pub mod DigitLemmas
+pub mod MappingsAnswers
+pub mod MappingsLemmas
+pub mod MappingsOrder
 pub mod SortLemmas
 pub mod TokensLemmas
 pub mod UtilsLemmas
