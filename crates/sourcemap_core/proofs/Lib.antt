@@ -8,8 +8,6 @@ pub mod SortLemmas
 pub mod TokensLemmas
 pub mod UtilsLemmas
 pub mod WritingLemmas
-pub mod MappingsAnswers
-pub mod MappingsLemmas
 pub mod VlqLemmas
 pub mod WrittenBytes
 pub mod WrittenLaws
