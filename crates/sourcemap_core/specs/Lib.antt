@@ -1,10 +1,10 @@
 pub mod Answer
 pub mod Bits
 pub mod Errors
+pub mod Vlq
 pub mod Mappings
 pub mod MappingsParts
+pub mod MappingsWritten
 pub mod Tokens
 pub mod Utils
-pub mod Vlq
-pub mod MappingsWritten
 pub mod WritingSteps

@@ -5,6 +5,7 @@
 pub mod bits;
 pub mod errors;
 pub mod mappings;
+mod mappings_written;
 pub mod tokens;
 pub mod utils;
 pub mod mappings_written;

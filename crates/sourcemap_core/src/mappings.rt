@@ -10,11 +10,14 @@ ghost use Rattle.sourcemap_core.specs.declared.tokens.RawToken.{RawToken};
 ghost use Rattle.sourcemap_core.specs.Mappings.{Counts, MappingsAnswer, Segment, PartsFault, LineFault, LinesRead, LinesFault, beside, line_texts, page_tokens, Line, segment_fault, token_of};
 ghost use Rattle.sourcemap_core.specs.MappingsParts.{AreSteps, AreTextSums, AreSums, AddsParts, AddsLine, counts_of, lines_left, fault_in_part, HasFirstPart, HasPartFault};
 ghost use Rattle.sourcemap_core.specs.Tokens.{AreInOrder, AllWithin};
-ghost use Rattle.sourcemap_core.specs.Vlq.{Reads, HasFault, digit_value};
+ghost use Rattle.sourcemap_core.specs.Vlq.{Reads, HasFault};
 
+use crate::bits::{has_bit, test_digits};
 use crate::errors::{Error, Result};
+pub use crate::mappings_written::{write_mappings, write_range_mappings};
+pub use crate::tokens::tokens_in_order;
 use crate::tokens::{RawToken, sort_tokens};
-use crate::vlq::{digit_of, next_number};
+use crate::vlq::next_number;
 use std::alloc::Global;
 
 // How many sources and names the map has.
@@ -101,7 +104,10 @@ fn read_numbers(line: &[u8]) -> Result<(Numbers, Option<&[u8]>)>
     ensures read { IfOk result (λ read. HasFirstPart line.now read.0 read.1) }
     ensures fault { IfErr result (λ e. HasPartFault line.now e) }
 {
-    let mut read = Numbers { count: 0, steps: [0; 5] };
+    let mut read = Numbers {
+        count: 0,
+        steps: [0; 5],
+    };
     let mut rest = line;
     while let Some((first, behind)) = rest.split_first() {
         if *first == b',' {
@@ -166,17 +172,6 @@ fn field(count: u32, place: u32, sum: u32) -> u32
     ensures { result ≡ (if nat_lt place count then sum else 4294967295) }
 {
     if place < count { sum } else { u32::MAX }
-}
-
-// The bit of this number in the text of a line's range bits.
-#[inline]
-fn has_bit(bits: &[u8], number: usize) -> bool
-    ensures { result ≡ bit_of bits.now number }
-{
-    match bits.get(number / 6) {
-        Some(byte) => digit_of(*byte).is_some_and(|value| (value >> (number % 6)) % 2 == 1),
-        None => false,
-    }
 }
 
 // The token of a segment of so many numbers, with the sums up to it.
@@ -250,27 +245,6 @@ fn add_parts(
     }
 }
 
-// Whether a byte is no digit.
-#[inline]
-fn is_foreign(byte: u8) -> bool
-    ensures { result ≡ is_none (digit_value byte) }
-{
-    digit_of(byte).is_none()
-}
-
-// Refuses a text of range bits at its first byte that is no digit.
-fn check_bits(bits: &[u8]) -> Result<()>
-    ensures { MatchResult result (λ _. first_foreign bits.now ≡ None)
-        (λ e. (b : ℕ) × (first_foreign bits.now ≡ Some b) × (e ≡ Error.InvalidBase64 b)) }
-{
-    for byte in bits {
-        if is_foreign(*byte) {
-            return Err(Error::InvalidBase64(char::from(*byte)));
-        }
-    }
-    Ok(())
-}
-
 // Adds the tokens of a line; the answer is the sums behind it.
 fn add_line(
     tokens: &mut Vec<RawToken>,
@@ -291,7 +265,7 @@ fn add_line(
     let Ok(line) = u32::try_from(number) else {
         return Err(Error::IncompatibleSourceMap);
     };
-    check_bits(bits)?;
+    test_digits(bits)?;
     add_parts(tokens, text, bits, line, sums, limits)
 }
 
