@@ -3,3 +3,5 @@ pub mod JsontypesLemmas
 pub mod FieldsLemmas
 pub mod DepthLemmas
 pub mod ReadingLemmas
+pub mod StripHeaderLemmas
+pub mod DataUrlLemmas

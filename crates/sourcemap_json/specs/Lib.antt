@@ -1,3 +1,6 @@
 pub mod DebugId
 pub mod Fields
 pub mod Jsontypes
+pub mod Decoder
+pub mod StripHeaderReader
+pub mod DataUrl

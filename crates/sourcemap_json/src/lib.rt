@@ -5,3 +5,6 @@ mod debug_id;
 mod fields;
 pub mod jsontypes;
 mod reading;
+pub mod data_url;
+pub mod decoder;
+pub mod strip_header;
