@@ -1,10 +1,11 @@
 -- A record level by level.
 use Rattle.std.proofs.Common.{◌≡◌, List, [], ◌∷◌, Option, None, Some, Vec, Global, map, option_map, codes, string_bytes, refl, ap, ◌∙◌}
 use Rattle.std.proofs.lemmas.Iterator.Adapters.{option_map_id}
-use Rattle.serde_json.specs.Data.{Members}
+use Rattle.serde_json.specs.Data.{Members, no_members, string}
 use Rattle.serde_json.specs.View.{view}
-use Rattle.sourcemap_json.specs.Fields.{at, any, text, small_number, or_null, list}
-use Rattle.sourcemap_json.specs.Jsontypes.{Fields, Section, Sections, Tree, flat, tree, tree_with, tree_step, section, section_step, sections_from, fields_view, text_view, debug_id_in, fields_in, scopes, scopes_view}
+use Rattle.sourcemap_json.specs.DebugId.{debug_id_text}
+use Rattle.sourcemap_json.specs.Fields.{put_if, written_number, written_or_null, written_list, at, any, text, small_number, or_null, list}
+use Rattle.sourcemap_json.specs.Jsontypes.{Fields, Section, Sections, Tree, flat, tree, tree_with, tree_step, section, section_step, sections_from, fields_view, text_view, debug_id_in, fields_in, scopes, scopes_view, written_fields, written_scopes}
 use Rattle.sourcemap_json.specs.declared.jsontypes.RawSection.{RawSection}
 use Rattle.sourcemap_json.specs.declared.jsontypes.RawSourceMap.{RawSourceMap, RawSourceMap-F, out-RawSourceMap, roll-RawSourceMap, fold_out-RawSourceMap, fold-roll-RawSourceMap, map-RawSourceMap}
 
@@ -58,3 +59,43 @@ fields_read r ms h0 h1 h2 h3 h4 h5 h6 h7 h8 h9 h10 h11 h12 =
     (ap (λ x. Some (record (fields_view r) { version = x; ignore_list = option_map (λ v. map (λ n. n) v.items) r.ignore_list; x_facebook_offsets = option_map (λ v. map (option_map (λ n. n)) v.items) r.x_facebook_offsets })) (option_map_id r.version)
     ∙ ap (λ x. Some (record (fields_view r) { ignore_list = x; x_facebook_offsets = option_map (λ v. map (option_map (λ n. n)) v.items) r.x_facebook_offsets })) (same_items (λ n. n) (λ n. refl) r.ignore_list)
     ∙ ap (λ x. Some (record (fields_view r) { x_facebook_offsets = x })) (same_items (option_map (λ n. n)) option_map_id r.x_facebook_offsets))
+
+-- the fields, as each key was put
+pub fields_put : (r : RawSourceMap-F RawSection RawSourceMap) (m0 m1 m2 m3 m4 m5 m6 m7 m8 m9 m10 m11 m12 m13 : Members)
+    → m0 ≡ no_members
+    → m1 ≡ put_if (codes "version") (Some (written_or_null written_number (option_map (λ n. n) r.version))) m0
+    → m2 ≡ put_if (codes "file") (option_map (λ d. d) (option_map view r.file)) m1
+    → m3 ≡ put_if (codes "sources") (Some (written_or_null (written_list (written_or_null string)) (option_map (λ v. map text_view v.items) r.sources))) m2
+    → m4 ≡ put_if (codes "sourceRoot") (option_map string (text_view r.source_root)) m3
+    → m5 ≡ put_if (codes "sourcesContent") (option_map (written_list (written_or_null string)) (option_map (λ v. map text_view v.items) r.sources_content)) m4
+    → m6 ≡ put_if (codes "names") (option_map (written_list (λ d. d)) (option_map (λ v. map view v.items) r.names)) m5
+    → m7 ≡ put_if (codes "rangeMappings") (option_map string (text_view r.range_mappings)) m6
+    → m8 ≡ put_if (codes "mappings") (option_map string (text_view r.mappings)) m7
+    → m9 ≡ put_if (codes "ignoreList") (option_map (written_list written_number) (option_map (λ v. map (λ n. n) v.items) r.ignore_list)) m8
+    → m10 ≡ put_if (codes "x_facebook_offsets") (option_map (written_list (written_or_null written_number)) (option_map (λ v. map (option_map (λ n. n)) v.items) r.x_facebook_offsets)) m9
+    → m11 ≡ put_if (codes "x_metro_module_paths") (option_map (written_list string) (option_map (λ v. map string_bytes v.items) r.x_metro_module_paths)) m10
+    → m12 ≡ put_if (codes "x_facebook_sources") (option_map (written_list (written_or_null (written_list written_scopes))) (option_map (λ v. map (option_map (λ s. map scopes_view s.items)) v.items) r.x_facebook_sources)) m11
+    → m13 ≡ put_if (codes "debugId") (option_map (λ id. string (debug_id_text id)) (option_map (λ id. id) r.debug_id)) m12
+    → m13 ≡ written_fields (fields_view r)
+fields_put r m0 m1 m2 m3 m4 m5 m6 m7 m8 m9 m10 m11 m12 m13 h0 h1 h2 h3 h4 h5 h6 h7 h8 h9 h10 h11 h12 h13 =
+    rw (
+      h13,
+      h12,
+      h11,
+      h10,
+      h9,
+      h8,
+      h7,
+      h6,
+      h5,
+      h4,
+      h3,
+      h2,
+      h1,
+      h0,
+      option_map_id r.version,
+      option_map_id (option_map view r.file),
+      same_items (λ n. n) (λ n. refl) r.ignore_list,
+      same_items (option_map (λ n. n)) option_map_id r.x_facebook_offsets,
+      option_map_id r.debug_id,
+    )

@@ -4,7 +4,9 @@
 mod debug_id;
 mod fields;
 pub mod jsontypes;
+mod parts;
 mod reading;
 pub mod data_url;
 pub mod decoder;
 pub mod strip_header;
+mod writing;
