@@ -8,5 +8,5 @@ pub mod mappings;
 mod mappings_written;
 pub mod tokens;
 pub mod utils;
-pub mod mappings_written;
+
 pub mod vlq;
