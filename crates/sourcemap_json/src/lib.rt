@@ -11,6 +11,3 @@ pub mod data_url;
 pub mod decoder;
 pub mod strip_header;
 mod writing;
-pub mod data_url;
-pub mod decoder;
-pub mod strip_header;
