@@ -1,15 +1,15 @@
 -- Two texts of mappings and of range bits have one answer, and its tokens keep the bounds of the map.
-use Rattle.std.proofs.Common.{◌≡◌, ◌≢◌, ℕ, suc, ◌+◌, ◌<◌, ◌≤◌, ◌==◌, ◌^◌, ◌⊎◌, ℤ, List, [], ◌∷◌, ◌++◌, length, Bool, true, false, Option, Some, None, Result, Ok, Err, IfOk, IfErr, sym, ap, ap₂, ◌∙◌, refl, subst, inl, inr, append_assoc, append-nil, arith}
-use Rattle.std.specs.List.{AllByRecursion, slice_split}
+use Rattle.std.proofs.Common.{◌≡◌, ℕ, suc, ◌+◌, ◌≤◌, ◌==◌, ◌⊎◌, ℤ, List, [], ◌∷◌, ◌++◌, length, Some, None, Result, Ok, Err, IfOk, IfErr, sym, ap, ap₂, ◌∙◌, subst, inl, inr, append_assoc, append-nil, arith}
+use Rattle.std.specs.List.{slice_split}
 use Rattle.std.proofs.lemmas.Bool.Decides.{nat_tests}
 use Rattle.sourcemap_core.specs.declared.tokens.RawToken.{RawToken}
 use Rattle.sourcemap_core.specs.declared.errors.Error.{Error}
-use Rattle.sourcemap_core.specs.declared.errors.Error.TheVariants.{IncompatibleSourceMap, InvalidBase64, OutOfMemory}
+use Rattle.sourcemap_core.specs.declared.errors.Error.TheVariants.{OutOfMemory}
 use Rattle.sourcemap_core.specs.Answer.{IsAnswer, UnlessMemory}
 use Rattle.sourcemap_core.specs.Bits.{first_foreign}
 use Rattle.sourcemap_core.specs.Vlq.{Reads, HasFault, Answers}
 use Rattle.sourcemap_core.specs.Tokens.{in_order, IsWithin, AllWithin}
-use Rattle.sourcemap_core.specs.Mappings.{Counts, Segment, Line, LineText, is_size, field, token_of, line_tokens, page_tokens, segment_fault, PartRead, PartFault, PartsRead, PartsFault, LineRead, LineFault, LinesRead, LinesFault, line_texts, MappingsAnswer}
+use Rattle.sourcemap_core.specs.Mappings.{Counts, Segment, Line, LineText, field, token_of, line_tokens, page_tokens, segment_fault, PartRead, PartFault, PartsRead, PartsFault, LineRead, LineFault, LinesRead, LinesFault, line_texts, MappingsAnswer}
 use Rattle.sourcemap_core.proofs.VlqLemmas.{Answers-same}
 use Rattle.sourcemap_core.proofs.TokensLemmas.{AllWithin-in_order}
 

@@ -1,5 +1,5 @@
 -- What the steps of the reader of mappings come to.
-use Rattle.std.proofs.Common.{◌≡◌, ◌≢◌, ℕ, zero, suc, slice_index, ◌+◌, ◌^◌, ◌<◌, ◌==◌, true, false, Bool, List, [], ◌∷◌, ◌++◌, length, get_or, All, Some, None, sym, ap, ◌∙◌, refl, subst, inl, inr, append_assoc, append-nil, length-append, ℤ, arith, eqb-true}
+use Rattle.std.proofs.Common.{◌≡◌, ◌≢◌, ℕ, zero, suc, slice_index, ◌+◌, ◌^◌, ◌<◌, ◌==◌, true, false, List, [], ◌∷◌, ◌++◌, length, get_or, All, Some, None, sym, ap, ◌∙◌, refl, subst, inl, inr, append_assoc, append-nil, length-append, ℤ, arith, eqb-true}
 use Rattle.sourcemap_core.specs.Answer.{UnlessMemory}
 use Rattle.sourcemap_core.proofs.AnswerLemmas.{UnlessMemory-weaker}
 use Rattle.std.specs.List.{slice_split, onto_first, AllByRecursion}
@@ -15,9 +15,9 @@ use Rattle.sourcemap_core.specs.declared.mappings.Spot.{Spot}
 use Rattle.sourcemap_core.specs.declared.errors.Error.{Error}
 use Rattle.sourcemap_core.specs.declared.errors.Error.TheVariants.{InvalidBase64, VlqLeftover, VlqOverflow}
 use Rattle.sourcemap_core.specs.Bits.{first_foreign}
-use Rattle.sourcemap_core.specs.Mappings.{Counts, Segment, Line, LineText, line_tokens, page_tokens, token_of, segment_fault, PartsRead, PartsFault, LineRead, LineFault, LinesRead, LinesFault}
+use Rattle.sourcemap_core.specs.Mappings.{Counts, Segment, Line, LineText, line_tokens, page_tokens, token_of, segment_fault, PartsRead, PartsFault, LineFault, LinesRead, LinesFault}
 use Rattle.sourcemap_core.specs.MappingsParts.{lines_of, AreSteps, AreTextSums, AreSums, AddsParts, AddsLine, HasFirstPart, HasPartFault, fault_in_part}
-use Rattle.sourcemap_core.specs.Vlq.{digit_value, GoesOn, IsLast, IsChain, IsUnfinished, GoesTo, NumberFault, BeginsWith, Reads, HasFault, IsSound}
+use Rattle.sourcemap_core.specs.Vlq.{digit_value, GoesOn, IsChain, IsUnfinished, GoesTo, NumberFault, BeginsWith, Reads, HasFault, IsSound}
 use Rattle.sourcemap_core.proofs.VlqLemmas.{HasFault-later, IsGroup-nonempty, IsSound-more}
 
 -- The lines of a text.

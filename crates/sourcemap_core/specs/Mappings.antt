@@ -1,6 +1,6 @@
 -- The text of mappings and the tokens that it stands for. Lines stand between `;` (59), the parts
 -- of a line between `,` (44). A part that is not empty is a segment and stands for one token.
-use Rattle.std.specs.Prelude.{◌≡◌, ◌≢◌, ℕ, ◌+◌, ◌%◌, ◌^◌, ◌<◌, ◌≤◌, ◌⊎◌, ℤ, pos, unsigned_abs, List, [], ◌∷◌, ◌++◌, length, slice_get, sum_by, flat_map, Option, Some, None, Result, Ok, Err, Bool, not, ◌&&◌, ◌||◌, ◌==◌, nat_lt, nat_le, min, if◌then◌else◌, IsTrue}
+use Rattle.std.specs.Prelude.{◌≡◌, ℕ, ◌+◌, ◌%◌, ◌^◌, ◌<◌, ◌≤◌, ◌⊎◌, ℤ, pos, unsigned_abs, List, [], ◌∷◌, ◌++◌, length, slice_get, sum_by, Option, Some, None, Result, Ok, Err, Bool, not, ◌&&◌, ◌||◌, ◌==◌, nat_lt, nat_le, min, if◌then◌else◌}
 use Rattle.std.specs.Option.{option_map_or}
 use Rattle.std.specs.List.{slice_split}
 use Rattle.std.specs.Int.{int_rem_euclid}

@@ -1,4 +1,4 @@
-use Rattle.std.proofs.Common.{◌∷◌, [], arith}
+use Rattle.std.proofs.Common.{[], arith}
 use Rattle.std.proofs.lemmas.Result.{err_from_is_err_and}
 use Rattle.sourcemap_core.proofs.AnswerLemmas.{UnlessMemory-from}
 use Rattle.sourcemap_core.proofs.MappingsLemmas.{PartsSoFar-more, PartsSoFar-fault, PartsSoFar-digits, AddsParts-all}

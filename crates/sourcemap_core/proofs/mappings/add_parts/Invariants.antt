@@ -1,4 +1,4 @@
-use Rattle.std.proofs.Common.{length, ◌+◌, ◌≤◌, ◌==◌, []}
+use Rattle.std.proofs.Common.{length, ◌+◌, ◌≤◌, ◌==◌}
 use Rattle.std.specs.List.{slice_split}
 use Rattle.sourcemap_core.specs.Mappings.{Segment}
 use Rattle.sourcemap_core.specs.MappingsParts.{AreTextSums, AreInOrderTo, counts_of}
