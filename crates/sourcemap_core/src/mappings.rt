@@ -1,16 +1,15 @@
 //! The text of mappings, read: lines between `;`, the parts of a line between `,`.
-ghost use Rattle.std.specs.Prelude.{◌≡◌, ℕ, ◌+◌, ◌<◌, ◌≤◌, ◌==◌, ℤ, List, [], ◌∷◌, ◌++◌, length, nat_lt, min, Result, ◌||◌, if◌then◌else◌, IsTrue, Some, None, is_none, IfSome, MatchOption, MatchResult, IfOk, IfErr, unsigned_abs, pos, ◌^◌};
+ghost use Rattle.std.specs.Prelude.{◌≡◌, ℕ, ◌+◌, ◌<◌, ◌≤◌, ◌==◌, ℤ, List, [], ◌∷◌, ◌++◌, length, nat_lt, min, Result, ◌||◌, if◌then◌else◌, IsTrue, MatchResult, IfOk, IfErr, unsigned_abs, pos, ◌^◌};
 ghost use Rattle.std.specs.Option.{option_map_or};
 ghost use Rattle.std.specs.List.{slice_split};
 ghost use Rattle.std.specs.Int.{int_rem_euclid};
 ghost use Rattle.sourcemap_core.specs.Answer.{IsAnswer, Gives, UnlessMemory};
-ghost use Rattle.sourcemap_core.specs.Bits.{bit_of, first_foreign};
 ghost use Rattle.sourcemap_core.specs.declared.errors.Error.{Error};
 ghost use Rattle.sourcemap_core.specs.declared.tokens.RawToken.{RawToken};
 ghost use Rattle.sourcemap_core.specs.Mappings.{Counts, MappingsAnswer, Segment, PartsFault, LineFault, LinesRead, LinesFault, beside, line_texts, page_tokens, Line, segment_fault, token_of};
 ghost use Rattle.sourcemap_core.specs.MappingsParts.{AreSteps, AreTextSums, AreSums, AreInOrderTo, AddsParts, AddsLine, counts_of, lines_of, lines_left, fault_in_part, HasFirstPart, HasPartFault};
 ghost use Rattle.sourcemap_core.specs.Tokens.{AreInOrder, AllWithin, destination, in_order};
-ghost use Rattle.sourcemap_core.specs.Vlq.{Reads, HasFault};
+ghost use Rattle.sourcemap_core.specs.Vlq.{Reads};
 
 use crate::bits::{has_bit, test_digits};
 use crate::errors::{Error, Result};
@@ -206,11 +205,14 @@ fn add_part(
 ) -> Result<Sums>
     ensures added { (before here : List Segment) (part : List ℕ) (numbers : List ℤ)
         → AreSums before here sums → Reads part numbers → AreSteps numbers read.now
-        → IfOk result (AddsParts (counts_of limits) spot bits.now before here (part ∷ []) tokens.old.items tokens.new.items) }
+        → IfOk result (AddsParts (counts_of limits) spot bits.now before here (part ∷ [])
+        tokens.old.items tokens.new.items) }
     ensures fault { (before here : List Segment) (part : List ℕ) (numbers : List ℤ)
         → AreSums before here sums → Reads part numbers → AreSteps numbers read.now
-        → IfErr result (λ e. UnlessMemory e (PartsFault (counts_of limits) spot.place (before ++ here) (part ∷ []) e)) }
-    ensures order { AreInOrderTo spot.line sums tokens.old.items → IfOk result (λ after. AreInOrderTo spot.line after tokens.new.items) }
+        → IfErr result (λ e. UnlessMemory e
+        (PartsFault (counts_of limits) spot.place (before ++ here) (part ∷ []) e)) }
+    ensures order { AreInOrderTo spot.line sums tokens.old.items
+        → IfOk result (λ after. AreInOrderTo spot.line after tokens.new.items) }
 {
     if read.count == 0 {
         return Ok(sums);
@@ -231,10 +233,13 @@ fn add_parts(
     limits: Limits,
 ) -> Result<Sums>
     ensures added { (before : List Segment) → AreTextSums before sums
-        → IfOk result (AddsParts (counts_of limits) (record { line = line; place = 0 }) bits.now before [] (slice_split (λ b. b == 44) text.now) tokens.old.items tokens.new.items) }
+        → IfOk result (AddsParts (counts_of limits) (record { line = line; place = 0 }) bits.now
+        before [] (slice_split (λ b. b == 44) text.now) tokens.old.items tokens.new.items) }
     ensures fault { (before : List Segment) → AreTextSums before sums
-        → IfErr result (λ e. UnlessMemory e (PartsFault (counts_of limits) 0 before (slice_split (λ b. b == 44) text.now) e)) }
-    ensures order { AreInOrderTo line (record sums { column = 0 }) tokens.old.items → IfOk result (λ after. AreInOrderTo line after tokens.new.items) }
+        → IfErr result (λ e. UnlessMemory e
+        (PartsFault (counts_of limits) 0 before (slice_split (λ b. b == 44) text.now) e)) }
+    ensures order { AreInOrderTo line (record sums { column = 0 }) tokens.old.items
+        → IfOk result (λ after. AreInOrderTo line after tokens.new.items) }
 {
     let mut sums = Sums { column: 0, ..sums };
     let mut rest = text;
@@ -260,9 +265,11 @@ fn add_line(
     limits: Limits,
 ) -> Result<Sums>
     ensures added { (before : List Segment) → AreTextSums before sums
-        → IfOk result (AddsLine (counts_of limits) number before (text.now, bits.now) tokens.old.items tokens.new.items) }
+        → IfOk result (AddsLine (counts_of limits) number before (text.now, bits.now)
+        tokens.old.items tokens.new.items) }
     ensures fault { (before : List Segment) → AreTextSums before sums
-        → IfErr result (λ e. UnlessMemory e (LineFault (counts_of limits) number before (text.now, bits.now) e)) }
+        → IfErr result (λ e. UnlessMemory e
+        (LineFault (counts_of limits) number before (text.now, bits.now) e)) }
     ensures order { AreInOrderTo number (record sums { column = 0 }) tokens.old.items
         → IfOk result (λ after. AreInOrderTo (number + 1) (record after { column = 0 }) tokens.new.items) }
 {
@@ -279,7 +286,8 @@ fn add_line(
 // The next line of a text of range bits, empty where the text is at its end, and what stands behind it.
 #[inline]
 fn next_bits(ranges: Option<&str>) -> (&str, Option<&str>)
-    ensures { (line : List ℕ) (lines : List (List ℕ)) → beside (line ∷ lines) (lines_left ranges.entry) ≡ (line, result.0.now) ∷ beside lines (lines_left result.1) }
+    ensures { (line : List ℕ) (lines : List (List ℕ)) → beside (line ∷ lines) (lines_left ranges.entry)
+        ≡ (line, result.0.now) ∷ beside lines (lines_left result.1) }
 {
     match ranges {
         Some(text) => cut(text),
@@ -294,9 +302,11 @@ fn read_lines(
     ranges: &str,
     limits: Limits,
 ) -> Result<(Vec<RawToken>, bool)>
-    ensures read { IfOk result (λ read. (page : List Line) × LinesRead (counts_of limits) 0 [] (line_texts mappings.now ranges.now) page
+    ensures read { IfOk result (λ read. (page : List Line)
+        × LinesRead (counts_of limits) 0 [] (line_texts mappings.now ranges.now) page
         × (read.0.items ≡ page_tokens 0 [] page)) }
-    ensures fault { IfErr result (λ e. UnlessMemory e (LinesFault (counts_of limits) 0 [] (line_texts mappings.now ranges.now) e)) }
+    ensures fault { IfErr result (λ e. UnlessMemory e
+        (LinesFault (counts_of limits) 0 [] (line_texts mappings.now ranges.now) e)) }
     ensures order { IfOk result (λ read. IsTrue read.1 → AreInOrder read.0.items) }
 {
     let mut tokens = Vec::with_capacity(alloc, (mappings.len() / 5 + 1).min(1 << 20))?;
