@@ -1,0 +1,2 @@
+pub use Rattle.sourcemap_core.specs.Answer
+pub use Rattle.sourcemap_core.specs.Errors

@@ -1,2 +1,5 @@
 //! Source maps: read, asked, changed and written.
 #![tactic(auto)]
+
+pub use sourcemap_core::errors;
+pub use sourcemap_core::errors::{Error, Result};

@@ -1,4 +1,11 @@
 // Answers questions about a source map on standard input.
 #![tactic(auto)]
 
-fn main() {}
+mod command;
+
+use sourcemap::Result;
+
+fn main(rt: HostRuntime) -> Result<()> {
+    let _command = command::parse_words(rt.alloc(), &[])?;
+    Ok(())
+}
