@@ -1,0 +1,2 @@
+pub mod DebugIdLemmas
+pub mod JsontypesLemmas

@@ -1,1 +1,4 @@
 pub mod Decoder
+pub mod DebugId
+pub mod Fields
+pub mod Jsontypes

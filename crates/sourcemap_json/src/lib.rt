@@ -2,3 +2,5 @@
 #![tactic(auto)]
 
 pub mod decoder;
+mod debug_id;
+pub mod jsontypes;

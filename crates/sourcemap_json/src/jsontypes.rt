@@ -1,0 +1,116 @@
+pub use crate::debug_id::DebugId;
+use serde_json::Value;
+use sourcemap_core::errors::{Error, Result};
+use std::alloc::Global;
+
+/// Where a section of an index map starts: line and column of the generated text, from 0, the
+/// column in UTF-16 units.
+#[derive(Clone, Copy, Debug, PartialEq)]
+pub struct RawSectionOffset {
+    /// The line.
+    pub line: u32,
+    /// The column.
+    pub column: u32,
+}
+
+/// The scopes of one source: the names of its functions, and where they stand.
+#[derive(Debug, PartialEq, Drop)]
+pub struct FacebookScopeMapping {
+    /// The names of the functions.
+    pub names: Vec<String>,
+    /// Where they stand, in digits.
+    pub mappings: String,
+}
+
+/// For each source its scopes, of which the first entry counts.
+pub type FacebookSources = Option<Vec<Option<Vec<FacebookScopeMapping>>>>;
+
+/// A section of an index map as it stands in JSON.
+#[derive(Debug, PartialEq, Drop)]
+#[cycle(records)]
+pub struct RawSection {
+    /// Where it starts.
+    pub offset: RawSectionOffset,
+    /// Where its map may be found.
+    pub url: Option<String>,
+    /// Its map.
+    pub map: Option<Box<RawSourceMap>>,
+}
+
+/// A source map as it stands in JSON, key by key. A key that is missing or null is `None`.
+#[derive(Debug, PartialEq, Drop)]
+#[cycle(records)]
+pub struct RawSourceMap {
+    /// The number of the format.
+    pub version: Option<u32>,
+    /// The generated file: a text, or a value that names none.
+    pub file: Option<Value>,
+    /// The sources.
+    pub sources: Option<Vec<Option<String>>>,
+    /// What stands before each source.
+    pub source_root: Option<String>,
+    /// The contents of the sources.
+    pub sources_content: Option<Vec<Option<String>>>,
+    /// The sections of an index map.
+    pub sections: Option<Vec<RawSection>>,
+    /// The names: texts, or values that name nothing.
+    pub names: Option<Vec<Value>>,
+    /// Which tokens are range tokens, in digits.
+    pub range_mappings: Option<String>,
+    /// The tokens, in digits.
+    pub mappings: Option<String>,
+    /// The numbers of the sources that a debugger passes over.
+    pub ignore_list: Option<Vec<u32>>,
+    /// Where each module of a bundle starts.
+    pub x_facebook_offsets: Option<Vec<Option<u32>>>,
+    /// The path of each module of a bundle.
+    pub x_metro_module_paths: Option<Vec<String>>,
+    /// The function names of each source.
+    pub x_facebook_sources: FacebookSources,
+    /// The identifier that ties this map to its file.
+    pub debug_id: Option<DebugId>,
+}
+
+impl RawSourceMap {
+    ghost use Rattle.std.specs.Prelude.{◌≡◌, Some, Ok, IfOk};
+    ghost use Rattle.serde_json.specs.View.{view};
+    ghost use Rattle.sourcemap_core.specs.Answer.{Gives};
+    ghost use Rattle.sourcemap_json.specs.Fields.{due};
+    ghost use Rattle.sourcemap_json.specs.Jsontypes.{tree, record_of, written, IsFine};
+
+    /// The record that a JSON value stands for. A key that is null counts as missing, unknown keys
+    /// are passed over, and of two debug ids `debugId` wins. `BadJson(Shape)` if the value is no
+    /// object or a key has a value of another kind than its field, a number outside `u32` included.
+    pub fn from_value(_alloc: Global, value: &Value) -> Result<RawSourceMap>
+        ensures { Gives tree result (due (record_of (view value.now))) }
+    {
+        Err(Error::OutOfMemory)
+    }
+
+    /// The same record as by `from_value`, with the texts of the value itself.
+    pub fn from_owned(_alloc: Global, value: Value) -> Result<RawSourceMap>
+        ensures { Gives tree result (due (record_of (view value))) }
+    {
+        Err(Error::OutOfMemory)
+    }
+
+    /// The record as a JSON value, its keys in the order of their bytes: null for a missing version
+    /// or sources, and for a section's missing URL or map, while any other missing key is left out.
+    /// Only want of memory refuses.
+    pub fn to_value(&self, _alloc: Global) -> Result<Value>
+        ensures value { Gives view result (Ok (written (tree self.now))) }
+        ensures reads_back { IfOk result (λ v. IsFine (tree self.now)
+            → record_of (view v) ≡ Some (tree self.now)) }
+    {
+        Err(Error::OutOfMemory)
+    }
+
+    /// The same value as by `to_value`, with the texts of the record itself.
+    pub fn into_value(self, _alloc: Global) -> Result<Value>
+        ensures value { Gives view result (Ok (written (tree self))) }
+        ensures reads_back { IfOk result (λ v. IsFine (tree self)
+            → record_of (view v) ≡ Some (tree self)) }
+    {
+        Err(Error::OutOfMemory)
+    }
+}
