@@ -2,6 +2,7 @@
 #![tactic(auto)]
 
 mod command;
+mod program;
 
 use sourcemap::Result;
 
