@@ -1,2 +1,9 @@
 pub mod Answer
+pub mod Bits
 pub mod Errors
+pub mod Mappings
+pub mod Tokens
+pub mod Utils
+pub mod Vlq
+pub mod MappingsWritten
+pub mod WritingSteps

@@ -2,5 +2,10 @@
 //! mappings, and the search for the closest token.
 #![tactic(auto)]
 
+pub mod bits;
 pub mod errors;
+pub mod mappings;
 pub mod tokens;
+pub mod vlq;
+pub mod utils;
+pub mod mappings_written;

@@ -1,3 +1,11 @@
+ghost use Rattle.std.specs.Prelude.{◌≡◌, ℕ, IsTrue, ◌↔◌, OnOk, OnErr, IfErr};
+ghost use Rattle.std.specs.Ordering.{is_eq, is_lt};
+ghost use Rattle.std.specs.List.Sorted.{IsStableByKey};
+ghost use Rattle.sourcemap_core.specs.Tokens.{AreInOrder, closest_token, destination, in_order, position_cmp};
+ghost use Rattle.sourcemap_core.specs.declared.errors.Error.TheVariants.{OutOfMemory};
+
+use crate::errors::Result;
+
 /// One token of a map by numbers: a place in the generated text (`dst`) and the place in a source
 /// (`src`) that it comes from. Lines and columns count from 0, columns in UTF-16 units.
 /// The id 4294967295 names nothing.
@@ -17,4 +25,75 @@ pub struct RawToken {
     pub name_id: u32,
     /// Whether the token stands for all columns up to the next token.
     pub is_range: bool,
+}
+
+fn stands_before(token: &RawToken, line: u32, col: u32) -> bool
+    ensures { result ≡ is_lt (position_cmp (destination token.now) (line, col)) }
+{
+    token.dst_line < line || (token.dst_line == line && token.dst_col < col)
+}
+
+fn stands_at(token: &RawToken, line: u32, col: u32) -> bool
+    ensures { result ≡ is_eq (position_cmp (destination token.now) (line, col)) }
+{
+    token.dst_line == line && token.dst_col == col
+}
+
+/// Whether no token stands before the one that it follows, by the place in the generated text,
+/// line first.
+pub fn tokens_in_order(tokens: &[RawToken]) -> bool
+    ensures { IsTrue result ↔ AreInOrder tokens.now }
+{
+    let mut line = 0;
+    let mut col = 0;
+    for token in tokens {
+        if stands_before(token, line, col) {
+            return false;
+        }
+        line = token.dst_line;
+        col = token.dst_col;
+    }
+    true
+}
+
+/// Sorts tokens by their place in the generated text, those of one place as they stood. It needs
+/// memory only if they are out of order, and leaves them as they were if there is none.
+pub fn sort_tokens(tokens: &mut Vec<RawToken>) -> Result<()>
+    ensures sorted { OnOk result (tokens.new.items ≡ in_order tokens.old.items) }
+    ensures unchanged { OnErr result (tokens.new.items ≡ tokens.old.items) }
+    ensures memory { IfErr result (λ cause. cause ≡ OutOfMemory) }
+{
+    if !tokens_in_order(tokens.as_slice()) {
+        tokens.sort_by_key(|token| (token.dst_line, token.dst_col))?;
+    }
+    Ok(())
+}
+
+/// The token closest to a line and a column of the generated text, with its place in the list:
+/// the first token there, else the last token before it, on whichever line, else none. The tokens
+/// are in order.
+pub fn closest_token(tokens: &[RawToken], line: u32, col: u32) -> Option<(usize, RawToken)>
+    requires { AreInOrder tokens.now }
+    ensures { result ≡ closest_token tokens.now (line, col) }
+{
+    let mut low = 0;
+    let mut high = tokens.len();
+    while low < high {
+        let middle = low + (high - low) / 2;
+        if stands_before(&tokens[middle], line, col) {
+            low = middle + 1;
+        } else {
+            high = middle;
+        }
+    }
+    if low < tokens.len() {
+        let token = tokens[low];
+        if stands_at(&token, line, col) {
+            return Some((low, token));
+        }
+    }
+    if low == 0 {
+        return None;
+    }
+    Some((low - 1, tokens[low - 1]))
 }

@@ -1,2 +1,3 @@
 pub mod DebugIdLemmas
 pub mod JsontypesLemmas
+pub mod FieldsLemmas

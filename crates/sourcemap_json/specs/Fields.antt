@@ -1,11 +1,13 @@
 -- How one key of a record is read from JSON and written as JSON. A reader answers none of a value
 -- that is not of its kind.
-use Rattle.std.specs.Prelude.{ℕ, ◌^◌, List, [], ◌∷◌, map, Option, Some, None, option_map, nat_lt, if◌then◌else◌, Result, Ok, Err}
+use Rattle.std.specs.Prelude.{◌≡◌, ℕ, ◌^◌, option_and_then, List, [], ◌∷◌, map, Option, Some, None, option_map, nat_lt, if◌then◌else◌, false, Result, Ok, Err}
+use Rattle.std.specs.Str.{bytes_eq}
 use Rattle.serde_json.specs.Data.{Data, null, boolean, number, string, array, object, unsigned, Items, no_items, item, Members, put}
 use Rattle.serde_json.specs.Find.{as_number, as_str, as_array, as_u64, get_member}
-use Rattle.serde_json.specs.View.{items_of}
+use Rattle.serde_json.specs.View.{items_of, view}
+use Rattle.serde_json.specs.declared.value.Value.{Value}
 use Rattle.sourcemap_core.specs.declared.errors.Error.{Error}
-use Rattle.sourcemap_core.specs.declared.errors.Error.TheVariants.{BadJson}
+use Rattle.sourcemap_core.specs.declared.errors.Error.TheVariants.{BadJson, OutOfMemory}
 use Rattle.sourcemap_core.specs.declared.errors.JsonFault.TheVariants.{Shape}
 
 -- what is due of a reading: a value that has none is a fault
@@ -14,8 +16,26 @@ due (Some x) = Ok x
 due None = Err (BadJson Shape)
 
 abbrev pub with : {X Y : Type 0} → Option X → (X → Option Y) → Option Y
-with (Some x) next = next x
-with None next = None
+with x next = option_and_then next x
+
+-- all members but one are as before
+abbrev pub KeepsOthers : List ℕ → Members → Members → Type 0
+KeepsOthers key before after = (other : List ℕ) → bytes_eq other key ≡ false → get_member other after ≡ get_member other before
+
+-- what a reader returned, seen by `see`, is the reading; a value without one is of the wrong shape
+abbrev pub Refuses : {X : Type 0} → Error → Option X → Type 0
+Refuses OutOfMemory _ = Unit {0}
+Refuses (BadJson Shape) reading = reading ≡ None
+Refuses _ _ = ⊥
+
+abbrev pub Reads : {X Y : Type 0} → (X → Y) → Result X Error → Option Y → Type 0
+Reads see (Ok x) reading = reading ≡ Some (see x)
+Reads see (Err e) reading = Refuses e reading
+
+-- what a writer returned is this value
+abbrev pub Writes : Result Value Error → Data → Type 0
+Writes (Ok v) d = view v ≡ d
+Writes (Err e) _ = e ≡ OutOfMemory
 
 -- ---- reading
 

@@ -77,6 +77,13 @@ flat (indexed fields _) = fields
 abbrev pub debug_id : Data → Option (List ℕ)
 debug_id d = with (text d) debug_id_of
 
+-- of two spellings the first wins; a fault in either is one
+abbrev pub debug_id_in : Members → Option (Option (List ℕ))
+debug_id_in ms =
+    with (at (codes "debugId") debug_id ms) (λ new.
+    with (at (codes "debug_id") debug_id ms) (λ old.
+    Some (option_or new old)))
+
 abbrev pub scopes_in : Members → Option Scopes
 scopes_in ms =
     with (needed (codes "names") (list text) ms) (λ names.
@@ -93,6 +100,7 @@ scopes (object ms) = scopes_in ms
 
 abbrev pub fields_in : Members → Option Fields
 fields_in ms =
+    with (debug_id_in ms) (λ debug_id.
     with (at (codes "version") small_number ms) (λ version.
     with (at (codes "file") any ms) (λ file.
     with (at (codes "sources") (list (or_null text)) ms) (λ sources.
@@ -105,8 +113,6 @@ fields_in ms =
     with (at (codes "x_facebook_offsets") (list (or_null small_number)) ms) (λ x_facebook_offsets.
     with (at (codes "x_metro_module_paths") (list text) ms) (λ x_metro_module_paths.
     with (at (codes "x_facebook_sources") (list (or_null (list scopes))) ms) (λ x_facebook_sources.
-    with (at (codes "debugId") debug_id ms) (λ new_id.
-    with (at (codes "debug_id") debug_id ms) (λ old_id.
     Some (record {
       version = version;
       file = file;
@@ -120,8 +126,8 @@ fields_in ms =
       x_facebook_offsets = x_facebook_offsets;
       x_metro_module_paths = x_metro_module_paths;
       x_facebook_sources = x_facebook_sources;
-      debug_id = option_or new_id old_id;
-    })))))))))))))))
+      debug_id = debug_id;
+    }))))))))))))))
 
 abbrev pub offset_in : Members → Option RawSectionOffset
 offset_in ms =

@@ -3,4 +3,6 @@
 
 pub mod decoder;
 mod debug_id;
+mod fields;
 pub mod jsontypes;
+mod reading;

@@ -1,0 +1,186 @@
+//! The texts that a list of tokens is written as.
+ghost use Rattle.std.specs.Prelude.{◌≡◌, ℕ, ◌+◌, ◌-◌, ◌<◌, ◌≤◌, ◌^◌, List, [], ◌∷◌, ◌++◌, replicate, if◌then◌else◌, OnOk, IfOk, IfErr, string_bytes, ℤ, unsigned_abs, option_map, Option, Bool, false};
+ghost use Rattle.sourcemap_core.specs.Answer.{UnlessMemory};
+ghost use Rattle.sourcemap_core.specs.Vlq.{IsShortest, IsTooFar};
+ghost use Rattle.sourcemap_core.specs.Bits.{IsBitText};
+ghost use Rattle.sourcemap_core.specs.Tokens.{AreInOrder};
+ghost use Rattle.sourcemap_core.specs.MappingsWritten.{has_source, has_name, difference, numbers, IsWritten, IsRangeText};
+ghost use Rattle.sourcemap_core.specs.WritingSteps.{Adds, repeats, follows, gap, at_line, moved};
+ghost use Rattle.sourcemap_core.specs.declared.errors.Error.TheVariants.{OutOfMemory, VlqOverflow};
+
+use crate::errors::{Error, Result};
+use crate::tokens::RawToken;
+use std::alloc::{AllocError, Global};
+
+// The id that names nothing.
+const NOTHING: u32 = 4294967295;
+
+// What the first segment is taken against.
+const START: RawToken = RawToken {
+    dst_line: 0,
+    dst_col: 0,
+    src_line: 0,
+    src_col: 0,
+    src_id: 0,
+    name_id: 0,
+    is_range: false,
+};
+
+// For how many tokens room is made at first, six bytes each.
+const FIRST_TOKENS: usize = 1 << 28;
+
+fn push_number(text: &mut String, number: i64) -> Result<()>
+    ensures written { OnOk result ((digits : List ℕ) × IsShortest digits number × (string_bytes text.new ≡ string_bytes text.old ++ digits)) }
+    ensures refused { IfErr result (λ e. UnlessMemory e ((e ≡ VlqOverflow) × IsTooFar number)) }
+{
+    let _ = text;
+    let _ = number;
+    Err(Error::OutOfMemory)
+}
+
+#[inline]
+fn has_source(token: RawToken) -> bool
+    ensures { result ≡ has_source token }
+{
+    token.src_id != NOTHING
+}
+
+#[inline]
+fn has_name(token: RawToken, names: u32) -> bool
+    ensures { result ≡ has_name names token }
+{
+    token.src_id != NOTHING && token.name_id < names
+}
+
+#[inline]
+fn is_repeat(previous: Option<RawToken>, token: RawToken) -> bool
+    ensures { result ≡ repeats previous token }
+{
+    match previous {
+        Some(before) => token == before,
+        None => false,
+    }
+}
+
+#[inline]
+fn follows_on(previous: Option<RawToken>, token: RawToken) -> bool
+    ensures { result ≡ follows previous token }
+{
+    match previous {
+        Some(before) => before.dst_line == token.dst_line,
+        None => false,
+    }
+}
+
+// Ends the lines from `from` up to `to`.
+fn push_line_ends(text: &mut String, from: u32, to: u32) -> std::result::Result<(), AllocError>
+    ensures text { OnOk result (string_bytes text.new ≡ string_bytes text.old ++ replicate (to - from) 59) }
+{
+    for _line in from..to {
+        text.push(';')?;
+    }
+    Ok(())
+}
+
+// What stands between two segments, where the text has come to this line.
+#[inline]
+fn push_gap(text: &mut String, previous: Option<RawToken>, line: u32, token: RawToken) -> std::result::Result<(), AllocError>
+    ensures text { OnOk result (string_bytes text.new ≡ string_bytes text.old ++ gap previous line token) }
+{
+    if follows_on(previous, token) {
+        text.push(',')?;
+        return Ok(());
+    }
+    push_line_ends(text, line, token.dst_line)
+}
+
+#[inline]
+fn push_difference(text: &mut String, number: u32, against: u32) -> std::result::Result<(), AllocError>
+    ensures text { OnOk result (Adds (difference number against ∷ []) (string_bytes text.old) (string_bytes text.new)) }
+{
+    match push_number(text, i64::from(number) - i64::from(against)) {
+        Ok(()) => Ok(()),
+        Err(Error::OutOfMemory) => Err(AllocError),
+        Err(_) => unreachable!(),
+    }
+}
+
+// The segment of a token.
+#[inline]
+fn push_segment(text: &mut String, against: RawToken, token: RawToken, names: u32) -> std::result::Result<(), AllocError>
+    ensures text { OnOk result (Adds (numbers names against token) (string_bytes text.old) (string_bytes text.new)) }
+{
+    push_difference(text, token.dst_col, against.dst_col)?;
+    if !has_source(token) {
+        return Ok(());
+    }
+    push_difference(text, token.src_id, against.src_id)?;
+    push_difference(text, token.src_line, against.src_line)?;
+    push_difference(text, token.src_col, against.src_col)?;
+    if has_name(token, names) {
+        push_difference(text, token.name_id, against.name_id)?;
+    }
+    Ok(())
+}
+
+// What the first segment of a line is taken against.
+#[inline]
+fn at_line(against: RawToken, line: u32) -> RawToken
+    ensures { result ≡ at_line against line }
+{
+    if against.dst_line == line {
+        return against;
+    }
+    RawToken { dst_line: line, dst_col: 0, ..against }
+}
+
+// What the segment behind a token's is taken against.
+#[inline]
+fn moved(against: RawToken, token: RawToken, names: u32) -> RawToken
+    ensures { result ≡ moved names against token }
+{
+    let source = if has_source(token) { token } else { against };
+    let name_id = if has_name(token, names) { token.name_id } else { against.name_id };
+    RawToken { dst_line: token.dst_line, dst_col: token.dst_col, name_id, is_range: false, ..source }
+}
+
+// Adds the segment of a token to a text that has come to the line of `against`, and answers what the
+// segment behind it is taken against.
+#[inline]
+fn push_token(
+    text: &mut String,
+    against: RawToken,
+    previous: Option<RawToken>,
+    token: RawToken,
+    names: u32,
+) -> std::result::Result<RawToken, AllocError>
+    ensures text { OnOk result (Adds (numbers names (at_line against token.dst_line) token)
+        (string_bytes text.old ++ gap previous against.dst_line token) (string_bytes text.new)) }
+    ensures next { IfOk result (λ next. next ≡ moved names (at_line against token.dst_line) token) }
+{
+    push_gap(text, previous, against.dst_line, token)?;
+    let against = at_line(against, token.dst_line);
+    push_segment(text, against, token, names)?;
+    Ok(moved(against, token, names))
+}
+
+/// The text of mappings of some tokens in order, for a map of so many names: the lines from 0 to the
+/// last token's, and for each token a segment of the differences of its numbers to those written
+/// last. A token equal in all fields to the one before it is left out, and so is a name id that names
+/// none of the names. No tokens give the empty text. Only want of memory refuses.
+pub fn write_mappings(alloc: Global, tokens: &[RawToken], names: u32) -> Result<String>
+    requires { AreInOrder tokens.now }
+    ensures text { IfOk result (λ s. IsWritten names tokens.now (string_bytes s)) }
+    ensures memory { IfErr result (λ e. e ≡ OutOfMemory) }
+{
+    let mut text = String::with_capacity(alloc, tokens.len().min(FIRST_TOKENS) * 6)?;
+    let mut against = START;
+    let mut previous = None;
+    for token in tokens {
+        if !is_repeat(previous, *token) {
+            against = push_token(&mut text, against, previous, *token, names)?;
+        }
+        previous = Some(*token);
+    }
+    Ok(text)
+}

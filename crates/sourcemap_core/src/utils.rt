@@ -1,0 +1,43 @@
+ghost use Rattle.std.specs.Prelude.{◌≡◌, ℕ, Some, IsTrue, IfSome, IsSortedByKey, option_map, slice_get};
+ghost use Rattle.std.specs.Ordering.{is_le};
+ghost use Rattle.sourcemap_core.specs.Utils.{GivesKey, closest};
+
+use std::cmp::Ordering;
+
+/// The item closest to `key`, with its own index: of a slice in order of `map` the first item
+/// that has this key, else the last item with a smaller one, else none. Of a slice in no order
+/// some item whose key is at most `key`, or none.
+pub fn greatest_lower_bound<'a, T, K: Ord + Drop, F: Fn(&'a T) -> K>(
+    slice: &'a [T],
+    key: &K,
+    map: F,
+) -> Option<(usize, &'a T)>
+    requires { F.IsAlwaysCallable map }
+    // the index is the item's own
+    ensures own_index { IfSome result (λ found. slice_get slice.now found.0 ≡ Some found.1.now) }
+    ensures closest { (key_of : T → K) → GivesKey (F.post map) key_of → IsSortedByKey key_of K.cmp slice.now
+        → option_map (λ found. (found.0, found.1.now)) result ≡ closest key_of K.cmp slice.now key.now }
+    ensures at_most { (key_of : T → K) → GivesKey (F.post map) key_of
+        → IfSome result (λ found. IsTrue (is_le (K.cmp (key_of found.1.now) key.now))) }
+{
+    let mut low = 0;
+    let mut high = slice.len();
+    while low < high {
+        let middle = low + (high - low) / 2;
+        if map(&slice[middle]).cmp(key) == Ordering::Less {
+            low = middle + 1;
+        } else {
+            high = middle;
+        }
+    }
+    if low < slice.len() {
+        let item = &slice[low];
+        if map(item).cmp(key) == Ordering::Equal {
+            return Some((low, item));
+        }
+    }
+    if low == 0 {
+        return None;
+    }
+    Some((low - 1, &slice[low - 1]))
+}

@@ -1,0 +1,150 @@
+// How the fields of a record are read from JSON and written as JSON.
+ghost use Rattle.std.specs.Prelude.{◌≡◌, ℕ, List, Option, Some, Ok, map, option_map, string_bytes};
+ghost use Rattle.serde_json.specs.Data.{Data};
+ghost use Rattle.serde_json.specs.Find.{get_member};
+ghost use Rattle.serde_json.specs.View.{view, items_view, members_view};
+ghost use Rattle.sourcemap_json.specs.Fields.{Reads, KeepsOthers, any, text, small_number, or_null, items_read, list, at, needed};
+
+use serde_json::{Map, Value};
+use sourcemap_core::errors::{Error, JsonFault, Result};
+use std::alloc::Global;
+
+// What a field of a record may be.
+pub(crate) trait Field: Drop {
+    // What a clause sees of it, and how that is read and written.
+    ghost Seen: { Type 0 };
+
+    ghost see: { Self → Seen };
+
+    ghost reading: { Data → Option Seen };
+
+    // Takes its texts out of the value.
+    fn take(alloc: Global, value: Value) -> Result<Self>
+        ensures { Reads see result (reading (view value)) };
+}
+
+impl Field for Value {
+    ghost Seen = { Data };
+
+    ghost see = { view };
+
+    ghost reading = { any };
+
+    fn take(_alloc: Global, value: Value) -> Result<Value> {
+        Ok(value)
+    }
+}
+
+impl Field for String {
+    ghost Seen = { List ℕ };
+
+    ghost see = { string_bytes };
+
+    ghost reading = { text };
+
+    fn take(_alloc: Global, value: Value) -> Result<String> {
+        match value {
+            Value::String(text) => Ok(text),
+            _ => Err(Error::BadJson(JsonFault::Shape)),
+        }
+    }
+}
+
+impl Field for u32 {
+    ghost Seen = { ℕ };
+
+    ghost see = { λ n. n };
+
+    ghost reading = { small_number };
+
+    fn take(_alloc: Global, value: Value) -> Result<u32> {
+        match value.as_u64() {
+            Some(n) if n < 1 << 32 => Ok(n as u32),
+            _ => Err(Error::BadJson(JsonFault::Shape)),
+        }
+    }
+}
+
+impl<T: Field> Field for Option<T> {
+    ghost Seen = { Option T.Seen };
+
+    ghost see = { option_map T.see };
+
+    ghost reading = { or_null T.reading };
+
+    fn take(alloc: Global, value: Value) -> Result<Option<T>> {
+        if let Value::Null = value {
+            return Ok(None);
+        }
+        Ok(Some(T::take(alloc, value)?))
+    }
+}
+
+impl<T: Field> Field for Vec<T> {
+    ghost Seen = { List T.Seen };
+
+    ghost see = { λ v. map T.see v.items };
+
+    ghost reading = { list T.reading };
+
+    fn take(alloc: Global, value: Value) -> Result<Vec<T>> {
+        match value {
+            Value::Array(items) => take_items(alloc, items),
+            _ => Err(Error::BadJson(JsonFault::Shape)),
+        }
+    }
+}
+
+fn take_items<T: Field>(alloc: Global, items: Vec<Value>) -> Result<Vec<T>>
+    ensures { Reads (λ v. map T.see v.items) result (items_read T.reading (items_view items.items)) }
+{
+    let mut fields = Vec::with_capacity(alloc, items.len())?;
+    for item in items {
+        fields.push(T::take(alloc, item)?)?;
+    }
+    Ok(fields)
+}
+
+// The value of a key, taken out; the other keys keep theirs.
+pub(crate) fn take_value(members: &mut Map<String, Value>, key: &str) -> Option<Value>
+    ensures value { option_map view result
+        ≡ get_member key.now (members_view members.old.entries) }
+    ensures others { KeepsOthers key.now (members_view members.old.entries)
+        (members_view members.new.entries) }
+{
+    members.remove(key)
+}
+
+// The field of a key that may be missing.
+pub(crate) fn take_optional<F: Field>(
+    alloc: Global,
+    members: &mut Map<String, Value>,
+    key: &str,
+) -> Result<Option<F>>
+    ensures value { Reads (option_map F.see) result
+        (at key.now F.reading (members_view members.old.entries)) }
+    ensures others { KeepsOthers key.now (members_view members.old.entries)
+        (members_view members.new.entries) }
+{
+    match take_value(members, key) {
+        Some(value) => Field::take(alloc, value),
+        None => Ok(None),
+    }
+}
+
+// The field of a key that must be there.
+pub(crate) fn take_needed<F: Field>(
+    alloc: Global,
+    members: &mut Map<String, Value>,
+    key: &str,
+) -> Result<F>
+    ensures value { Reads F.see result
+        (needed key.now F.reading (members_view members.old.entries)) }
+    ensures others { KeepsOthers key.now (members_view members.old.entries)
+        (members_view members.new.entries) }
+{
+    match take_value(members, key) {
+        Some(value) => F::take(alloc, value),
+        None => Err(Error::BadJson(JsonFault::Shape)),
+    }
+}
