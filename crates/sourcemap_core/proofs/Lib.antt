@@ -3,4 +3,7 @@ pub mod SortLemmas
 pub mod TokensLemmas
 pub mod UtilsLemmas
 pub mod WritingLemmas
+pub mod AnswerLemmas
+pub mod MappingsAnswers
+pub mod MappingsLemmas
 pub mod VlqLemmas

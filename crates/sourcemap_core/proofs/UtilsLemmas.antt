@@ -243,7 +243,7 @@ module _ {X Y K : Type 0} (key : X → K) (key' : Y → K) (cmp : K → K → Or
   find_last-change t [] = refl
   find_last-change t (x ∷ xs) =
       let here : cond (t (key x)) (Some (change x)) None ≡ option_map change (cond (t (key x)) (Some x) None) =
-          elim (t (key x)) as (λ b. cond b (Some (change x)) None ≡ option_map change (cond b (Some x) None)) [ true ↦ refl | false ↦ refl ] in
+      elim (t (key x)) as (λ b. cond b (Some (change x)) None ≡ option_map change (cond b (Some x) None)) [ true ↦ refl | false ↦ refl ] in
       rw (kept x, find_last-change t xs, here) (or_change (find_last (λ x. t (key x)) xs) (cond (t (key x)) (Some x) None))
 
   pub closest_item-change : (xs : List X) (p : K) → closest_item key' cmp (map change xs) p ≡ option_map change (closest_item key cmp xs p)
@@ -267,5 +267,5 @@ module _ {X K : Type 0} (key : X → K) (cmp : K → K → Ordering) (xs : List 
   place-closest =
       closest_item-has (λ (e : ℕ × X). key e.1) cmp (λ e. slice_get xs e.0 ≡ Some e.1) (enumerate_from 0 xs) p
       (recursion_from_All (λ e. slice_get xs e.0 ≡ Some e.1) (enumerate_from 0 xs) (λ k d l.
-        let many = length-enumerate_from 0 xs in
-        rw (entry-at xs k d (omega arith)) (slice_get-get_or xs k d.1 (omega arith))))
+      let many = length-enumerate_from 0 xs in
+      rw (entry-at xs k d (omega arith)) (slice_get-get_or xs k d.1 (omega arith))))

@@ -2,6 +2,7 @@ pub mod Answer
 pub mod Bits
 pub mod Errors
 pub mod Mappings
+pub mod MappingsParts
 pub mod Tokens
 pub mod Utils
 pub mod Vlq

@@ -18,11 +18,11 @@ returns-then-stands_at c =
 pub returns-then-low-eq0 : goal.returns-then-low-eq0
 returns-then-low-eq0 c =
     let apart : (d : RawToken) → c.loop-low.low < length c.args.tokens.now → is_eq (position_cmp (destination (get_or c.args.tokens.now c.loop-low.low d)) (c.args.line, c.args.col)) ≡ false = λ d l.
-      elim c.if-low-tokens.branch [
-        then-low-tokens+else-stands_at w ↦
+    elim c.if-low-tokens.branch [
+      | then-low-tokens+else-stands_at w ↦
           subst (λ t. is_eq (position_cmp (destination t) (c.args.line, c.args.col)) ≡ false) (get_or_default c.args.tokens.now c.loop-low.low _ d l) (sym w.stands_at.ensures ∙ w.if-stands_at.false)
-        | else-low-tokens w ↦ absurd (omega arith)
-      ] in
+      | else-low-tokens w ↦ absurd (omega arith)
+    ] in
     let starts : c.loop-low.low ≡ 0 = omega arith in
     let ends : c.loop-low.high ≡ c.loop-low.low = omega arith in
     let bracket = subst (λ h. IsBracket destination position_cmp c.args.tokens.now (c.args.line, c.args.col) c.loop-low.low h) ends c.loop-low.invariant.bracket in
@@ -33,11 +33,11 @@ returns-then-low-eq0 c =
 pub returns : goal.returns
 returns c =
     let apart : (d : RawToken) → c.loop-low.low < length c.args.tokens.now → is_eq (position_cmp (destination (get_or c.args.tokens.now c.loop-low.low d)) (c.args.line, c.args.col)) ≡ false = λ d l.
-      elim c.if-low-tokens.branch [
-        then-low-tokens+else-stands_at w ↦
+    elim c.if-low-tokens.branch [
+      | then-low-tokens+else-stands_at w ↦
           subst (λ t. is_eq (position_cmp (destination t) (c.args.line, c.args.col)) ≡ false) (get_or_default c.args.tokens.now c.loop-low.low _ d l) (sym w.stands_at.ensures ∙ w.if-stands_at.false)
-        | else-low-tokens w ↦ absurd (omega arith)
-      ] in
+      | else-low-tokens w ↦ absurd (omega arith)
+    ] in
     let ends : c.loop-low.high ≡ c.loop-low.low = omega arith in
     let bracket = subst (λ h. IsBracket destination position_cmp c.args.tokens.now (c.args.line, c.args.col) c.loop-low.low h) ends c.loop-low.invariant.bracket in
     closest-miss position_cmp_total destination c.args.tokens.now (c.args.line, c.args.col) c.loop-low.low c.requires bracket _ (omega arith) (omega arith)
