@@ -1,9 +1,10 @@
+pub mod AnswerLemmas
+pub mod BitLemmas
 pub mod DigitLemmas
 pub mod SortLemmas
 pub mod TokensLemmas
 pub mod UtilsLemmas
 pub mod WritingLemmas
-pub mod AnswerLemmas
 pub mod MappingsAnswers
 pub mod MappingsLemmas
 pub mod VlqLemmas

@@ -1,5 +1,5 @@
 -- Groups of digits: how they are made digit by digit, and that a text reads in one way.
-use Rattle.std.proofs.Common.{◌≡◌, ◌≢◌, ℕ, zero, suc, ◌+◌, ◌-◌, ◌*◌, ◌/◌, ◌%◌, ◌^◌, ◌<◌, ◌≤◌, ◌==◌, ◌&&◌, ◌||◌, Bool, true, false, nat_lt, nat_le, List, [], ◌∷◌, ◌++◌, length, take, drop, get_or, Option, Some, None, unwrap_or, refl, sym, ◌∙◌, ap, subst, arith, inl, inr, ◌⊎◌, if◌then◌else◌, Result, Ok, Err, ℤ, pos, negsuc, unsigned_abs, Any}
+use Rattle.std.proofs.Common.{◌≡◌, ◌≢◌, ℕ, zero, suc, ◌+◌, ◌*◌, ◌/◌, ◌%◌, ◌^◌, ◌<◌, ◌≤◌, ◌==◌, ◌&&◌, ◌||◌, Bool, true, false, nat_lt, nat_le, List, [], ◌∷◌, ◌++◌, length, take, drop, get_or, Option, Some, None, unwrap_or, refl, sym, ◌∙◌, ap, subst, arith, inl, inr, ◌⊎◌, if◌then◌else◌, Result, Ok, Err, ℤ, pos, negsuc, unsigned_abs, Any}
 use Rattle.std.specs.List.{AllByRecursion}
 use lib.IntN.{neg_ℤ}
 use lib.Signed.{lt_z}
@@ -7,9 +7,8 @@ use mir.Val.{bool_byte}
 use Rattle.std.proofs.Math.Pow.{pow_mono}
 use Rattle.std.proofs.lemmas.Nat.{pow-add, pow_pos, mul-le}
 use Rattle.std.proofs.lemmas.List.{length_push, length-append, append-nil, append_assoc, take_more, take-append-drop, drop_more, take_all, length-take-le, get_or_default}
-use Rattle.std.proofs.lemmas.Bool.{and_parts, and_from, or_cases, or_parts, and_cases, cases_Bool, cases_lt, cases_eq, eqb-true, eqb-false, leb-true, ltb-true, ltb-false, lt-ltb, le-leb, le-ltb, lt-leb, cond-true, cond-false, false_from_ne_true}
+use Rattle.std.proofs.lemmas.Bool.{and_parts, and_from, or_cases, or_parts, and_cases, cases_lt, cases_eq, eqb-true, eqb-false, leb-true, ltb-true, ltb-false, lt-ltb, le-leb, le-ltb, false_from_ne_true}
 use Rattle.std.proofs.lemmas.List.Elements.{All-from_recursion}
-use Rattle.std.proofs.lemmas.Bool.Decides.{nat_tests}
 use Rattle.sourcemap_core.specs.declared.errors.Error.{Error}
 use Rattle.sourcemap_core.specs.declared.errors.Error.TheVariants.{VlqLeftover, VlqNoValues, VlqOverflow, InvalidBase64}
 use Rattle.sourcemap_core.specs.Vlq.{digit_value, glyph, GoesOn, IsLast, data_of, raw_of, number_of, IsChain, IsSmall, IsGroup, Reads, IsUnfinished, GoesTo, NumberFault, BeginsWith, IsSound, HasFault, Answers, IsShortest, Spells, IsTooFar, Written}
@@ -675,5 +674,5 @@ pub Written-refused : (numbers : List ℤ) (k : ℕ) (e : Error) → k < length 
 Written-refused numbers k e lt refused =
     let n : ℤ = get_or numbers k (pos 0) in
     UnlessMemory-weaker e (λ (w : (e ≡ VlqOverflow) × IsTooFar n).
-      let P : Error → Type 0 = λ x. Written numbers (Err x) in
-      subst P (sym w.0) (k, n, lt, get_or_default numbers k n (pos 0) lt, w.1)) refused
+    let P : Error → Type 0 = λ x. Written numbers (Err x) in
+    subst P (sym w.0) (k, n, lt, get_or_default numbers k n (pos 0) lt, w.1)) refused

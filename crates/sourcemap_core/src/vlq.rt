@@ -1,9 +1,9 @@
 //! Numbers written as digits of base 64: the segments of a map's text.
-ghost use Rattle.std.specs.Prelude.{◌≡◌, ℕ, ◌^◌, ◌<◌, ◌==◌, ◌&&◌, ◌||◌, nat_lt, ℤ, List, ◌++◌, Result, IfOk, IfErr, OnOk, string_bytes};
+ghost use Rattle.std.specs.Prelude.{◌≡◌, ◌≢◌, [], ℕ, ◌^◌, ◌<◌, ◌==◌, ◌&&◌, ◌||◌, nat_lt, ℤ, List, ◌++◌, Result, IfOk, IfErr, OnOk, string_bytes};
 ghost use Rattle.sourcemap_core.specs.declared.errors.Error.{Error};
 ghost use Rattle.sourcemap_core.specs.declared.errors.Error.TheVariants.{VlqOverflow};
 ghost use Rattle.sourcemap_core.specs.Answer.{UnlessMemory, IsAnswer, Gives};
-ghost use Rattle.sourcemap_core.specs.Vlq.{digit_value, glyph, number_of, BeginsWith, NumberFault, IsShortest, IsTooFar, Reads, Answers, Written};
+ghost use Rattle.sourcemap_core.specs.Vlq.{digit_value, glyph, number_of, BeginsWith, NumberFault, IsShortest, IsTooFar, Reads, Answers, Spells, Written};
 
 use crate::errors::{Error, Result};
 use std::alloc::Global;
@@ -141,3 +141,11 @@ pub fn generate_vlq_segment(alloc: Global, numbers: &[i64]) -> Result<String>
     }
     Ok(text)
 }
+
+// A segment stands for one list of numbers or one fault, and numbers have one shortest text, which
+// stands for them.
+fn segments_are_determined()
+    ensures one_answer { (text : List ℕ) (a b : Result (List ℤ) Error) → Answers text a → Answers text b → a ≡ b }
+    ensures one_text { (numbers : List ℤ) (a b : List ℕ) → Spells numbers a → Spells numbers b → a ≡ b }
+    ensures round_trip { (numbers : List ℤ) (text : List ℕ) → Spells numbers text → numbers ≢ [] → Answers text (Ok numbers) }
+{}

@@ -1,11 +1,9 @@
-use Rattle.std.proofs.Common.{◌≡◌, ℕ, ◌<◌, List, [], ◌∷◌, ◌++◌, length, take, string_bytes, sym, ◌∙◌, ap, subst, refl, arith, Result, Ok, Err, ℤ, pos, get_or, ◌+◌, to_z, of_z, w64, FitsSigned, rules}
+use Rattle.std.proofs.Common.{ℕ, List, [], ◌∷◌, ◌++◌, take, string_bytes, sym, subst, arith, Ok, ℤ, pos, get_or, ◌+◌, w64, FitsSigned, rules}
 use Rattle.std.proofs.lemmas.Int.{to_z-of_z}
 use Rattle.std.proofs.lemmas.Result.{err_from_is_err_and}
 use Rattle.std.proofs.lemmas.List.{take_all, take_more}
-use Rattle.sourcemap_core.specs.Answer.{UnlessMemory, IsAnswer, Gives}
-use Rattle.sourcemap_core.specs.Vlq.{Reads, Spells, Written, IsTooFar}
-use Rattle.sourcemap_core.specs.declared.errors.Error.{Error}
-use Rattle.sourcemap_core.proofs.AnswerLemmas.{Gives-only, UnlessMemory-weaker}
+use Rattle.sourcemap_core.specs.Vlq.{Spells, Written}
+use Rattle.sourcemap_core.proofs.AnswerLemmas.{Gives-only}
 use Rattle.sourcemap_core.proofs.VlqLemmas.{Written-same, Written-refused, Spells-push, Spells-Reads}
 use Rattle.sourcemap_core.proofs.vlq.generate_vlq_segment.Goals as goal
 

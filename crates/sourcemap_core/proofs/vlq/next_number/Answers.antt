@@ -1,7 +1,7 @@
-use Rattle.std.proofs.Common.{◌≡◌, ◌<◌, ◌≤◌, ◌+◌, ◌*◌, ◌^◌, ◌%◌, ◌==◌, ◌&&◌, ◌||◌, nat_lt, true, false, None, Some, get_or, take, drop, length, sym, ◌∙◌, ap, arith, ℤ, to_z, of_z, w64, refl}
+use Rattle.std.proofs.Common.{◌≡◌, ◌+◌, take, drop, sym, ◌∙◌, ap, arith, to_z, of_z, w64}
 use Rattle.std.proofs.lemmas.List.{take_rest}
 use Rattle.std.proofs.lemmas.Int.{ints}
-use Rattle.sourcemap_core.specs.Vlq.{digit_value, raw_of, number_of, BeginsWith, IsUnfinished}
+use Rattle.sourcemap_core.specs.Vlq.{digit_value, raw_of, number_of, BeginsWith}
 use Rattle.sourcemap_core.proofs.VlqLemmas.{NumberFault-foreign, NumberFault-great, BeginsWith-last, IsUnfinished-more, sum_of-more}
 use Rattle.sourcemap_core.proofs.vlq.next_number.Goals as goal
 

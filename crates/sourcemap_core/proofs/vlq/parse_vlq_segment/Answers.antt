@@ -1,15 +1,18 @@
-use Rattle.std.proofs.Common.{◌≡◌, ◌≢◌, ℕ, List, [], ◌∷◌, ◌++◌, ◌==◌, length, sym, ◌∙◌, ap, subst, refl, arith, true, false, Result, Ok, Err, ℤ, Vec, Global}
+use Rattle.std.proofs.Common.{◌≡◌, ◌≢◌, ℕ, List, [], ◌∷◌, ◌++◌, ◌==◌, length, sym, ◌∙◌, ap, subst, arith, false, Ok, Err, ℤ}
 use Rattle.std.proofs.lemmas.Result.{err_from_is_err_and}
 use Rattle.std.proofs.lemmas.List.{append-nil, nil_from_length}
-use Rattle.std.proofs.lemmas.Bool.{eqb-true, eqb-false, eq-eqb}
-use Rattle.std.proofs.lemmas.Grind.{common_steps}
-use Rattle.std.proofs.lemmas.Int.{ints, to_z-of_z}
+use Rattle.std.proofs.lemmas.Bool.{eqb-true, eqb-false}
+use Rattle.std.proofs.lemmas.Int.{to_z-of_z}
 use Rattle.std.specs.Prelude.{vec_len}
+<<<<<<< HEAD
 use Rattle.sourcemap_core.specs.Answer.{UnlessMemory, IsAnswer, Gives}
 use Rattle.sourcemap_core.specs.Vlq.{Reads, Answers, HasFault, NumberFault, IsSound, BeginsWith}
 use Rattle.sourcemap_core.specs.declared.errors.Error.{Error}
+=======
+use Rattle.sourcemap_core.specs.Vlq.{Reads, HasFault, IsSound}
+>>>>>>> vlq
 use Rattle.sourcemap_core.specs.declared.errors.Error.TheVariants.{VlqNoValues}
-use Rattle.sourcemap_core.proofs.AnswerLemmas.{Gives-only, UnlessMemory-from}
+use Rattle.sourcemap_core.proofs.AnswerLemmas.{UnlessMemory-from}
 use Rattle.sourcemap_core.proofs.VlqLemmas.{Answers-same, IsSound-more, HasFault-later}
 use Rattle.sourcemap_core.proofs.vlq.parse_vlq_segment.Goals as goal
 

@@ -1,10 +1,10 @@
-use Rattle.std.proofs.Common.{◌≡◌, ℕ, ◌+◌, ◌*◌, ◌/◌, ◌%◌, ◌^◌, ◌<◌, ◌≤◌, List, [], ◌∷◌, ◌++◌, length, string_bytes, sym, ◌∙◌, ap, arith, ℤ, pos, unsigned_abs, to_z, of_z, w64}
+use Rattle.std.proofs.Common.{◌≡◌, ℕ, ◌+◌, ◌*◌, ◌%◌, ◌^◌, ◌<◌, List, [], ◌∷◌, ◌++◌, string_bytes, ◌∙◌, ap, arith, pos, unsigned_abs, to_z, of_z, w64}
 use mir.Val.{bool_byte}
 use lib.Signed.{lt_z}
 use Rattle.std.proofs.lemmas.Int.{to_z-of_z}
 use Rattle.std.specs.List.{AllByRecursion}
 use Rattle.std.proofs.lemmas.List.{append_assoc}
-use Rattle.sourcemap_core.specs.Vlq.{raw_of, GoesOn, glyph, IsShortest}
+use Rattle.sourcemap_core.specs.Vlq.{GoesOn, glyph}
 use Rattle.sourcemap_core.proofs.DigitLemmas.{glyph-ascii}
 use Rattle.sourcemap_core.proofs.VlqLemmas.{GoesOn-push, GoesOn-glyph, raw_of-split, IsShortest-last, total_of, total_of-parts}
 use Rattle.sourcemap_core.proofs.vlq.push_number.Goals as goal

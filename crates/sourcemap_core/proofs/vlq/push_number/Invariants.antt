@@ -1,4 +1,4 @@
-use Rattle.std.proofs.Common.{◌≡◌, ℕ, ◌+◌, ◌*◌, ◌^◌, ◌<◌, ◌≤◌, List, ◌++◌, length, string_bytes}
+use Rattle.std.proofs.Common.{◌≡◌, ℕ, ◌+◌, ◌*◌, ◌^◌, ◌<◌, List, ◌++◌, length, string_bytes}
 use Rattle.std.specs.List.{AllByRecursion}
 use Rattle.sourcemap_core.specs.Vlq.{raw_of, GoesOn}
 use Rattle.sourcemap_core.proofs.vlq.push_number.Given as goal
