@@ -1,5 +1,5 @@
 -- The closest item, from the place where a search ends.
-use Rattle.std.proofs.Common.{◌≡◌, refl, sym, ap, subst, ◌∙◌, ℕ, zero, suc, ◌+◌, ◌-◌, ◌<◌, ◌≤◌, ◌==◌, List, [], ◌∷◌, length, get_or, Bool, true, false, cond, Some, None, Option, find, map, option_map, slice_get, IfSome, IsSortedByKey, arith, inl, inr, zero-add, ◌⊎◌}
+use Rattle.std.proofs.Common.{◌≡◌, refl, sym, ap, subst, ◌∙◌, ℕ, zero, suc, ◌+◌, ◌-◌, ◌<◌, ◌≤◌, ◌==◌, List, [], ◌∷◌, length, get_or, Bool, true, false, cond, Some, None, Option, find, map, option_map, slice_get, IfSome, IsSortedByKey, arith, inl, inr, zero-add}
 use Rattle.std.specs.List.{enumerate_from, AllByRecursion}
 use Rattle.std.specs.Option.{option_or}
 use Rattle.std.specs.Cmp.{IsTotalOrder}
@@ -254,6 +254,16 @@ module _ {X Y K : Type 0} (key : X → K) (key' : Y → K) (cmp : K → K → Or
 items_of_entries : {X : Type 0} (n : ℕ) (xs : List X) → map (λ (e : ℕ × X). e.1) (enumerate_from n xs) ≡ xs
 items_of_entries n [] = refl
 items_of_entries n (x ∷ xs) = ap (λ rest. x ∷ rest) (items_of_entries (n + 1) xs)
+
+entries-change : {X Y : Type 0} (change : X → Y) (n : ℕ) (xs : List X) → enumerate_from n (map change xs) ≡ map (λ (e : ℕ × X). (e.0, change e.1)) (enumerate_from n xs)
+entries-change change n [] = refl
+entries-change change n (x ∷ xs) = ap (λ rest. (n, change x) ∷ rest) (entries-change change (n + 1) xs)
+
+-- the same with the place beside the item
+pub closest-change : {X Y K : Type 0} (key : X → K) (key' : Y → K) (cmp : K → K → Ordering) (change : X → Y) (kept : (x : X) → key' (change x) ≡ key x) (xs : List X) (p : K) → closest key' cmp (map change xs) p ≡ option_map (λ (e : ℕ × X). (e.0, change e.1)) (closest key cmp xs p)
+closest-change {X} {Y} key key' cmp change kept xs p =
+    ap (λ es. closest_item (λ (e : ℕ × Y). key' e.1) cmp es p) (entries-change change 0 xs)
+    ∙ closest_item-change (λ (e : ℕ × X). key e.1) (λ (e : ℕ × Y). key' e.1) cmp (λ e. (e.0, change e.1)) (λ e. kept e.1) (enumerate_from 0 xs) p
 
 module _ {X K : Type 0} (key : X → K) (cmp : K → K → Ordering) (xs : List X) (p : K) where
   -- both forms of the closest item name one item

@@ -1,4 +1,4 @@
-ghost use Rattle.std.specs.Prelude.{◌≡◌, ℕ, IsTrue, ◌↔◌, OnOk, OnErr, IfErr, option_map};
+ghost use Rattle.std.specs.Prelude.{◌≡◌, ℕ, IsTrue, ◌↔◌, OnOk, OnErr, IfErr, IfSome, Some, option_map, slice_get};
 ghost use Rattle.std.specs.Ordering.{is_eq, is_lt};
 ghost use Rattle.std.specs.List.Sorted.{IsStableByKey};
 ghost use Rattle.sourcemap_core.specs.Tokens.{AreInOrder, closest_token, destination, in_order, position_cmp, reduced, with_sound_name};
@@ -75,7 +75,9 @@ pub fn sort_tokens(tokens: &mut Vec<RawToken>) -> Result<()>
 /// are in order.
 pub fn closest_token(tokens: &[RawToken], line: u32, col: u32) -> Option<(usize, RawToken)>
     requires { AreInOrder tokens.now }
-    ensures { result ≡ closest_token tokens.now (line, col) }
+    ensures answer { result ≡ closest_token tokens.now (line, col) }
+    // the place is the token's own
+    ensures own_index { IfSome result (λ found. slice_get tokens.now found.0 ≡ Some found.1) }
 {
     let mut low = 0;
     let mut high = tokens.len();
@@ -101,19 +103,15 @@ pub fn closest_token(tokens: &[RawToken], line: u32, col: u32) -> Option<(usize,
 
 /// A law: tokens in order that keep those of one place as they stood are what a sort gives.
 pub fn one_stable_order(tokens: &[RawToken], sorted: &[RawToken])
-    ensures {
-        AreInOrder sorted.now → IsStableByKey destination position_cmp tokens.now sorted.now
-        → sorted.now ≡ in_order tokens.now
-    }
+    ensures { AreInOrder sorted.now → IsStableByKey destination position_cmp tokens.now sorted.now
+        → sorted.now ≡ in_order tokens.now }
 {}
 
 /// A law: without repeats, and with each name id that names none of the `names` put to
 /// 4294967295, a list has the same closest tokens, up to such a name id.
 pub fn reduced_answers_alike(tokens: &[RawToken], names: u32, line: u32, col: u32)
-    ensures {
-        closest_item destination position_cmp (reduced names tokens.now) (line, col)
-        ≡ option_map (with_sound_name names) (closest_item destination position_cmp tokens.now (line, col))
-    }
+    ensures { closest_item destination position_cmp (reduced names tokens.now) (line, col)
+        ≡ option_map (with_sound_name names) (closest_item destination position_cmp tokens.now (line, col)) }
 {}
 
 #[cfg(test)]

@@ -1,6 +1,6 @@
-use Rattle.std.proofs.Common.{◌≡◌, sym, ap, subst, ◌∙◌, rules, refl}
+use Rattle.std.proofs.Common.{◌≡◌, sym, ap, subst, ◌∙◌, rules}
 use Rattle.std.proofs.lemmas.List.Sorted.{answers_always}
-use Rattle.sourcemap_core.specs.Tokens.{destination, in_order, AreInOrder}
+use Rattle.sourcemap_core.specs.Tokens.{destination, AreInOrder}
 use Rattle.sourcemap_core.proofs.TokensLemmas.{stably_in_order, in_order-ordered}
 use Rattle.sourcemap_core.proofs.tokens.sort_tokens.Goals as goal
 use Rattle.sourcemap_core.proofs.tokens.sort_tokens.Goals.{then-not-tokens_in_order+in_ok-sort_by_key, else-not-tokens_in_order}
