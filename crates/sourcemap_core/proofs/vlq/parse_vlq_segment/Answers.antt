@@ -4,13 +4,7 @@ use Rattle.std.proofs.lemmas.List.{append-nil, nil_from_length}
 use Rattle.std.proofs.lemmas.Bool.{eqb-true, eqb-false}
 use Rattle.std.proofs.lemmas.Int.{to_z-of_z}
 use Rattle.std.specs.Prelude.{vec_len}
-<<<<<<< HEAD
-use Rattle.sourcemap_core.specs.Answer.{UnlessMemory, IsAnswer, Gives}
-use Rattle.sourcemap_core.specs.Vlq.{Reads, Answers, HasFault, NumberFault, IsSound, BeginsWith}
-use Rattle.sourcemap_core.specs.declared.errors.Error.{Error}
-=======
 use Rattle.sourcemap_core.specs.Vlq.{Reads, HasFault, IsSound}
->>>>>>> vlq
 use Rattle.sourcemap_core.specs.declared.errors.Error.TheVariants.{VlqNoValues}
 use Rattle.sourcemap_core.proofs.AnswerLemmas.{UnlessMemory-from}
 use Rattle.sourcemap_core.proofs.VlqLemmas.{Answers-same, IsSound-more, HasFault-later}
