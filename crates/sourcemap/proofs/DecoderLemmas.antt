@@ -1,5 +1,5 @@
 -- Bytes and values have one answer.
-use Rattle.std.proofs.Common.{◌≡◌, ◌⊎◌, inl, inr, refl, sym, ◌∙◌, ap, length, ℕ, List, Bool, true, false, Option, Some, None, Result, Ok, Err, IfSome, MatchOption, IsErrAnd}
+use Rattle.std.proofs.Common.{◌≡◌, ◌⊎◌, inl, inr, refl, sym, ◌∙◌, ap, length, ℕ, List, [], Bool, true, false, Option, Some, None, Result, Ok, Err, IfSome, MatchOption, IsErrAnd}
 use Rattle.std.specs.Bool.{MatchBool}
 use Rattle.std.specs.IoError.{error_kind}
 use Rattle.serde_json.specs.Data.{Data}
@@ -18,7 +18,7 @@ use Rattle.sourcemap_core.proofs.MappingsAnswers.{MappingsAnswer-same}
 use Rattle.sourcemap.specs.Decoded.{map_value}
 use Rattle.sourcemap.specs.declared.decoded.DecodedMap.{DecodedMap}
 use Rattle.sourcemap_json.specs.Fields.{due}
-use Rattle.sourcemap.specs.Decoder.{IsJson, HoldJson, IsHeaderFault, HoldNoJson, is_regular, TreeDecodes, ValueDecodes, BytesDecode, IsSameFault, AreSame, UnlessRead, IsAnswerRead}
+use Rattle.sourcemap.specs.Decoder.{IsJson, HoldJson, IsHeaderFault, HoldNoJson, is_regular, TreeDecodes, ValueDecodes, BytesDecode, IsSameFault, AreSame, UnlessRead, IsAnswerRead, Reading}
 
 tokens_once : (r : Fields) (a b : Result (List RawToken) Error) → TokensAnswer r a → TokensAnswer r b → a ≡ b
 tokens_once r a b p q =
@@ -144,9 +144,24 @@ answer_read view Answers (Err e) h = unless_read e _ h
 -- what the bytes that were read stand for is what the reader's bytes do
 pub answer_of_reader : {X Y : Type 0} (view : X → Y) (Answers : List ℕ → Result Y Error → Type 0)
     (known : Option (List ℕ)) (bytes : List ℕ) (r : Result X Error)
-    → IfSome known (λ xs. bytes ≡ xs) → IsAnswer view (Answers bytes) r → IfSome known (λ xs. IsAnswerRead view (Answers xs) r)
-answer_of_reader view Answers None bytes r same h = tt
-answer_of_reader view Answers (Some xs) bytes r same h = answer_read view (Answers xs) r (rw (← same) h)
+    → IfSome known (λ told. bytes ≡ told) → IsAnswer view (Answers bytes) r → Reading known (λ bytes. IsAnswerRead view (Answers bytes) r)
+answer_of_reader view Answers known bytes r same h = (bytes, same, answer_read view (Answers bytes) r h)
+
+-- a reader has bytes, those that it tells
+pub bytes_of_reader : (known : Option (List ℕ)) → (bytes : List ℕ) × IfSome known (λ told. bytes ≡ told)
+bytes_of_reader None = ([], tt)
+bytes_of_reader (Some told) = (told, refl)
+
+unless_read_any : (e : Error) (P : Type 0) → UnlessRead e ⊥ → UnlessRead e P
+unless_read_any (Io _) P h = tt
+unless_read_any OutOfMemory P h = tt
+unless_read_any _ P h = absurd h
+
+-- a read's fault is an answer whatever the bytes are
+pub fault_of_reader : {X Y : Type 0} (view : X → Y) (Answers : List ℕ → Result Y Error → Type 0)
+    (known : Option (List ℕ)) (e : Error) → UnlessRead e ⊥ → Reading known (λ bytes. UnlessRead e (Answers bytes (Err e)))
+fault_of_reader view Answers known e h =
+    let has = bytes_of_reader known in (has.0, has.1, unless_read_any e (Answers has.0 (Err e)) h)
 
 -- where answers are one, what was returned is the answer that is due
 pub answer_only : {X Y : Type 0} (view : X → Y) (Answers : Result Y Error → Type 0) (Same : Result Y Error → Result Y Error → Type 0)

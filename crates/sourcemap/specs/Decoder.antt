@@ -1,5 +1,5 @@
 -- What bytes and JSON values stand for as a map.
-use Rattle.std.specs.Prelude.{◌≡◌, ◌⊎◌, ℕ, List, Bool, false, Option, Some, None, is_none, MatchOption, Result, Ok, Err, IsErrAnd, IsUtf8}
+use Rattle.std.specs.Prelude.{◌≡◌, ◌⊎◌, ℕ, List, Bool, false, Option, Some, None, is_none, IfSome, MatchOption, Result, Ok, Err, IsErrAnd, IsUtf8}
 use Rattle.std.specs.Bool.{MatchBool}
 use Rattle.std.specs.IoError.{error_kind}
 use Rattle.std.specs.declared.io.Error.{Error as IoError}
@@ -75,3 +75,7 @@ UnlessRead e P = UnlessMemory e P
 abbrev pub IsAnswerRead : {X Y : Type 0} → (X → Y) → (Result Y Error → Type 0) → Result X Error → Type 0
 IsAnswerRead view Answers (Ok x) = Answers (Ok (view x))
 IsAnswerRead view Answers (Err e) = UnlessRead e (Answers (Err e))
+
+-- a fact of a reader's bytes: of those that it tells, and of some where it tells none
+abbrev pub Reading : Option (List ℕ) → (List ℕ → Type 0) → Type 0
+Reading known P = (bytes : List ℕ) × IfSome known (λ told. bytes ≡ told) × P bytes

@@ -6,7 +6,7 @@ ghost use Rattle.sourcemap_core.specs.declared.errors.Error.{Error};
 ghost use Rattle.sourcemap_json.specs.Jsontypes.{tree};
 ghost use Rattle.sourcemap_maps.specs.Types.{MapValue, IsWellFormed};
 ghost use Rattle.sourcemap.specs.Decoded.{map_value};
-ghost use Rattle.sourcemap.specs.Decoder.{HoldJson, HoldNoJson, TreeDecodes, ValueDecodes, BytesDecode, AreSame, UnlessRead, IsAnswerRead};
+ghost use Rattle.sourcemap.specs.Decoder.{HoldJson, HoldNoJson, TreeDecodes, ValueDecodes, BytesDecode, AreSame, UnlessRead, IsAnswerRead, Reading};
 
 use crate::errors::{Error, Result};
 use crate::decoded::DecodedMap;
@@ -89,7 +89,7 @@ pub fn decode_slice(alloc: Global, bytes: &[u8]) -> Result<DecodedMap>
 /// The map that a reader's bytes hold, as by `decode_slice`. The reader is read to its end first,
 /// and a read's fault is `Io`.
 pub fn decode<R: Read + Drop>(alloc: Global, reader: R) -> Result<DecodedMap>
-    ensures answer { IfSome (R.remaining reader) (λ bytes. IsAnswerRead map_value (BytesDecode bytes) result) }
+    ensures answer { Reading (R.remaining reader) (λ bytes. IsAnswerRead map_value (BytesDecode bytes) result) }
     ensures only { IfSome (R.remaining reader) (λ bytes. (due : Result MapValue Error) → BytesDecode bytes due
         → IsAnswerRead map_value (AreSame due) result) }
     ensures well_formed { IfOk result (λ m. IsWellFormed (map_value m)) }

@@ -1,4 +1,5 @@
-ghost use Rattle.std.specs.Prelude.{◌≡◌, List, ℕ, map, string_bytes, MatchOption, IfOk};
+ghost use Rattle.std.specs.Prelude.{◌≡◌, List, ℕ, map, string_bytes, MatchOption, MatchResult};
+ghost use Rattle.sourcemap.specs.declared.errors.Error.TheVariants.{OutOfMemory};
 ghost use Rattle.sourcemap_tool.specs.Command.{IsNumber, AskFor};
 
 use sourcemap::Result;
@@ -24,9 +25,11 @@ fn number_of(word: &str) -> Option<u32>
 /// The command that the words ask for, none for other words. LINE and COL are one or more ASCII
 /// digits of a value of at most 4294967295. Only want of memory refuses.
 pub fn parse_words(_alloc: Global, words: &[String]) -> Result<Option<Command>>
-    ensures { IfOk result (λ found. MatchOption found
-        ((command : _) → ¬ AskFor (map string_bytes words.now) command)
-        (AskFor (map string_bytes words.now))) }
+    ensures { MatchResult result
+        (λ found. MatchOption found
+            ((command : _) → ¬ AskFor (map string_bytes words.now) command)
+            (AskFor (map string_bytes words.now)))
+        (λ e. e ≡ OutOfMemory) }
 {
     let [verb, line, col] = words else {
         return Ok(None);

@@ -1,10 +1,9 @@
-ghost use Rattle.std.specs.Prelude.{◌≡◌, List, ℕ, None, IsNone, IfSome, IfOk, IfErr, MatchResult, map, string_bytes};
+ghost use Rattle.std.specs.Prelude.{◌≡◌, IsNone, IfOk, IfErr, MatchResult, map, string_bytes};
 ghost use Rattle.std.specs.Io.KnownBytes.{Appends};
-ghost use Rattle.std.specs.declared.io.Error.{Error as IoError};
 ghost use Rattle.sourcemap.specs.Decoded.{map_value};
-ghost use Rattle.sourcemap.specs.Errors.{FromIo};
+ghost use Rattle.sourcemap.specs.Decoder.{IsAnswerRead, Reading};
 ghost use Rattle.sourcemap.specs.declared.errors.Error.TheVariants.{OutOfMemory};
-ghost use Rattle.sourcemap_tool.specs.Program.{AskForNone, Ending, Ends, IsRefusal, Prints, answer_text, status_of};
+ghost use Rattle.sourcemap_tool.specs.Program.{AskForNone, CommandAnswers, Ending, EndedSo, IsRefusal, IsReported, IsWriteFault, Runs, answer_text};
 
 use crate::command::{Command, parse_words};
 use sourcemap::{DecodedMap, Error, Result, decode};
@@ -51,7 +50,7 @@ fn refusal_text(alloc: Global, error: &Error) -> Result<String>
 fn print<W: Write>(output: &mut W, text: &str) -> Result<()>
     ensures { MatchResult result
         (λ _. Appends (W.contents output.old) (W.contents output.new) text.now)
-        (λ e. (cause : IoError) × FromIo cause e) }
+        IsWriteFault }
 {
     output.write_all(text.as_bytes())?;
     output.flush()?;
@@ -60,8 +59,60 @@ fn print<W: Write>(output: &mut W, text: &str) -> Result<()>
 
 // What a command says of the map that a reader gives.
 fn answer<F: Files, R: Read>(rt: &F, alloc: Global, command: &Command, input: &mut R) -> Result<String>
-    ensures { IfSome (R.remaining input.old) (λ bytes. IsAnswerRead string_bytes (CommandAnswers command.now bytes) result) }
+    ensures { Reading (R.remaining input.old)
+        (λ bytes. IsAnswerRead string_bytes (CommandAnswers command.now bytes) result) }
 {
     let map = decode(alloc, input)?;
     apply(rt, alloc, command, map, None)
+}
+
+// Prints what was answered or refused, and answers the status.
+fn report<W: Write>(alloc: Global, answered: Result<String>, output: &mut W) -> Result<u8>
+    ensures { MatchResult result
+        (λ status. (ending : Ending) × IsReported answered ending
+            × EndedSo ending status (W.contents output.old) (W.contents output.new))
+        IsWriteFault }
+{
+    match answered {
+        Ok(text) => {
+            print(output, text.as_str())?;
+            Ok(0)
+        }
+        Err(error) => {
+            match refusal_text(alloc, &error) {
+                Ok(text) => print(output, text.as_str())?,
+                Err(_) => print(output, NO_MEMORY)?,
+            }
+            Ok(1)
+        }
+    }
+}
+
+/// Does what the words ask of the map that the input holds, prints the answer, and answers the
+/// status: 0, or 1 after a refusal, whose text is printed. Other words print the usage with status
+/// 2, and the input is not read. All text is made before the first byte of it is written. The only
+/// error is a write's fault.
+pub fn run<F: Files, R: Read, W: Write>(
+    rt: &F,
+    alloc: Global,
+    words: &[String],
+    input: &mut R,
+    output: &mut W,
+) -> Result<u8>
+    ensures answer { IfOk result (λ status. Runs (map string_bytes words.now) (R.remaining input.old) status
+        (W.contents output.old) (W.contents output.new)) }
+    ensures unread { AskForNone (map string_bytes words.now) → input.new ≡ input.old }
+    ensures fault { IfErr result IsWriteFault }
+{
+    match parse_words(alloc, words) {
+        Ok(Some(command)) => {
+            let answered = answer(rt, alloc, &command, input);
+            report(alloc, answered, output)
+        }
+        Ok(None) => {
+            print(output, USAGE)?;
+            Ok(2)
+        }
+        Err(error) => report(alloc, Err(error), output),
+    }
 }
