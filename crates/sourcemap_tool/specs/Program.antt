@@ -70,10 +70,15 @@ abbrev pub EndedSo : Ending → ℕ → Option (List ℕ) → Option (List ℕ) 
 EndedSo ending status old new =
     (status ≡ status_of ending) × ((printed : List ℕ) × Prints ending printed × Appends old new printed)
 
--- what becomes of an answer, where memory may run out while its refusal is made a text
-abbrev pub IsReported : Result (String Global) Error → Ending → Type 0
-IsReported (Ok text) ending = ending ≡ answered (string_bytes text)
-IsReported (Err e) ending = (ending ≡ refused e) ⊎ (ending ≡ refused OutOfMemory)
+-- a refusal was printed, or, where memory ran out for its text, that it did
+abbrev pub PrintsRefusal : Error → Option (List ℕ) → Option (List ℕ) → Type 0
+PrintsRefusal e old new = (said : Error) × ((said ≡ e) ⊎ (said ≡ OutOfMemory))
+    × ((printed : List ℕ) × IsRefusal said printed × Appends old new printed)
+
+-- an answer was printed and the run ended with this status
+abbrev pub IsReported : Result (String Global) Error → ℕ → Option (List ℕ) → Option (List ℕ) → Type 0
+IsReported (Ok text) status old new = (status ≡ 0) × Appends old new (string_bytes text)
+IsReported (Err e) status old new = (status ≡ 1) × PrintsRefusal e old new
 
 -- a fault of a writer
 abbrev pub IsWriteFault : Error → Type 0

@@ -3,7 +3,7 @@ ghost use Rattle.std.specs.Io.KnownBytes.{Appends};
 ghost use Rattle.sourcemap.specs.Decoded.{map_value};
 ghost use Rattle.sourcemap.specs.Decoder.{IsAnswerRead, Reading};
 ghost use Rattle.sourcemap.specs.declared.errors.Error.TheVariants.{OutOfMemory};
-ghost use Rattle.sourcemap_tool.specs.Program.{AskForNone, CommandAnswers, Ending, EndedSo, IsRefusal, IsReported, IsWriteFault, Runs, answer_text};
+ghost use Rattle.sourcemap_tool.specs.Program.{AskForNone, CommandAnswers, IsRefusal, IsReported, IsWriteFault, PrintsRefusal, Runs, answer_text};
 
 use crate::command::{Command, parse_words};
 use sourcemap::{DecodedMap, Error, Result, decode};
@@ -66,11 +66,28 @@ fn answer<F: Files, R: Read>(rt: &F, alloc: Global, command: &Command, input: &m
     apply(rt, alloc, command, map, None)
 }
 
+// Prints why a run is refused; where memory runs out for that text, that it did.
+fn print_refusal<W: Write>(alloc: Global, error: &Error, output: &mut W) -> Result<()>
+    ensures { MatchResult result
+        (λ _. PrintsRefusal error.now (W.contents output.old) (W.contents output.new))
+        IsWriteFault }
+{
+    match refusal_text(alloc, error) {
+        Ok(text) => {
+            print(output, text.as_str())?;
+            Ok(())
+        }
+        Err(_) => {
+            print(output, NO_MEMORY)?;
+            Ok(())
+        }
+    }
+}
+
 // Prints what was answered or refused, and answers the status.
 fn report<W: Write>(alloc: Global, answered: Result<String>, output: &mut W) -> Result<u8>
     ensures { MatchResult result
-        (λ status. (ending : Ending) × IsReported answered ending
-            × EndedSo ending status (W.contents output.old) (W.contents output.new))
+        (λ status. IsReported answered status (W.contents output.old) (W.contents output.new))
         IsWriteFault }
 {
     match answered {
@@ -79,10 +96,7 @@ fn report<W: Write>(alloc: Global, answered: Result<String>, output: &mut W) -> 
             Ok(0)
         }
         Err(error) => {
-            match refusal_text(alloc, &error) {
-                Ok(text) => print(output, text.as_str())?,
-                Err(_) => print(output, NO_MEMORY)?,
-            }
+            print_refusal(alloc, &error, output)?;
             Ok(1)
         }
     }
