@@ -8,3 +8,9 @@ pub mod WritingLemmas
 pub mod MappingsAnswers
 pub mod MappingsLemmas
 pub mod VlqLemmas
+pub mod WrittenBytes
+pub mod WrittenLines
+pub mod WrittenReadBack
+pub mod WrittenSegments
+pub mod WrittenSums
+pub mod WrittenTokens

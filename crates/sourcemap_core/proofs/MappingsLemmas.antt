@@ -35,6 +35,73 @@ pub AreSteps-none : (part : List ℕ) → (sound : IsSound part part) × AreStep
 AreSteps-none part =
     (record { front = []; numbers = []; reads = refl; split = refl }, record { count = refl; five = refl; each = λ k _. zero_steps k })
 
+-- The first part of a line.
+
+is_comma : ℕ → Bool
+is_comma b = b == 44
+
+-- a text without a `,`
+pub Lacks : List ℕ → Type 0
+Lacks text = AllByRecursion (λ b. (b == 44) ≡ false) text
+
+pub Lacks-append : (xs ys : List ℕ) → Lacks xs → Lacks ys → Lacks (xs ++ ys)
+unfolding Lacks
+Lacks-append [] ys h k = k
+Lacks-append (x ∷ xs) ys h k = (h.0, Lacks-append xs ys h.1 k)
+
+no_comma : (c v : ℕ) → digit_value c ≡ Some v → (c == 44) ≡ false
+no_comma c v e = elim (cases_Bool (c == 44)) [
+    | inl yes ↦ let at : c ≡ 44 = eqb-true c 44 yes in let none : digit_value 44 ≡ Some v = subst (λ b. digit_value b ≡ Some v) at e in absurd (comma_none v none)
+    | inr no ↦ no
+  ]
+
+Lacks-chain : (group : List ℕ) → IsChain group → Lacks group
+unfolding Lacks
+Lacks-chain [] h = absurd h
+Lacks-chain (c ∷ []) (v, e, last) = (no_comma c v e, tt)
+Lacks-chain (c ∷ d ∷ cs) ((v, e, on), h) = (no_comma c v e, Lacks-chain (d ∷ cs) h)
+
+Lacks-goes_on : (part : List ℕ) → AllByRecursion GoesOn part → Lacks part
+unfolding Lacks
+Lacks-goes_on [] h = tt
+Lacks-goes_on (c ∷ cs) ((v, e, on), h) = (no_comma c v e, Lacks-goes_on cs h)
+
+-- what stands before the first `,` of a text lengthens its first part
+slice_split_onto : (xs ys m : List ℕ) (ms : List (List ℕ)) → Lacks xs → slice_split (λ b. b == 44) ys ≡ m ∷ ms → slice_split (λ b. b == 44) (xs ++ ys) ≡ (xs ++ m) ∷ ms
+unfolding Lacks
+slice_split_onto [] ys m ms h e = e
+slice_split_onto (x ∷ xs) ys m ms h e =
+    slice_split-cons_no (λ b. b == 44) x (xs ++ ys) h.0 ∙ ap (onto_first x) (slice_split_onto xs ys m ms h.1 e)
+
+slice_split_some : (xs : List ℕ) → (m : List ℕ) × (ms : List (List ℕ)) × (slice_split (λ b. b == 44) xs ≡ m ∷ ms)
+slice_split_some [] = ([], [], refl)
+slice_split_some (x ∷ xs) = elim (cases_Bool (x == 44)) [
+    | inl yes ↦ ([], slice_split (λ b. b == 44) xs, slice_split-cons_yes (λ b. b == 44) x xs yes)
+    | inr no ↦ let rest = slice_split_some xs in (x ∷ rest.0, rest.1, slice_split-cons_no (λ b. b == 44) x xs no ∙ ap (onto_first x) rest.2)
+  ]
+
+-- a fault at the byte c of an unfinished number, or of the number that ends there
+HasPartFault-at : (line front rest part : List ℕ) (numbers : List ℤ) (c : ℕ) (e : Error) → line ≡ front ++ rest → Reads front numbers → Lacks front → (c == 44) ≡ false
+    → (goes : GoesTo rest part c) → ((m : List ℕ) → GoesTo (part ++ c ∷ m) part c → NumberFault (part ++ c ∷ m) e) → HasPartFault line e
+HasPartFault-at line front rest part numbers c e whole reads lacks no goes fault =
+    let behind = slice_split_some goes.more in
+    let own : List ℕ = part ++ c ∷ behind.0 in
+    let one : Lacks (c ∷ []) = unfold Lacks in (no, tt) in
+    let lacks_all : Lacks (front ++ (part ++ c ∷ [])) = Lacks-append front (part ++ c ∷ []) lacks (Lacks-append part (c ∷ []) (Lacks-goes_on part goes.unfinished.goes_on) one) in
+    let text : line ≡ (front ++ (part ++ c ∷ [])) ++ goes.more =
+      whole ∙ ap (λ zs. front ++ zs) (goes.split ∙ sym (append_assoc part (c ∷ []) goes.more)) ∙ sym (append_assoc front (part ++ c ∷ []) goes.more) in
+    let cut : (front ++ (part ++ c ∷ [])) ++ behind.0 ≡ front ++ own =
+      append_assoc front (part ++ c ∷ []) behind.0 ∙ ap (λ zs. front ++ zs) (append_assoc part (c ∷ []) behind.0) in
+    let some : own ≢ [] = λ none. absurd (let e : length own ≡ 0 = ap length none in omega (arith, length-append part (c ∷ behind.0))) in
+    record {
+      part = front ++ own;
+      parts = behind.1;
+      split = ap (slice_split (λ b. b == 44)) text ∙ slice_split_onto (front ++ (part ++ c ∷ [])) goes.more behind.0 behind.1 lacks_all behind.2 ∙ ap (λ p. p ∷ behind.1) cut;
+      some = λ none. some (nil_from_append front own none);
+      fault = HasFault-later (front ++ own) own (record { front = front; numbers = numbers; reads = reads; split = refl }) some e
+        (fault behind.0 (record { more = behind.0; split = refl; unfinished = goes.unfinished }));
+    }
+
 -- Parts of a line.
 
 -- behind the segments `before` and `here`, and one more

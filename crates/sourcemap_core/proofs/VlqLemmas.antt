@@ -676,3 +676,12 @@ Written-refused numbers k e lt refused =
     UnlessMemory-weaker e (λ (w : (e ≡ VlqOverflow) × IsTooFar n).
     let P : Error → Type 0 = λ x. Written numbers (Err x) in
     subst P (sym w.0) (k, n, lt, get_or_default numbers k n (pos 0) lt, w.1)) refused
+
+-- a number of one digit
+pub BeginsWith-first : (text : List ℕ) (v : ℕ) → 0 < length text → digit_value (get_or text 0 0) ≡ Some v → v < 32
+    → BeginsWith text (number_of v) (drop 1 text)
+BeginsWith-first text v h e last =
+    let sum = sum_of-more text 0 v 0 (v % 32) h IsUnfinished-nil e refl refl refl in
+    let raw : v ≡ raw_of (take 1 text) = omega (arith, sum.0) in
+    let begins : BeginsWith text (number_of (raw_of (take 1 text))) (drop 1 text) = BeginsWith-last text 0 v h IsUnfinished-nil e last refl in
+    rw raw begins

@@ -39,7 +39,7 @@ unfolding source_numbers
 source_added against t s a b c d x y z w = Adds-join _ _ s c d (Adds-join _ _ s b c (Adds-join _ _ s a b x y) z) w
 
 -- the numbers by whether there is a source and a name
-numbers_by : RawToken → RawToken → Bool → Bool → List ℤ
+unfoldable pub numbers_by : RawToken → RawToken → Bool → Bool → List ℤ
 numbers_by against t source name =
     difference t.dst_col against.dst_col
     ∷ cond source
@@ -49,7 +49,7 @@ numbers_by against t source name =
         ∷ cond name (difference t.name_id against.name_id ∷ []) [])
         []
 
-numbers_are : (names : ℕ) (against t : RawToken) (p q : Bool) → has_source t ≡ p → has_name names t ≡ q
+pub numbers_are : (names : ℕ) (against t : RawToken) (p q : Bool) → has_source t ≡ p → has_name names t ≡ q
     → numbers names against t ≡ numbers_by against t p q
 unfolding numbers_by
 numbers_are names against t p q source name =

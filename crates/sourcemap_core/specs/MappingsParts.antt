@@ -1,9 +1,12 @@
 -- What the steps of the reader of mappings add: a number to a segment, a part to a line, a line to a page.
-use Rattle.std.specs.Prelude.{◌≡◌, ℕ, ◌<◌, ℤ, List, [], ◌∷◌, ◌++◌, length, slice_index, min, Option, ◌==◌}
+use Rattle.std.specs.Prelude.{◌≡◌, ◌≢◌, ℕ, ◌<◌, ℤ, if◌then◌else◌, IfSome, List, [], ◌∷◌, ◌++◌, length, slice_index, min, Option, ◌==◌}
 use Rattle.std.specs.Option.{option_map_or}
 use Rattle.std.specs.List.{slice_split}
 use denote.Ref.{Bor}
+use Rattle.sourcemap_core.specs.declared.errors.Error.{Error}
+use Rattle.sourcemap_core.specs.declared.errors.Error.TheVariants.{VlqLeftover, InvalidBase64}
 use Rattle.sourcemap_core.specs.declared.tokens.RawToken.{RawToken}
+use Rattle.sourcemap_core.specs.Vlq.{Reads, HasFault}
 use Rattle.sourcemap_core.specs.declared.mappings.Sums.{Sums}
 use Rattle.sourcemap_core.specs.declared.mappings.Numbers.{Numbers}
 use Rattle.sourcemap_core.specs.declared.mappings.Limits.{Limits}
@@ -15,6 +18,28 @@ pub record AreSteps (numbers : List ℤ) (read : Numbers) : Type 0 where
   pub count : read.count ≡ min (length numbers) 4294967295
   pub five : length read.steps ≡ 5
   pub each : (k : ℕ) → k < 5 → slice_index read.steps k ≡ step k (record { place = 0; numbers = numbers })
+
+-- the numbers of a line's first part, and the line behind that part if there is more
+pub record HasFirstPart (line : List ℕ) (read : Numbers) (behind : Option (Bor (List ℕ))) : Type 0 where
+  pub part : List ℕ
+  pub numbers : List ℤ
+  pub split : slice_split (λ b. b == 44) line ≡ part ∷ option_map_or (λ rest. slice_split (λ b. b == 44) rest.now) behind []
+  pub shorter : IfSome behind (λ rest. length rest.now < length line)
+  pub reads : Reads part numbers
+  pub steps : AreSteps numbers read
+
+-- the digits of a line's first part have this fault
+pub record HasPartFault (line : List ℕ) (e : Error) : Type 0 where
+  pub part : List ℕ
+  pub parts : List (List ℕ)
+  pub split : slice_split (λ b. b == 44) line ≡ part ∷ parts
+  pub some : part ≢ []
+  pub fault : HasFault part e
+
+-- a fault of a line's digits as that of its part, which ends at the `,`
+abbrev pub fault_in_part : Error → Error
+fault_in_part (InvalidBase64 c) = if c == 44 then VlqLeftover else InvalidBase64 c
+fault_in_part e = e
 
 -- the sums that run through the text, behind some segments
 pub record AreTextSums (segments : List Segment) (sums : Sums) : Type 0 where

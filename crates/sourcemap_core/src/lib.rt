@@ -9,3 +9,4 @@ pub mod tokens;
 pub mod vlq;
 pub mod utils;
 pub mod mappings_written;
+pub mod vlq;

@@ -8,7 +8,7 @@ ghost use Rattle.sourcemap_core.specs.Bits.{bit_of, first_foreign};
 ghost use Rattle.sourcemap_core.specs.declared.errors.Error.{Error};
 ghost use Rattle.sourcemap_core.specs.declared.tokens.RawToken.{RawToken};
 ghost use Rattle.sourcemap_core.specs.Mappings.{Counts, MappingsAnswer, Segment, PartsFault, LineFault, LinesRead, LinesFault, beside, line_texts, page_tokens, Line, segment_fault, token_of};
-ghost use Rattle.sourcemap_core.specs.MappingsParts.{AreSteps, AreTextSums, AreSums, AddsParts, AddsLine, counts_of, lines_left};
+ghost use Rattle.sourcemap_core.specs.MappingsParts.{AreSteps, AreTextSums, AreSums, AddsParts, AddsLine, counts_of, lines_left, fault_in_part, HasFirstPart, HasPartFault};
 ghost use Rattle.sourcemap_core.specs.Tokens.{AreInOrder, AllWithin};
 ghost use Rattle.sourcemap_core.specs.Vlq.{Reads, HasFault, digit_value};
 
@@ -83,23 +83,39 @@ fn add_number(read: &mut Numbers, number: i64)
     read.count = count.saturating_add(1);
 }
 
-// The numbers of a part that is not empty; else the first fault of its digits.
+// A fault of a line's digits as that of its part, which ends at the `,`.
 #[inline]
-fn read_numbers(part: &[u8]) -> Result<Numbers>
-    ensures read { IfOk result (λ read. (numbers : List ℤ) × Reads part.now numbers × AreSteps numbers read) }
-    ensures fault { IfErr result (λ e. HasFault part.now e) }
+fn in_part(fault: Error) -> Error
+    ensures { result ≡ fault_in_part fault }
 {
-    let mut read = Numbers {
-        count: 0,
-        steps: [0; 5],
-    };
-    let mut rest = part;
-    while !rest.is_empty() {
-        let (number, behind) = next_number(rest)?;
-        add_number(&mut read, number);
-        rest = behind;
+    match fault {
+        Error::InvalidBase64(',') => Error::VlqLeftover,
+        fault => fault,
     }
-    Ok(read)
+}
+
+// The numbers of a line's first part, and the line behind it if there is more; else the first
+// fault of that part's digits. An empty part has no numbers.
+#[inline]
+fn read_numbers(line: &[u8]) -> Result<(Numbers, Option<&[u8]>)>
+    ensures read { IfOk result (λ read. HasFirstPart line.now read.0 read.1) }
+    ensures fault { IfErr result (λ e. HasPartFault line.now e) }
+{
+    let mut read = Numbers { count: 0, steps: [0; 5] };
+    let mut rest = line;
+    while let Some((first, behind)) = rest.split_first() {
+        if *first == b',' {
+            return Ok((read, Some(behind)));
+        }
+        match next_number(rest) {
+            Ok((number, behind)) => {
+                add_number(&mut read, number);
+                rest = behind;
+            }
+            Err(fault) => return Err(in_part(fault)),
+        }
+    }
+    Ok((read, None))
 }
 
 // The sums behind a segment.
@@ -180,26 +196,27 @@ fn token_at(spot: Spot, bits: &[u8], count: u32, sums: Sums) -> RawToken
     }
 }
 
-// Adds the token of a part, if it is not empty; the answer is the sums behind it.
+// Adds the token of a part with these numbers, if it has any; the answer is the sums behind it.
 #[inline]
 fn add_part(
     tokens: &mut Vec<RawToken>,
-    part: &[u8],
+    read: &Numbers,
     bits: &[u8],
     spot: Spot,
     sums: Sums,
     limits: Limits,
 ) -> Result<Sums>
-    ensures added { (before here : List Segment) → AreSums before here sums
-        → IfOk result (AddsParts (counts_of limits) spot bits.now before here (part.now ∷ []) tokens.old.items tokens.new.items) }
-    ensures fault { (before here : List Segment) → AreSums before here sums
-        → IfErr result (λ e. UnlessMemory e (PartsFault (counts_of limits) spot.place (before ++ here) (part.now ∷ []) e)) }
+    ensures added { (before here : List Segment) (part : List ℕ) (numbers : List ℤ)
+        → AreSums before here sums → Reads part numbers → AreSteps numbers read.now
+        → IfOk result (AddsParts (counts_of limits) spot bits.now before here (part ∷ []) tokens.old.items tokens.new.items) }
+    ensures fault { (before here : List Segment) (part : List ℕ) (numbers : List ℤ)
+        → AreSums before here sums → Reads part numbers → AreSteps numbers read.now
+        → IfErr result (λ e. UnlessMemory e (PartsFault (counts_of limits) spot.place (before ++ here) (part ∷ []) e)) }
 {
-    if part.is_empty() {
+    if read.count == 0 {
         return Ok(sums);
     }
-    let read = read_numbers(part)?;
-    let after = advanced(sums, &read);
+    let after = advanced(sums, read);
     check(read.count, after, limits)?;
     tokens.push(token_at(spot, bits, read.count, after))?;
     Ok(after)
@@ -223,8 +240,8 @@ fn add_parts(
     let mut rest = text;
     let mut place = 0;
     loop {
-        let (part, later) = cut(rest, b',');
-        sums = add_part(tokens, part, bits, Spot { line, place }, sums, limits)?;
+        let (read, later) = read_numbers(rest)?;
+        sums = add_part(tokens, &read, bits, Spot { line, place }, sums, limits)?;
         let Some(later) = later else {
             return Ok(sums);
         };

@@ -1,15 +1,19 @@
 //! The texts that a list of tokens is written as.
 ghost use Rattle.std.specs.Prelude.{◌≡◌, ℕ, ◌+◌, ◌-◌, ◌<◌, ◌≤◌, ◌^◌, List, [], ◌∷◌, ◌++◌, replicate, if◌then◌else◌, OnOk, IfOk, IfErr, string_bytes, ℤ, unsigned_abs, option_map, Option, Bool, false};
+ghost use Rattle.std.specs.Option.{option_map_or};
 ghost use Rattle.sourcemap_core.specs.Answer.{UnlessMemory};
 ghost use Rattle.sourcemap_core.specs.Vlq.{IsShortest, IsTooFar};
 ghost use Rattle.sourcemap_core.specs.Bits.{IsBitText};
-ghost use Rattle.sourcemap_core.specs.Tokens.{AreInOrder};
-ghost use Rattle.sourcemap_core.specs.MappingsWritten.{has_source, has_name, difference, numbers, IsWritten, IsRangeText};
-ghost use Rattle.sourcemap_core.specs.WritingSteps.{Adds, repeats, follows, gap, at_line, moved};
+ghost use Rattle.sourcemap_core.specs.Tokens.{AreInOrder, AllWithin, without_repeats, reduced};
+ghost use Rattle.sourcemap_core.specs.Mappings.{MappingsAnswer};
+ghost use Rattle.sourcemap_core.specs.MappingsWritten.{has_source, has_name, difference, numbers, LineByLine, IsRangeLine, IsWritten, IsRangeText};
+ghost use Rattle.sourcemap_core.specs.WritingSteps.{Adds, HasSmallPlaces, repeats, follows, gap, at_line, moved};
 ghost use Rattle.sourcemap_core.specs.declared.errors.Error.TheVariants.{OutOfMemory, VlqOverflow};
 
+use crate::bits::push_bits;
 use crate::errors::{Error, Result};
 use crate::tokens::RawToken;
+use crate::vlq::push_number;
 use std::alloc::{AllocError, Global};
 
 // The id that names nothing.
@@ -28,15 +32,6 @@ const START: RawToken = RawToken {
 
 // For how many tokens room is made at first, six bytes each.
 const FIRST_TOKENS: usize = 1 << 28;
-
-fn push_number(text: &mut String, number: i64) -> Result<()>
-    ensures written { OnOk result ((digits : List ℕ) × IsShortest digits number × (string_bytes text.new ≡ string_bytes text.old ++ digits)) }
-    ensures refused { IfErr result (λ e. UnlessMemory e ((e ≡ VlqOverflow) × IsTooFar number)) }
-{
-    let _ = text;
-    let _ = number;
-    Err(Error::OutOfMemory)
-}
 
 #[inline]
 fn has_source(token: RawToken) -> bool
@@ -97,6 +92,7 @@ fn push_gap(text: &mut String, previous: Option<RawToken>, line: u32, token: Raw
 #[inline]
 fn push_difference(text: &mut String, number: u32, against: u32) -> std::result::Result<(), AllocError>
     ensures text { OnOk result (Adds (difference number against ∷ []) (string_bytes text.old) (string_bytes text.new)) }
+    ensures small { number < 2 ^ 32 }
 {
     match push_number(text, i64::from(number) - i64::from(against)) {
         Ok(()) => Ok(()),
@@ -109,6 +105,7 @@ fn push_difference(text: &mut String, number: u32, against: u32) -> std::result:
 #[inline]
 fn push_segment(text: &mut String, against: RawToken, token: RawToken, names: u32) -> std::result::Result<(), AllocError>
     ensures text { OnOk result (Adds (numbers names against token) (string_bytes text.old) (string_bytes text.new)) }
+    ensures small { OnOk result (HasSmallPlaces token) }
 {
     push_difference(text, token.dst_col, against.dst_col)?;
     if !has_source(token) {
@@ -126,7 +123,8 @@ fn push_segment(text: &mut String, against: RawToken, token: RawToken, names: u3
 // What the first segment of a line is taken against.
 #[inline]
 fn at_line(against: RawToken, line: u32) -> RawToken
-    ensures { result ≡ at_line against line }
+    ensures value { result ≡ at_line against line }
+    ensures small { line < 2 ^ 32 }
 {
     if against.dst_line == line {
         return against;
@@ -156,6 +154,7 @@ fn push_token(
 ) -> std::result::Result<RawToken, AllocError>
     ensures text { OnOk result (Adds (numbers names (at_line against token.dst_line) token)
         (string_bytes text.old ++ gap previous against.dst_line token) (string_bytes text.new)) }
+    ensures small { OnOk result ((token.dst_line < 2 ^ 32) × HasSmallPlaces token) }
     ensures next { IfOk result (λ next. next ≡ moved names (at_line against token.dst_line) token) }
 {
     push_gap(text, previous, against.dst_line, token)?;
@@ -172,6 +171,10 @@ pub fn write_mappings(alloc: Global, tokens: &[RawToken], names: u32) -> Result<
     requires { AreInOrder tokens.now }
     ensures text { IfOk result (λ s. IsWritten names tokens.now (string_bytes s)) }
     ensures memory { IfErr result (λ e. e ≡ OutOfMemory) }
+    ensures reads_back { IfOk result (λ s. (sources : ℕ) → sources < 2 ^ 32 → AllWithin sources names tokens.now
+        → (ranges : Option (List ℕ)) → IsRangeText tokens.now ranges
+        → MappingsAnswer (string_bytes s) (option_map_or (λ bits. bits) ranges []) (record { sources = sources; names = names })
+            (Ok (reduced names tokens.now))) }
 {
     let mut text = String::with_capacity(alloc, tokens.len().min(FIRST_TOKENS) * 6)?;
     let mut against = START;
@@ -182,5 +185,45 @@ pub fn write_mappings(alloc: Global, tokens: &[RawToken], names: u32) -> Result<
         }
         previous = Some(*token);
     }
+    Ok(text)
+}
+
+/// The text of range bits of some tokens in order, none if no token is a range: for each line from 0
+/// to the last token's the range flags of its segments, as `write_mappings` writes them. Only want of
+/// memory refuses.
+pub fn write_range_mappings(alloc: Global, tokens: &[RawToken]) -> Result<Option<String>>
+    requires { AreInOrder tokens.now }
+    ensures text { IfOk result (λ o. IsRangeText tokens.now (option_map string_bytes o)) }
+    ensures memory { IfErr result (λ e. e ≡ OutOfMemory) }
+{
+    if !tokens.iter().any(|token| token.is_range) {
+        return Ok(None);
+    }
+    Ok(Some(range_text(alloc, tokens)?))
+}
+
+// The text of range bits of some tokens.
+fn range_text(alloc: Global, tokens: &[RawToken]) -> Result<String>
+    requires { AreInOrder tokens.now }
+    ensures text { IfOk result (λ s. LineByLine (IsRangeLine (without_repeats tokens.now)) tokens.now (string_bytes s)) }
+    ensures memory { IfErr result (λ e. e ≡ OutOfMemory) }
+{
+    let mut text = String::new(alloc);
+    let mut flags = Vec::new(alloc);
+    let mut line = 0;
+    let mut previous = None;
+    for token in tokens {
+        if line != token.dst_line {
+            push_bits(&mut text, flags.as_slice())?;
+            push_line_ends(&mut text, line, token.dst_line)?;
+            flags.clear();
+            line = token.dst_line;
+        }
+        if !is_repeat(previous, *token) {
+            flags.push(token.is_range)?;
+        }
+        previous = Some(*token);
+    }
+    push_bits(&mut text, flags.as_slice())?;
     Ok(text)
 }

@@ -1,4 +1,4 @@
-ghost use Rattle.std.specs.Prelude.{◌≡◌, ℕ, IsTrue, ◌↔◌, OnOk, OnErr, IfErr, IfSome, Some, option_map, slice_get};
+ghost use Rattle.std.specs.Prelude.{◌≡◌, ℕ, IsOk, IsTrue, ◌↔◌, OnOk, OnErr, IfErr, IfSome, Some, option_map, slice_get};
 ghost use Rattle.std.specs.Ordering.{is_eq, is_lt};
 ghost use Rattle.std.specs.List.Sorted.{IsStableByKey};
 ghost use Rattle.sourcemap_core.specs.Tokens.{AreInOrder, closest_token, destination, in_order, position_cmp, reduced, with_sound_name};
@@ -63,6 +63,7 @@ pub fn sort_tokens(tokens: &mut Vec<RawToken>) -> Result<()>
     ensures sorted { OnOk result (tokens.new.items ≡ in_order tokens.old.items) }
     ensures unchanged { OnErr result (tokens.new.items ≡ tokens.old.items) }
     ensures memory { IfErr result (λ cause. cause ≡ OutOfMemory) }
+    ensures in_place { AreInOrder tokens.old.items → IsOk result }
 {
     if !tokens_in_order(tokens.as_slice()) {
         tokens.sort_by_key(|token| (token.dst_line, token.dst_col))?;

@@ -50,8 +50,24 @@ pub(crate) fn glyph_of(value: u8) -> u8
 }
 
 // The number at the front of a text, and the text behind it; else the first fault of that number.
-#[inline]
+// Most numbers have one digit.
+#[inline(always)]
 pub(crate) fn next_number(text: &[u8]) -> Result<(i64, &[u8])>
+    ensures number { IfOk result (λ read. BeginsWith text.now read.0 read.1.now) }
+    ensures fault { IfErr result (λ e. NumberFault text.now e) }
+{
+    if let [first, behind @ ..] = text {
+        if let Some(digit) = digit_of(*first) {
+            if digit < 32 {
+                return Ok((number_from(u64::from(digit)), behind));
+            }
+        }
+    }
+    long_number(text)
+}
+
+// The same for a number of any length.
+fn long_number(text: &[u8]) -> Result<(i64, &[u8])>
     ensures number { IfOk result (λ read. BeginsWith text.now read.0 read.1.now) }
     ensures fault { IfErr result (λ e. NumberFault text.now e) }
 {

@@ -1,17 +1,16 @@
 -- A value taken out of an object.
-use Rattle.std.proofs.Common.{◌≡◌, ℕ, List, [], ◌∷◌, Option, Some, None, option_map, String, Global, Ordering, Less, Equal, Greater, string_bytes, nat_cmp, is_eq, cond, Bool, true, false, true≢false, refl, sym, ap, ◌∙◌, ◌||◌}
+use Rattle.std.proofs.Common.{◌≡◌, ℕ, List, [], ◌∷◌, Option, Some, Ordering, Less, Equal, Greater, string_bytes, nat_cmp, is_eq, cond, Bool, true, false, true≢false, refl, sym, ap, ◌∙◌, ◌||◌}
 use Rattle.std.proofs.lemmas.Map.Text.{is_eq-slice_cmp}
 use Rattle.std.proofs.lemmas.Slice.Eq.{bytes_eq-Decides}
 use Rattle.std.specs.List.{list_any}
 use Rattle.std.specs.Str.{bytes_eq}
 use Rattle.std.specs.Cmp.Lexicographic.{slice_cmp}
-use Rattle.std.specs.Map.{lookup, remove_entry}
+use Rattle.std.specs.Map.{remove_entry}
 use Rattle.std.specs.Ordering.{match_ordering}
 use Rattle.std.specs.BTreeMap.{is_at}
 use Rattle.serde_json.specs.Data.{Data, Members, member}
 use Rattle.serde_json.specs.Find.{get_member}
 use Rattle.serde_json.specs.View.{view, members_view}
-use Rattle.serde_json.specs.declared.value.Value.{Value}
 use Rattle.serde_json.proofs.Views.{Entry}
 use Rattle.sourcemap_json.specs.Fields.{KeepsOthers, found, at}
 
@@ -49,8 +48,8 @@ neither false b h = (refl, h)
 pub untouched_more : {keys : List (List ℕ)} {a b : Members} (key : List ℕ) (d : Members) → Untouched keys a b → KeepsOthers key b d → Untouched (key ∷ keys) a d
 untouched_more {keys = keys} key d before step = record {
   stays = λ other apart.
-    let both = neither (bytes_eq other key) (list_any (bytes_eq other) keys) apart in
-    step other both.0 ∙ before.stays other both.1
+      let both = neither (bytes_eq other key) (list_any (bytes_eq other) keys) apart in
+      step other both.0 ∙ before.stays other both.1;
 }
 
 pub untouched_two : (k l : List ℕ) (a b : Members)
@@ -58,8 +57,8 @@ pub untouched_two : (k l : List ℕ) (a b : Members)
     → Untouched (k ∷ l ∷ []) a b
 untouched_two k l a b step = record {
   stays = λ other apart.
-    let both = neither (bytes_eq other k) (list_any (bytes_eq other) (l ∷ [])) apart in
-    step other both.0 (neither (bytes_eq other l) false both.1).0
+      let both = neither (bytes_eq other k) (list_any (bytes_eq other) (l ∷ [])) apart in
+      step other both.0 (neither (bytes_eq other l) false both.1).0;
 }
 
 -- what a key gave after others were taken out

@@ -1,5 +1,5 @@
 -- A record level by level.
-use Rattle.std.proofs.Common.{◌≡◌, ℕ, List, [], ◌∷◌, Option, None, Some, Vec, Global, map, option_map, codes, string_bytes, refl, ap, ◌∙◌}
+use Rattle.std.proofs.Common.{◌≡◌, List, [], ◌∷◌, Option, None, Some, Vec, Global, map, option_map, codes, string_bytes, refl, ap, ◌∙◌}
 use Rattle.std.proofs.lemmas.Iterator.Adapters.{option_map_id}
 use Rattle.serde_json.specs.Data.{Members}
 use Rattle.serde_json.specs.View.{view}
@@ -51,7 +51,7 @@ pub fields_read : (r : RawSourceMap-F RawSection RawSourceMap) (ms : Members)
     → at (codes "x_facebook_offsets") (list (or_null small_number)) ms ≡ Some (option_map (λ v. map (option_map (λ n. n)) v.items) r.x_facebook_offsets)
     → at (codes "x_metro_module_paths") (list text) ms ≡ Some (option_map (λ v. map string_bytes v.items) r.x_metro_module_paths)
     → at (codes "x_facebook_sources") (list (or_null (list scopes))) ms
-        ≡ Some (option_map (λ v. map (option_map (λ s. map scopes_view s.items)) v.items) r.x_facebook_sources)
+    ≡ Some (option_map (λ v. map (option_map (λ s. map scopes_view s.items)) v.items) r.x_facebook_sources)
     → fields_in ms ≡ Some (fields_view r)
 fields_read r ms h0 h1 h2 h3 h4 h5 h6 h7 h8 h9 h10 h11 h12 =
     rw (h0, h1, h2, h3, h4, h5, h6, h7, h8, h9, h10, h11, h12)

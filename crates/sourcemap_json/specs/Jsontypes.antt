@@ -59,6 +59,9 @@ pub record Section : Type 0 where
   pub place : Place
   pub map : Option Tree
 
+abbrev pub section_at : Place → Option Tree → Section
+section_at place t = record { place = place; map = t }
+
 abbrev pub tree_with : Fields → Option Sections → Tree
 tree_with fields None = plain fields
 tree_with fields (Some sections) = indexed fields sections
@@ -157,7 +160,7 @@ abbrev mutual
   record_of (number _) = None
   record_of (string _) = None
   record_of (array _) = None
-  record_of (object ms) = with (fields_in ms) (λ fields. with (sections_in ms) (λ sections. Some (tree_with fields sections)))
+  record_of (object ms) = with (sections_in ms) (λ sections. with (fields_in ms) (λ fields. Some (tree_with fields sections)))
 
   pub sections_of : Data → Option Sections
   sections_of null = None
@@ -177,7 +180,7 @@ abbrev mutual
   section_of (number _) = None
   section_of (string _) = None
   section_of (array _) = None
-  section_of (object ms) = with (place_in ms) (λ place. with (map_in ms) (λ t. Some (record { place = place; map = t })))
+  section_of (object ms) = with (map_in ms) (λ t. with (place_in ms) (λ place. Some (section_at place t)))
 
   -- the member `sections`, or null, or none
   pub sections_in : Members → Option (Option Sections)

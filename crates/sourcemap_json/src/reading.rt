@@ -5,7 +5,7 @@ ghost use Rattle.serde_json.specs.Find.{get_member};
 ghost use Rattle.serde_json.specs.View.{view, items_view, members_view};
 ghost use Rattle.sourcemap_json.specs.DebugId.{debug_id_of};
 ghost use Rattle.sourcemap_json.specs.Fields.{Reads, with, found};
-ghost use Rattle.sourcemap_json.specs.Jsontypes.{Scopes, scopes, scopes_in, scopes_view, offset, offset_in, debug_id, debug_id_in, fields_in, tree_with, sections_from, sections_of, record_of, section_of, section, tree};
+ghost use Rattle.sourcemap_json.specs.Jsontypes.{Scopes, scopes, scopes_in, scopes_view, offset, offset_in, debug_id, debug_id_in, fields_in, place_in, section_at, tree_with, sections_from, sections_read, sections_of, record_of, section_of, section, tree};
 
 use crate::debug_id::DebugId;
 use crate::fields::{Field, take_needed, take_optional, take_value};
@@ -134,4 +134,81 @@ fn take_fields(
         x_facebook_sources,
         debug_id,
     })
+}
+
+fn take_place(
+    alloc: Global,
+    mut members: Map<String, Value>,
+    map: Option<Box<RawSourceMap>>,
+) -> Result<RawSection>
+    ensures { Reads section result (with (place_in (members_view members.entries))
+        (λ place. Some (section_at place (option_map (λ b. tree b.value) map)))) }
+{
+    let offset = take_needed(alloc, &mut members, "offset")?;
+    let url = take_optional(alloc, &mut members, "url")?;
+    Ok(RawSection { offset, url, map })
+}
+
+/// The record that a value stands for.
+#[cycle(reading)]
+pub(crate) fn take_map(alloc: Global, value: Value) -> Result<RawSourceMap>
+    ensures { Reads tree result (record_of (view value)) }
+{
+    match value {
+        Value::Object(mut members) => {
+            let listed = take_value(&mut members, "sections");
+            let sections = take_sections(alloc, listed)?;
+            take_fields(alloc, members, sections)
+        }
+        _ => Err(Error::BadJson(JsonFault::Shape)),
+    }
+}
+
+#[cycle(reading)]
+fn take_sections(alloc: Global, value: Option<Value>) -> Result<Option<Vec<RawSection>>>
+    ensures { Reads (option_map (λ v. sections_from (map section v.items))) result
+        (found sections_of (option_map view value)) }
+{
+    match value {
+        None | Some(Value::Null) => Ok(None),
+        Some(Value::Array(items)) => Ok(Some(take_list(alloc, items)?)),
+        Some(_) => Err(Error::BadJson(JsonFault::Shape)),
+    }
+}
+
+#[cycle(reading)]
+fn take_list(alloc: Global, items: Vec<Value>) -> Result<Vec<RawSection>>
+    ensures { Reads (λ v. sections_from (map section v.items)) result
+        (sections_read (items_view items.items)) }
+{
+    let mut sections = Vec::with_capacity(alloc, items.len())?;
+    for item in items {
+        sections.push(take_section(alloc, item)?)?;
+    }
+    Ok(sections)
+}
+
+#[cycle(reading)]
+fn take_section(alloc: Global, value: Value) -> Result<RawSection>
+    ensures { Reads section result (section_of (view value)) }
+{
+    match value {
+        Value::Object(mut members) => {
+            let inner = take_value(&mut members, "map");
+            let map = take_inner(alloc, inner)?;
+            take_place(alloc, members, map)
+        }
+        _ => Err(Error::BadJson(JsonFault::Shape)),
+    }
+}
+
+#[cycle(reading)]
+fn take_inner(alloc: Global, value: Option<Value>) -> Result<Option<Box<RawSourceMap>>>
+    ensures { Reads (option_map (λ b. tree b.value)) result
+        (found record_of (option_map view value)) }
+{
+    match value {
+        None | Some(Value::Null) => Ok(None),
+        Some(value) => Ok(Some(Box::new(alloc, take_map(alloc, value)?)?)),
+    }
 }

@@ -4,4 +4,5 @@ pub mod Stored
 pub mod Token
 pub mod Iterators
 pub mod Decoder
+pub mod DecoderParts
 pub mod Encoder
