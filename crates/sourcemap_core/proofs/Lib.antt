@@ -9,8 +9,11 @@ pub mod MappingsAnswers
 pub mod MappingsLemmas
 pub mod VlqLemmas
 pub mod WrittenBytes
+pub mod WrittenLaws
 pub mod WrittenLines
+pub mod WrittenRanges
 pub mod WrittenReadBack
 pub mod WrittenSegments
 pub mod WrittenSums
 pub mod WrittenTokens
+pub mod WrittenWalk

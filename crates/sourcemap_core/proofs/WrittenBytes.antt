@@ -32,9 +32,9 @@ digit_59 = refl
 no_mark : (c x v : ℕ) → IsMark c → digit_value x ≡ Some v → (x == c) ≡ false
 no_mark c x v mark digit = ⊎_elim
     (λ (same : x ≡ c). absurd (⊎_elim
-        (λ (e : c ≡ 44). let no : digit_value x ≡ None = ap digit_value (same ∙ e) ∙ digit_44 in cc)
-        (λ (e : c ≡ 59). let no : digit_value x ≡ None = ap digit_value (same ∙ e) ∙ digit_59 in cc)
-        mark))
+    (λ (e : c ≡ 44). let no : digit_value x ≡ None = ap digit_value (same ∙ e) ∙ digit_44 in cc)
+    (λ (e : c ≡ 59). let no : digit_value x ≡ None = ap digit_value (same ∙ e) ∙ digit_59 in cc)
+    mark))
     (λ (off : x ≢ c). grind (arith, nat_tests))
     (cases_eq x c)
 
@@ -47,7 +47,7 @@ pub Spells-free : (c : ℕ) (numbers : List ℤ) (text : List ℕ) → IsMark c 
 Spells-free c [] text mark spelled = subst (λ (t : List ℕ). IsFree c t) (sym spelled) tt
 Spells-free c (n ∷ ns) text mark spelled =
     subst (λ (t : List ℕ). IsFree c t) (sym spelled.3)
-        (IsFree-append c spelled.0 spelled.1 (chain_free c spelled.0 mark spelled.2.is_group.chain) (Spells-free c ns spelled.1 mark spelled.4))
+    (IsFree-append c spelled.0 spelled.1 (chain_free c spelled.0 mark spelled.2.is_group.chain) (Spells-free c ns spelled.1 mark spelled.4))
 
 pub Spells-nonempty : (n : ℤ) (ns : List ℤ) → Spells (n ∷ ns) [] → ⊥
 Spells-nonempty n ns ([], rest, short, is, more) = (let h = IsGroup-nonempty [] n short.is_group in omega arith)

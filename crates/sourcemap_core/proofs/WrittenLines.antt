@@ -52,7 +52,7 @@ Ended-map P Q line text f e = record {
   count = e.count;
   each = (let count : length e.parts ≡ line = e.count in EachLine-map P Q line 0 e.parts f (omega arith) e.each);
   is = e.is;
-  }
+}
 
 Ended-more : (P : ℕ → List ℕ → Type 0) (line : ℕ) (text part : List ℕ) → Ended P line text → P line part
     → Ended P (line + 1) (text ++ (part ++ 59 ∷ []))
@@ -73,7 +73,7 @@ Ended-blank P line (suc k) text blank e =
     let more = Ended-more P line text [] e (blank line (omega arith)) in
     let rest = Ended-blank P (line + 1) k (text ++ 59 ∷ []) (λ m h. blank m (omega arith)) more in
     subst (λ (t : List ℕ). Ended P (line + suc k) t) (append_assoc text (59 ∷ []) (replicate k 59))
-        (subst (λ (m : ℕ). Ended P m ((text ++ 59 ∷ []) ++ replicate k 59)) (omega arith) rest)
+    (subst (λ (m : ℕ). Ended P m ((text ++ 59 ∷ []) ++ replicate k 59)) (omega arith) rest)
 
 -- past the part of this line, and then k blank lines
 Ended-turn_by : (P : ℕ → List ℕ → Type 0) (line k : ℕ) (text part : List ℕ) → ((m : ℕ) → line < m → P m [])
@@ -81,8 +81,8 @@ Ended-turn_by : (P : ℕ → List ℕ → Type 0) (line k : ℕ) (text part : Li
 Ended-turn_by P line k text part blank e p =
     let rest = Ended-blank P (line + 1) k (text ++ (part ++ 59 ∷ [])) (λ m h. blank m (omega arith)) (Ended-more P line text part e p) in
     subst (λ (t : List ℕ). Ended P (line + 1 + k) t)
-        (ap (λ t. t ++ replicate k 59) (sym (append_assoc text part (59 ∷ []))) ∙ append_assoc (text ++ part) (59 ∷ []) (replicate k 59))
-        rest
+    (ap (λ t. t ++ replicate k 59) (sym (append_assoc text part (59 ∷ []))) ∙ append_assoc (text ++ part) (59 ∷ []) (replicate k 59))
+    rest
 
 -- past the part of this line to a later line
 pub Ended-turn : (P : ℕ → List ℕ → Type 0) (line n : ℕ) (text part : List ℕ) → line < n → ((m : ℕ) → line < m → P m [])
@@ -91,18 +91,19 @@ Ended-turn P line n text part h blank e p =
     let at : line + 1 + (n - line - 1) ≡ n = omega arith in
     let lines : suc (n - line - 1) ≡ n - line = omega arith in
     subst (λ (k : ℕ). Ended P n ((text ++ part) ++ replicate k 59)) lines
-        (subst (λ (m : ℕ). Ended P m ((text ++ part) ++ replicate (suc (n - line - 1)) 59)) at
-            (Ended-turn_by P line (n - line - 1) text part blank e p))
+    (subst (λ (m : ℕ). Ended P m ((text ++ part) ++ replicate (suc (n - line - 1)) 59)) at
+    (Ended-turn_by P line (n - line - 1) text part blank e p))
 
 -- with the part of the last line the text is whole
 pub Ended-last : (P : ℕ → List ℕ → Type 0) (line : ℕ) (text part : List ℕ) (tokens : List RawToken)
     → line + 1 ≡ line_count tokens → Ended P line text → P line part → LineByLine P tokens (text ++ part)
 Ended-last P line text part tokens at e p =
-    let count : length e.parts ≡ line = e.count in
-    (e.parts ++ part ∷ [],
-     length-append e.parts (part ∷ []) ∙ ap (λ n. n + 1) count ∙ at,
-     EachLine-push P 0 e.parts part e.each (subst (λ (m : ℕ). P m part) (omega arith) p),
-     ap (λ t. t ++ part) e.is ∙ sym (join_ended e.parts part))
+    let count : length e.parts ≡ line = e.count in (
+      e.parts ++ part ∷ [],
+      length-append e.parts (part ∷ []) ∙ ap (λ n. n + 1) count ∙ at,
+      EachLine-push P 0 e.parts part e.each (subst (λ (m : ℕ). P m part) (omega arith) p),
+      ap (λ t. t ++ part) e.is ∙ sym (join_ended e.parts part),
+    )
 
 -- A text that has come to a line.
 
@@ -120,16 +121,16 @@ Reached-turn P line n text h blank r = ⊎_elim
       above = text ++ replicate (n - line) 59;
       here = [];
       ends = subst (λ (t : List ℕ). Ended P n (t ++ replicate (n - line) 59)) (sym r.is)
-        (Ended-turn P line n r.above r.here past blank r.ends r.on);
+          (Ended-turn P line n r.above r.here past blank r.ends r.on);
       on = blank n past;
       is = sym (append-nil (text ++ replicate (n - line) 59));
-      })
+    })
     (λ (not_past : n ≤ line).
-      let same : line ≡ n = omega arith in
-      let no_line : n - line ≡ 0 = omega arith in
-      let none : replicate (n - line) 59 ≡ [] = ap (λ (k : ℕ). replicate k 59) no_line in
-      let text_is : text ≡ text ++ replicate (n - line) 59 = sym (append-nil text) ∙ ap (λ t. text ++ t) (sym none) in
-      subst (λ (t : List ℕ). Reached P n t) text_is (subst (λ (m : ℕ). Reached P m text) same r))
+    let same : line ≡ n = omega arith in
+    let no_line : n - line ≡ 0 = omega arith in
+    let none : replicate (n - line) 59 ≡ [] = ap (λ (k : ℕ). replicate k 59) no_line in
+    let text_is : text ≡ text ++ replicate (n - line) 59 = sym (append-nil text) ∙ ap (λ t. text ++ t) (sym none) in
+    subst (λ (t : List ℕ). Reached P n t) text_is (subst (λ (m : ℕ). Reached P m text) same r))
     (cases_lt line n)
 
 pub Reached-more : (P Q : ℕ → List ℕ → Type 0) (line : ℕ) (text added : List ℕ)
@@ -141,7 +142,7 @@ Reached-more P Q line text added f g r = record {
   ends = Ended-map P Q line r.above f r.ends;
   on = g r.here r.on;
   is = ap (λ t. t ++ added) r.is ∙ append_assoc r.above r.here added;
-  }
+}
 
 pub Reached-last : (P : ℕ → List ℕ → Type 0) (line : ℕ) (text : List ℕ) (tokens : List RawToken)
     → line + 1 ≡ line_count tokens → Reached P line text → LineByLine P tokens text

@@ -11,11 +11,11 @@ use Rattle.sourcemap_core.specs.Bits.{bit_of, first_foreign, IsBitText}
 use Rattle.sourcemap_core.specs.Vlq.{Spells}
 use Rattle.sourcemap_core.specs.Mappings.{Counts, Segment, Line, LineText, sum_at, token_of, line_tokens, page_tokens, segment_fault, PartsRead, LineRead, LinesRead, beside, line_texts, MappingsAnswer}
 use Rattle.sourcemap_core.specs.MappingsWritten.{is_on, is_above, last_field, base, numbers, AreSegments, IsLine, IsRangeLine, EachLine, LineByLine, line_count, IsWritten, IsRangeText}
-use Rattle.std.proofs.lemmas.Nat.Bits.{bit_at-zero}
 use Rattle.sourcemap_core.proofs.TokensLemmas.{All-without_repeats, in_order-ordered, AreInOrder-reduced}
 use Rattle.sourcemap_core.proofs.VlqLemmas.{Spells-Reads}
 use Rattle.sourcemap_core.proofs.WrittenTokens.{UpTo, Rises, above_more, last_field-push_yes, on_yes}
 use Rattle.sourcemap_core.proofs.WrittenSums.{IsSound, IsSmall, all_sound_from, segment_of, Carries, Carries-none, Carries-more, column_more, segment_sound, token_back}
+use Rattle.sourcemap_core.proofs.WrittenRanges.{no_bit}
 use Rattle.sourcemap_core.proofs.WrittenBytes.{IsFree, IsMark, Spells-free, Spells-nonempty, digits_free, join_free, split_join}
 
 -- Segments of a line.
@@ -34,9 +34,10 @@ segments_read sources names at before [] all parts few few_names sound c are =
 segments_read sources names at before (t ∷ ts) all [] few few_names sound c are = absurd are
 segments_read sources names at before (t ∷ ts) all ([] ∷ parts) few few_names sound c are = absurd (Spells-nonempty _ _ are.0)
 segments_read sources names at before (t ∷ ts) all ((x ∷ xs) ∷ parts) few few_names sound c are =
-    let more = Carries-more sources names at before all t few few_names sound.0 c in
-    ((refl, Spells-Reads (numbers names (base names t.dst_line before) t) (x ∷ xs) are.0, segment_sound sources names at before (all ++ segment_of names at before t ∷ []) t few sound.0 more),
-     segments_read sources names (at + 1) (before ++ t ∷ []) ts (all ++ segment_of names at before t ∷ []) parts few few_names sound.1 more are.1)
+    let more = Carries-more sources names at before all t few few_names sound.0 c in (
+      (refl, Spells-Reads (numbers names (base names t.dst_line before) t) (x ∷ xs) are.0, segment_sound sources names at before (all ++ segment_of names at before t ∷ []) t few sound.0 more),
+      segments_read sources names (at + 1) (before ++ t ∷ []) ts (all ++ segment_of names at before t ∷ []) parts few few_names sound.1 more are.1,
+    )
 
 carries_line : (sources names at : ℕ) (before ts : List RawToken) (all : List Segment)
     → sources < 2 ^ 32 → names < 2 ^ 32 → AllByRecursion (IsSound sources names) ts → Carries names before all
@@ -44,14 +45,14 @@ carries_line : (sources names at : ℕ) (before ts : List RawToken) (all : List 
 unfolding segments_of
 carries_line sources names at before [] all few few_names sound c =
     subst (λ (us : List RawToken). Carries names us (all ++ [])) (sym (append-nil before))
-        (subst (λ (ss : List Segment). Carries names before ss) (sym (append-nil all)) c)
+    (subst (λ (ss : List Segment). Carries names before ss) (sym (append-nil all)) c)
 carries_line sources names at before (t ∷ ts) all few few_names sound c =
     let s = segment_of names at before t in
     let later = segments_of names (at + 1) (before ++ t ∷ []) ts in
     let rest = carries_line sources names (at + 1) (before ++ t ∷ []) ts (all ++ s ∷ []) few few_names sound.1
-        (Carries-more sources names at before all t few few_names sound.0 c) in
+    (Carries-more sources names at before all t few few_names sound.0 c) in
     subst (λ (us : List RawToken). Carries names us (all ++ s ∷ later)) (append_assoc before (t ∷ []) ts)
-        (subst (λ (ss : List Segment). Carries names ((before ++ t ∷ []) ++ ts) ss) (append_assoc all (s ∷ []) later) rest)
+    (subst (λ (ss : List Segment). Carries names ((before ++ t ∷ []) ++ ts) ss) (append_assoc all (s ∷ []) later) rest)
 
 -- the bits of a text from this place on are the range flags
 Flags : List ℕ → ℕ → List RawToken → Type 0
@@ -67,17 +68,17 @@ line_back sources names n at bits before (t ∷ ts) above here few few_names sou
     let s = segment_of names at before t in
     let here' = here ++ s ∷ [] in
     let more : Carries names (before ++ t ∷ []) (above ++ here') =
-        subst (λ (ss : List Segment). Carries names (before ++ t ∷ []) ss) (append_assoc above here (s ∷ []))
-            (Carries-more sources names at before (above ++ here) t few few_names sound.0 c) in
+    subst (λ (ss : List Segment). Carries names (before ++ t ∷ []) ss) (append_assoc above here (s ∷ []))
+    (Carries-more sources names at before (above ++ here) t few few_names sound.0 c) in
     let line : n ≡ t.dst_line = on.0 in
     let col : sum_at 0 here' ≡ t.dst_col =
-        column_more sources names at before here t sound.0 (subst (λ (m : ℕ). sum_at 0 here ≡ last_field (is_on m) (λ u. u.dst_col) before) line column) in
+    column_more sources names at before here t sound.0 (subst (λ (m : ℕ). sum_at 0 here ≡ last_field (is_on m) (λ u. u.dst_col) before) line column) in
     let bit : bit_of bits at ≡ t.is_range = ap (bit_of bits) (sym (add-zero at)) ∙ flags 0 (omega arith) in
     let first = token_back sources names n at bits before here' (above ++ here') t few sound.0 line bit col more in
     let next : sum_at 0 here' ≡ last_field (is_on n) (λ u. u.dst_col) (before ++ t ∷ []) =
-        col ∙ sym (last_field-push_yes (is_on n) (λ u. u.dst_col) before t (on_yes t.dst_line n (sym line))) in
+    col ∙ sym (last_field-push_yes (is_on n) (λ u. u.dst_col) before t (on_yes t.dst_line n (sym line))) in
     let rest = line_back sources names n (at + 1) bits (before ++ t ∷ []) ts above here' few few_names sound.1 on.1
-        (λ k h. ap (bit_of bits) (omega arith) ∙ flags (suc k) (omega arith)) next more in
+    (λ k h. ap (bit_of bits) (omega arith) ∙ flags (suc k) (omega arith)) next more in
     ap (λ u. u ∷ line_tokens n bits above here' (segments_of names (at + 1) (before ++ t ∷ []) ts)) first ∙ ap (λ us. with_sound_name names t ∷ us) rest
 
 -- Lists of tokens.
@@ -85,16 +86,16 @@ line_back sources names n at bits before (t ∷ ts) above here few few_names sou
 filter_passing : (p : RawToken → Bool) (P : RawToken → Type 0) → ((t : RawToken) → p t ≡ true → P t) → (ts : List RawToken) → AllByRecursion P (filter p ts)
 filter_passing p P f [] = tt
 filter_passing p P f (t ∷ ts) = go (p t) refl (filter_passing p P f ts) where
-    go : (b : Bool) → p t ≡ b → AllByRecursion P (filter p ts) → AllByRecursion P (cond b (t ∷ filter p ts) (filter p ts))
-    go true e rest = (f t e, rest)
-    go false e rest = rest
+  go : (b : Bool) → p t ≡ b → AllByRecursion P (filter p ts) → AllByRecursion P (cond b (t ∷ filter p ts) (filter p ts))
+  go true e rest = (f t e, rest)
+  go false e rest = rest
 
 filter_keeps : (p : RawToken → Bool) (P : RawToken → Type 0) (ts : List RawToken) → AllByRecursion P ts → AllByRecursion P (filter p ts)
 filter_keeps p P [] all = tt
 filter_keeps p P (t ∷ ts) all = go (p t) (filter_keeps p P ts all.1) where
-    go : (b : Bool) → AllByRecursion P (filter p ts) → AllByRecursion P (cond b (t ∷ filter p ts) (filter p ts))
-    go true rest = (all.0, rest)
-    go false rest = rest
+  go : (b : Bool) → AllByRecursion P (filter p ts) → AllByRecursion P (cond b (t ∷ filter p ts) (filter p ts))
+  go true rest = (all.0, rest)
+  go false rest = rest
 
 none_pass : (p : RawToken → Bool) (ts : List RawToken) → AllByRecursion (λ t. p t ≡ false) ts → filter p ts ≡ []
 none_pass p [] all = refl
@@ -170,10 +171,13 @@ line_read sources names n ts all (x ∷ xs) bits few few_names sound c line fit 
     let on = filter (is_on n) ts in
     let some = some_on names (filter (is_above n) ts) on line.0 x xs line.1 line.2 in
     let on_sound = filter_keeps (is_on n) (IsSound sources names) ts sound in
-    let on_line = filter_passing (is_on n) (λ t. n ≡ t.dst_line) (on_is n) ts in
-    (small_line sources names n on some.1.1 some.1.0 some.1.2 on_sound on_line, fit.0, refl,
-     subst (λ (ps : List (List ℕ)). PartsRead (record { sources = sources; names = names }) 0 all ps (segments_of names 0 (filter (is_above n) ts) on)) (sym some.0)
-        (segments_read sources names 0 (filter (is_above n) ts) on all line.0 few few_names on_sound c line.1))
+    let on_line = filter_passing (is_on n) (λ t. n ≡ t.dst_line) (on_is n) ts in (
+      small_line sources names n on some.1.1 some.1.0 some.1.2 on_sound on_line,
+      fit.0,
+      refl,
+      subst (λ (ps : List (List ℕ)). PartsRead (record { sources = sources; names = names }) 0 all ps (segments_of names 0 (filter (is_above n) ts) on)) (sym some.0)
+          (segments_read sources names 0 (filter (is_above n) ts) on all line.0 few few_names on_sound c line.1),
+    )
 
 line_tokens_back : (sources names n : ℕ) (ts : List RawToken) (all : List Segment) (part bits : List ℕ)
     → sources < 2 ^ 32 → names < 2 ^ 32 → AllByRecursion (IsSound sources names) ts → Carries names (filter (is_above n) ts) all
@@ -182,13 +186,13 @@ line_tokens_back : (sources names n : ℕ) (ts : List RawToken) (all : List Segm
 unfolding FitBits bits_of Flags
 line_tokens_back sources names n ts all part bits few few_names sound c line fit =
     line_back sources names n 0 (bits_of part bits) (filter (is_above n) ts) (filter (is_on n) ts) all [] few few_names
-        (filter_keeps (is_on n) (IsSound sources names) ts sound) (filter_passing (is_on n) (λ t. n ≡ t.dst_line) (on_is n) ts)
-        (flags part line)
-        (sym (ap (λ us. option_map_or (λ t. t.dst_col) (last_or None us) 0) (none_on_above n ts)))
-        (subst (λ (ss : List Segment). Carries names (filter (is_above n) ts) ss) (sym (append-nil all)) c) where
-    flags : (p : List ℕ) → IsLine names ts n p → Flags (bits_of p bits) 0 (filter (is_on n) ts)
-    flags [] l = subst (λ (us : List RawToken). Flags [] 0 us) (sym (empty_on names (filter (is_above n) ts) (filter (is_on n) ts) l.0 l.1 l.2)) (λ k h. absurd (omega arith))
-    flags (x ∷ xs) l = fit.1
+    (filter_keeps (is_on n) (IsSound sources names) ts sound) (filter_passing (is_on n) (λ t. n ≡ t.dst_line) (on_is n) ts)
+    (flags part line)
+    (sym (ap (λ us. option_map_or (λ t. t.dst_col) (last_or None us) 0) (none_on_above n ts)))
+    (subst (λ (ss : List Segment). Carries names (filter (is_above n) ts) ss) (sym (append-nil all)) c) where
+      flags : (p : List ℕ) → IsLine names ts n p → Flags (bits_of p bits) 0 (filter (is_on n) ts)
+      flags [] l = subst (λ (us : List RawToken). Flags [] 0 us) (sym (empty_on names (filter (is_above n) ts) (filter (is_on n) ts) l.0 l.1 l.2)) (λ k h. absurd (omega arith))
+      flags (x ∷ xs) l = fit.1
 
 -- Pages.
 
@@ -205,7 +209,7 @@ next_carries : (sources names n : ℕ) (ts : List RawToken) (all : List Segment)
     → Carries names (filter (is_above (n + 1)) ts) (all ++ segments_of names 0 (filter (is_above n) ts) (filter (is_on n) ts))
 next_carries sources names n ts all few few_names sound rises c =
     subst (λ (us : List RawToken). Carries names us (all ++ segments_of names 0 (filter (is_above n) ts) (filter (is_on n) ts))) (sym (above_more n ts rises))
-        (carries_line sources names 0 (filter (is_above n) ts) (filter (is_on n) ts) all few few_names (filter_keeps (is_on n) (IsSound sources names) ts sound) c)
+    (carries_line sources names 0 (filter (is_above n) ts) (filter (is_on n) ts) all few few_names (filter_keeps (is_on n) (IsSound sources names) ts sound) c)
 
 page_read : (sources names n : ℕ) (ts : List RawToken) (all : List Segment) (texts : List LineText)
     → sources < 2 ^ 32 → names < 2 ^ 32 → AllByRecursion (IsSound sources names) ts → Rises ts → Carries names (filter (is_above n) ts) all
@@ -213,15 +217,16 @@ page_read : (sources names n : ℕ) (ts : List RawToken) (all : List Segment) (t
     → LinesRead (record { sources = sources; names = names }) n all texts (page_of names ts n texts)
 unfolding EachText page_of line_of
 page_read sources names n ts all [] few few_names sound rises c each = refl
-page_read sources names n ts all ((part, bits) ∷ texts) few few_names sound rises c each =
-    (line_read sources names n ts all part bits few few_names sound c each.0 each.1,
-     page_read sources names (n + 1) ts _ texts few few_names sound rises (next_carries sources names n ts all few few_names sound rises c) each.2)
+page_read sources names n ts all ((part, bits) ∷ texts) few few_names sound rises c each = (
+  line_read sources names n ts all part bits few few_names sound c each.0 each.1,
+  page_read sources names (n + 1) ts _ texts few few_names sound rises (next_carries sources names n ts all few few_names sound rises c) each.2,
+)
 
 page_back : (sources names n : ℕ) (ts : List RawToken) (all : List Segment) (texts : List LineText)
     → sources < 2 ^ 32 → names < 2 ^ 32 → AllByRecursion (IsSound sources names) ts → Rises ts → Carries names (filter (is_above n) ts) all
     → EachText (IsLine names ts) (FitBits ts) n texts
     → map (with_sound_name names) (filter (is_above n) ts) ++ page_tokens n all (page_of names ts n texts)
-        ≡ map (with_sound_name names) (filter (is_above (n + length texts)) ts)
+    ≡ map (with_sound_name names) (filter (is_above (n + length texts)) ts)
 unfolding EachText page_of line_of
 page_back sources names n ts all [] few few_names sound rises c each =
     append-nil (map (with_sound_name names) (filter (is_above n) ts)) ∙ ap (λ m. map (with_sound_name names) (filter (is_above m) ts)) (sym (add-zero n))
@@ -272,13 +277,13 @@ lines_split : (P : ℕ → List ℕ → Type 0) (tokens : List RawToken) (text :
 lines_split P tokens text some free ([], count, each, is) = absurd (omega arith)
 lines_split P tokens text some free (p ∷ ps, count, each, is) =
     let split : slice_split (λ b. b == 59) text ≡ p ∷ ps =
-        ap (slice_split (λ b. b == 59)) is ∙ split_join 59 p ps (each_line_all P (IsFree 59) 0 (p ∷ ps) free each) in
+    ap (slice_split (λ b. b == 59)) is ∙ split_join 59 p ps (each_line_all P (IsFree 59) 0 (p ∷ ps) free each) in
     (subst (λ (parts : List (List ℕ)). EachLine P 0 parts) (sym split) each, ap length split ∙ count)
 
 IsLine-free : (names : ℕ) (ts : List RawToken) (m : ℕ) (part : List ℕ) → IsLine names ts m part → IsFree 59 part
 IsLine-free names ts m part line =
     subst (λ (t : List ℕ). IsFree 59 t) (sym line.2)
-        (join_free 59 44 line.0 refl (segments_free 59 names (filter (is_above m) ts) (filter (is_on m) ts) line.0 (inr refl) line.1))
+    (join_free 59 44 line.0 refl (segments_free 59 names (filter (is_above m) ts) (filter (is_on m) ts) line.0 (inr refl) line.1))
 
 IsRangeLine-free : (ts : List RawToken) (m : ℕ) (bits : List ℕ) → IsRangeLine ts m bits → IsFree 59 bits
 IsRangeLine-free ts m bits is = digits_free 59 bits (inr refl) is.digits
@@ -286,9 +291,6 @@ IsRangeLine-free ts m bits is = digits_free 59 bits (inr refl) is.digits
 fit_range : (ts : List RawToken) (m : ℕ) (bits : List ℕ) → IsRangeLine ts m bits → FitBits ts m bits
 unfolding FitBits Flags
 fit_range ts m bits is = (is.digits, λ k h. ap (bit_of bits) (zero-add k) ∙ is.each k)
-
-no_bit : (j : ℕ) → bit_of [] j ≡ false
-no_bit j = ap (λ n. n == 1) (bit_at-zero (j % 6))
 
 none_range : (ts : List RawToken) (k : ℕ) → AllByRecursion (λ t. t.is_range ≡ false) ts → slice_index_or (map (λ t. t.is_range) ts) k false ≡ false
 none_range [] k all = refl
@@ -302,10 +304,10 @@ fit_none ts all m = (refl, λ k h. no_bit (0 + k) ∙ sym (none_range (filter (i
 none_any : (ts : List RawToken) → list_any (λ t. t.is_range) ts ≡ false → AllByRecursion (λ t. t.is_range ≡ false) ts
 none_any [] e = tt
 none_any (t ∷ ts) e = go t.is_range refl e (none_any ts) where
-    go : (b : Bool) → t.is_range ≡ b → (b || list_any (λ u. u.is_range) ts) ≡ false → (list_any (λ u. u.is_range) ts ≡ false → AllByRecursion (λ u. u.is_range ≡ false) ts)
-        → AllByRecursion (λ u. u.is_range ≡ false) (t ∷ ts)
-    go true is h rest = absurd cc
-    go false is h rest = (is, rest h)
+  go : (b : Bool) → t.is_range ≡ b → (b || list_any (λ u. u.is_range) ts) ≡ false → (list_any (λ u. u.is_range) ts ≡ false → AllByRecursion (λ u. u.is_range ≡ false) ts)
+      → AllByRecursion (λ u. u.is_range ≡ false) (t ∷ ts)
+  go true is h rest = absurd cc
+  go false is h rest = (is, rest h)
 
 -- the text of range bits, empty where there is none
 abbrev range_text : Option (List ℕ) → List ℕ
@@ -329,7 +331,7 @@ texts_fit names tokens text (Some bits) some written is =
     let ranges = lines_split (IsRangeLine ts) tokens bits some (IsRangeLine-free ts) is.1 in
     let fit = each_line_map (IsRangeLine ts) (FitBits ts) 0 (slice_split (λ b. b == 59) bits) (fit_range ts) ranges.0 in
     each_beside (IsLine names ts) (FitBits ts) 0 (slice_split (λ b. b == 59) text) (slice_split (λ b. b == 59) bits) lines.0 fit
-        (λ m h k. absurd (omega (arith, lines.1, ranges.1)))
+    (λ m h k. absurd (omega (arith, lines.1, ranges.1)))
 
 -- the texts of tokens in order stand for what is left of them
 pub reads_back : (sources names : ℕ) (tokens : List RawToken) (text : List ℕ) (ranges : Option (List ℕ))
@@ -340,7 +342,7 @@ pub reads_back : (sources names : ℕ) (tokens : List RawToken) (text : List ℕ
 reads_back sources names [] text None few few_names order within small rises upto written is =
     let text_is : text ≡ [] = written.3 ∙ ap (join_with_byte 59) (nil_from_length written.0 written.1) in
     subst (λ (t : List ℕ). MappingsAnswer t [] (record { sources = sources; names = names }) (Ok [])) (sym text_is)
-        (record { bits = []; segments = [] } ∷ [], (refl, refl), refl)
+    (record { bits = []; segments = [] } ∷ [], (refl, refl), refl)
 reads_back sources names [] text (Some bits) few few_names order within small rises upto written is = absurd (let no = is.0 in cc)
 reads_back sources names (t ∷ rest) text ranges few few_names order within small rises upto written is =
     let tokens = t ∷ rest in
@@ -354,8 +356,9 @@ reads_back sources names (t ∷ rest) text ranges few few_names order within sma
     let lines = lines_split (IsLine names ts) tokens text some (IsLine-free names ts) written in
     let count : 0 + length texts ≡ line_count tokens = zero-add (length texts) ∙ length_beside (slice_split (λ b. b == 59) text) (slice_split (λ b. b == 59) (range_text ranges)) ∙ lines.1 in
     let all_back : page_tokens 0 [] (page_of names ts 0 texts) ≡ reduced names tokens =
-        ap (λ us. map (with_sound_name names) us ++ page_tokens 0 [] (page_of names ts 0 texts)) (sym (none_above_first ts))
-        ∙ back ∙ ap (λ m. map (with_sound_name names) (filter (is_above m) ts)) count ∙ ap (map (with_sound_name names)) upto in
-    (page_of names ts 0 texts,
-     page_read sources names 0 ts [] texts few few_names all_sound rises begun each,
-     sym (in_order-ordered (reduced names tokens) (AreInOrder-reduced names tokens order)) ∙ ap in_order (sym all_back))
+    ap (λ us. map (with_sound_name names) us ++ page_tokens 0 [] (page_of names ts 0 texts)) (sym (none_above_first ts))
+    ∙ back ∙ ap (λ m. map (with_sound_name names) (filter (is_above m) ts)) count ∙ ap (map (with_sound_name names)) upto in (
+      page_of names ts 0 texts,
+      page_read sources names 0 ts [] texts few few_names all_sound rises begun each,
+      sym (in_order-ordered (reduced names tokens) (AreInOrder-reduced names tokens order)) ∙ ap in_order (sym all_back),
+    )

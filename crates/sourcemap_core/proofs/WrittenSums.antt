@@ -77,8 +77,8 @@ source_is : (sources names : ℕ) (t : RawToken) → sources < 2 ^ 32 → IsSoun
 source_is sources names t small sound source = ⊎_elim
     (λ (h : t.src_id < sources). h)
     (λ (h : sources ≤ t.src_id).
-        let none : t.src_id ≡ 4294967295 = (sound.within h).0 in
-        absurd (let no : has_source t ≡ false = ap (λ n. mathlib.Core.Bool.not (n == 4294967295)) none in cc))
+    let none : t.src_id ≡ 4294967295 = (sound.within h).0 in
+    absurd (let no : has_source t ≡ false = ap (λ n. mathlib.Core.Bool.not (n == 4294967295)) none in cc))
     (cases_lt t.src_id sources)
 
 bare_is : (names : ℕ) (t : RawToken) → has_source t ≡ false → t.src_id ≡ 4294967295
@@ -101,7 +101,7 @@ sound_by sources names t true source few within small = record {
   src_line = (small.1.1 source).0;
   src_col = (small.1.1 source).1;
   within = within;
-  }
+}
 sound_by sources names t false source few within small =
     let nothing : t.src_id ≡ 4294967295 = bare_is names t source in
     let fields = within (omega arith) in
@@ -137,38 +137,40 @@ pub Carries-more : (sources names at : ℕ) (before : List RawToken) (all : List
 unfolding numbers_by
 Carries-more sources names at before all t few few_names sound c =
     go (kind_of names t) where
-    s : Segment
-    s = segment_of names at before t
-    against : RawToken
-    against = base names t.dst_line before
-    go : Kind names t → Carries names (before ++ t ∷ []) (all ++ segment_of names at before t ∷ [])
-    go (bare source name) =
-        let ns = numbers_are names against t false false source name in
-        record {
-          id = sum_same 1 _ all s c.id (ap (step_of 1) ns) ∙ sym (last_field-push_no has_source (λ u. u.src_id) before t source);
-          line = sum_same 2 _ all s c.line (ap (step_of 2) ns) ∙ sym (last_field-push_no has_source (λ u. u.src_line) before t source);
-          place = sum_same 3 _ all s c.place (ap (step_of 3) ns) ∙ sym (last_field-push_no has_source (λ u. u.src_col) before t source);
-          name = sum_same 4 _ all s c.name (ap (step_of 4) ns) ∙ sym (last_field-push_no (has_name names) (λ u. u.name_id) before t name);
-        }
-    go (unnamed source name) =
-        let ns = numbers_are names against t true false source name in
-        let known = source_is sources names t few sound source in
-        record {
-          id = sum_more 1 t.src_id _ all s (omega arith) c.id (ap (step_of 1) ns) ∙ sym (last_field-push_yes has_source (λ u. u.src_id) before t source);
-          line = sum_more 2 t.src_line _ all s sound.src_line c.line (ap (step_of 2) ns) ∙ sym (last_field-push_yes has_source (λ u. u.src_line) before t source);
-          place = sum_more 3 t.src_col _ all s sound.src_col c.place (ap (step_of 3) ns) ∙ sym (last_field-push_yes has_source (λ u. u.src_col) before t source);
-          name = sum_same 4 _ all s c.name (ap (step_of 4) ns) ∙ sym (last_field-push_no (has_name names) (λ u. u.name_id) before t name);
-        }
-    go (named source name) =
-        let ns = numbers_are names against t true true source name in
-        let known = source_is sources names t few sound source in
-        let named_below = name_is names t name in
-        record {
-          id = sum_more 1 t.src_id _ all s (omega arith) c.id (ap (step_of 1) ns) ∙ sym (last_field-push_yes has_source (λ u. u.src_id) before t source);
-          line = sum_more 2 t.src_line _ all s sound.src_line c.line (ap (step_of 2) ns) ∙ sym (last_field-push_yes has_source (λ u. u.src_line) before t source);
-          place = sum_more 3 t.src_col _ all s sound.src_col c.place (ap (step_of 3) ns) ∙ sym (last_field-push_yes has_source (λ u. u.src_col) before t source);
-          name = sum_more 4 t.name_id _ all s (omega arith) c.name (ap (step_of 4) ns) ∙ sym (last_field-push_yes (has_name names) (λ u. u.name_id) before t name);
-        }
+      s : Segment
+      s = segment_of names at before t
+
+      against : RawToken
+      against = base names t.dst_line before
+
+      go : Kind names t → Carries names (before ++ t ∷ []) (all ++ segment_of names at before t ∷ [])
+      go (bare source name) =
+          let ns = numbers_are names against t false false source name in
+          record {
+            id = sum_same 1 _ all s c.id (ap (step_of 1) ns) ∙ sym (last_field-push_no has_source (λ u. u.src_id) before t source);
+            line = sum_same 2 _ all s c.line (ap (step_of 2) ns) ∙ sym (last_field-push_no has_source (λ u. u.src_line) before t source);
+            place = sum_same 3 _ all s c.place (ap (step_of 3) ns) ∙ sym (last_field-push_no has_source (λ u. u.src_col) before t source);
+            name = sum_same 4 _ all s c.name (ap (step_of 4) ns) ∙ sym (last_field-push_no (has_name names) (λ u. u.name_id) before t name);
+          }
+      go (unnamed source name) =
+          let ns = numbers_are names against t true false source name in
+          let known = source_is sources names t few sound source in
+          record {
+            id = sum_more 1 t.src_id _ all s (omega arith) c.id (ap (step_of 1) ns) ∙ sym (last_field-push_yes has_source (λ u. u.src_id) before t source);
+            line = sum_more 2 t.src_line _ all s sound.src_line c.line (ap (step_of 2) ns) ∙ sym (last_field-push_yes has_source (λ u. u.src_line) before t source);
+            place = sum_more 3 t.src_col _ all s sound.src_col c.place (ap (step_of 3) ns) ∙ sym (last_field-push_yes has_source (λ u. u.src_col) before t source);
+            name = sum_same 4 _ all s c.name (ap (step_of 4) ns) ∙ sym (last_field-push_no (has_name names) (λ u. u.name_id) before t name);
+          }
+      go (named source name) =
+          let ns = numbers_are names against t true true source name in
+          let known = source_is sources names t few sound source in
+          let named_below = name_is names t name in
+          record {
+            id = sum_more 1 t.src_id _ all s (omega arith) c.id (ap (step_of 1) ns) ∙ sym (last_field-push_yes has_source (λ u. u.src_id) before t source);
+            line = sum_more 2 t.src_line _ all s sound.src_line c.line (ap (step_of 2) ns) ∙ sym (last_field-push_yes has_source (λ u. u.src_line) before t source);
+            place = sum_more 3 t.src_col _ all s sound.src_col c.place (ap (step_of 3) ns) ∙ sym (last_field-push_yes has_source (λ u. u.src_col) before t source);
+            name = sum_more 4 t.name_id _ all s (omega arith) c.name (ap (step_of 4) ns) ∙ sym (last_field-push_yes (has_name names) (λ u. u.name_id) before t name);
+          }
 
 -- the sum of the columns of a line
 pub column_more : (sources names at : ℕ) (before : List RawToken) (here : List Segment) (t : RawToken) → IsSound sources names t
@@ -192,29 +194,34 @@ pub segment_sound : (sources names at : ℕ) (before : List RawToken) (all : Lis
 unfolding numbers_by
 segment_sound sources names at before all t few sound c =
     go (kind_of names t) where
-    counts : Counts
-    counts = record { sources = sources; names = names }
-    against : RawToken
-    against = base names t.dst_line before
-    fault_of : List ℤ → Option Error
-    fault_of ns = segment_fault (record { sources = sources; names = names }) all (record { place = at; numbers = ns })
-    known_source : has_source t ≡ true → nat_le sources (sum_at 1 all) ≡ false
-    known_source source =
-        ap (nat_le sources) (c.id ∙ last_field-push_yes has_source (λ u. u.src_id) before t source)
-        ∙ above_not sources t.src_id (source_is sources names t few sound source)
-    known_name : has_name names t ≡ true → nat_le names (sum_at 4 all) ≡ false
-    known_name name =
-        ap (nat_le names) (c.name ∙ last_field-push_yes (has_name names) (λ u. u.name_id) before t name)
-        ∙ above_not names t.name_id (name_is names t name)
-    go : Kind names t → segment_fault (record { sources = sources; names = names }) all (segment_of names at before t) ≡ None
-    go (bare source name) = ap (λ ns. fault_of ns) (numbers_are names against t false false source name)
-    go (unnamed source name) =
-        ap (λ ns. fault_of ns) (numbers_are names against t true false source name)
-        ∙ ap (λ b. cond b (Some (BadSourceReference (sum_at 1 all))) None) (known_source source)
-    go (named source name) =
-        ap (λ ns. fault_of ns) (numbers_are names against t true true source name)
-        ∙ ap (λ b. cond b (Some (BadSourceReference (sum_at 1 all))) (cond (nat_le names (sum_at 4 all)) (Some (BadNameReference (sum_at 4 all))) None)) (known_source source)
-        ∙ ap (λ b. cond b (Some (BadNameReference (sum_at 4 all))) None) (known_name name)
+      counts : Counts
+      counts = record { sources = sources; names = names }
+
+      against : RawToken
+      against = base names t.dst_line before
+
+      fault_of : List ℤ → Option Error
+      fault_of ns = segment_fault (record { sources = sources; names = names }) all (record { place = at; numbers = ns })
+
+      known_source : has_source t ≡ true → nat_le sources (sum_at 1 all) ≡ false
+      known_source source =
+          ap (nat_le sources) (c.id ∙ last_field-push_yes has_source (λ u. u.src_id) before t source)
+          ∙ above_not sources t.src_id (source_is sources names t few sound source)
+
+      known_name : has_name names t ≡ true → nat_le names (sum_at 4 all) ≡ false
+      known_name name =
+          ap (nat_le names) (c.name ∙ last_field-push_yes (has_name names) (λ u. u.name_id) before t name)
+          ∙ above_not names t.name_id (name_is names t name)
+
+      go : Kind names t → segment_fault (record { sources = sources; names = names }) all (segment_of names at before t) ≡ None
+      go (bare source name) = ap (λ ns. fault_of ns) (numbers_are names against t false false source name)
+      go (unnamed source name) =
+          ap (λ ns. fault_of ns) (numbers_are names against t true false source name)
+          ∙ ap (λ b. cond b (Some (BadSourceReference (sum_at 1 all))) None) (known_source source)
+      go (named source name) =
+          ap (λ ns. fault_of ns) (numbers_are names against t true true source name)
+          ∙ ap (λ b. cond b (Some (BadSourceReference (sum_at 1 all))) (cond (nat_le names (sum_at 4 all)) (Some (BadNameReference (sum_at 4 all))) None)) (known_source source)
+          ∙ ap (λ b. cond b (Some (BadNameReference (sum_at 4 all))) None) (known_name name)
 
 -- the token that a token's segment stands for
 pub token_back : (sources names n at : ℕ) (bits : List ℕ) (before : List RawToken) (here all : List Segment) (t : RawToken)
@@ -224,46 +231,52 @@ pub token_back : (sources names n at : ℕ) (bits : List ℕ) (before : List Raw
 unfolding numbers_by
 token_back sources names n at bits before here all t few sound on bit column c =
     go (kind_of names t) where
-    against : RawToken
-    against = base names t.dst_line before
-    s : Segment
-    s = segment_of names at before t
-    field_of : ℕ → List ℤ → ℕ
-    field_of k ns = cond (nat_lt k (length ns)) (sum_at k all) 4294967295
-    id_is : has_source t ≡ true → sum_at 1 all ≡ t.src_id
-    id_is source = c.id ∙ last_field-push_yes has_source (λ u. u.src_id) before t source
-    line_is : has_source t ≡ true → sum_at 2 all ≡ t.src_line
-    line_is source = c.line ∙ last_field-push_yes has_source (λ u. u.src_line) before t source
-    place_is : has_source t ≡ true → sum_at 3 all ≡ t.src_col
-    place_is source = c.place ∙ last_field-push_yes has_source (λ u. u.src_col) before t source
-    go : Kind names t → token_of n bits here all (segment_of names at before t) ≡ with_sound_name names t
-    go (bare source name) =
-        let ns = numbers_are names against t false false source name in
-        let nothing : t.src_id ≡ 4294967295 = bare_is names t source in
-        let within = sound.within (omega arith) in
-        let id : field 1 all s ≡ t.src_id = ap (λ ns. field_of 1 ns) ns ∙ sym within.0 in
-        let line : field 2 all s ≡ t.src_line = ap (λ ns. field_of 2 ns) ns ∙ sym within.1 in
-        let place : field 3 all s ≡ t.src_col = ap (λ ns. field_of 3 ns) ns ∙ sym within.2 in
-        let no_such : nat_lt t.name_id names ≡ false = below_not t.name_id names within.3 in
-        let id' : field 4 all s ≡ cond (nat_lt t.name_id names) t.name_id 4294967295 =
-            ap (λ ns. field_of 4 ns) ns ∙ sym (ap (λ b. cond b t.name_id 4294967295) no_such) in
-        cc
-    go (unnamed source name) =
-        let ns = numbers_are names against t true false source name in
-        let id : field 1 all s ≡ t.src_id = ap (λ ns. field_of 1 ns) ns ∙ id_is source in
-        let line : field 2 all s ≡ t.src_line = ap (λ ns. field_of 2 ns) ns ∙ line_is source in
-        let place : field 3 all s ≡ t.src_col = ap (λ ns. field_of 3 ns) ns ∙ place_is source in
-        let no_such : nat_lt t.name_id names ≡ false = below_not t.name_id names (no_name names t source name) in
-        let id' : field 4 all s ≡ cond (nat_lt t.name_id names) t.name_id 4294967295 =
-            ap (λ ns. field_of 4 ns) ns ∙ sym (ap (λ b. cond b t.name_id 4294967295) no_such) in
-        cc
-    go (named source name) =
-        let ns = numbers_are names against t true true source name in
-        let id : field 1 all s ≡ t.src_id = ap (λ ns. field_of 1 ns) ns ∙ id_is source in
-        let line : field 2 all s ≡ t.src_line = ap (λ ns. field_of 2 ns) ns ∙ line_is source in
-        let place : field 3 all s ≡ t.src_col = ap (λ ns. field_of 3 ns) ns ∙ place_is source in
-        let such : nat_lt t.name_id names ≡ true = below_is t.name_id names (name_is names t name) in
-        let name_back : sum_at 4 all ≡ t.name_id = c.name ∙ last_field-push_yes (has_name names) (λ u. u.name_id) before t name in
-        let id' : field 4 all s ≡ cond (nat_lt t.name_id names) t.name_id 4294967295 =
-            ap (λ ns. field_of 4 ns) ns ∙ name_back ∙ sym (ap (λ b. cond b t.name_id 4294967295) such) in
-        cc
+      against : RawToken
+      against = base names t.dst_line before
+
+      s : Segment
+      s = segment_of names at before t
+
+      field_of : ℕ → List ℤ → ℕ
+      field_of k ns = cond (nat_lt k (length ns)) (sum_at k all) 4294967295
+
+      id_is : has_source t ≡ true → sum_at 1 all ≡ t.src_id
+      id_is source = c.id ∙ last_field-push_yes has_source (λ u. u.src_id) before t source
+
+      line_is : has_source t ≡ true → sum_at 2 all ≡ t.src_line
+      line_is source = c.line ∙ last_field-push_yes has_source (λ u. u.src_line) before t source
+
+      place_is : has_source t ≡ true → sum_at 3 all ≡ t.src_col
+      place_is source = c.place ∙ last_field-push_yes has_source (λ u. u.src_col) before t source
+
+      go : Kind names t → token_of n bits here all (segment_of names at before t) ≡ with_sound_name names t
+      go (bare source name) =
+          let ns = numbers_are names against t false false source name in
+          let nothing : t.src_id ≡ 4294967295 = bare_is names t source in
+          let within = sound.within (omega arith) in
+          let id : field 1 all s ≡ t.src_id = ap (λ ns. field_of 1 ns) ns ∙ sym within.0 in
+          let line : field 2 all s ≡ t.src_line = ap (λ ns. field_of 2 ns) ns ∙ sym within.1 in
+          let place : field 3 all s ≡ t.src_col = ap (λ ns. field_of 3 ns) ns ∙ sym within.2 in
+          let no_such : nat_lt t.name_id names ≡ false = below_not t.name_id names within.3 in
+          let id' : field 4 all s ≡ cond (nat_lt t.name_id names) t.name_id 4294967295 =
+          ap (λ ns. field_of 4 ns) ns ∙ sym (ap (λ b. cond b t.name_id 4294967295) no_such) in
+          cc
+      go (unnamed source name) =
+          let ns = numbers_are names against t true false source name in
+          let id : field 1 all s ≡ t.src_id = ap (λ ns. field_of 1 ns) ns ∙ id_is source in
+          let line : field 2 all s ≡ t.src_line = ap (λ ns. field_of 2 ns) ns ∙ line_is source in
+          let place : field 3 all s ≡ t.src_col = ap (λ ns. field_of 3 ns) ns ∙ place_is source in
+          let no_such : nat_lt t.name_id names ≡ false = below_not t.name_id names (no_name names t source name) in
+          let id' : field 4 all s ≡ cond (nat_lt t.name_id names) t.name_id 4294967295 =
+          ap (λ ns. field_of 4 ns) ns ∙ sym (ap (λ b. cond b t.name_id 4294967295) no_such) in
+          cc
+      go (named source name) =
+          let ns = numbers_are names against t true true source name in
+          let id : field 1 all s ≡ t.src_id = ap (λ ns. field_of 1 ns) ns ∙ id_is source in
+          let line : field 2 all s ≡ t.src_line = ap (λ ns. field_of 2 ns) ns ∙ line_is source in
+          let place : field 3 all s ≡ t.src_col = ap (λ ns. field_of 3 ns) ns ∙ place_is source in
+          let such : nat_lt t.name_id names ≡ true = below_is t.name_id names (name_is names t name) in
+          let name_back : sum_at 4 all ≡ t.name_id = c.name ∙ last_field-push_yes (has_name names) (λ u. u.name_id) before t name in
+          let id' : field 4 all s ≡ cond (nat_lt t.name_id names) t.name_id 4294967295 =
+          ap (λ ns. field_of 4 ns) ns ∙ name_back ∙ sym (ap (λ b. cond b t.name_id 4294967295) such) in
+          cc

@@ -146,24 +146,24 @@ above_more_at : (n : ℕ) (t : RawToken) (ts : List RawToken) → From t.dst_lin
     → filter (is_above (n + 1)) (t ∷ ts) ≡ filter (is_above n) (t ∷ ts) ++ filter (is_on n) (t ∷ ts)
 above_more_at n t ts from more = ⊎_elim
     (λ (below : t.dst_line < n).
-        keeps (is_above (n + 1)) t ts (below_yes t.dst_line (n + 1) (omega arith))
-        ∙ ap (λ us. t ∷ us) more
-        ∙ ap (λ us. t ∷ (filter (is_above n) ts ++ us)) (sym (drops (is_on n) t ts (on_no t.dst_line n (λ e. omega arith))))
-        ∙ ap (λ us. us ++ filter (is_on n) (t ∷ ts)) (sym (keeps (is_above n) t ts (below_yes t.dst_line n below))))
+    keeps (is_above (n + 1)) t ts (below_yes t.dst_line (n + 1) (omega arith))
+    ∙ ap (λ us. t ∷ us) more
+    ∙ ap (λ us. t ∷ (filter (is_above n) ts ++ us)) (sym (drops (is_on n) t ts (on_no t.dst_line n (λ e. omega arith))))
+    ∙ ap (λ us. us ++ filter (is_on n) (t ∷ ts)) (sym (keeps (is_above n) t ts (below_yes t.dst_line n below))))
     (λ (past : n ≤ t.dst_line). ⊎_elim
-        (λ (on : t.dst_line ≡ n).
-            let none : filter (is_above n) ts ≡ [] = none_above n ts (subst (λ (m : ℕ). From m ts) on from) in
-            keeps (is_above (n + 1)) t ts (below_yes t.dst_line (n + 1) (omega arith))
-            ∙ ap (λ us. t ∷ us) more
-            ∙ ap (λ us. t ∷ (us ++ filter (is_on n) ts)) none
-            ∙ sym (keeps (is_on n) t ts (on_yes t.dst_line n on))
-            ∙ ap (λ us. us ++ filter (is_on n) (t ∷ ts)) (sym (drops (is_above n) t ts (below_no t.dst_line n past) ∙ none)))
-        (λ (off : t.dst_line ≢ n).
-            drops (is_above (n + 1)) t ts (below_no t.dst_line (n + 1) (omega arith))
-            ∙ more
-            ∙ ap (λ us. filter (is_above n) ts ++ us) (sym (drops (is_on n) t ts (on_no t.dst_line n off)))
-            ∙ ap (λ us. us ++ filter (is_on n) (t ∷ ts)) (sym (drops (is_above n) t ts (below_no t.dst_line n past))))
-        (cases_eq t.dst_line n))
+    (λ (on : t.dst_line ≡ n).
+    let none : filter (is_above n) ts ≡ [] = none_above n ts (subst (λ (m : ℕ). From m ts) on from) in
+    keeps (is_above (n + 1)) t ts (below_yes t.dst_line (n + 1) (omega arith))
+    ∙ ap (λ us. t ∷ us) more
+    ∙ ap (λ us. t ∷ (us ++ filter (is_on n) ts)) none
+    ∙ sym (keeps (is_on n) t ts (on_yes t.dst_line n on))
+    ∙ ap (λ us. us ++ filter (is_on n) (t ∷ ts)) (sym (drops (is_above n) t ts (below_no t.dst_line n past) ∙ none)))
+    (λ (off : t.dst_line ≢ n).
+    drops (is_above (n + 1)) t ts (below_no t.dst_line (n + 1) (omega arith))
+    ∙ more
+    ∙ ap (λ us. filter (is_above n) ts ++ us) (sym (drops (is_on n) t ts (on_no t.dst_line n off)))
+    ∙ ap (λ us. us ++ filter (is_on n) (t ∷ ts)) (sym (drops (is_above n) t ts (below_no t.dst_line n past))))
+    (cases_eq t.dst_line n))
     (cases_lt t.dst_line n)
 
 pub above_more : (n : ℕ) (ts : List RawToken) → Rises ts → filter (is_above (n + 1)) ts ≡ filter (is_above n) ts ++ filter (is_on n) ts

@@ -42,4 +42,4 @@ moved names against t = record {
   src_id = (if has_source t then t.src_id else against.src_id);
   name_id = (if has_name names t then t.name_id else against.name_id);
   is_range = false;
-  }
+}

@@ -124,3 +124,43 @@ fn bits_are_determined()
     ensures one_answer { (text : List ℕ) (a b : Result (List Bool) Error) → BitAnswers text a → BitAnswers text b → a ≡ b }
     ensures one_text { (bits : List Bool) (a b : List ℕ) → IsBitText bits a → IsBitText bits b → a ≡ b }
 {}
+
+#[cfg(test)]
+mod tests {
+    use super::*;
+    use std::test::Fail;
+
+    #[test]
+    fn bits_and_texts(rt: HostRuntime) -> std::result::Result<(), Fail> {
+        let rows: [(&str, &[usize]); 3] = [("AAB", &[12]), ("g", &[5]), ("Bg", &[0, 11])];
+        for (text, places) in rows {
+            let mut bits = vec![in rt.alloc(); false; 20]?;
+            for place in places {
+                if *place < bits.len() {
+                    bits[*place] = true;
+                }
+            }
+            let written = encode_rmi(rt.alloc(), &bits)?;
+            assert_eq!(rt; written.as_str(), text);
+            let read = decode_rmi(rt.alloc(), text)?;
+            assert_eq!(rt; read.len(), 6 * text.len(), "{text}");
+            for (place, bit) in read.iter().enumerate() {
+                assert_eq!(rt; *bit, places.contains(&place), "{text} at {place}");
+            }
+        }
+        Ok(())
+    }
+
+    #[test]
+    fn other_bytes(rt: HostRuntime) -> std::result::Result<(), Fail> {
+        for (text, want) in [("é", 'Ã'), ("AB=A", '=')] {
+            let fault = match decode_rmi(rt.alloc(), text) {
+                Err(Error::InvalidBase64(byte)) => Some(byte),
+                _ => None,
+            };
+            assert_eq!(rt; fault, Some(want));
+        }
+        assert_eq!(rt; encode_rmi(rt.alloc(), &[false, false])?.as_str(), "");
+        Ok(())
+    }
+}

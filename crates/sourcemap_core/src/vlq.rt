@@ -165,3 +165,64 @@ fn segments_are_determined()
     ensures one_text { (numbers : List ℤ) (a b : List ℕ) → Spells numbers a → Spells numbers b → a ≡ b }
     ensures round_trip { (numbers : List ℤ) (text : List ℕ) → Spells numbers text → numbers ≢ [] → Answers text (Ok numbers) }
 {}
+
+#[cfg(test)]
+mod tests {
+    use super::*;
+    use std::test::Fail;
+
+    fn read(rt: &HostRuntime, segment: &str) -> std::result::Result<String, Fail> {
+        match parse_vlq_segment(rt.alloc(), segment) {
+            Ok(numbers) => Ok(format!(in rt.alloc(); "{numbers:?}")?),
+            Err(fault) => Ok(format!(in rt.alloc(); "{fault}")?),
+        }
+    }
+
+    fn written(rt: &HostRuntime, numbers: &[i64]) -> std::result::Result<String, Fail> {
+        match generate_vlq_segment(rt.alloc(), numbers) {
+            Ok(text) => Ok(text),
+            Err(fault) => Ok(format!(in rt.alloc(); "{fault}")?),
+        }
+    }
+
+    #[test]
+    fn reads_segments(rt: HostRuntime) -> std::result::Result<(), Fail> {
+        let overflow = "vlq decode caused an overflow";
+        let leftover = "leftover cur/shift in vlq decode";
+        let rows = [
+            ("AAAA", "[0, 0, 0, 0]"),
+            ("GAAIA", "[3, 0, 0, 4, 0]"),
+            ("B", "[0]"),
+            ("", "vlq decode did not produce any values"),
+            ("g", leftover),
+            ("A!", "invalid base64 character: !"),
+            ("Aé", "invalid base64 character: Ã"),
+            ("ggggggggggggH", "[4035225266123964416]"),
+            ("ggggggggggggI", overflow),
+            ("gggggggggggggA", overflow),
+            ("00000000000000", overflow),
+            ("ggggggggggggg", leftover),
+        ];
+        for (segment, want) in rows {
+            let got = read(&rt, segment)?;
+            assert_eq!(rt; got.as_str(), want, "at {segment}");
+        }
+        Ok(())
+    }
+
+    #[test]
+    fn writes_segments(rt: HostRuntime) -> std::result::Result<(), Fail> {
+        assert_eq!(rt; written(&rt, &[0, 0, 0, 0])?.as_str(), "AAAA");
+        assert_eq!(rt; written(&rt, &[3, 0, 0, 4, 0])?.as_str(), "GAAIA");
+        assert_eq!(rt; written(&rt, &[])?.as_str(), "");
+        assert_eq!(rt;
+            written(&rt, &[4611686018427387903])?.as_str(),
+            "+///////////H"
+        );
+        assert_eq!(rt;
+            written(&rt, &[4611686018427387904])?.as_str(),
+            "vlq decode caused an overflow"
+        );
+        Ok(())
+    }
+}
