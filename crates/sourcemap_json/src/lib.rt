@@ -5,4 +5,6 @@ pub mod decoder;
 mod debug_id;
 mod fields;
 pub mod jsontypes;
+mod parts;
 mod reading;
+mod writing;

@@ -1,88 +1,17 @@
 // Records from values, each text moved out of its value.
-ghost use Rattle.std.specs.Prelude.{◌≡◌, ℕ, List, Option, Some, map, option_map, string_bytes, codes, false};
+ghost use Rattle.std.specs.Prelude.{◌≡◌, ℕ, List, Some, map, option_map, codes, false};
 ghost use Rattle.std.specs.Str.{bytes_eq};
 ghost use Rattle.serde_json.specs.Find.{get_member};
 ghost use Rattle.serde_json.specs.View.{view, items_view, members_view};
-ghost use Rattle.sourcemap_json.specs.DebugId.{debug_id_of};
 ghost use Rattle.sourcemap_json.specs.Fields.{Reads, with, found};
-ghost use Rattle.sourcemap_json.specs.Jsontypes.{Scopes, scopes, scopes_in, scopes_view, offset, offset_in, debug_id, debug_id_in, fields_in, place_in, section_at, tree_with, sections_from, sections_read, sections_of, record_of, section_of, section, tree};
+ghost use Rattle.sourcemap_json.specs.Jsontypes.{debug_id_in, fields_in, place_in, section_at, tree_with, sections_from, sections_read, sections_of, record_of, section_of, section, tree};
 
 use crate::debug_id::DebugId;
-use crate::fields::{Field, take_needed, take_optional, take_value};
-use crate::jsontypes::{FacebookScopeMapping, RawSection, RawSectionOffset, RawSourceMap};
+use crate::fields::{take_needed, take_optional, take_value};
+use crate::jsontypes::{RawSection, RawSourceMap};
 use serde_json::{Map, Value};
 use sourcemap_core::errors::{Error, JsonFault, Result};
 use std::alloc::Global;
-
-impl Field for DebugId {
-    ghost Seen = { List ℕ };
-
-    ghost see = { λ id. id };
-
-    ghost reading = { debug_id };
-
-    fn take(alloc: Global, value: Value) -> Result<DebugId> {
-        let text = String::take(alloc, value)?;
-        parsed_id(&text)
-    }
-}
-
-fn parsed_id(text: &String) -> Result<DebugId>
-    ensures { Reads (λ id. id) result (debug_id_of (string_bytes text.now)) }
-{
-    match DebugId::parse(text.as_str()) {
-        Some(id) => Ok(id),
-        None => Err(Error::BadJson(JsonFault::Shape)),
-    }
-}
-
-impl Field for RawSectionOffset {
-    ghost use Rattle.sourcemap_json.specs.declared.jsontypes.RawSectionOffset.{RawSectionOffset};
-
-    ghost Seen = { RawSectionOffset };
-
-    ghost see = { λ offset. offset };
-
-    ghost reading = { offset };
-
-    fn take(alloc: Global, value: Value) -> Result<RawSectionOffset> {
-        match value {
-            Value::Object(members) => take_offset(alloc, members),
-            _ => Err(Error::BadJson(JsonFault::Shape)),
-        }
-    }
-}
-
-fn take_offset(alloc: Global, mut members: Map<String, Value>) -> Result<RawSectionOffset>
-    ensures { Reads (λ offset. offset) result (offset_in (members_view members.entries)) }
-{
-    let line = take_needed(alloc, &mut members, "line")?;
-    let column = take_needed(alloc, &mut members, "column")?;
-    Ok(RawSectionOffset { line, column })
-}
-
-impl Field for FacebookScopeMapping {
-    ghost Seen = { Scopes };
-
-    ghost see = { scopes_view };
-
-    ghost reading = { scopes };
-
-    fn take(alloc: Global, value: Value) -> Result<FacebookScopeMapping> {
-        match value {
-            Value::Object(members) => take_scopes(alloc, members),
-            _ => Err(Error::BadJson(JsonFault::Shape)),
-        }
-    }
-}
-
-fn take_scopes(alloc: Global, mut members: Map<String, Value>) -> Result<FacebookScopeMapping>
-    ensures { Reads scopes_view result (scopes_in (members_view members.entries)) }
-{
-    let names = take_needed(alloc, &mut members, "names")?;
-    let mappings = take_needed(alloc, &mut members, "mappings")?;
-    Ok(FacebookScopeMapping { names, mappings })
-}
 
 // Both keys are read, and the first wins.
 fn take_debug_id(alloc: Global, members: &mut Map<String, Value>) -> Result<Option<DebugId>>
