@@ -24,10 +24,7 @@ digit_value_cases c = some_cases (digit_value c) where
 
 -- ---- digits in a row
 
--- what one more digit is worth
-pub weight : ℕ → ℕ
-weight n = 2 ^ (5 * n)
-
+-- what the digit after n others is worth
 weight-suc : (n : ℕ) → 2 ^ (5 * suc n) ≡ 32 * 2 ^ (5 * n)
 weight-suc n =
     let e : 5 * suc n ≡ 5 + 5 * n = omega arith in

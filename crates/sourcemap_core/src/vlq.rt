@@ -125,8 +125,9 @@ pub(crate) fn push_number(text: &mut String, number: i64) -> Result<()>
 }
 
 /// The numbers of a segment. Answers `InvalidBase64` at a byte that is no digit, `VlqOverflow` at a
-/// number past 62 bits, `VlqLeftover` where the segment ends within a number, and `VlqNoValues` for
-/// the empty segment; the first of these from the left.
+/// digit that takes a number to 2^62 or more from 0 or is its fourteenth, `VlqLeftover` where the
+/// segment ends within a number, and `VlqNoValues` for the empty segment; the first of these from
+/// the left.
 pub fn parse_vlq_segment(alloc: Global, segment: &str) -> Result<Vec<i64>>
     ensures answers { IsAnswer (λ numbers. numbers.items) (Answers segment.now) result }
     ensures only { (answer : Result (List ℤ) Error) → Answers segment.now answer → Gives (λ numbers. numbers.items) result answer }

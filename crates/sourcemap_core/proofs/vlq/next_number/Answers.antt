@@ -1,4 +1,4 @@
-use Rattle.std.proofs.Common.{◌≡◌, ◌<◌, length, drop, take, sym, ◌∙◌, ap, arith, to_z, of_z, w64}
+use Rattle.std.proofs.Common.{◌≡◌, ◌<◌, length, drop, sym, ◌∙◌, ap, arith, to_z, of_z, w64}
 use Rattle.std.proofs.lemmas.List.{take_rest}
 use Rattle.std.proofs.lemmas.Int.{ints}
 use Rattle.sourcemap_core.specs.Vlq.{BeginsWith, number_of}
