@@ -1,7 +1,8 @@
 -- The order of tokens, the closest token, and what a reduced list keeps.
 use Rattle.std.proofs.Common.{◌≡◌, refl, sym, ap, subst, ◌∙◌, ℕ, ◌+◌, ◌-◌, ◌<◌, ◌≤◌, List, [], ◌∷◌, length, get_or, map, Bool, true, false, cond, arith, inl, inr, eqb-true, Option, Some, None, find, option_map, nat_lt, if◌then◌else◌, ◌==◌}
 use mathlib.Core.Bool.{beq}
-use Rattle.std.specs.List.{AllByRecursion}
+use Rattle.std.specs.List.{AllByRecursion, AllByRecursion-prop}
+use Rattle.std.proofs.Props.{props}
 use Rattle.std.specs.Option.{option_or}
 use Rattle.std.specs.Cmp.{IsTotalOrder}
 use Rattle.std.specs.Ordering.{is_lt, is_eq}
@@ -199,3 +200,7 @@ AllWithin-reduced sources names tokens few all =
     (All-weaker-recursion (IsWithin sources names) (λ t. IsWithin sources names (with_sound_name names t))
     (λ t within none. let bare = within none in (bare.0, bare.1, bare.2, sound_name_fits names t.name_id few bare.3))
     (without_repeats tokens) (All-without_repeats (IsWithin sources names) tokens all))
+
+-- any two proofs of a bound are equal, as a type that keeps it asks
+pub AllWithin-prop : (sources names : ℕ) (tokens : List RawToken) → IsProp (AllWithin sources names tokens)
+AllWithin-prop sources names tokens = AllByRecursion-prop (IsWithin sources names) (λ token. hlevel props) tokens
