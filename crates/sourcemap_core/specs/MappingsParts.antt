@@ -71,6 +71,10 @@ pub record AddsLine (counts : Counts) (n : ℕ) (before : List Segment) (text : 
   pub tokens : new ≡ old ++ line_tokens n line.bits before [] line.segments
   pub sums_after : AreTextSums (before ++ line.segments) sums
 
--- the lines of a text, none where it is at its end
+-- the lines of a text
+abbrev pub lines_of : List ℕ → List (List ℕ)
+lines_of text = slice_split (λ b. b == 59) text
+
+-- the same, none where the text is at its end
 abbrev pub lines_left : Option (Bor (List ℕ)) → List (List ℕ)
-lines_left text = option_map_or (λ rest. slice_split (λ b. b == 59) rest.now) text []
+lines_left text = option_map_or (λ rest. lines_of rest.now) text []

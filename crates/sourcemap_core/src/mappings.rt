@@ -1,5 +1,5 @@
 //! The text of mappings, read: lines between `;`, the parts of a line between `,`.
-ghost use Rattle.std.specs.Prelude.{◌≡◌, ℕ, ◌+◌, ◌<◌, ◌==◌, ℤ, List, [], ◌∷◌, ◌++◌, length, nat_lt, min, Result, ◌||◌, if◌then◌else◌, IsTrue, Some, None, is_none, IfSome, MatchOption, MatchResult, IfOk, IfErr, unsigned_abs, pos, ◌^◌};
+ghost use Rattle.std.specs.Prelude.{◌≡◌, ℕ, ◌+◌, ◌<◌, ◌≤◌, ◌==◌, ℤ, List, [], ◌∷◌, ◌++◌, length, nat_lt, min, Result, ◌||◌, if◌then◌else◌, IsTrue, Some, None, is_none, IfSome, MatchOption, MatchResult, IfOk, IfErr, unsigned_abs, pos, ◌^◌};
 ghost use Rattle.std.specs.Option.{option_map_or};
 ghost use Rattle.std.specs.List.{slice_split};
 ghost use Rattle.std.specs.Int.{int_rem_euclid};
@@ -8,13 +8,14 @@ ghost use Rattle.sourcemap_core.specs.Bits.{bit_of, first_foreign};
 ghost use Rattle.sourcemap_core.specs.declared.errors.Error.{Error};
 ghost use Rattle.sourcemap_core.specs.declared.tokens.RawToken.{RawToken};
 ghost use Rattle.sourcemap_core.specs.Mappings.{Counts, MappingsAnswer, Segment, PartsFault, LineFault, LinesRead, LinesFault, beside, line_texts, page_tokens, Line, segment_fault, token_of};
-ghost use Rattle.sourcemap_core.specs.MappingsParts.{AreSteps, AreTextSums, AreSums, AddsParts, AddsLine, counts_of, lines_left, fault_in_part, HasFirstPart, HasPartFault};
+ghost use Rattle.sourcemap_core.specs.MappingsParts.{AreSteps, AreTextSums, AreSums, AddsParts, AddsLine, counts_of, lines_of, lines_left, fault_in_part, HasFirstPart, HasPartFault};
 ghost use Rattle.sourcemap_core.specs.Tokens.{AreInOrder, AllWithin};
-ghost use Rattle.sourcemap_core.specs.Vlq.{Reads, HasFault, digit_value};
+ghost use Rattle.sourcemap_core.specs.Vlq.{Reads, HasFault};
 
+use crate::bits::{has_bit, test_digits};
 use crate::errors::{Error, Result};
 use crate::tokens::{RawToken, sort_tokens};
-use crate::vlq::{digit_of, next_number};
+use crate::vlq::next_number;
 use std::alloc::Global;
 
 // How many sources and names the map has.
@@ -48,19 +49,16 @@ struct Numbers {
     steps: [u32; 5],
 }
 
-// What stands before the first separator, and what stands behind it if there is one.
+// The first line of a text, and the text behind it if there is more.
 #[inline]
-fn cut(text: &[u8], separator: u8) -> (&[u8], Option<&[u8]>)
-    ensures split { slice_split (λ b. b == separator) text.now
-        ≡ result.0.now ∷ option_map_or (λ rest. slice_split (λ b. b == separator) rest.now) result.1 [] }
-    ensures shorter { IfSome result.1 (λ rest. length rest.now < length text.now) }
+fn cut(text: &str) -> (&str, Option<&str>)
+    ensures split { lines_of text.now ≡ result.0.now ∷ lines_left result.1 }
+    ensures shorter { option_map_or (λ rest. length rest.now + 1) result.1 0 ≤ length text.now }
 {
-    for (at, byte) in text.iter().enumerate() {
-        if *byte == separator {
-            return (&text[..at], Some(&text[at + 1..]));
-        }
+    match text.split_once(';') {
+        Some((line, behind)) => (line, Some(behind)),
+        None => (text, None),
     }
-    (text, None)
 }
 
 // A number as a step modulo 2^32.
@@ -101,7 +99,10 @@ fn read_numbers(line: &[u8]) -> Result<(Numbers, Option<&[u8]>)>
     ensures read { IfOk result (λ read. HasFirstPart line.now read.0 read.1) }
     ensures fault { IfErr result (λ e. HasPartFault line.now e) }
 {
-    let mut read = Numbers { count: 0, steps: [0; 5] };
+    let mut read = Numbers {
+        count: 0,
+        steps: [0; 5],
+    };
     let mut rest = line;
     while let Some((first, behind)) = rest.split_first() {
         if *first == b',' {
@@ -166,17 +167,6 @@ fn field(count: u32, place: u32, sum: u32) -> u32
     ensures { result ≡ (if nat_lt place count then sum else 4294967295) }
 {
     if place < count { sum } else { u32::MAX }
-}
-
-// The bit of this number in the text of a line's range bits.
-#[inline]
-fn has_bit(bits: &[u8], number: usize) -> bool
-    ensures { result ≡ bit_of bits.now number }
-{
-    match bits.get(number / 6) {
-        Some(byte) => digit_of(*byte).is_some_and(|value| (value >> (number % 6)) % 2 == 1),
-        None => false,
-    }
 }
 
 // The token of a segment of so many numbers, with the sums up to it.
@@ -250,27 +240,6 @@ fn add_parts(
     }
 }
 
-// Whether a byte is no digit.
-#[inline]
-fn is_foreign(byte: u8) -> bool
-    ensures { result ≡ is_none (digit_value byte) }
-{
-    digit_of(byte).is_none()
-}
-
-// Refuses a text of range bits at its first byte that is no digit.
-fn check_bits(bits: &[u8]) -> Result<()>
-    ensures { MatchResult result (λ _. first_foreign bits.now ≡ None)
-        (λ e. (b : ℕ) × (first_foreign bits.now ≡ Some b) × (e ≡ Error.InvalidBase64 b)) }
-{
-    for byte in bits {
-        if is_foreign(*byte) {
-            return Err(Error::InvalidBase64(char::from(*byte)));
-        }
-    }
-    Ok(())
-}
-
 // Adds the tokens of a line; the answer is the sums behind it.
 fn add_line(
     tokens: &mut Vec<RawToken>,
@@ -291,28 +260,23 @@ fn add_line(
     let Ok(line) = u32::try_from(number) else {
         return Err(Error::IncompatibleSourceMap);
     };
-    check_bits(bits)?;
+    test_digits(bits)?;
     add_parts(tokens, text, bits, line, sums, limits)
 }
 
 // The next line of a text of range bits, empty where the text is at its end, and what stands behind it.
 #[inline]
-fn next_bits(ranges: Option<&[u8]>) -> (&[u8], Option<&[u8]>)
+fn next_bits(ranges: Option<&str>) -> (&str, Option<&str>)
     ensures { (line : List ℕ) (lines : List (List ℕ)) → beside (line ∷ lines) (lines_left ranges.entry) ≡ (line, result.0.now) ∷ beside lines (lines_left result.1) }
 {
     match ranges {
-        Some(text) => cut(text, b';'),
-        None => (&[], None),
+        Some(text) => cut(text),
+        None => ("", None),
     }
 }
 
 // The tokens of the lines, in order of the text.
-fn read_lines(
-    alloc: Global,
-    mappings: &[u8],
-    ranges: &[u8],
-    limits: Limits,
-) -> Result<Vec<RawToken>>
+fn read_lines(alloc: Global, mappings: &str, ranges: &str, limits: Limits) -> Result<Vec<RawToken>>
     ensures read { IfOk result (λ v. (page : List Line) × LinesRead (counts_of limits) 0 [] (line_texts mappings.now ranges.now) page
         × (v.items ≡ page_tokens 0 [] page)) }
     ensures fault { IfErr result (λ e. UnlessMemory e (LinesFault (counts_of limits) 0 [] (line_texts mappings.now ranges.now) e)) }
@@ -325,20 +289,25 @@ fn read_lines(
         source_column: 0,
         name: 0,
     };
-    let mut lines = mappings;
+    let mut lines = Some(mappings);
     let mut ranges = Some(ranges);
     let mut number = 0;
-    loop {
-        let (text, later) = cut(lines, b';');
+    while let Some(text) = lines {
+        let (line, later) = cut(text);
         let (bits, later_bits) = next_bits(ranges);
-        sums = add_line(&mut tokens, text, bits, number, sums, limits)?;
-        let Some(later) = later else {
-            return Ok(tokens);
-        };
+        sums = add_line(
+            &mut tokens,
+            line.as_bytes(),
+            bits.as_bytes(),
+            number,
+            sums,
+            limits,
+        )?;
         lines = later;
         ranges = later_bits;
         number += 1;
     }
+    Ok(tokens)
 }
 
 /// The tokens that the texts of mappings and of range bits stand for, in order of destination, for
@@ -362,7 +331,7 @@ pub fn parse_mappings(
     ensures within { IfOk result (λ v. AllWithin sources names v.items) }
 {
     let limits = Limits { sources, names };
-    let mut tokens = read_lines(alloc, mappings.as_bytes(), ranges.as_bytes(), limits)?;
+    let mut tokens = read_lines(alloc, mappings, ranges, limits)?;
     sort_tokens(&mut tokens)?;
     Ok(tokens)
 }
@@ -372,3 +341,87 @@ pub fn mappings_determine_one_answer()
     ensures { (mappings ranges : List ℕ) (counts : Counts) (a b : Result (List RawToken) Error)
         → MappingsAnswer mappings ranges counts a → MappingsAnswer mappings ranges counts b → a ≡ b }
 {}
+
+#[cfg(test)]
+mod tests {
+    use super::*;
+    use std::test::Fail;
+
+    // A token as its places, as `0:18=0:2:2#1+`: destination, source, name, and `+` for a range.
+    fn show(text: &mut String, token: RawToken) -> std::result::Result<(), Fail> {
+        let RawToken {
+            dst_line,
+            dst_col,
+            src_line,
+            src_col,
+            src_id,
+            name_id,
+            is_range,
+        } = token;
+        write!(text, " {dst_line}:{dst_col}")?;
+        if src_id != u32::MAX {
+            write!(text, "={src_id}:{src_line}:{src_col}")?;
+        }
+        if name_id != u32::MAX {
+            write!(text, "#{name_id}")?;
+        }
+        if is_range {
+            text.push('+')?;
+        }
+        Ok(())
+    }
+
+    fn read(
+        rt: &HostRuntime,
+        mappings: &str,
+        ranges: &str,
+        sources: u32,
+        names: u32,
+    ) -> std::result::Result<String, Fail> {
+        match parse_mappings(rt.alloc(), mappings, ranges, sources, names) {
+            Ok(tokens) => {
+                let mut text = String::new(rt.alloc());
+                for token in tokens.as_slice() {
+                    show(&mut text, *token)?;
+                }
+                Ok(text)
+            }
+            Err(fault) => Ok(format!(in rt.alloc(); "{fault}")?),
+        }
+    }
+
+    #[test]
+    fn reads_mappings(rt: HostRuntime) -> std::result::Result<(), Fail> {
+        let readme = "AAAA,GAAIA,GAAI,EACR,IAAIA,GAAK,EAAG,CACVC,MAAM";
+        let tokens =
+            " 0:0=0:0:0 0:3=0:0:4#0 0:6=0:0:8 0:8=0:1:0 0:12=0:1:4#0 0:15=0:1:9 0:17=0:1:12 0:18=0:2:2#1 0:24=0:2:8";
+        let overflow = "vlq decode caused an overflow";
+        let rows = [
+            (readme, "", 1, 2, tokens),
+            ("A;A", ";B", 0, 0, " 0:0 1:0+"),
+            ("A,,C", "E", 0, 0, " 0:0 0:1+"),
+            ("AAAO", "B", 1, 0, " 0:0=0:0:7+"),
+            ("AADA", "", 1, 0, " 0:0=0:4294967295:0"),
+            ("D,C", "B", 0, 0, " 0:0 0:4294967295+"),
+            ("ggggggggggggH", "", 0, 0, " 0:0"),
+            (";,;,", "", 0, 0, ""),
+            ("", "!;!", 0, 0, ""),
+            (";A", "!", 0, 0, " 1:0"),
+            ("A", "!", 0, 0, "invalid base64 character: !"),
+            ("A", "é", 0, 0, "invalid base64 character: Ã"),
+            ("Aé", "", 0, 0, "invalid base64 character: Ã"),
+            ("ggggggggggggI", "", 0, 0, overflow),
+            ("gggggggggggggA", "", 0, 0, overflow),
+            ("Ag,A", "", 0, 0, "leftover cur/shift in vlq decode"),
+            ("AAAAAA", "", 1, 0, "got 6 segments, expected 4 or 5"),
+            ("AAAA", "", 0, 0, "bad reference to source #0"),
+            ("ADAA", "", 1, 0, "bad reference to source #4294967295"),
+            ("AAAAA", "", 1, 0, "bad reference to name #0"),
+        ];
+        for (mappings, ranges, sources, names, want) in rows {
+            let got = read(&rt, mappings, ranges, sources, names)?;
+            assert_eq!(rt; got.as_str(), want, "at {mappings} {ranges}");
+        }
+        Ok(())
+    }
+}

@@ -1,19 +1,34 @@
-use Rattle.std.proofs.Common.{FitsSigned, ◌++◌, ◌∷◌, [], rules}
+use Rattle.std.proofs.Common.{◌≡◌, ◌==◌, false, true, FitsSigned, arith, rules}
+use Rattle.std.proofs.lemmas.List.{nil_from_length}
+use Rattle.std.proofs.lemmas.Bool.Decides.{nat_tests}
 use Rattle.std.proofs.lemmas.Int.{to_z-of_z}
 use mir.Syntax.{w64}
-use Rattle.sourcemap_core.proofs.MappingsLemmas.{AreSteps-none}
-use Rattle.sourcemap_core.proofs.VlqLemmas.{IsSound-more}
+use Rattle.sourcemap_core.proofs.MappingsLemmas.{read_none, read_more, HasFirstPart-last, HasFirstPart-comma, HasPartFault-from}
 use Rattle.sourcemap_core.proofs.mappings.read_numbers.Goals as goal
 
-pub loop-rest-init : goal.loop-rest-init
-loop-rest-init c = AreSteps-none c.args.part.now
+pub loop-first-init : goal.loop-first-init
+loop-first-init c = read_none c.args.line.now
 
-pub loop-rest-preserved : goal.loop-rest-preserved
-loop-rest-preserved c =
-    let fits : FitsSigned w64 c.in_ok-number.number = search rules in
-    let sound = c.loop-rest.invariant.0 in
-    let begins = c.in_ok-number.ensures.number in
-    let more = IsSound-more _ _ _ sound.front sound.numbers c.in_ok-number.number sound.reads sound.split begins in (
-      record { front = sound.front ++ begins.group; numbers = sound.numbers ++ c.in_ok-number.number ∷ []; reads = more.0; split = more.1 },
-      simp to_z-of_z at (c.add_number.ensures sound.numbers c.loop-rest.invariant.1),
-    )
+pub returns-then-first-eq44-clause-read : goal.returns-then-first-eq44-clause-read
+returns-then-first-eq44-clause-read c =
+    let so_far = c.loop-first.invariant in
+    let is : (c.in-Some.first.now == 44) ≡ true = grind (arith, nat_tests) in
+    HasFirstPart-comma _ _ c.in-Some.first.now c.in-Some.behind _ so_far.0 so_far.1 so_far.2 c.in-Some.ensures.cases.0 is
+
+pub loop-first-preserved : goal.loop-first-preserved
+loop-first-preserved c =
+    let so_far = c.loop-first.invariant in
+    let fits : FitsSigned w64 c.in-Ok.number = search rules in
+    read_more _ _ _ c.in-Ok.number _ so_far.0 so_far.1 c.in-Ok.ensures.number (simp to_z-of_z at (c.add_number.ensures so_far.0.numbers so_far.2))
+
+pub returns-in-Err-clause-fault : goal.returns-in-Err-clause-fault
+returns-in-Err-clause-fault c =
+    let so_far = c.loop-first.invariant in
+    let differs : (c.in-Some.first.now == 44) ≡ false = grind (arith, nat_tests) in
+    rw c.in_part.ensures
+    (HasPartFault-from _ _ c.in-Some.first.now c.in-Some.behind.now so_far.0 c.in-Err.fault so_far.1 c.in-Some.ensures.cases.0 differs c.in-Err.ensures.fault)
+
+pub returns-clause-read : goal.returns-clause-read
+returns-clause-read c =
+    let so_far = c.loop-first.invariant in
+    HasFirstPart-last _ _ _ so_far.0 so_far.1 so_far.2 (nil_from_length _ c.in_default.ensures.cases)
