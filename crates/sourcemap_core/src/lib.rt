@@ -9,4 +9,3 @@ pub mod tokens;
 pub mod vlq;
 pub mod utils;
 pub mod mappings_written;
-pub mod vlq;
