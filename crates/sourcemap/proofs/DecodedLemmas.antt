@@ -3,7 +3,7 @@ use Rattle.std.proofs.Common.{◌≡◌, ℕ, Option, Result, Ok, Err, MatchResu
 use Rattle.serde_json.specs.Data.{Data}
 use Rattle.sourcemap_core.specs.declared.errors.Error.{Error}
 use Rattle.sourcemap_core.specs.declared.errors.Error.TheVariants.{OutOfMemory}
-use Rattle.sourcemap_core.specs.Answer.{UnlessMemory, IsAnswer}
+use Rattle.sourcemap_core.specs.Answer.{UnlessMemory, Gives}
 use Rattle.sourcemap_maps.specs.Types.{MapValue, MeansTheSame, Meaning, meaning}
 use Rattle.sourcemap.specs.Decoded.{map_value, StandsFor}
 use Rattle.sourcemap.specs.Decoder.{ValueDecodes}
@@ -18,7 +18,7 @@ means_from back m n same r is also = let e : n ≡ back = cc in rw e same
 
 -- what is read from a value that stands for a map means what the map does
 pub means_the_same : (d : Data) (m : MapValue) (r : Result DecodedMap Error) → StandsFor d m
-    → ((due : Result MapValue Error) → ValueDecodes d due → IsAnswer map_value (λ given. due ≡ given) r)
+    → ((due : Result MapValue Error) → ValueDecodes d due → Gives map_value r due)
     → MatchResult r (λ back. MeansTheSame (map_value back) m) (λ e. e ≡ OutOfMemory)
 means_the_same d m (Ok back) stands only = means_from stands.0 m (map_value back) stands.2 (Ok stands.0) refl (only (Ok stands.0) stands.1)
 means_the_same d m (Err e) stands only =

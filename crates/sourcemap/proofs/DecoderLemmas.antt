@@ -7,43 +7,22 @@ use Rattle.serde_json.specs.Read.{read}
 use Rattle.sourcemap_core.specs.declared.errors.Error.{Error}
 use Rattle.sourcemap_core.specs.declared.errors.Error.TheVariants.{Io, BadJson, IncompatibleSourceMap, OutOfMemory}
 use Rattle.sourcemap_core.specs.declared.errors.JsonFault.TheVariants.{Parse, Shape}
-use Rattle.sourcemap_core.specs.Answer.{UnlessMemory, IsAnswer}
-use Rattle.sourcemap_core.proofs.AnswerLemmas.{UnlessMemory-weaker}
+use Rattle.sourcemap_core.specs.Answer.{UnlessMemory, Gives, IsAnswer}
+use Rattle.sourcemap_core.proofs.AnswerLemmas.{UnlessMemory-weaker, Gives-only}
 use Rattle.sourcemap_json.specs.Decoder.{behind_header}
 use Rattle.sourcemap_json.specs.Jsontypes.{Fields, Tree, flat, record_of}
 use Rattle.sourcemap_maps.specs.Types.{MapValue}
-use Rattle.sourcemap_maps.specs.Decoder.{RecordDecodes, TokensAnswer, HasRoom, listed, map_of}
-use Rattle.sourcemap_core.specs.declared.tokens.RawToken.{RawToken}
-use Rattle.sourcemap_core.proofs.MappingsAnswers.{MappingsAnswer-same}
+use Rattle.sourcemap_maps.specs.Decoder.{RecordDecodes}
+use Rattle.sourcemap_maps.proofs.DecoderLemmas.{RecordDecodes-same}
 use Rattle.sourcemap.specs.Decoded.{map_value}
 use Rattle.sourcemap.specs.declared.decoded.DecodedMap.{DecodedMap}
 use Rattle.sourcemap_json.specs.Fields.{due}
 use Rattle.sourcemap.specs.Decoder.{IsJson, HoldJson, IsHeaderFault, HoldNoJson, is_regular, TreeDecodes, ValueDecodes, BytesDecode, IsSameFault, AreSame, UnlessRead, IsAnswerRead, Reading}
 
-tokens_once : (r : Fields) (a b : Result (List RawToken) Error) → TokensAnswer r a → TokensAnswer r b → a ≡ b
-tokens_once r a b p q =
-    MappingsAnswer-same (listed r.mappings) (listed r.range_mappings)
-    (record { sources = length (listed r.sources); names = length (listed r.names) }) a b p q
-
-record_decodes_once : (r : Fields) (a b : Result MapValue Error) → RecordDecodes r a → RecordDecodes r b → a ≡ b
-record_decodes_once r (Ok m) (Ok n) p q =
-    let same : Ok m.tokens ≡ Ok n.tokens = tokens_once r (Ok m.tokens) (Ok n.tokens) p.1 q.1 in
-    let tokens : m.tokens ≡ n.tokens = cc in
-    ap Ok (p.2 ∙ ap (map_of r) tokens ∙ sym q.2)
-record_decodes_once r (Ok m) (Err e) p (inl q) = absurd (q.0 p.0)
-record_decodes_once r (Ok m) (Err e) p (inr q) = let same : Ok m.tokens ≡ Err e = tokens_once r (Ok m.tokens) (Err e) p.1 q.1 in cc
-record_decodes_once r (Err e) (Ok n) (inl p) q = absurd (p.0 q.0)
-record_decodes_once r (Err e) (Ok n) (inr p) q = let same : Ok n.tokens ≡ Err e = tokens_once r (Ok n.tokens) (Err e) q.1 p.1 in cc
-record_decodes_once r (Err e) (Err f) (inl p) (inl q) = cc
-record_decodes_once r (Err e) (Err f) (inl p) (inr q) = absurd (p.0 q.0)
-record_decodes_once r (Err e) (Err f) (inr p) (inl q) = absurd (q.0 p.0)
-record_decodes_once r (Err e) (Err f) (inr p) (inr q) =
-    let same : Err e ≡ Err f = tokens_once r (Err e) (Err f) p.1 q.1 in cc
-
 tree_decodes_once : (t : Tree) (regular : Bool) (a b : Result MapValue Error)
     → MatchBool regular (RecordDecodes (flat t) a) (a ≡ Err IncompatibleSourceMap)
     → MatchBool regular (RecordDecodes (flat t) b) (b ≡ Err IncompatibleSourceMap) → a ≡ b
-tree_decodes_once t true a b p q = record_decodes_once (flat t) a b p q
+tree_decodes_once t true a b p q = RecordDecodes-same (flat t) a b p q
 tree_decodes_once t false a b p q = p ∙ sym q
 
 some_record_decodes_once : (found : Option Tree) (a b : Result MapValue Error)
@@ -170,10 +149,10 @@ pub answer_only : {X Y : Type 0} (view : X → Y) (Answers : Result Y Error → 
 answer_only view Answers Same once (Ok x) given due is = once due (Ok (view x)) is given
 answer_only view Answers Same once (Err e) given due is = UnlessMemory-weaker e (once due (Err e) is) given
 
--- a value that two maps are read from
+-- a value's answer is the only one
 pub value_only : (d : Data) (r : Result DecodedMap Error) → IsAnswer map_value (ValueDecodes d) r
-    → (due : Result MapValue Error) → ValueDecodes d due → IsAnswer map_value (λ given. due ≡ given) r
-value_only d r h = answer_only map_value (ValueDecodes d) ◌≡◌ (value_decodes_once d) r h
+    → (due : Result MapValue Error) → ValueDecodes d due → Gives map_value r due
+value_only d r h = Gives-only map_value (ValueDecodes d) (value_decodes_once d) r h
 
 pub bytes_only : (bytes : List ℕ) (r : Result DecodedMap Error) → IsAnswer map_value (BytesDecode bytes) r
     → (due : Result MapValue Error) → BytesDecode bytes due → IsAnswer map_value (AreSame due) r

@@ -1,6 +1,6 @@
 ghost use Rattle.std.specs.Prelude.{◌≡◌, Result, IfOk, IfErr, MatchResult, option_map};
 ghost use Rattle.serde_json.specs.View.{view};
-ghost use Rattle.sourcemap_core.specs.Answer.{IsAnswer};
+ghost use Rattle.sourcemap_core.specs.Answer.{Gives, IsAnswer};
 ghost use Rattle.sourcemap_core.specs.declared.errors.Error.{Error};
 ghost use Rattle.sourcemap_core.specs.declared.errors.Error.TheVariants.{OutOfMemory};
 ghost use Rattle.sourcemap_json.specs.Jsontypes.{tree};
@@ -64,7 +64,7 @@ impl DecodedMap {
     pub fn from_value(alloc: Global, value: &Value) -> Result<Self>
         ensures answer { IsAnswer map_value (ValueDecodes (view value.now)) result }
         ensures only { (due : Result MapValue Error) → ValueDecodes (view value.now) due
-            → IsAnswer map_value (λ given. due ≡ given) result }
+            → Gives map_value result due }
         ensures well_formed { IfOk result (λ m. IsWellFormed (map_value m)) }
     {
         decode_value(alloc, value)

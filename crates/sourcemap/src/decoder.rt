@@ -8,8 +8,8 @@ ghost use Rattle.sourcemap_maps.specs.Types.{MapValue, IsWellFormed};
 ghost use Rattle.sourcemap.specs.Decoded.{map_value};
 ghost use Rattle.sourcemap.specs.Decoder.{HoldJson, HoldNoJson, TreeDecodes, ValueDecodes, BytesDecode, AreSame, UnlessRead, IsAnswerRead, Reading};
 
-use crate::errors::{Error, Result};
 use crate::decoded::DecodedMap;
+use crate::errors::{Error, Result};
 use serde_json::Value;
 pub use sourcemap_json::decoder::strip_junk_header;
 use sourcemap_json::jsontypes::RawSourceMap;
@@ -103,5 +103,4 @@ fn answers_are_determined()
     ensures values { (d : Data) (a b : Result MapValue Error) → ValueDecodes d a → ValueDecodes d b → a ≡ b }
     ensures bytes { (bytes : List ℕ) (a b : Result MapValue Error)
         → BytesDecode bytes a → BytesDecode bytes b → AreSame a b }
-{
-}
+{}

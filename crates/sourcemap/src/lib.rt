@@ -6,9 +6,8 @@ pub mod decoder;
 pub mod types;
 
 pub use decoder::{decode, decode_slice};
-pub use sourcemap_core::errors;
 pub use sourcemap_core::errors::{Error, Result};
-pub use sourcemap_core::{utils, vlq};
+pub use sourcemap_core::{errors, utils, vlq};
 pub use sourcemap_json::jsontypes;
 pub use sourcemap_maps::encoder;
 pub use types::{

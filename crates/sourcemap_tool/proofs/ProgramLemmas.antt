@@ -3,11 +3,14 @@ use Rattle.std.proofs.Common.{◌≡◌, ◌⊎◌, inl, inr, refl, ℕ, List, [
 use Rattle.std.specs.Io.KnownBytes.{Appends}
 use Rattle.sourcemap.specs.Answer.{UnlessMemory}
 use Rattle.sourcemap.specs.Decoder.{BytesDecode, IsAnswerRead, Reading, UnlessRead}
+use Rattle.sourcemap.specs.Types.{MapValue}
 use Rattle.sourcemap.specs.declared.errors.Error.{Error}
 use Rattle.sourcemap.specs.declared.errors.Error.TheVariants.{OutOfMemory}
 use Rattle.sourcemap_tool.specs.Command.{AskFor}
 use Rattle.sourcemap_tool.specs.Program.{AskForNone, CommandAnswers, Ending, answered, refused, misused, Ends, EndedSo, IsReported, IsWriteFault, PrintsRefusal, Runs, usage_text}
 use Rattle.sourcemap_tool.specs.declared.command.Command.{Command}
+use Rattle.sourcemap.proofs.DecoderLemmas.{bytes_decode_once}
+use Rattle.sourcemap_tool.proofs.CommandLemmas.{command_once}
 
 no_memory : (words : List (List ℕ)) (bytes : List ℕ) (e : Error) → e ≡ OutOfMemory → Ends words bytes (refused e)
 no_memory words bytes e is = rw is tt
@@ -68,3 +71,14 @@ runs_out words input e old new (Ok status) is said =
     let has = some_bytes input in
     (has.0, has.1, ended_refused words has.0 e status old new (no_memory words has.0 e is) said.0 said.1)
 runs_out words input e old new (Err fault) is said = tt
+
+answer_once : (bytes : List ℕ) (c d : Command) (a b : List ℕ) → c ≡ d
+    → CommandAnswers c bytes (Ok a) → CommandAnswers d bytes (Ok b) → a ≡ b
+answer_once bytes c d a b same (m, of_a, is) (n, of_b, is') =
+    let maps : m ≡ n = bytes_decode_once bytes (Ok m) (Ok n) of_a of_b in cc
+
+-- words and bytes are answered with one text
+pub text_once : (words : List (List ℕ)) (bytes a b : List ℕ)
+    → Ends words bytes (answered a) → Ends words bytes (answered b) → a ≡ b
+text_once words bytes a b (c, asked, p) (d, asked', q) =
+    answer_once bytes c d a b (command_once words c d asked asked') p q

@@ -27,8 +27,8 @@ fn number_of(word: &str) -> Option<u32>
 pub fn parse_words(_alloc: Global, words: &[String]) -> Result<Option<Command>>
     ensures { MatchResult result
         (λ found. MatchOption found
-            ((command : _) → ¬ AskFor (map string_bytes words.now) command)
-            (AskFor (map string_bytes words.now)))
+        ((command : _) → ¬ AskFor (map string_bytes words.now) command)
+        (AskFor (map string_bytes words.now)))
         (λ e. e ≡ OutOfMemory) }
 {
     let [verb, line, col] = words else {
@@ -42,3 +42,8 @@ pub fn parse_words(_alloc: Global, words: &[String]) -> Result<Option<Command>>
     };
     Ok(Some(Command::Lookup(line, col)))
 }
+
+// Words ask for one command.
+fn words_are_determined()
+    ensures { (words : List (List ℕ)) (a b : _) → AskFor words a → AskFor words b → a ≡ b }
+{}

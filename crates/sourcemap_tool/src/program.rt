@@ -1,9 +1,9 @@
-ghost use Rattle.std.specs.Prelude.{◌≡◌, IsNone, IfOk, IfErr, MatchResult, map, string_bytes};
+ghost use Rattle.std.specs.Prelude.{◌≡◌, ℕ, List, IsNone, IfOk, IfErr, MatchResult, map, string_bytes};
 ghost use Rattle.std.specs.Io.KnownBytes.{Appends};
 ghost use Rattle.sourcemap.specs.Decoded.{map_value};
 ghost use Rattle.sourcemap.specs.Decoder.{IsAnswerRead, Reading};
 ghost use Rattle.sourcemap.specs.declared.errors.Error.TheVariants.{OutOfMemory};
-ghost use Rattle.sourcemap_tool.specs.Program.{AskForNone, CommandAnswers, IsRefusal, IsReported, IsWriteFault, PrintsRefusal, Runs, answer_text};
+ghost use Rattle.sourcemap_tool.specs.Program.{AskForNone, CommandAnswers, Ends, answered, IsRefusal, IsReported, IsWriteFault, PrintsRefusal, Runs, answer_text};
 
 use crate::command::{Command, parse_words};
 use sourcemap::{DecodedMap, Error, Result, decode};
@@ -58,7 +58,12 @@ fn print<W: Write>(output: &mut W, text: &str) -> Result<()>
 }
 
 // What a command says of the map that a reader gives.
-fn answer<F: Files, R: Read>(rt: &F, alloc: Global, command: &Command, input: &mut R) -> Result<String>
+fn answer<F: Files, R: Read>(
+    rt: &F,
+    alloc: Global,
+    command: &Command,
+    input: &mut R,
+) -> Result<String>
     ensures { Reading (R.remaining input.old)
         (λ bytes. IsAnswerRead string_bytes (CommandAnswers command.now bytes) result) }
 {
@@ -130,3 +135,9 @@ pub fn run<F: Files, R: Read, W: Write>(
         Err(error) => report(alloc, Err(error), output),
     }
 }
+
+// Words and bytes are answered with one text.
+fn answers_are_determined()
+    ensures { (words : List (List ℕ)) (bytes a b : List ℕ)
+        → Ends words bytes (answered a) → Ends words bytes (answered b) → a ≡ b }
+{}
