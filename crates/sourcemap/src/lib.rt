@@ -1,2 +1,15 @@
 //! Source maps: read, asked, changed and written.
 #![tactic(auto)]
+
+mod decoded;
+pub mod decoder;
+pub mod types;
+
+pub use decoder::{decode, decode_slice};
+pub use sourcemap_core::errors::{Error, Result};
+pub use sourcemap_core::{errors, utils, vlq};
+pub use sourcemap_json::jsontypes;
+pub use sourcemap_maps::encoder;
+pub use types::{
+    DecodedMap, NameIter, RawToken, SourceContentsIter, SourceIter, SourceMap, Token, TokenIter,
+};

@@ -128,6 +128,11 @@ impl SourceMap {
         self.debug_id
     }
 
+    /// The allocator that the map keeps.
+    pub fn allocator(&self) -> Global {
+        *self.tokens.allocator()
+    }
+
     /// The token with this index, in order of line and column of the generated text.
     pub fn get_token(&self, index: usize) -> Option<Token<'_>>
         ensures { option_map token_value result ≡ token_at self.now index }

@@ -1,4 +1,20 @@
 // Answers questions about a source map on standard input.
 #![tactic(auto)]
 
-fn main() {}
+mod command;
+mod program;
+#[cfg(test)]
+mod tests;
+
+use sourcemap::Result;
+use std::io::BufWriter;
+use std::process::ExitCode;
+use std::{env, io};
+
+fn main(rt: HostRuntime) -> Result<ExitCode> {
+    let alloc = rt.alloc();
+    let words: Vec<String> = env::args(&rt)?.skip(1).collect(alloc)?;
+    let mut output = BufWriter::new(alloc, io::writer(&rt))?;
+    let status = program::run(&rt, alloc, words.as_slice(), &mut rt.reader(), &mut output)?;
+    Ok(ExitCode::from(status))
+}

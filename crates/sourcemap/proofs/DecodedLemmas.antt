@@ -1,0 +1,25 @@
+-- From the two calls that write and read a value to the round trip.
+use Rattle.std.proofs.Common.{◌≡◌, ℕ, Option, Result, Ok, Err, MatchResult, refl}
+use Rattle.serde_json.specs.Data.{Data}
+use Rattle.sourcemap_core.specs.declared.errors.Error.{Error}
+use Rattle.sourcemap_core.specs.declared.errors.Error.TheVariants.{OutOfMemory}
+use Rattle.sourcemap_core.specs.Answer.{UnlessMemory, Gives}
+use Rattle.sourcemap_maps.specs.Types.{MapValue, MeansTheSame, Meaning, meaning}
+use Rattle.sourcemap.specs.Decoded.{map_value, StandsFor}
+use Rattle.sourcemap.specs.Decoder.{ValueDecodes}
+use Rattle.sourcemap.specs.declared.decoded.DecodedMap.{DecodedMap}
+
+memory_alone : (e : Error) (P : Type 0) → ¬ P → UnlessMemory e P → e ≡ OutOfMemory
+memory_alone OutOfMemory P never h = refl
+memory_alone _ P never h = absurd (never h)
+
+means_from : (back m n : MapValue) → MeansTheSame back m → (r : Result MapValue Error) → r ≡ Ok back → r ≡ Ok n → MeansTheSame n m
+means_from back m n same r is also = let e : n ≡ back = cc in rw e same
+
+-- what is read from a value that stands for a map means what the map does
+pub means_the_same : (d : Data) (m : MapValue) (r : Result DecodedMap Error) → StandsFor d m
+    → ((due : Result MapValue Error) → ValueDecodes d due → Gives map_value r due)
+    → MatchResult r (λ back. MeansTheSame (map_value back) m) (λ e. e ≡ OutOfMemory)
+means_the_same d m (Ok back) stands only = means_from stands.0 m (map_value back) stands.2 (Ok stands.0) refl (only (Ok stands.0) stands.1)
+means_the_same d m (Err e) stands only =
+    memory_alone e (Ok stands.0 ≡ Err e) (λ wrong. cc) (only (Ok stands.0) stands.1)

@@ -1,0 +1,2 @@
+pub mod DecoderLemmas
+pub mod DecodedLemmas

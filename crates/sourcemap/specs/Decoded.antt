@@ -1,0 +1,22 @@
+-- A decoded map as contracts see it.
+use Rattle.std.specs.Prelude.{Result, Ok}
+use Rattle.std.specs.Prelude.{◌≡◌}
+use Rattle.serde_json.specs.Data.{Data}
+use Rattle.sourcemap_json.specs.Jsontypes.{Tree, written}
+use Rattle.sourcemap_maps.specs.Types.{MapValue, MeansTheSame}
+use Rattle.sourcemap_maps.specs.Encoder.{IsRecordOf, KeepsParts}
+use Rattle.sourcemap.specs.Decoder.{ValueDecodes}
+use Rattle.sourcemap.specs.declared.decoded.DecodedMap.{DecodedMap}
+use Rattle.sourcemap.specs.declared.decoded.DecodedMap.TheVariants.{Regular}
+
+-- all that a decoded map holds
+abbrev pub map_value : DecodedMap → MapValue
+map_value (Regular m) = m
+
+-- a value that a map is written as
+abbrev pub IsValueOf : MapValue → Data → Type 0
+IsValueOf m d = (t : Tree) × IsRecordOf m t × (d ≡ written t)
+
+-- a value stands for a map of the same meaning as this one, with all parts kept
+abbrev pub StandsFor : Data → MapValue → Type 0
+StandsFor d m = (back : MapValue) × ValueDecodes d (Ok back) × MeansTheSame back m × KeepsParts back m

@@ -1,0 +1,106 @@
+ghost use Rattle.std.specs.Prelude.{◌≡◌, ℕ, List, IfOk, IfSome, MatchResult, Result};
+ghost use Rattle.serde_json.specs.Data.{Data};
+ghost use Rattle.serde_json.specs.View.{view};
+ghost use Rattle.sourcemap_core.specs.Answer.{IsAnswer, UnlessMemory};
+ghost use Rattle.sourcemap_core.specs.declared.errors.Error.{Error};
+ghost use Rattle.sourcemap_json.specs.Jsontypes.{tree};
+ghost use Rattle.sourcemap_maps.specs.Types.{MapValue, IsWellFormed};
+ghost use Rattle.sourcemap.specs.Decoded.{map_value};
+ghost use Rattle.sourcemap.specs.Decoder.{HoldJson, HoldNoJson, TreeDecodes, ValueDecodes, BytesDecode, AreSame, UnlessRead, IsAnswerRead, Reading};
+
+use crate::decoded::DecodedMap;
+use crate::errors::{Error, Result};
+use serde_json::Value;
+pub use sourcemap_json::decoder::strip_junk_header;
+use sourcemap_json::jsontypes::RawSourceMap;
+pub use sourcemap_maps::decoder::decode_regular;
+use std::alloc::Global;
+use std::io::Read;
+
+// All bytes that a reader gives.
+fn read_all<R: Read + Drop>(alloc: Global, mut reader: R) -> Result<Vec<u8>>
+    ensures { MatchResult result
+        (λ bytes. IfSome (R.remaining reader) (λ known. bytes.items ≡ known))
+        (λ e. UnlessRead e ⊥) }
+{
+    let mut bytes = Vec::new(alloc);
+    reader.read_to_end(&mut bytes)?;
+    Ok(bytes)
+}
+
+// The JSON value behind a junk header.
+fn read_json(alloc: Global, bytes: &[u8]) -> Result<Value>
+    ensures { MatchResult result
+        (λ value. HoldJson bytes.now (view value))
+        (λ e. UnlessMemory e (HoldNoJson bytes.now e)) }
+{
+    let text = strip_junk_header(bytes)?;
+    Ok(Value::from_slice(alloc, text)?)
+}
+
+// The map of a record.
+fn decode_record(alloc: Global, raw: RawSourceMap) -> Result<DecodedMap>
+    ensures answer { IsAnswer map_value (TreeDecodes (tree raw)) result }
+    ensures well_formed { IfOk result (λ m. IsWellFormed (map_value m)) }
+{
+    if raw.sections.is_some() || raw.x_facebook_sources.is_some() {
+        return Err(Error::IncompatibleSourceMap);
+    }
+    Ok(DecodedMap::Regular(decode_regular(alloc, raw)?))
+}
+
+// The map of a JSON value, with the value's own texts.
+fn decode_owned(alloc: Global, value: Value) -> Result<DecodedMap>
+    ensures answer { IsAnswer map_value (ValueDecodes (view value)) result }
+    ensures well_formed { IfOk result (λ m. IsWellFormed (map_value m)) }
+{
+    decode_record(alloc, RawSourceMap::from_owned(alloc, value)?)
+}
+
+// The map of a JSON value.
+pub(crate) fn decode_value(alloc: Global, value: &Value) -> Result<DecodedMap>
+    ensures answer { IsAnswer map_value (ValueDecodes (view value.now)) result }
+    ensures well_formed { IfOk result (λ m. IsWellFormed (map_value m)) }
+{
+    decode_record(alloc, RawSourceMap::from_value(alloc, value)?)
+}
+
+// The map of bytes.
+fn decode_bytes(alloc: Global, bytes: &[u8]) -> Result<DecodedMap>
+    ensures answer { IsAnswer map_value (BytesDecode bytes.now) result }
+    ensures well_formed { IfOk result (λ m. IsWellFormed (map_value m)) }
+{
+    decode_owned(alloc, read_json(alloc, bytes)?)
+}
+
+/// The map that bytes hold, behind a junk header or behind none. A faulty header is `Io` of kind
+/// `InvalidData`, bytes that are not JSON behind it are `BadJson(Parse)`. JSON that is no record is
+/// `BadJson(Shape)`, and the record of a map of another kind `IncompatibleSourceMap`. Then come the
+/// faults of `decode_regular`.
+pub fn decode_slice(alloc: Global, bytes: &[u8]) -> Result<DecodedMap>
+    ensures answer { IsAnswer map_value (BytesDecode bytes.now) result }
+    // No other answer is right.
+    ensures only { (due : Result MapValue Error) → BytesDecode bytes.now due → IsAnswer map_value (AreSame due) result }
+    ensures well_formed { IfOk result (λ m. IsWellFormed (map_value m)) }
+{
+    decode_bytes(alloc, bytes)
+}
+
+/// The map that a reader's bytes hold, as by `decode_slice`. The reader is read to its end first,
+/// and a read's fault is `Io`.
+pub fn decode<R: Read + Drop>(alloc: Global, reader: R) -> Result<DecodedMap>
+    ensures answer { Reading (R.remaining reader) (λ bytes. IsAnswerRead map_value (BytesDecode bytes) result) }
+    ensures only { IfSome (R.remaining reader) (λ bytes. (due : Result MapValue Error) → BytesDecode bytes due
+        → IsAnswerRead map_value (AreSame due) result) }
+    ensures well_formed { IfOk result (λ m. IsWellFormed (map_value m)) }
+{
+    let bytes = read_all(alloc, reader)?;
+    decode_bytes(alloc, bytes.as_slice())
+}
+
+// A JSON value, and bytes, have one answer.
+fn answers_are_determined()
+    ensures values { (d : Data) (a b : Result MapValue Error) → ValueDecodes d a → ValueDecodes d b → a ≡ b }
+    ensures bytes { (bytes : List ℕ) (a b : Result MapValue Error)
+        → BytesDecode bytes a → BytesDecode bytes b → AreSame a b }
+{}

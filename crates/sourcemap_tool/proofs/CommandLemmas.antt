@@ -1,0 +1,17 @@
+-- Words ask for one command.
+use Rattle.std.proofs.Common.{◌≡◌, ℕ, List, [], ◌∷◌, sym, ◌∙◌, ap}
+use Rattle.std.specs.Str.Parse.{digits_value}
+use Rattle.sourcemap_tool.specs.Command.{IsNumber, AskFor}
+use Rattle.sourcemap_tool.specs.declared.command.Command.{Command}
+use Rattle.sourcemap_tool.specs.declared.command.Command.TheVariants.{Lookup}
+
+number_once : (a b : List ℕ) (m n : ℕ) → a ≡ b → IsNumber a m → IsNumber b n → m ≡ n
+number_once a b m n same p q = p.2 ∙ ap (digits_value 10) same ∙ sym q.2
+
+pub command_once : (words : List (List ℕ)) (a b : Command) → AskFor words a → AskFor words b → a ≡ b
+command_once words (Lookup line col) (Lookup line' col') (l, c, is, at_line, at_col) (l', c', is', at_line', at_col') =
+    let lines : l ≡ l' = cc in
+    let cols : c ≡ c' = cc in
+    let e : line ≡ line' = number_once l l' line line' lines at_line at_line' in
+    let f : col ≡ col' = number_once c c' col col' cols at_col at_col' in
+    cc

@@ -1,0 +1,49 @@
+ghost use Rattle.std.specs.Prelude.{◌≡◌, List, ℕ, map, string_bytes, MatchOption, MatchResult};
+ghost use Rattle.sourcemap.specs.declared.errors.Error.TheVariants.{OutOfMemory};
+ghost use Rattle.sourcemap_tool.specs.Command.{IsNumber, AskFor};
+
+use sourcemap::Result;
+use std::alloc::Global;
+
+/// What a run is asked for.
+#[derive(Clone, Copy, Debug, PartialEq, Eq)]
+pub enum Command {
+    /// `lookup LINE COL`: the closest token to a line and a column of the generated text.
+    Lookup(u32, u32),
+}
+
+// The number that a word of digits is. A sign, which `parse` would take, is none.
+fn number_of(word: &str) -> Option<u32>
+    ensures { MatchOption result ((n : ℕ) → ¬ IsNumber word.now n) (IsNumber word.now) }
+{
+    if word.starts_with('+') {
+        return None;
+    }
+    word.parse().ok()
+}
+
+/// The command that the words ask for, none for other words. LINE and COL are one or more ASCII
+/// digits of a value of at most 4294967295. Only want of memory refuses.
+pub fn parse_words(_alloc: Global, words: &[String]) -> Result<Option<Command>>
+    ensures { MatchResult result
+        (λ found. MatchOption found
+        ((command : _) → ¬ AskFor (map string_bytes words.now) command)
+        (AskFor (map string_bytes words.now)))
+        (λ e. e ≡ OutOfMemory) }
+{
+    let [verb, line, col] = words else {
+        return Ok(None);
+    };
+    if verb.as_str() != "lookup" {
+        return Ok(None);
+    }
+    let (Some(line), Some(col)) = (number_of(line.as_str()), number_of(col.as_str())) else {
+        return Ok(None);
+    };
+    Ok(Some(Command::Lookup(line, col)))
+}
+
+// Words ask for one command.
+fn words_are_determined()
+    ensures { (words : List (List ℕ)) (a b : _) → AskFor words a → AskFor words b → a ≡ b }
+{}
