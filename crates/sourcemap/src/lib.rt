@@ -4,7 +4,6 @@
 mod decoded;
 pub mod decoder;
 pub mod types;
-
 pub use decoder::{decode, decode_slice};
 pub use sourcemap_core::errors::{Error, Result};
 pub use sourcemap_core::{errors, utils, vlq};

@@ -11,5 +11,3 @@ pub mod paths;
 pub mod tokens;
 pub mod vlq;
 pub mod utils;
-pub mod vlq;
-pub mod mappings_written;
