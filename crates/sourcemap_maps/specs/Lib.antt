@@ -5,3 +5,4 @@ pub mod Token
 pub mod Iterators
 pub mod Decoder
 pub mod Encoder
+pub mod TokenOrder

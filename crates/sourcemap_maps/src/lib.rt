@@ -7,4 +7,5 @@ pub mod encoder;
 mod iterators;
 mod texts;
 mod token;
+mod token_order;
 pub mod types;
