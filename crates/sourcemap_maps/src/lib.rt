@@ -9,3 +9,4 @@ mod texts;
 mod token;
 mod token_order;
 pub mod types;
+mod setters;

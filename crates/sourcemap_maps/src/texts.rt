@@ -1,8 +1,8 @@
-ghost use Rattle.std.specs.Prelude.{◌≡◌, Ok, [], map, option_map, unwrap_or, string_bytes};
-ghost use Rattle.std.specs.Option.{option_copied};
+ghost use Rattle.std.specs.Prelude.{◌≡◌, ◌≤◌, ℕ, vec_len, Ok, [], map, option_map, unwrap_or, string_bytes};
+ghost use Rattle.std.specs.Option.{option_copied, ForSome};
 ghost use Rattle.sourcemap_core.specs.Answer.{Gives};
 ghost use Rattle.sourcemap_maps.specs.Types.{is_placed, shown_behind, without_slash};
-ghost use Rattle.sourcemap_maps.specs.Texts.{texts_of};
+ghost use Rattle.sourcemap_maps.specs.Texts.{texts_of, contents_in};
 
 use sourcemap_core::errors::{Error, Result};
 use std::alloc::Global;
@@ -24,6 +24,17 @@ pub(crate) fn text_or_empty(text: &Option<String>) -> &str
     match text {
         None => "",
         Some(text) => text.as_str(),
+    }
+}
+
+// The contents, none where there is no list.
+pub(crate) fn contents_or_empty(alloc: Global, contents: Option<Vec<Option<String>>>) -> Vec<Option<String>>
+    ensures value { contents_in result ≡ unwrap_or (option_map contents_in contents) [] }
+    ensures few { (n : ℕ) → ForSome contents (λ list. vec_len list ≤ n) → vec_len result ≤ n }
+{
+    match contents {
+        None => Vec::new(alloc),
+        Some(contents) => contents,
     }
 }
 
