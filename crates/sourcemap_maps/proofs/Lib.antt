@@ -1,3 +1,4 @@
 pub mod TextLemmas
 pub mod ListLemmas
 pub mod MapLemmas
+pub mod SettersLemmas

@@ -1,15 +1,18 @@
-ghost use Rattle.std.specs.Prelude.{◌≡◌, ◌<◌, ◌≤◌, ℕ, [], ◌∷◌, length, slice_set, Some, None, OnOk, OnErr, IsOkUnless};
+ghost use Rattle.std.specs.Prelude.{◌≡◌, ◌<◌, ◌≤◌, ℕ, [], ◌∷◌, length, slice_set, Some, None, OnOk, OnErr, IsOkUnless, option_map, string_bytes, vec_len};
 ghost use Rattle.std.specs.Option.{option_copied};
+ghost use Rattle.sourcemap_maps.specs.Texts.{contents_in};
+ghost use Rattle.sourcemap_maps.specs.Types.{fitted};
 ghost use Rattle.sourcemap_core.specs.declared.errors.Error.TheVariants.{OutOfMemory};
 
+use crate::iterators::IgnoreListIter;
 use crate::texts::{owned, text_or_empty, with_root};
 use crate::types::SourceMap;
-use sourcemap_core::errors::Result;
+use sourcemap_core::errors::{Error, Result};
 use sourcemap_json::jsontypes::DebugId;
 
 // Changes of a map. A refused one, which only want of memory is, leaves the map as it was.
 impl SourceMap {
-    ghost use Rattle.sourcemap_maps.specs.Types.{fitted};
+    ghost use Rattle.sourcemap_maps.specs.Iterators.{ids_left};
     ghost use Rattle.std.specs.BTreeSet.{insert_key};
     ghost use Rattle.std.specs.Ordering.{nat_cmp};
 
@@ -61,4 +64,55 @@ impl SourceMap {
         self.ignored.insert(id)?;
         Ok(())
     }
+
+    /// Sets the contents of the source of this number. The list of contents is then as long as
+    /// that of the sources.
+    pub fn set_source_contents(&mut self, id: u32, contents: Option<&str>) -> Result<()>
+        requires { id < length self.old.sources }
+        ensures ok { OnOk result (self.new ≡ record self.old {
+          contents = slice_set (fitted (length self.old.sources) self.old.contents) id (option_copied contents.entry);
+        }) }
+        ensures err { OnErr result (self.new ≡ self.old) }
+        ensures memory { IsOkUnless result OutOfMemory }
+    {
+        let alloc = *self.names.allocator();
+        let contents = owned(alloc, contents)?;
+        let count = self.sources.len();
+        fit(&mut self.contents, count)?;
+        put(&mut self.contents, id as usize, contents);
+        Ok(())
+    }
+
+    /// The numbers of the sources that a debugger passes over, rising, each once.
+    pub fn ignore_list(&self) -> IgnoreListIter<'_>
+        ensures { ids_left result ≡ self.now.ignored }
+    {
+        IgnoreListIter {
+            ids: self.ignored.iter(),
+        }
+    }
+}
+
+// Cuts or fills a list of contents to this length.
+fn fit(contents: &mut Vec<Option<String>>, count: usize) -> Result<()>
+    ensures ok { OnOk result (contents_in contents.new ≡ fitted count (contents_in contents.old)) }
+    ensures err { OnErr result (contents.new.items ≡ contents.old.items) }
+    ensures memory { IsOkUnless result OutOfMemory }
+{
+    let len = contents.len();
+    while contents.len() < count {
+        let Ok(()) = contents.push(None) else {
+            contents.truncate(len);
+            return Err(Error::OutOfMemory);
+        };
+    }
+    contents.truncate(count);
+    Ok(())
+}
+
+fn put(contents: &mut Vec<Option<String>>, id: usize, text: Option<String>)
+    requires { id < vec_len contents.old }
+    ensures { contents_in contents.new ≡ slice_set (contents_in contents.old) id (option_map string_bytes text) }
+{
+    contents[id] = text;
 }

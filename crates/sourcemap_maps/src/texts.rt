@@ -28,7 +28,10 @@ pub(crate) fn text_or_empty(text: &Option<String>) -> &str
 }
 
 // The contents, none where there is no list.
-pub(crate) fn contents_or_empty(alloc: Global, contents: Option<Vec<Option<String>>>) -> Vec<Option<String>>
+pub(crate) fn contents_or_empty(
+    alloc: Global,
+    contents: Option<Vec<Option<String>>>,
+) -> Vec<Option<String>>
     ensures value { contents_in result ≡ unwrap_or (option_map contents_in contents) [] }
     ensures few { (n : ℕ) → ForSome contents (λ list. vec_len list ≤ n) → vec_len result ≤ n }
 {
