@@ -10,3 +10,4 @@ mod texts;
 mod token;
 mod token_order;
 pub mod types;
+mod copies;
