@@ -1,6 +1,6 @@
 -- Digits of base 64 and their values.
-use Rattle.std.proofs.Common.{◌≡◌, ◌≢◌, ℕ, ◌+◌, ◌-◌, ◌<◌, ◌≤◌, ◌==◌, ◌&&◌, Bool, true, false, nat_lt, nat_le, List, slice_index, Option, Some, None, unwrap_or, refl, sym, ◌∙◌, ap, arith, inl, inr, ◌⊎◌, if◌then◌else◌}
-use Rattle.std.proofs.lemmas.Bool.{agree_below, agree_below_at, eqb-true, cases_lt}
+use Rattle.std.proofs.Common.{◌≡◌, ℕ, ◌<◌, ◌≤◌, ◌==◌, Bool, true, slice_index, Option, Some, None, unwrap_or, refl, ap, arith}
+use Rattle.std.proofs.lemmas.Bool.{agree_below_at, eqb-true}
 use Rattle.std.proofs.lemmas.Bool.Decides.{nat_tests}
 use Rattle.sourcemap_core.specs.declared.vlq.TheConstants.{VALUES, GLYPHS}
 use Rattle.sourcemap_core.specs.Vlq.{digit_value, glyph}

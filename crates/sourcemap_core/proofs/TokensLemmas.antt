@@ -1,10 +1,11 @@
 -- The order of tokens, the closest token, and what a reduced list keeps.
-use Rattle.std.proofs.Common.{◌≡◌, refl, sym, ap, subst, ◌∙◌, ℕ, zero, suc, ◌+◌, ◌-◌, ◌<◌, ◌≤◌, List, [], ◌∷◌, length, get_or, map, Bool, true, false, ◌&&◌, cond, arith, inl, inr, eqb-true, Option, Some, None, find, option_map, nat_lt, if◌then◌else◌, ◌==◌}
+use Rattle.std.proofs.Common.{◌≡◌, refl, sym, ap, subst, ◌∙◌, ℕ, ◌+◌, ◌-◌, ◌<◌, ◌≤◌, List, [], ◌∷◌, length, get_or, map, Bool, true, false, cond, arith, inl, inr, eqb-true, Option, Some, None, find, option_map, nat_lt, if◌then◌else◌, ◌==◌}
 use mathlib.Core.Bool.{beq}
-use Rattle.std.specs.List.{AllByRecursion}
+use Rattle.std.specs.List.{AllByRecursion, AllByRecursion-prop}
+use Rattle.std.proofs.Props.{props}
 use Rattle.std.specs.Option.{option_or}
 use Rattle.std.specs.Cmp.{IsTotalOrder}
-use Rattle.std.specs.Ordering.{is_lt, is_eq, nat_cmp}
+use Rattle.std.specs.Ordering.{is_lt, is_eq}
 use Rattle.std.specs.List.Sorted.{IsStableByKey}
 use Rattle.std.proofs.lemmas.Bool.{and_parts, cases_eq, cases_Bool}
 use Rattle.std.proofs.lemmas.List.{get_or_default}
@@ -28,16 +29,16 @@ module _ (tokens : List RawToken) (i : ℕ) (p : ℕ × ℕ) (last : (d : RawTok
   pub order_fails : (i ≡ 0 → p ≡ (0, 0)) → is_lt (position_cmp (destination (get_or tokens i d)) p) ≡ true → AreInOrder tokens → ⊥
   order_fails start falls up =
       elim (cases_eq i 0) [
-        inl front ↦
-          let here : is_lt (position_cmp (destination (get_or tokens i d)) (0, 0)) ≡ true = subst (λ q. is_lt (position_cmp (destination (get_or tokens i d)) q) ≡ true) (start front) falls in
-          let never = none_before_first (destination (get_or tokens i d)) in
-          cc
+        | inl front ↦
+            let here : is_lt (position_cmp (destination (get_or tokens i d)) (0, 0)) ≡ true = subst (λ q. is_lt (position_cmp (destination (get_or tokens i d)) q) ≡ true) (start front) falls in
+            let never = none_before_first (destination (get_or tokens i d)) in
+            cc
         | inr behind ↦
-          let next : i - 1 + 1 ≡ i = omega arith in
-          let step = up (i - 1) d (omega arith) (omega arith) in
-          let rises : is_lt (position_cmp (destination (get_or tokens i d)) (destination (get_or tokens (i - 1) d))) ≡ false = subst (λ k. is_lt (position_cmp (destination (get_or tokens k d)) (destination (get_or tokens (i - 1) d))) ≡ false) next step in
-          let rises' : is_lt (position_cmp (destination (get_or tokens i d)) p) ≡ false = subst (λ q. is_lt (position_cmp (destination (get_or tokens i d)) q) ≡ false) (last d (omega arith)) rises in
-          cc
+            let next : i - 1 + 1 ≡ i = omega arith in
+            let step = up (i - 1) d (omega arith) (omega arith) in
+            let rises : is_lt (position_cmp (destination (get_or tokens i d)) (destination (get_or tokens (i - 1) d))) ≡ false = subst (λ k. is_lt (position_cmp (destination (get_or tokens k d)) (destination (get_or tokens (i - 1) d))) ≡ false) next step in
+            let rises' : is_lt (position_cmp (destination (get_or tokens i d)) p) ≡ false = subst (λ q. is_lt (position_cmp (destination (get_or tokens i d)) q) ≡ false) (last d (omega arith)) rises in
+            cc
       ]
 
   pub order_goes_on : is_lt (position_cmp (destination (get_or tokens i d)) p) ≡ false
@@ -45,12 +46,12 @@ module _ (tokens : List RawToken) (i : ℕ) (p : ℕ × ℕ) (last : (d : RawTok
       → (k : ℕ) (e : RawToken) → k + 1 < i + 1 → is_lt (position_cmp (destination (get_or tokens (k + 1) e)) (destination (get_or tokens k e))) ≡ false
   order_goes_on rises so_far k e l =
       elim (cases_eq (k + 1) i) [
-        inl here ↦
-          let before : i - 1 ≡ k = omega arith in
-          let stands : p ≡ destination (get_or tokens k e) = sym (last e (omega arith)) ∙ ap (λ j. destination (get_or tokens j e)) before in
-          let at : is_lt (position_cmp (destination (get_or tokens i e)) p) ≡ false = subst (λ t. is_lt (position_cmp (destination t) p) ≡ false) (get_or_default tokens i d e within) rises in
-          let at' : is_lt (position_cmp (destination (get_or tokens (k + 1) e)) p) ≡ false = subst (λ j. is_lt (position_cmp (destination (get_or tokens j e)) p) ≡ false) (sym here) at in
-          subst (λ q. is_lt (position_cmp (destination (get_or tokens (k + 1) e)) q) ≡ false) stands at'
+        | inl here ↦
+            let before : i - 1 ≡ k = omega arith in
+            let stands : p ≡ destination (get_or tokens k e) = sym (last e (omega arith)) ∙ ap (λ j. destination (get_or tokens j e)) before in
+            let at : is_lt (position_cmp (destination (get_or tokens i e)) p) ≡ false = subst (λ t. is_lt (position_cmp (destination t) p) ≡ false) (get_or_default tokens i d e within) rises in
+            let at' : is_lt (position_cmp (destination (get_or tokens (k + 1) e)) p) ≡ false = subst (λ j. is_lt (position_cmp (destination (get_or tokens j e)) p) ≡ false) (sym here) at in
+            subst (λ q. is_lt (position_cmp (destination (get_or tokens (k + 1) e)) q) ≡ false) stands at'
         | inr other ↦ so_far k e (omega arith)
       ]
 
@@ -102,11 +103,11 @@ module _ {R : Type 0} (sees : List RawToken → R) (step : RawToken → R → R)
   sees-changes_after t [] = refl
   sees-changes_after t (u ∷ us) =
       elim (cases_Bool (are_same u t)) [
-        inl same ↦
-          let alike : u ≡ t = same_from_are_same u t same in
-          let rest : sees (u ∷ changes_after u us) ≡ sees (u ∷ u ∷ us) =
-              sees-changes_after u us ∙ each u us ∙ sym (once u (sees us)) ∙ sym (ap (step u) (each u us)) ∙ sym (each u (u ∷ us)) in
-          rw same (subst (λ v. sees (v ∷ changes_after u us) ≡ sees (v ∷ u ∷ us)) alike rest)
+        | inl same ↦
+            let alike : u ≡ t = same_from_are_same u t same in
+            let rest : sees (u ∷ changes_after u us) ≡ sees (u ∷ u ∷ us) =
+            sees-changes_after u us ∙ each u us ∙ sym (once u (sees us)) ∙ sym (ap (step u) (each u us)) ∙ sym (each u (u ∷ us)) in
+            rw same (subst (λ v. sees (v ∷ changes_after u us) ≡ sees (v ∷ u ∷ us)) alike rest)
         | inr other ↦ rw other (each t (u ∷ changes_after u us) ∙ ap (step t) (sees-changes_after u us) ∙ sym (each t (u ∷ us)))
       ]
 
@@ -128,9 +129,9 @@ closest_item-without_repeats tokens p =
     let at : RawToken → Bool = λ t. is_eq (position_cmp (destination t) p) in
     let before : RawToken → Bool = λ t. is_lt (position_cmp (destination t) p) in
     let first : find (λ t. is_eq (position_cmp (destination t) p)) (without_repeats tokens) ≡ find (λ t. is_eq (position_cmp (destination t) p)) tokens =
-        sees-without_repeats (find at) (λ t r. cond (at t) (Some t) r) (λ t ts. refl) (first_once at) tokens in
+    sees-without_repeats (find at) (λ t r. cond (at t) (Some t) r) (λ t ts. refl) (first_once at) tokens in
     let last : find_last (λ t. is_lt (position_cmp (destination t) p)) (without_repeats tokens) ≡ find_last (λ t. is_lt (position_cmp (destination t) p)) tokens =
-        sees-without_repeats (find_last before) (λ t r. option_or r (cond (before t) (Some t) None)) (λ t ts. refl) (λ t r. last_once r (cond (before t) (Some t) None)) tokens in
+    sees-without_repeats (find_last before) (λ t r. option_or r (cond (before t) (Some t) None)) (λ t ts. refl) (λ t r. last_once r (cond (before t) (Some t) None)) tokens in
     rw (first, last)
 
 -- the reduced list has the same closest token, up to a name id that names nothing
@@ -143,7 +144,7 @@ All-changes_after : (P : RawToken → Type 0) (t : RawToken) (ts : List RawToken
 All-changes_after P t [] all = tt
 All-changes_after P t (u ∷ us) all =
     elim (are_same u t) as (λ b. AllByRecursion P (cond b (changes_after u us) (u ∷ changes_after u us))) [
-      true ↦ All-changes_after P u us all.1
+      | true ↦ All-changes_after P u us all.1
       | false ↦ (all.0, All-changes_after P u us all.1)
     ]
 
@@ -155,7 +156,7 @@ Rises-changes_after : (lt : RawToken → RawToken → Bool) (t : RawToken) (ts :
 Rises-changes_after lt t [] r = tt
 Rises-changes_after lt t (u ∷ us) r =
     elim (are_same u t) as (λ b. Rises lt (cond b (changes_after u us) (u ∷ changes_after u us))) [
-      true ↦ Rises-changes_after lt u us r.1
+      | true ↦ Rises-changes_after lt u us r.1
       | false ↦ (All-changes_after (λ y. lt y u ≡ false) u us r.0, Rises-changes_after lt u us r.1)
     ]
 
@@ -199,3 +200,7 @@ AllWithin-reduced sources names tokens few all =
     (All-weaker-recursion (IsWithin sources names) (λ t. IsWithin sources names (with_sound_name names t))
     (λ t within none. let bare = within none in (bare.0, bare.1, bare.2, sound_name_fits names t.name_id few bare.3))
     (without_repeats tokens) (All-without_repeats (IsWithin sources names) tokens all))
+
+-- any two proofs of a bound are equal, as a type that keeps it asks
+pub AllWithin-prop : (sources names : ℕ) (tokens : List RawToken) → IsProp (AllWithin sources names tokens)
+AllWithin-prop sources names tokens = AllByRecursion-prop (IsWithin sources names) (λ token. hlevel props) tokens

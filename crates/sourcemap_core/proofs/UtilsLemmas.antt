@@ -1,5 +1,5 @@
 -- The closest item, from the place where a search ends.
-use Rattle.std.proofs.Common.{◌≡◌, refl, sym, ap, subst, ◌∙◌, ℕ, zero, suc, ◌+◌, ◌-◌, ◌<◌, ◌≤◌, ◌==◌, List, [], ◌∷◌, length, get_or, Bool, true, false, cond, Some, None, Option, find, map, option_map, slice_get, IfSome, IsSortedByKey, arith, inl, inr, zero-add, ◌⊎◌}
+use Rattle.std.proofs.Common.{◌≡◌, refl, sym, ap, subst, ◌∙◌, ℕ, zero, suc, ◌+◌, ◌-◌, ◌<◌, ◌≤◌, ◌==◌, List, [], ◌∷◌, length, get_or, Bool, true, false, cond, Some, None, Option, find, map, option_map, slice_get, IfSome, IsSortedByKey, arith, inl, inr, zero-add}
 use Rattle.std.specs.List.{enumerate_from, AllByRecursion}
 use Rattle.std.specs.Option.{option_or}
 use Rattle.std.specs.Cmp.{IsTotalOrder}
@@ -21,6 +21,10 @@ use Rattle.sourcemap_core.specs.Utils.{find_last, closest_item, closest}
 pub record IsBracket {X K : Type 0} (key : X → K) (cmp : K → K → Ordering) (xs : List X) (p : K) (low high : ℕ) : Type 0 where
   pub below : (d : X) → 0 < low → is_lt (cmp (key (get_or xs (low - 1) d)) p) ≡ true
   pub above : (d : X) → high < length xs → is_lt (cmp (key (get_or xs high d)) p) ≡ false
+
+-- no item at p stands at place n
+abbrev pub IsApart : {X K : Type 0} → (X → K) → (K → K → Ordering) → List X → K → ℕ → Type 0
+IsApart {X} key cmp xs p n = (d : X) → n < length xs → is_eq (cmp (key (get_or xs n d)) p) ≡ false
 
 find_last-none : {X : Type 0} (t : X → Bool) (xs : List X) (d : X) → ((k : ℕ) → k < length xs → t (get_or xs k d) ≡ false) → find_last t xs ≡ None
 find_last-none t [] d fails = refl
@@ -87,13 +91,13 @@ module _ {X K : Type 0} {cmp : K → K → Ordering} (o : IsTotalOrder cmp) (key
       let up = rises n k d (omega arith) (omega arith) in
       omega arith
 
-  higher_rank : ((d : X) → n < length xs → is_eq (cmp (key (get_or xs n d)) p) ≡ false) → (k : ℕ) (d : X) → n ≤ k → k < length xs → 2 ≤ ordering_index (cmp (key (get_or xs k d)) p)
+  higher_rank : IsApart key cmp xs p n → (k : ℕ) (d : X) → n ≤ k → k < length xs → 2 ≤ ordering_index (cmp (key (get_or xs k d)) p)
   higher_rank apart k d l within =
       let here : 2 ≤ ordering_index (cmp (key (get_or xs n d)) p) = rank-greater _ (b.above d (omega arith)) (apart d (omega arith)) in
       let up = rises n k d (omega arith) (omega arith) in
       omega arith
 
-  nowhere : n ≤ length xs → (d : X) → ((d : X) → n < length xs → is_eq (cmp (key (get_or xs n d)) p) ≡ false) → find (λ x. is_eq (cmp (key x) p)) xs ≡ None
+  nowhere : n ≤ length xs → (d : X) → IsApart key cmp xs p n → find (λ x. is_eq (cmp (key x) p)) xs ≡ None
   nowhere within d apart = found_nowhere (find (λ x. is_eq (cmp (key x) p))) (λ x. is_eq (cmp (key x) p)) Some None refl (λ _ _. refl) xs d (λ k l. elim (cases_lt k n) [ inl low ↦ not_equal-first _ (low_rank within k d low) | inr high ↦ not_equal-later _ (higher_rank apart k d high l) ])
 
   pub closest_item-hit : (d : X) → n < length xs → is_eq (cmp (key (get_or xs n d)) p) ≡ true → closest_item key cmp xs p ≡ Some (get_or xs n d)
@@ -102,14 +106,14 @@ module _ {X K : Type 0} {cmp : K → K → Ordering} (o : IsTotalOrder cmp) (key
       found_at (find (λ x. is_eq (cmp (key x) p))) (λ x. is_eq (cmp (key x) p)) Some None refl (λ _ _. refl) xs n d l (λ k low. not_equal-first _ (low_rank (omega arith) k d low)) here in
       rw hit
 
-  pub closest_item-miss : (d : X) → 0 < n → n ≤ length xs → ((d : X) → n < length xs → is_eq (cmp (key (get_or xs n d)) p) ≡ false) → closest_item key cmp xs p ≡ Some (get_or xs (n - 1) d)
+  pub closest_item-miss : (d : X) → 0 < n → n ≤ length xs → IsApart key cmp xs p n → closest_item key cmp xs p ≡ Some (get_or xs (n - 1) d)
   closest_item-miss d some within apart =
       let miss = nowhere within d apart in
       let last : find_last (λ x. is_lt (cmp (key x) p)) xs ≡ Some (get_or xs (n - 1) d) =
       find_last-at (λ x. is_lt (cmp (key x) p)) xs (n - 1) d (omega arith) (b.below d some) (λ k after l. not_less-later _ (high_rank k d (omega arith) l)) in
       rw (miss, last)
 
-  pub closest_item-none : (d : X) → n ≡ 0 → ((d : X) → n < length xs → is_eq (cmp (key (get_or xs n d)) p) ≡ false) → closest_item key cmp xs p ≡ None
+  pub closest_item-none : (d : X) → n ≡ 0 → IsApart key cmp xs p n → closest_item key cmp xs p ≡ None
   closest_item-none d none apart =
       let miss = nowhere (omega arith) d apart in
       let last : find_last (λ x. is_lt (cmp (key x) p)) xs ≡ None =
@@ -136,13 +140,14 @@ module _ {X K : Type 0} {cmp : K → K → Ordering} (o : IsTotalOrder cmp) (key
     above = λ d l. let many = length-enumerate_from 0 xs in rw (entry-item xs n d (omega arith)) (b.above d.1 (omega arith));
   }
 
-  pub entries_apart : ((d : X) → n < length xs → is_eq (cmp (key (get_or xs n d)) p) ≡ false) → (d : ℕ × X) → n < length (enumerate_from 0 xs) → is_eq (cmp (key (get_or (enumerate_from 0 xs) n d).1) p) ≡ false
+  pub entries_apart : IsApart key cmp xs p n → (d : ℕ × X) → n < length (enumerate_from 0 xs) → is_eq (cmp (key (get_or (enumerate_from 0 xs) n d).1) p) ≡ false
   entries_apart apart d l =
       let many = length-enumerate_from 0 xs in
       rw (entry-item xs n d (omega arith)) (apart d.1 (omega arith))
 
   -- the search ends at an item at p
   pub closest-hit : (x : X) → n < length xs → x ≡ get_or xs n x → is_eq (cmp (key x) p) ≡ true → Some (n, x) ≡ closest key cmp xs p
+  unfolding closest
   closest-hit x l read here =
       let many = length-enumerate_from 0 xs in
       let entry : get_or (enumerate_from 0 xs) n (0, x) ≡ (n, x) = entry-at xs n (0, x) l ∙ ap (λ y. (n, y)) (sym read) in
@@ -150,7 +155,8 @@ module _ {X K : Type 0} {cmp : K → K → Ordering} (o : IsTotalOrder cmp) (key
       sym (hit ∙ ap Some entry)
 
   -- the search ends behind an item before p, and no item is at p
-  pub closest-miss : (x : X) → 0 < n → n ≤ length xs → x ≡ get_or xs (n - 1) x → ((d : X) → n < length xs → is_eq (cmp (key (get_or xs n d)) p) ≡ false) → Some (n - 1, x) ≡ closest key cmp xs p
+  pub closest-miss : (x : X) → 0 < n → n ≤ length xs → x ≡ get_or xs (n - 1) x → IsApart key cmp xs p n → Some (n - 1, x) ≡ closest key cmp xs p
+  unfolding closest
   closest-miss x some within read apart =
       let many = length-enumerate_from 0 xs in
       let entry : get_or (enumerate_from 0 xs) (n - 1) (0, x) ≡ (n - 1, x) = entry-at xs (n - 1) (0, x) (omega arith) ∙ ap (λ y. (n - 1, y)) (sym read) in
@@ -158,10 +164,15 @@ module _ {X K : Type 0} {cmp : K → K → Ordering} (o : IsTotalOrder cmp) (key
       sym (miss ∙ ap Some entry)
 
 -- the search ends at the front, and no item is at p
-pub closest-none : {X K : Type 0} {cmp : K → K → Ordering} (o : IsTotalOrder cmp) (key : X → K) (xs : List X) (p : K) → IsSortedByKey key cmp xs → IsBracket key cmp xs p 0 0 → ((d : X) → 0 < length xs → is_eq (cmp (key (get_or xs 0 d)) p) ≡ false) → None ≡ closest key cmp xs p
-closest-none o key [] p sorted b apart = refl
-closest-none {X} o key (x ∷ xs) p sorted b apart =
+none_at_front : {X K : Type 0} {cmp : K → K → Ordering} (o : IsTotalOrder cmp) (key : X → K) (xs : List X) (p : K) → IsSortedByKey key cmp xs → IsBracket key cmp xs p 0 0 → IsApart key cmp xs p 0 → None ≡ closest key cmp xs p
+unfolding closest
+none_at_front o key [] p sorted b apart = refl
+none_at_front {X} o key (x ∷ xs) p sorted b apart =
     sym (closest_item-none o (λ (e : ℕ × X). key e.1) (enumerate_from 0 (x ∷ xs)) p 0 (entries_sorted o key (x ∷ xs) p 0 sorted b) (entries_bracket o key (x ∷ xs) p 0 sorted b (omega arith)) (0, x) refl (entries_apart o key (x ∷ xs) p 0 sorted b apart))
+
+pub closest-none : {X K : Type 0} {cmp : K → K → Ordering} (o : IsTotalOrder cmp) (key : X → K) (xs : List X) (p : K) (n : ℕ) → IsSortedByKey key cmp xs → IsBracket key cmp xs p n n → n ≡ 0 → IsApart key cmp xs p n → None ≡ closest key cmp xs p
+closest-none {cmp = cmp} o key xs p n sorted b front apart =
+    none_at_front o key xs p sorted (subst (λ m. IsBracket key cmp xs p m m) front b) (subst (IsApart key cmp xs p) front apart)
 
 module _ {X K : Type 0} (key : X → K) (cmp : K → K → Ordering) (xs : List X) (p : K) where
   -- a search begins
@@ -185,6 +196,17 @@ module _ {X K : Type 0} (key : X → K) (cmp : K → K → Ordering) (xs : List 
     below = b.below;
     above = λ d m. subst (λ y. is_lt (cmp (key y) p) ≡ false) (read ∙ get_or_default xs k x d l) not_less;
   }
+
+-- a search has ended, at an item x that is not at p
+pub apart_from_read : {X K : Type 0} (key : X → K) (cmp : K → K → Ordering) (xs : List X) (p : K) (n : ℕ) (x : X) → x ≡ get_or xs n x → is_eq (cmp (key x) p) ≡ false → IsApart key cmp xs p n
+apart_from_read key cmp xs p n x read other d l = subst (λ y. is_eq (cmp (key y) p) ≡ false) (read ∙ get_or_default xs n x d l) other
+
+-- or behind the last item
+pub apart_at_end : {X K : Type 0} (key : X → K) (cmp : K → K → Ordering) (xs : List X) (p : K) (n : ℕ) → length xs ≤ n → IsApart key cmp xs p n
+apart_at_end key cmp xs p n past d l = absurd (omega arith)
+
+pub bracket_closed : {X K : Type 0} (key : X → K) (cmp : K → K → Ordering) (xs : List X) (p : K) (low high : ℕ) → IsBracket key cmp xs p low high → high ≡ low → IsBracket key cmp xs p low low
+bracket_closed key cmp xs p low high b ends = subst (IsBracket key cmp xs p low) ends b
 
 -- what the test of an answer of `cmp` says of the key that a call gave
 module _ {X K : Type 0} (key : X → K) (cmp : K → K → Ordering) (x : X) (k p : K) (r : Ordering) (t b : Bool) where
@@ -243,7 +265,7 @@ module _ {X Y K : Type 0} (key : X → K) (key' : Y → K) (cmp : K → K → Or
   find_last-change t [] = refl
   find_last-change t (x ∷ xs) =
       let here : cond (t (key x)) (Some (change x)) None ≡ option_map change (cond (t (key x)) (Some x) None) =
-          elim (t (key x)) as (λ b. cond b (Some (change x)) None ≡ option_map change (cond b (Some x) None)) [ true ↦ refl | false ↦ refl ] in
+      elim (t (key x)) as (λ b. cond b (Some (change x)) None ≡ option_map change (cond b (Some x) None)) [ true ↦ refl | false ↦ refl ] in
       rw (kept x, find_last-change t xs, here) (or_change (find_last (λ x. t (key x)) xs) (cond (t (key x)) (Some x) None))
 
   pub closest_item-change : (xs : List X) (p : K) → closest_item key' cmp (map change xs) p ≡ option_map change (closest_item key cmp xs p)
@@ -255,17 +277,30 @@ items_of_entries : {X : Type 0} (n : ℕ) (xs : List X) → map (λ (e : ℕ × 
 items_of_entries n [] = refl
 items_of_entries n (x ∷ xs) = ap (λ rest. x ∷ rest) (items_of_entries (n + 1) xs)
 
+entries-change : {X Y : Type 0} (change : X → Y) (n : ℕ) (xs : List X) → enumerate_from n (map change xs) ≡ map (λ (e : ℕ × X). (e.0, change e.1)) (enumerate_from n xs)
+entries-change change n [] = refl
+entries-change change n (x ∷ xs) = ap (λ rest. (n, change x) ∷ rest) (entries-change change (n + 1) xs)
+
+-- the same with the place beside the item
+pub closest-change : {X Y K : Type 0} (key : X → K) (key' : Y → K) (cmp : K → K → Ordering) (change : X → Y) (kept : (x : X) → key' (change x) ≡ key x) (xs : List X) (p : K) → closest key' cmp (map change xs) p ≡ option_map (λ (e : ℕ × X). (e.0, change e.1)) (closest key cmp xs p)
+unfolding closest
+closest-change {X} {Y} key key' cmp change kept xs p =
+    ap (λ es. closest_item (λ (e : ℕ × Y). key' e.1) cmp es p) (entries-change change 0 xs)
+    ∙ closest_item-change (λ (e : ℕ × X). key e.1) (λ (e : ℕ × Y). key' e.1) cmp (λ e. (e.0, change e.1)) (λ e. kept e.1) (enumerate_from 0 xs) p
+
 module _ {X K : Type 0} (key : X → K) (cmp : K → K → Ordering) (xs : List X) (p : K) where
   -- both forms of the closest item name one item
   pub item-closest : option_map (λ (e : ℕ × X). e.1) (closest key cmp xs p) ≡ closest_item key cmp xs p
+  unfolding closest
   item-closest =
       sym (closest_item-change (λ (e : ℕ × X). key e.1) key cmp (λ e. e.1) (λ e. refl) (enumerate_from 0 xs) p)
       ∙ ap (λ items. closest_item key cmp items p) (items_of_entries 0 xs)
 
   -- the place is the item's own
   pub place-closest : IfSome (closest key cmp xs p) (λ e. slice_get xs e.0 ≡ Some e.1)
+  unfolding closest
   place-closest =
       closest_item-has (λ (e : ℕ × X). key e.1) cmp (λ e. slice_get xs e.0 ≡ Some e.1) (enumerate_from 0 xs) p
       (recursion_from_All (λ e. slice_get xs e.0 ≡ Some e.1) (enumerate_from 0 xs) (λ k d l.
-        let many = length-enumerate_from 0 xs in
-        rw (entry-at xs k d (omega arith)) (slice_get-get_or xs k d.1 (omega arith))))
+      let many = length-enumerate_from 0 xs in
+      rw (entry-at xs k d (omega arith)) (slice_get-get_or xs k d.1 (omega arith))))

@@ -15,7 +15,7 @@ Adds-join ms ns s t u x y = record {
   digits = x.digits ++ y.digits;
   spelled = Spells-append ms ns x.digits y.digits x.spelled y.spelled;
   added = y.added ∙ ap (λ r. r ++ y.digits) x.added ∙ append_assoc s x.digits y.digits;
-  }
+}
 
 pub Spells-one : (n : ℤ) (digits : List ℕ) → IsShortest digits n → Spells (n ∷ []) digits
 Spells-one n digits short = (digits, [], short, sym (append-nil digits), refl)
@@ -39,17 +39,17 @@ unfolding source_numbers
 source_added against t s a b c d x y z w = Adds-join _ _ s c d (Adds-join _ _ s b c (Adds-join _ _ s a b x y) z) w
 
 -- the numbers by whether there is a source and a name
-numbers_by : RawToken → RawToken → Bool → Bool → List ℤ
+unfoldable pub numbers_by : RawToken → RawToken → Bool → Bool → List ℤ
 numbers_by against t source name =
     difference t.dst_col against.dst_col
     ∷ cond source
-        (difference t.src_id against.src_id
-        ∷ difference t.src_line against.src_line
-        ∷ difference t.src_col against.src_col
-        ∷ cond name (difference t.name_id against.name_id ∷ []) [])
-        []
+    (difference t.src_id against.src_id
+    ∷ difference t.src_line against.src_line
+    ∷ difference t.src_col against.src_col
+    ∷ cond name (difference t.name_id against.name_id ∷ []) [])
+    []
 
-numbers_are : (names : ℕ) (against t : RawToken) (p q : Bool) → has_source t ≡ p → has_name names t ≡ q
+pub numbers_are : (names : ℕ) (against t : RawToken) (p q : Bool) → has_source t ≡ p → has_name names t ≡ q
     → numbers names against t ≡ numbers_by against t p q
 unfolding numbers_by
 numbers_are names against t p q source name =

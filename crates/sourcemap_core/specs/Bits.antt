@@ -1,5 +1,5 @@
 -- Bits as digits of base 64: six bits a digit, lowest first.
-use Rattle.std.specs.Prelude.{◌≡◌, ◌≢◌, ℕ, ◌+◌, ◌*◌, ◌/◌, ◌%◌, ◌^◌, ◌<◌, ◌==◌, Bool, false, List, [], length, Option, Some, None, is_none, unwrap_or, find, slice_get, slice_index, Result, Ok, Err}
+use Rattle.std.specs.Prelude.{◌≡◌, ◌≢◌, ℕ, ◌+◌, ◌*◌, ◌/◌, ◌%◌, ◌<◌, ◌==◌, Bool, false, List, [], ◌∷◌, map, length, Option, Some, None, is_none, unwrap_or, find, slice_get, Result, Ok, Err}
 use Rattle.std.specs.List.{slice_index_or}
 use Rattle.std.specs.Option.{option_and_then}
 use Rattle.std.specs.Int.{bit_at}
@@ -19,6 +19,14 @@ bit_of text j = bit_at (value_at text (j / 6)) (j % 6) == 1
 abbrev pub first_foreign : List ℕ → Option ℕ
 first_foreign text = find (λ c. is_none (digit_value c)) text
 
+-- the six bits of a value
+abbrev pub six_of : ℕ → List Bool
+six_of v = map (λ k. bit_at v k == 1) (0 ∷ 1 ∷ 2 ∷ 3 ∷ 4 ∷ 5 ∷ [])
+
+-- a refusal of the first byte that is no digit
+abbrev pub IsForeign : List ℕ → Error → Type 0
+IsForeign text e = (c : ℕ) × (first_foreign text ≡ Some c) × (e ≡ InvalidBase64 c)
+
 -- the bits of a text of digits, six a digit
 pub record AreBitsOf (text : List ℕ) (bits : List Bool) : Type 0 where
   pub digits : first_foreign text ≡ None
@@ -28,8 +36,7 @@ pub record AreBitsOf (text : List ℕ) (bits : List Bool) : Type 0 where
 -- what a text stands for: its bits, or its first byte that is no digit
 abbrev pub BitAnswers : List ℕ → Result (List Bool) Error → Type 0
 BitAnswers text (Ok bits) = AreBitsOf text bits
-BitAnswers text (Err (InvalidBase64 c)) = first_foreign text ≡ Some c
-BitAnswers text (Err _) = ⊥
+BitAnswers text (Err e) = IsForeign text e
 
 -- the shortest text of bits: it ends with the digit of the last true bit
 pub record IsBitText (bits : List Bool) (text : List ℕ) : Type 0 where

@@ -1,9 +1,14 @@
 pub mod Answer
 pub mod Bits
 pub mod Errors
+pub mod Vlq
 pub mod Mappings
 pub mod Tokens
 pub mod Utils
 pub mod Vlq
 pub mod MappingsWritten
+pub mod MappingsParts
+pub mod MappingsWritten
+pub mod Tokens
+pub mod Utils
 pub mod WritingSteps

@@ -53,7 +53,7 @@ token_of n bits here all s = record {
   src_id = field 1 all s;
   name_id = field 4 all s;
   is_range = bit_of bits s.place;
-  }
+}
 
 -- the tokens of some segments of line n, behind `here` in the line and `before` in the text
 abbrev pub line_tokens : ℕ → List ℕ → List Segment → List Segment → List Segment → List RawToken
@@ -109,7 +109,7 @@ PartsFault counts place before ([] ∷ parts) e = PartsFault counts (place + 1) 
 PartsFault counts place before ((c ∷ cs) ∷ parts) e =
     PartFault counts place before (c ∷ cs) e
     ⊎ ((s : Segment) × PartRead counts place before (c ∷ cs) s
-        × PartsFault counts (place + 1) (before ++ s ∷ []) parts e)
+    × PartsFault counts (place + 1) (before ++ s ∷ []) parts e)
 
 -- a line of the text, and the text of its range bits
 abbrev pub LineText : Type 0

@@ -54,7 +54,7 @@ base names n before = record {
   src_id = last_field has_source (λ t. t.src_id) before;
   name_id = last_field (has_name names) (λ t. t.name_id) before;
   is_range = false;
-  }
+}
 
 -- a plain difference of whole numbers
 abbrev pub difference : ℕ → ℕ → ℤ
@@ -65,10 +65,10 @@ abbrev pub numbers : ℕ → RawToken → RawToken → List ℤ
 numbers names against t =
     difference t.dst_col against.dst_col
     ∷ (if has_source t then
-        difference t.src_id against.src_id
-        ∷ difference t.src_line against.src_line
-        ∷ difference t.src_col against.src_col
-        ∷ (if has_name names t then difference t.name_id against.name_id ∷ [] else [])
+    difference t.src_id against.src_id
+    ∷ difference t.src_line against.src_line
+    ∷ difference t.src_col against.src_col
+    ∷ (if has_name names t then difference t.name_id against.name_id ∷ [] else [])
     else [])
 
 -- the texts of some tokens' segments, behind the tokens `before`

@@ -1,5 +1,5 @@
 -- Lists of tokens: their order, their bounds, and what is left of one that is written.
-use Rattle.std.specs.Prelude.{◌≡◌, ℕ, ◌<◌, ◌≤◌, Bool, ◌&&◌, cond, List, [], ◌∷◌, map, Option, ◌==◌, nat_lt, if◌then◌else◌, IsSortedByKey}
+use Rattle.std.specs.Prelude.{◌≡◌, ℕ, ◌≤◌, Bool, ◌&&◌, cond, List, [], ◌∷◌, map, Option, ◌==◌, nat_lt, if◌then◌else◌, IsSortedByKey}
 use Rattle.std.specs.List.{AllByRecursion}
 use Rattle.std.specs.Ordering.{nat_cmp, ordering_then, is_lt}
 use Rattle.std.specs.declared.cmp.Ordering.{Ordering}

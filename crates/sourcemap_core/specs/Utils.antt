@@ -1,5 +1,5 @@
 -- The item of a list that stands closest to a place.
-use Rattle.std.specs.Prelude.{◌≡◌, ℕ, Bool, cond, List, [], ◌∷◌, Option, Some, None, find, option_map}
+use Rattle.std.specs.Prelude.{◌≡◌, ℕ, Bool, cond, List, [], ◌∷◌, Option, Some, None, find}
 use Rattle.std.specs.List.{enumerate_from}
 use Rattle.std.specs.Option.{option_or}
 use Rattle.std.specs.Ordering.{is_eq, is_lt}
@@ -16,7 +16,7 @@ abbrev pub closest_item : {X K : Type 0} → (X → K) → (K → K → Ordering
 closest_item key cmp xs p = option_or (find (λ x. is_eq (cmp (key x) p)) xs) (find_last (λ x. is_lt (cmp (key x) p)) xs)
 
 -- the same item, beside the place that it has in the list
-abbrev pub closest : {X K : Type 0} → (X → K) → (K → K → Ordering) → List X → K → Option (ℕ × X)
+unfoldable pub closest : {X K : Type 0} → (X → K) → (K → K → Ordering) → List X → K → Option (ℕ × X)
 closest key cmp xs p = closest_item (λ entry. key entry.1) cmp (enumerate_from 0 xs) p
 
 -- a call gives what `key` gives of the value that it is shown

@@ -1,6 +1,6 @@
 -- Numbers as digits of base 64: five bits of data a digit, least significant digit first. The bit
 -- worth 32 says that another digit of the same number follows.
-use Rattle.std.specs.Prelude.{◌≡◌, ◌≢◌, ℕ, ◌+◌, ◌-◌, ◌*◌, ◌/◌, ◌%◌, ◌^◌, ◌<◌, ◌≤◌, ◌==◌, ◌&&◌, Bool, nat_lt, nat_le, if◌then◌else◌, List, [], ◌∷◌, ◌++◌, length, Option, Some, None, unwrap_or, Result, Ok, Err, ℤ, pos, unsigned_abs, Any}
+use Rattle.std.specs.Prelude.{◌≡◌, ◌≢◌, ℕ, ◌+◌, ◌-◌, ◌*◌, ◌/◌, ◌%◌, ◌^◌, ◌<◌, ◌≤◌, ◌==◌, ◌&&◌, nat_lt, nat_le, if◌then◌else◌, List, [], ◌∷◌, ◌++◌, length, Option, Some, None, unwrap_or, Result, Ok, Err, ℤ, pos, unsigned_abs, Any}
 use Rattle.std.specs.List.{AllByRecursion}
 use lib.IntN.{neg_ℤ}
 use Rattle.sourcemap_core.specs.declared.errors.Error.{Error}

@@ -1,5 +1,5 @@
 -- What the parts of the writers of mappings do.
-use Rattle.std.specs.Prelude.{◌≡◌, ℕ, ◌-◌, ◌==◌, ℤ, List, [], ◌∷◌, ◌++◌, replicate, Option, Bool, false, if◌then◌else◌}
+use Rattle.std.specs.Prelude.{◌≡◌, ℕ, ◌-◌, ◌^◌, ◌<◌, ◌==◌, true, ℤ, List, [], ◌∷◌, ◌++◌, replicate, Option, Bool, false, if◌then◌else◌}
 use Rattle.std.specs.Option.{option_map_or}
 use Rattle.sourcemap_core.specs.declared.tokens.RawToken.{RawToken}
 use Rattle.sourcemap_core.specs.Vlq.{Spells}
@@ -11,6 +11,10 @@ pub record Adds (numbers : List ℤ) (old new : List ℕ) : Type 0 where
   pub digits : List ℕ
   pub spelled : Spells numbers digits
   pub added : new ≡ old ++ digits
+
+-- the places of a token that are written have 32 bits
+abbrev pub HasSmallPlaces : RawToken → Type 0
+HasSmallPlaces t = (t.dst_col < 2 ^ 32) × (has_source t ≡ true → (t.src_line < 2 ^ 32) × (t.src_col < 2 ^ 32))
 
 -- the token is equal to the one before it
 abbrev pub repeats : Option RawToken → RawToken → Bool
@@ -38,4 +42,4 @@ moved names against t = record {
   src_id = (if has_source t then t.src_id else against.src_id);
   name_id = (if has_name names t then t.name_id else against.name_id);
   is_range = false;
-  }
+}

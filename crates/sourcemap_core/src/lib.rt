@@ -5,7 +5,8 @@
 pub mod bits;
 pub mod errors;
 pub mod mappings;
+mod mappings_written;
 pub mod tokens;
-pub mod vlq;
 pub mod utils;
 pub mod mappings_written;
+pub mod vlq;

@@ -1,15 +1,21 @@
 //! The texts that a list of tokens is written as.
 ghost use Rattle.std.specs.Prelude.{◌≡◌, ℕ, ◌+◌, ◌-◌, ◌<◌, ◌≤◌, ◌^◌, List, [], ◌∷◌, ◌++◌, replicate, if◌then◌else◌, OnOk, IfOk, IfErr, string_bytes, ℤ, unsigned_abs, option_map, Option, Bool, false};
+ghost use Rattle.std.specs.List.{list_any};
+ghost use Rattle.std.specs.Option.{option_map_or};
 ghost use Rattle.sourcemap_core.specs.Answer.{UnlessMemory};
 ghost use Rattle.sourcemap_core.specs.Vlq.{IsShortest, IsTooFar};
 ghost use Rattle.sourcemap_core.specs.Bits.{IsBitText};
-ghost use Rattle.sourcemap_core.specs.Tokens.{AreInOrder};
-ghost use Rattle.sourcemap_core.specs.MappingsWritten.{has_source, has_name, difference, numbers, IsWritten, IsRangeText};
-ghost use Rattle.sourcemap_core.specs.WritingSteps.{Adds, repeats, follows, gap, at_line, moved};
+ghost use Rattle.sourcemap_core.specs.Tokens.{AreInOrder, AllWithin, without_repeats, reduced};
+ghost use Rattle.sourcemap_core.specs.Mappings.{MappingsAnswer};
+ghost use Rattle.sourcemap_core.specs.MappingsWritten.{has_source, has_name, difference, numbers, LineByLine, IsRangeLine, IsWritten, IsRangeText};
+ghost use Rattle.sourcemap_core.specs.WritingSteps.{Adds, HasSmallPlaces, repeats, follows, gap, at_line, moved};
+ghost use Rattle.sourcemap_core.specs.declared.tokens.RawToken.{RawToken};
 ghost use Rattle.sourcemap_core.specs.declared.errors.Error.TheVariants.{OutOfMemory, VlqOverflow};
 
+use crate::bits::push_bits;
 use crate::errors::{Error, Result};
 use crate::tokens::RawToken;
+use crate::vlq::push_number;
 use std::alloc::{AllocError, Global};
 
 // The id that names nothing.
@@ -28,15 +34,6 @@ const START: RawToken = RawToken {
 
 // For how many tokens room is made at first, six bytes each.
 const FIRST_TOKENS: usize = 1 << 28;
-
-fn push_number(text: &mut String, number: i64) -> Result<()>
-    ensures written { OnOk result ((digits : List ℕ) × IsShortest digits number × (string_bytes text.new ≡ string_bytes text.old ++ digits)) }
-    ensures refused { IfErr result (λ e. UnlessMemory e ((e ≡ VlqOverflow) × IsTooFar number)) }
-{
-    let _ = text;
-    let _ = number;
-    Err(Error::OutOfMemory)
-}
 
 #[inline]
 fn has_source(token: RawToken) -> bool
@@ -84,7 +81,12 @@ fn push_line_ends(text: &mut String, from: u32, to: u32) -> std::result::Result<
 
 // What stands between two segments, where the text has come to this line.
 #[inline]
-fn push_gap(text: &mut String, previous: Option<RawToken>, line: u32, token: RawToken) -> std::result::Result<(), AllocError>
+fn push_gap(
+    text: &mut String,
+    previous: Option<RawToken>,
+    line: u32,
+    token: RawToken,
+) -> std::result::Result<(), AllocError>
     ensures text { OnOk result (string_bytes text.new ≡ string_bytes text.old ++ gap previous line token) }
 {
     if follows_on(previous, token) {
@@ -95,8 +97,13 @@ fn push_gap(text: &mut String, previous: Option<RawToken>, line: u32, token: Raw
 }
 
 #[inline]
-fn push_difference(text: &mut String, number: u32, against: u32) -> std::result::Result<(), AllocError>
+fn push_difference(
+    text: &mut String,
+    number: u32,
+    against: u32,
+) -> std::result::Result<(), AllocError>
     ensures text { OnOk result (Adds (difference number against ∷ []) (string_bytes text.old) (string_bytes text.new)) }
+    ensures small { number < 2 ^ 32 }
 {
     match push_number(text, i64::from(number) - i64::from(against)) {
         Ok(()) => Ok(()),
@@ -107,8 +114,14 @@ fn push_difference(text: &mut String, number: u32, against: u32) -> std::result:
 
 // The segment of a token.
 #[inline]
-fn push_segment(text: &mut String, against: RawToken, token: RawToken, names: u32) -> std::result::Result<(), AllocError>
+fn push_segment(
+    text: &mut String,
+    against: RawToken,
+    token: RawToken,
+    names: u32,
+) -> std::result::Result<(), AllocError>
     ensures text { OnOk result (Adds (numbers names against token) (string_bytes text.old) (string_bytes text.new)) }
+    ensures small { OnOk result (HasSmallPlaces token) }
 {
     push_difference(text, token.dst_col, against.dst_col)?;
     if !has_source(token) {
@@ -126,12 +139,17 @@ fn push_segment(text: &mut String, against: RawToken, token: RawToken, names: u3
 // What the first segment of a line is taken against.
 #[inline]
 fn at_line(against: RawToken, line: u32) -> RawToken
-    ensures { result ≡ at_line against line }
+    ensures value { result ≡ at_line against line }
+    ensures small { line < 2 ^ 32 }
 {
     if against.dst_line == line {
         return against;
     }
-    RawToken { dst_line: line, dst_col: 0, ..against }
+    RawToken {
+        dst_line: line,
+        dst_col: 0,
+        ..against
+    }
 }
 
 // What the segment behind a token's is taken against.
@@ -140,8 +158,18 @@ fn moved(against: RawToken, token: RawToken, names: u32) -> RawToken
     ensures { result ≡ moved names against token }
 {
     let source = if has_source(token) { token } else { against };
-    let name_id = if has_name(token, names) { token.name_id } else { against.name_id };
-    RawToken { dst_line: token.dst_line, dst_col: token.dst_col, name_id, is_range: false, ..source }
+    let name_id = if has_name(token, names) {
+        token.name_id
+    } else {
+        against.name_id
+    };
+    RawToken {
+        dst_line: token.dst_line,
+        dst_col: token.dst_col,
+        name_id,
+        is_range: false,
+        ..source
+    }
 }
 
 // Adds the segment of a token to a text that has come to the line of `against`, and answers what the
@@ -156,6 +184,7 @@ fn push_token(
 ) -> std::result::Result<RawToken, AllocError>
     ensures text { OnOk result (Adds (numbers names (at_line against token.dst_line) token)
         (string_bytes text.old ++ gap previous against.dst_line token) (string_bytes text.new)) }
+    ensures small { OnOk result ((token.dst_line < 2 ^ 32) × HasSmallPlaces token) }
     ensures next { IfOk result (λ next. next ≡ moved names (at_line against token.dst_line) token) }
 {
     push_gap(text, previous, against.dst_line, token)?;
@@ -172,6 +201,10 @@ pub fn write_mappings(alloc: Global, tokens: &[RawToken], names: u32) -> Result<
     requires { AreInOrder tokens.now }
     ensures text { IfOk result (λ s. IsWritten names tokens.now (string_bytes s)) }
     ensures memory { IfErr result (λ e. e ≡ OutOfMemory) }
+    ensures reads_back { IfOk result (λ s. (sources : ℕ) → sources < 2 ^ 32 → AllWithin sources names tokens.now
+        → (ranges : Option (List ℕ)) → IsRangeText tokens.now ranges
+        → MappingsAnswer (string_bytes s) (option_map_or (λ bits. bits) ranges []) (record { sources = sources; names = names })
+        (Ok (reduced names tokens.now))) }
 {
     let mut text = String::with_capacity(alloc, tokens.len().min(FIRST_TOKENS) * 6)?;
     let mut against = START;
@@ -183,4 +216,152 @@ pub fn write_mappings(alloc: Global, tokens: &[RawToken], names: u32) -> Result<
         previous = Some(*token);
     }
     Ok(text)
+}
+
+/// The text of range bits of some tokens in order, none if no token is a range: for each line from 0
+/// to the last token's the range flags of its segments, as `write_mappings` writes them. Only want of
+/// memory refuses.
+pub fn write_range_mappings(alloc: Global, tokens: &[RawToken]) -> Result<Option<String>>
+    requires { AreInOrder tokens.now }
+    ensures text { IfOk result (λ o. IsRangeText tokens.now (option_map string_bytes o)) }
+    ensures memory { IfErr result (λ e. e ≡ OutOfMemory) }
+{
+    if !has_range(tokens) {
+        return Ok(None);
+    }
+    Ok(Some(range_text(alloc, tokens)?))
+}
+
+fn has_range(tokens: &[RawToken]) -> bool
+    ensures { result ≡ list_any (λ t. t.is_range) tokens.now }
+{
+    tokens.iter().any(|token| token.is_range)
+}
+
+// The text of range bits of some tokens.
+fn range_text(alloc: Global, tokens: &[RawToken]) -> Result<String>
+    requires { AreInOrder tokens.now }
+    ensures text { IfOk result (λ s. LineByLine (IsRangeLine (without_repeats tokens.now)) tokens.now (string_bytes s)) }
+    ensures memory { IfErr result (λ e. e ≡ OutOfMemory) }
+{
+    let mut text = String::new(alloc);
+    let mut flags = Vec::new(alloc);
+    let mut line = 0;
+    let mut previous = None;
+    for token in tokens {
+        if line != token.dst_line {
+            push_bits(&mut text, flags.as_slice())?;
+            push_line_ends(&mut text, line, token.dst_line)?;
+            flags.clear();
+            line = token.dst_line;
+        }
+        if !is_repeat(previous, *token) {
+            flags.push(token.is_range)?;
+        }
+        previous = Some(*token);
+    }
+    push_bits(&mut text, flags.as_slice())?;
+    Ok(text)
+}
+
+/// Says that the written texts are determined: tokens have one text of mappings for so many names, and
+/// one text of range bits.
+pub fn written_texts_are_determined()
+    ensures one_text { (names : ℕ) (tokens : List RawToken) (a b : List ℕ) → IsWritten names tokens a → IsWritten names tokens b → a ≡ b }
+    ensures one_range_text { (tokens : List RawToken) (a b : Option (List ℕ)) → IsRangeText tokens a → IsRangeText tokens b → a ≡ b }
+{}
+
+#[cfg(test)]
+mod tests {
+    use super::*;
+    use crate::tokens::tokens_in_order;
+    use std::process::Abort;
+    use std::test::Fail;
+
+    fn bare(line: u32, column: u32, is_range: bool) -> RawToken {
+        RawToken {
+            dst_line: line,
+            dst_col: column,
+            src_line: NOTHING,
+            src_col: NOTHING,
+            src_id: NOTHING,
+            name_id: NOTHING,
+            is_range,
+        }
+    }
+
+    fn sourced(column: u32, src_line: u32, src_col: u32, name_id: u32, is_range: bool) -> RawToken {
+        RawToken {
+            dst_line: 0,
+            dst_col: column,
+            src_line,
+            src_col,
+            src_id: 0,
+            name_id,
+            is_range,
+        }
+    }
+
+    fn check(
+        rt: &impl Abort,
+        alloc: Global,
+        tokens: &[RawToken],
+        mappings: &str,
+        ranges: Option<&str>,
+    ) -> std::result::Result<(), Fail> {
+        assert!(rt; tokens_in_order(tokens));
+        let text = write_mappings(alloc, tokens, 2).ok().ok_or("memory")?;
+        assert_eq!(rt; text.as_str(), mappings);
+        let bits = write_range_mappings(alloc, tokens).ok().ok_or("memory")?;
+        assert!(rt; bits.is_some() == ranges.is_some(), "at {mappings}");
+        let written = bits.as_ref().map_or("", |bits| bits.as_str());
+        assert_eq!(rt; written, ranges.unwrap_or(""), "at {mappings}");
+        Ok(())
+    }
+
+    #[test]
+    fn writes_tokens(rt: HostRuntime) -> std::result::Result<(), Fail> {
+        let alloc = rt.alloc();
+        check(&rt, alloc, &[], "", None)?;
+        check(
+            &rt,
+            alloc,
+            &[bare(0, 0, false), bare(1, 0, true)],
+            "A;A",
+            Some(";B"),
+        )?;
+        let first = sourced(0, 0, 0, NOTHING, false);
+        let repeated = [first, first, sourced(5, 0, 5, NOTHING, true)];
+        check(&rt, alloc, &repeated, "AAAA,KAAK", Some("C"))?;
+        check(
+            &rt,
+            alloc,
+            &[bare(0, 0, false), bare(0, 1, true)],
+            "A,C",
+            Some("C"),
+        )?;
+        check(
+            &rt,
+            alloc,
+            &[bare(0, 0, false), bare(0, 0, true)],
+            "A,A",
+            Some("C"),
+        )?;
+        check(
+            &rt,
+            alloc,
+            &[sourced(0, NOTHING, 0, NOTHING, false)],
+            "AA+/////HA",
+            None,
+        )?;
+        check(
+            &rt,
+            alloc,
+            &[bare(0, 0, false), bare(0, NOTHING, true)],
+            "A,+/////H",
+            Some("C"),
+        )?;
+        let unknown_name = [sourced(0, 0, 0, 7, false), sourced(4, 0, 4, 1, false)];
+        check(&rt, alloc, &unknown_name, "AAAA,IAAIC", None)
+    }
 }

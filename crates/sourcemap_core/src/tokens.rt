@@ -1,7 +1,8 @@
-ghost use Rattle.std.specs.Prelude.{◌≡◌, ℕ, IsTrue, ◌↔◌, OnOk, OnErr, IfErr};
+ghost use Rattle.std.specs.Prelude.{◌≡◌, ℕ, IsOk, IsTrue, ◌↔◌, OnOk, OnErr, IfErr, IfSome, Some, option_map, slice_get};
 ghost use Rattle.std.specs.Ordering.{is_eq, is_lt};
 ghost use Rattle.std.specs.List.Sorted.{IsStableByKey};
-ghost use Rattle.sourcemap_core.specs.Tokens.{AreInOrder, closest_token, destination, in_order, position_cmp};
+ghost use Rattle.sourcemap_core.specs.Tokens.{AreInOrder, closest_token, destination, in_order, position_cmp, reduced, with_sound_name};
+ghost use Rattle.sourcemap_core.specs.Utils.{closest_item};
 ghost use Rattle.sourcemap_core.specs.declared.errors.Error.TheVariants.{OutOfMemory};
 
 use crate::errors::Result;
@@ -62,6 +63,7 @@ pub fn sort_tokens(tokens: &mut Vec<RawToken>) -> Result<()>
     ensures sorted { OnOk result (tokens.new.items ≡ in_order tokens.old.items) }
     ensures unchanged { OnErr result (tokens.new.items ≡ tokens.old.items) }
     ensures memory { IfErr result (λ cause. cause ≡ OutOfMemory) }
+    ensures in_place { AreInOrder tokens.old.items → IsOk result }
 {
     if !tokens_in_order(tokens.as_slice()) {
         tokens.sort_by_key(|token| (token.dst_line, token.dst_col))?;
@@ -74,7 +76,9 @@ pub fn sort_tokens(tokens: &mut Vec<RawToken>) -> Result<()>
 /// are in order.
 pub fn closest_token(tokens: &[RawToken], line: u32, col: u32) -> Option<(usize, RawToken)>
     requires { AreInOrder tokens.now }
-    ensures { result ≡ closest_token tokens.now (line, col) }
+    ensures answer { result ≡ closest_token tokens.now (line, col) }
+    // the place is the token's own
+    ensures own_index { IfSome result (λ found. slice_get tokens.now found.0 ≡ Some found.1) }
 {
     let mut low = 0;
     let mut high = tokens.len();
@@ -96,4 +100,62 @@ pub fn closest_token(tokens: &[RawToken], line: u32, col: u32) -> Option<(usize,
         return None;
     }
     Some((low - 1, tokens[low - 1]))
+}
+
+/// A law: tokens in order that keep those of one place as they stood are what a sort gives.
+pub fn one_stable_order(tokens: &[RawToken], sorted: &[RawToken])
+    ensures { AreInOrder sorted.now → IsStableByKey destination position_cmp tokens.now sorted.now
+        → sorted.now ≡ in_order tokens.now }
+{}
+
+/// A law: without repeats, and with each name id that names none of the `names` put to
+/// 4294967295, a list has the same closest tokens, up to such a name id.
+pub fn reduced_answers_alike(tokens: &[RawToken], names: u32, line: u32, col: u32)
+    ensures { closest_item destination position_cmp (reduced names tokens.now) (line, col)
+        ≡ option_map (with_sound_name names) (closest_item destination position_cmp tokens.now (line, col)) }
+{}
+
+#[cfg(test)]
+mod tests {
+    use super::*;
+    use std::test::Fail;
+
+    fn token(dst_line: u32, dst_col: u32, src_col: u32) -> RawToken {
+        RawToken {
+            dst_line,
+            dst_col,
+            src_line: 0,
+            src_col,
+            src_id: 0,
+            name_id: !0,
+            is_range: false,
+        }
+    }
+
+    #[test]
+    fn sorts_and_finds(rt: HostRuntime) -> std::result::Result<(), Fail> {
+        let places = [(2, 5), (0, 3), (2, 5), (0, 3)];
+        let mut tokens = Vec::new(rt.alloc());
+        for (at, (line, col)) in places.iter().enumerate() {
+            tokens.push(token(*line, *col, at as u32))?;
+        }
+        assert!(rt; !tokens_in_order(tokens.as_slice()));
+        sort_tokens(&mut tokens).ok().ok_or("memory")?;
+        assert!(rt; tokens_in_order(tokens.as_slice()));
+        for (line, col, want) in [
+            (2, 4, Some(3)),
+            (1, 0, Some(3)),
+            (0, 2, None),
+            (0, 3, Some(1)),
+            (2, 5, Some(0)),
+        ] {
+            let found = closest_token(tokens.as_slice(), line, col);
+            assert_eq!(rt;
+                found.map(|(_, token)| token.src_col),
+                want,
+                "at {line}:{col}"
+            );
+        }
+        Ok(())
+    }
 }

@@ -1,9 +1,9 @@
 //! Numbers written as digits of base 64: the segments of a map's text.
-ghost use Rattle.std.specs.Prelude.{◌≡◌, ℕ, ◌^◌, ◌<◌, ◌==◌, ◌&&◌, ◌||◌, nat_lt, ℤ, List, ◌++◌, Result, IfOk, IfErr, OnOk, string_bytes};
+ghost use Rattle.std.specs.Prelude.{◌≡◌, ◌≢◌, [], ℕ, ◌^◌, ◌<◌, ◌==◌, ◌&&◌, ◌||◌, nat_lt, ℤ, List, ◌++◌, Result, IfOk, IfErr, OnOk, string_bytes};
 ghost use Rattle.sourcemap_core.specs.declared.errors.Error.{Error};
 ghost use Rattle.sourcemap_core.specs.declared.errors.Error.TheVariants.{VlqOverflow};
 ghost use Rattle.sourcemap_core.specs.Answer.{UnlessMemory, IsAnswer, Gives};
-ghost use Rattle.sourcemap_core.specs.Vlq.{digit_value, glyph, number_of, BeginsWith, NumberFault, IsShortest, IsTooFar, Reads, Answers, Written};
+ghost use Rattle.sourcemap_core.specs.Vlq.{digit_value, glyph, number_of, BeginsWith, NumberFault, IsShortest, IsTooFar, Reads, Answers, Spells, Written};
 
 use crate::errors::{Error, Result};
 use std::alloc::Global;
@@ -50,8 +50,24 @@ pub(crate) fn glyph_of(value: u8) -> u8
 }
 
 // The number at the front of a text, and the text behind it; else the first fault of that number.
-#[inline]
+// Most numbers have one digit.
+#[inline(always)]
 pub(crate) fn next_number(text: &[u8]) -> Result<(i64, &[u8])>
+    ensures number { IfOk result (λ read. BeginsWith text.now read.0 read.1.now) }
+    ensures fault { IfErr result (λ e. NumberFault text.now e) }
+{
+    if let [first, behind @ ..] = text {
+        if let Some(digit) = digit_of(*first) {
+            if digit < 32 {
+                return Ok((number_from(u64::from(digit)), behind));
+            }
+        }
+    }
+    long_number(text)
+}
+
+// The same for a number of any length.
+fn long_number(text: &[u8]) -> Result<(i64, &[u8])>
     ensures number { IfOk result (λ read. BeginsWith text.now read.0 read.1.now) }
     ensures fault { IfErr result (λ e. NumberFault text.now e) }
 {
@@ -140,4 +156,73 @@ pub fn generate_vlq_segment(alloc: Global, numbers: &[i64]) -> Result<String>
         push_number(&mut text, *number)?;
     }
     Ok(text)
+}
+
+// A segment stands for one list of numbers or one fault, and numbers have one shortest text, which
+// stands for them.
+fn segments_are_determined()
+    ensures one_answer { (text : List ℕ) (a b : Result (List ℤ) Error) → Answers text a → Answers text b → a ≡ b }
+    ensures one_text { (numbers : List ℤ) (a b : List ℕ) → Spells numbers a → Spells numbers b → a ≡ b }
+    ensures round_trip { (numbers : List ℤ) (text : List ℕ) → Spells numbers text → numbers ≢ [] → Answers text (Ok numbers) }
+{}
+
+#[cfg(test)]
+mod tests {
+    use super::*;
+    use std::test::Fail;
+
+    fn read(rt: &HostRuntime, segment: &str) -> std::result::Result<String, Fail> {
+        match parse_vlq_segment(rt.alloc(), segment) {
+            Ok(numbers) => Ok(format!(in rt.alloc(); "{numbers:?}")?),
+            Err(fault) => Ok(format!(in rt.alloc(); "{fault}")?),
+        }
+    }
+
+    fn written(rt: &HostRuntime, numbers: &[i64]) -> std::result::Result<String, Fail> {
+        match generate_vlq_segment(rt.alloc(), numbers) {
+            Ok(text) => Ok(text),
+            Err(fault) => Ok(format!(in rt.alloc(); "{fault}")?),
+        }
+    }
+
+    #[test]
+    fn reads_segments(rt: HostRuntime) -> std::result::Result<(), Fail> {
+        let overflow = "vlq decode caused an overflow";
+        let leftover = "leftover cur/shift in vlq decode";
+        let rows = [
+            ("AAAA", "[0, 0, 0, 0]"),
+            ("GAAIA", "[3, 0, 0, 4, 0]"),
+            ("B", "[0]"),
+            ("", "vlq decode did not produce any values"),
+            ("g", leftover),
+            ("A!", "invalid base64 character: !"),
+            ("Aé", "invalid base64 character: Ã"),
+            ("ggggggggggggH", "[4035225266123964416]"),
+            ("ggggggggggggI", overflow),
+            ("gggggggggggggA", overflow),
+            ("00000000000000", overflow),
+            ("ggggggggggggg", leftover),
+        ];
+        for (segment, want) in rows {
+            let got = read(&rt, segment)?;
+            assert_eq!(rt; got.as_str(), want, "at {segment}");
+        }
+        Ok(())
+    }
+
+    #[test]
+    fn writes_segments(rt: HostRuntime) -> std::result::Result<(), Fail> {
+        assert_eq!(rt; written(&rt, &[0, 0, 0, 0])?.as_str(), "AAAA");
+        assert_eq!(rt; written(&rt, &[3, 0, 0, 4, 0])?.as_str(), "GAAIA");
+        assert_eq!(rt; written(&rt, &[])?.as_str(), "");
+        assert_eq!(rt;
+            written(&rt, &[4611686018427387903])?.as_str(),
+            "+///////////H"
+        );
+        assert_eq!(rt;
+            written(&rt, &[4611686018427387904])?.as_str(),
+            "vlq decode caused an overflow"
+        );
+        Ok(())
+    }
 }

@@ -4,5 +4,5 @@ use Rattle.sourcemap_core.proofs.mappings_written.push_line_ends.Given as goal
 abbrev pub invariant-loop-line : goal.invariant-loop-line
 invariant-loop-line l = record {
   added : string_bytes l.text ≡ string_bytes l.initial.text ++ replicate (l._line - l.from) 59;
-  so_far : l._line - l.from ≤ l.to - l.from
-  }
+  so_far : l._line - l.from ≤ l.to - l.from;
+}

@@ -3,18 +3,18 @@ use Rattle.sourcemap_core.specs.MappingsWritten.{has_source, has_name}
 use Rattle.sourcemap_core.proofs.WritingLemmas.{unnamed_added, named_added}
 use Rattle.sourcemap_core.proofs.mappings_written.push_segment.Goals as goal
 
-pub returns-in_ok-push_difference-5 : goal.returns-in_ok-push_difference-5
-returns-in_ok-push_difference-5 c =
+pub returns-in_ok-push_difference-5-clause-text : goal.returns-in_ok-push_difference-5-clause-text
+returns-in_ok-push_difference-5-clause-text c =
     let source : has_source c.args.token ≡ true = cc in
     let name : has_name c.args.names c.args.token ≡ true = cc in
-    record { text = named_added c.args.names c.args.against c.args.token _ _ _ _ _ _ source name
-      c.in_ok-push_difference.ensures.text c.in_ok-push_difference-2.ensures.text c.in_ok-push_difference-3.ensures.text
-      c.in_ok-push_difference-4.ensures.text c.in_ok-push_difference-5.ensures.text; }
+    named_added c.args.names c.args.against c.args.token _ _ _ _ _ _ source name
+    c.in_ok-push_difference.ensures.text c.in_ok-push_difference-2.ensures.text c.in_ok-push_difference-3.ensures.text
+    c.in_ok-push_difference-4.ensures.text c.in_ok-push_difference-5.ensures.text
 
-pub returns-else-has_name : goal.returns-else-has_name
-returns-else-has_name c =
+pub returns-else-has_name-clause-text : goal.returns-else-has_name-clause-text
+returns-else-has_name-clause-text c =
     let source : has_source c.args.token ≡ true = cc in
     let name : has_name c.args.names c.args.token ≡ false = cc in
-    record { text = unnamed_added c.args.names c.args.against c.args.token _ _ _ _ _ source name
-      c.in_ok-push_difference.ensures.text c.in_ok-push_difference-2.ensures.text c.in_ok-push_difference-3.ensures.text
-      c.in_ok-push_difference-4.ensures.text; }
+    unnamed_added c.args.names c.args.against c.args.token _ _ _ _ _ source name
+    c.in_ok-push_difference.ensures.text c.in_ok-push_difference-2.ensures.text c.in_ok-push_difference-3.ensures.text
+    c.in_ok-push_difference-4.ensures.text

@@ -1,44 +1,32 @@
-use Rattle.std.proofs.Common.{◌≡◌, refl, sym, subst, ◌<◌, ◌-◌, ◌∙◌, length, get_or, false, arith}
-use Rattle.std.specs.Ordering.{is_eq}
+use Rattle.std.proofs.Common.{sym, ◌-◌, ◌∙◌, arith}
 use Rattle.std.proofs.lemmas.List.{get_or_default}
-use Rattle.sourcemap_core.specs.declared.tokens.RawToken.{RawToken}
 use Rattle.sourcemap_core.specs.Tokens.{destination, position_cmp}
 use Rattle.sourcemap_core.proofs.TokensLemmas.{position_cmp_total}
-use Rattle.sourcemap_core.proofs.UtilsLemmas.{IsBracket, closest-hit, closest-miss, closest-none}
+use Rattle.sourcemap_core.proofs.UtilsLemmas.{IsApart, apart_from_read, apart_at_end, bracket_closed, closest-hit, closest-miss, closest-none}
 use Rattle.sourcemap_core.proofs.tokens.closest_token.Goals as goal
 use Rattle.sourcemap_core.proofs.tokens.closest_token.Goals.{then-low-tokens+else-stands_at, else-low-tokens}
 
-pub returns-then-stands_at : goal.returns-then-stands_at
-returns-then-stands_at c =
-    let ends : c.loop-low.high ≡ c.loop-low.low = omega arith in
-    let bracket = subst (λ h. IsBracket destination position_cmp c.args.tokens.now (c.args.line, c.args.col) c.loop-low.low h) ends c.loop-low.invariant.bracket in
+pub returns-then-stands_at-clause-answer : goal.returns-then-stands_at-clause-answer
+returns-then-stands_at-clause-answer c =
+    let bracket = bracket_closed destination position_cmp c.args.tokens.now (c.args.line, c.args.col) c.loop-low.low c.loop-low.high c.loop-low.invariant.bracket (omega arith) in
     closest-hit position_cmp_total destination c.args.tokens.now (c.args.line, c.args.col) c.loop-low.low c.requires bracket _ (omega arith)
     (get_or_default c.args.tokens.now c.loop-low.low _ _ (omega arith)) (sym c.stands_at.ensures ∙ c.if-stands_at.true)
 
-pub returns-then-low-eq0 : goal.returns-then-low-eq0
-returns-then-low-eq0 c =
-    let apart : (d : RawToken) → c.loop-low.low < length c.args.tokens.now → is_eq (position_cmp (destination (get_or c.args.tokens.now c.loop-low.low d)) (c.args.line, c.args.col)) ≡ false = λ d l.
-      elim c.if-low-tokens.branch [
-        then-low-tokens+else-stands_at w ↦
-          subst (λ t. is_eq (position_cmp (destination t) (c.args.line, c.args.col)) ≡ false) (get_or_default c.args.tokens.now c.loop-low.low _ d l) (sym w.stands_at.ensures ∙ w.if-stands_at.false)
-        | else-low-tokens w ↦ absurd (omega arith)
-      ] in
-    let starts : c.loop-low.low ≡ 0 = omega arith in
-    let ends : c.loop-low.high ≡ c.loop-low.low = omega arith in
-    let bracket = subst (λ h. IsBracket destination position_cmp c.args.tokens.now (c.args.line, c.args.col) c.loop-low.low h) ends c.loop-low.invariant.bracket in
-    closest-none position_cmp_total destination c.args.tokens.now (c.args.line, c.args.col) c.requires
-    (subst (λ n. IsBracket destination position_cmp c.args.tokens.now (c.args.line, c.args.col) n n) starts bracket)
-    (subst (λ n. (d : RawToken) → n < length c.args.tokens.now → is_eq (position_cmp (destination (get_or c.args.tokens.now n d)) (c.args.line, c.args.col)) ≡ false) starts apart)
+pub returns-then-low-eq0-clause-answer : goal.returns-then-low-eq0-clause-answer
+returns-then-low-eq0-clause-answer c =
+    let bracket = bracket_closed destination position_cmp c.args.tokens.now (c.args.line, c.args.col) c.loop-low.low c.loop-low.high c.loop-low.invariant.bracket (omega arith) in
+    let apart : IsApart destination position_cmp c.args.tokens.now (c.args.line, c.args.col) c.loop-low.low = elim c.if-low-tokens.branch [
+      | then-low-tokens+else-stands_at w ↦ apart_from_read destination position_cmp c.args.tokens.now (c.args.line, c.args.col) c.loop-low.low _ (get_or_default c.args.tokens.now c.loop-low.low _ _ (omega arith)) (sym w.stands_at.ensures ∙ w.if-stands_at.false)
+      | else-low-tokens w ↦ apart_at_end destination position_cmp c.args.tokens.now (c.args.line, c.args.col) c.loop-low.low (omega arith)
+    ] in
+    closest-none position_cmp_total destination c.args.tokens.now (c.args.line, c.args.col) c.loop-low.low c.requires bracket (omega arith) apart
 
-pub returns : goal.returns
-returns c =
-    let apart : (d : RawToken) → c.loop-low.low < length c.args.tokens.now → is_eq (position_cmp (destination (get_or c.args.tokens.now c.loop-low.low d)) (c.args.line, c.args.col)) ≡ false = λ d l.
-      elim c.if-low-tokens.branch [
-        then-low-tokens+else-stands_at w ↦
-          subst (λ t. is_eq (position_cmp (destination t) (c.args.line, c.args.col)) ≡ false) (get_or_default c.args.tokens.now c.loop-low.low _ d l) (sym w.stands_at.ensures ∙ w.if-stands_at.false)
-        | else-low-tokens w ↦ absurd (omega arith)
-      ] in
-    let ends : c.loop-low.high ≡ c.loop-low.low = omega arith in
-    let bracket = subst (λ h. IsBracket destination position_cmp c.args.tokens.now (c.args.line, c.args.col) c.loop-low.low h) ends c.loop-low.invariant.bracket in
+pub returns-clause-answer : goal.returns-clause-answer
+returns-clause-answer c =
+    let bracket = bracket_closed destination position_cmp c.args.tokens.now (c.args.line, c.args.col) c.loop-low.low c.loop-low.high c.loop-low.invariant.bracket (omega arith) in
+    let apart : IsApart destination position_cmp c.args.tokens.now (c.args.line, c.args.col) c.loop-low.low = elim c.if-low-tokens.branch [
+      | then-low-tokens+else-stands_at w ↦ apart_from_read destination position_cmp c.args.tokens.now (c.args.line, c.args.col) c.loop-low.low _ (get_or_default c.args.tokens.now c.loop-low.low _ _ (omega arith)) (sym w.stands_at.ensures ∙ w.if-stands_at.false)
+      | else-low-tokens w ↦ apart_at_end destination position_cmp c.args.tokens.now (c.args.line, c.args.col) c.loop-low.low (omega arith)
+    ] in
     closest-miss position_cmp_total destination c.args.tokens.now (c.args.line, c.args.col) c.loop-low.low c.requires bracket _ (omega arith) (omega arith)
     (get_or_default c.args.tokens.now (c.loop-low.low - 1) _ _ (omega arith)) apart

@@ -12,7 +12,7 @@ pub loop-token-preserved : goal.loop-token-preserved
 loop-token-preserved c = record {
   start = λ e. absurd (omega arith);
   last = λ d l.
-    let back : c.loop-token.token-index + 1 - 1 ≡ c.loop-token.token-index = omega arith in
-    rw back (ap destination (get_or_default c.args.tokens.now c.loop-token.token-index d _ (omega arith)));
+      let back : c.loop-token.token-index + 1 - 1 ≡ c.loop-token.token-index = omega arith in
+      rw back (ap destination (get_or_default c.args.tokens.now c.loop-token.token-index d _ (omega arith)));
   so_far = order_goes_on c.args.tokens.now c.loop-token.token-index (c.loop-token.line, c.loop-token.col) c.loop-token.invariant.last _ (omega arith) (sym c.stands_before.ensures ∙ c.if-stands_before.false) c.loop-token.invariant.so_far;
 }

@@ -1,8 +1,7 @@
-use Rattle.std.proofs.Common.{arith, ◌≡◌, refl, sym, subst, ◌<◌, ◌-◌, ◌∙◌, length, get_or, true, false}
-use Rattle.std.specs.Ordering.{is_eq, is_lt}
-use Rattle.std.proofs.lemmas.List.{get_or_default}
+use Rattle.std.proofs.Common.{arith, ◌≡◌, refl, sym, subst, ◌-◌, length, true}
+use Rattle.std.specs.Ordering.{is_lt}
 use Rattle.std.proofs.lemmas.Option.{slice_get_read}
-use Rattle.sourcemap_core.proofs.UtilsLemmas.{IsBracket, bracket-up, bracket-down, tested_less, tested_equal, closest-hit, closest-miss, closest-none, is_le-less}
+use Rattle.sourcemap_core.proofs.UtilsLemmas.{IsApart, apart_from_read, apart_at_end, bracket_closed, bracket-up, bracket-down, tested_less, tested_equal, closest-hit, closest-miss, closest-none, is_le-less}
 use Rattle.sourcemap_core.proofs.utils.greatest_lower_bound.Goals as goal
 use Rattle.sourcemap_core.proofs.utils.greatest_lower_bound.Goals.{then-low-slice+else-eq-2, else-low-slice}
 
@@ -26,41 +25,33 @@ loop-low-preserved g c = record {
 
 pub returns-then-eq-2-clause-closest : goal.returns-then-eq-2-clause-closest
 returns-then-eq-2-clause-closest g c key_of gives sorted =
-    let ends : c.loop-low.high ≡ c.loop-low.low = omega arith in
-    let bracket = subst (λ h. IsBracket key_of g.K.Ord.cmp c.args.slice.now c.args.key.now c.loop-low.low h) ends (c.loop-low.invariant.bracket key_of gives) in
+    let bracket = bracket_closed key_of g.K.Ord.cmp c.args.slice.now c.args.key.now c.loop-low.low c.loop-low.high (c.loop-low.invariant.bracket key_of gives) (omega arith) in
     closest-hit g.met.K.Ord.total key_of c.args.slice.now c.args.key.now c.loop-low.low sorted bracket _ (omega arith) c.index-slice-low.is
     (tested_equal key_of g.K.Ord.cmp _ _ _ _ _ _ (gives _ _ c.map-then-low-slice.ensures) c.cmp-then-low-slice.ensures c.eq-then-low-slice.ensures c.if-eq-2.true)
 
 pub returns-then-low-eq0-clause-closest : goal.returns-then-low-eq0-clause-closest
 returns-then-low-eq0-clause-closest g c key_of gives sorted =
-    let apart : (d : g.row.T.Denot) → c.loop-low.low < length c.args.slice.now → is_eq (g.K.Ord.cmp (key_of (get_or c.args.slice.now c.loop-low.low d)) c.args.key.now) ≡ false = λ d l.
-    elim c.if-low-slice.branch [
+    let bracket = bracket_closed key_of g.K.Ord.cmp c.args.slice.now c.args.key.now c.loop-low.low c.loop-low.high (c.loop-low.invariant.bracket key_of gives) (omega arith) in
+    let apart : IsApart key_of g.K.Ord.cmp c.args.slice.now c.args.key.now c.loop-low.low = elim c.if-low-slice.branch [
       | then-low-slice+else-eq-2 w ↦
-          subst (λ y. is_eq (g.K.Ord.cmp (key_of y) c.args.key.now) ≡ false) (w.index-slice-low.is ∙ get_or_default c.args.slice.now c.loop-low.low _ d l)
+          apart_from_read key_of g.K.Ord.cmp c.args.slice.now c.args.key.now c.loop-low.low _ w.index-slice-low.is
           (tested_equal key_of g.K.Ord.cmp _ _ _ _ _ _ (gives _ _ w.map-then-low-slice.ensures) w.cmp-then-low-slice.ensures w.eq-then-low-slice.ensures w.if-eq-2.false)
-      | else-low-slice w ↦ absurd (omega arith)
+      | else-low-slice w ↦ apart_at_end key_of g.K.Ord.cmp c.args.slice.now c.args.key.now c.loop-low.low (omega arith)
     ] in
-    let starts : c.loop-low.low ≡ 0 = omega arith in
-    let ends : c.loop-low.high ≡ c.loop-low.low = omega arith in
-    let bracket = subst (λ h. IsBracket key_of g.K.Ord.cmp c.args.slice.now c.args.key.now c.loop-low.low h) ends (c.loop-low.invariant.bracket key_of gives) in
-    closest-none g.met.K.Ord.total key_of c.args.slice.now c.args.key.now sorted
-    (subst (λ n. IsBracket key_of g.K.Ord.cmp c.args.slice.now c.args.key.now n n) starts bracket)
-    (subst (λ n. (d : g.row.T.Denot) → n < length c.args.slice.now → is_eq (g.K.Ord.cmp (key_of (get_or c.args.slice.now n d)) c.args.key.now) ≡ false) starts apart)
+    closest-none g.met.K.Ord.total key_of c.args.slice.now c.args.key.now c.loop-low.low sorted bracket (omega arith) apart
 
 pub returns-clause-own_index : goal.returns-clause-own_index
 returns-clause-own_index g c = slice_get_read c.args.slice.now (length c.args.slice.now) (c.loop-low.low - 1) _ refl (omega arith) c.index-slice-low-2.is
 
 pub returns-clause-closest : goal.returns-clause-closest
 returns-clause-closest g c key_of gives sorted =
-    let apart : (d : g.row.T.Denot) → c.loop-low.low < length c.args.slice.now → is_eq (g.K.Ord.cmp (key_of (get_or c.args.slice.now c.loop-low.low d)) c.args.key.now) ≡ false = λ d l.
-    elim c.if-low-slice.branch [
+    let bracket = bracket_closed key_of g.K.Ord.cmp c.args.slice.now c.args.key.now c.loop-low.low c.loop-low.high (c.loop-low.invariant.bracket key_of gives) (omega arith) in
+    let apart : IsApart key_of g.K.Ord.cmp c.args.slice.now c.args.key.now c.loop-low.low = elim c.if-low-slice.branch [
       | then-low-slice+else-eq-2 w ↦
-          subst (λ y. is_eq (g.K.Ord.cmp (key_of y) c.args.key.now) ≡ false) (w.index-slice-low.is ∙ get_or_default c.args.slice.now c.loop-low.low _ d l)
+          apart_from_read key_of g.K.Ord.cmp c.args.slice.now c.args.key.now c.loop-low.low _ w.index-slice-low.is
           (tested_equal key_of g.K.Ord.cmp _ _ _ _ _ _ (gives _ _ w.map-then-low-slice.ensures) w.cmp-then-low-slice.ensures w.eq-then-low-slice.ensures w.if-eq-2.false)
-      | else-low-slice w ↦ absurd (omega arith)
+      | else-low-slice w ↦ apart_at_end key_of g.K.Ord.cmp c.args.slice.now c.args.key.now c.loop-low.low (omega arith)
     ] in
-    let ends : c.loop-low.high ≡ c.loop-low.low = omega arith in
-    let bracket = subst (λ h. IsBracket key_of g.K.Ord.cmp c.args.slice.now c.args.key.now c.loop-low.low h) ends (c.loop-low.invariant.bracket key_of gives) in
     closest-miss g.met.K.Ord.total key_of c.args.slice.now c.args.key.now c.loop-low.low sorted bracket _ (omega arith) (omega arith) c.index-slice-low-2.is apart
 
 pub returns-clause-at_most : goal.returns-clause-at_most
