@@ -59,6 +59,9 @@ pub record Section : Type 0 where
   pub place : Place
   pub map : Option Tree
 
+abbrev pub section_at : Place → Option Tree → Section
+section_at place t = record { place = place; map = t }
+
 abbrev pub tree_with : Fields → Option Sections → Tree
 tree_with fields None = plain fields
 tree_with fields (Some sections) = indexed fields sections
@@ -157,7 +160,7 @@ abbrev mutual
   record_of (number _) = None
   record_of (string _) = None
   record_of (array _) = None
-  record_of (object ms) = with (fields_in ms) (λ fields. with (sections_in ms) (λ sections. Some (tree_with fields sections)))
+  record_of (object ms) = with (sections_in ms) (λ sections. with (fields_in ms) (λ fields. Some (tree_with fields sections)))
 
   pub sections_of : Data → Option Sections
   sections_of null = None
@@ -177,7 +180,7 @@ abbrev mutual
   section_of (number _) = None
   section_of (string _) = None
   section_of (array _) = None
-  section_of (object ms) = with (place_in ms) (λ place. with (map_in ms) (λ t. Some (record { place = place; map = t })))
+  section_of (object ms) = with (map_in ms) (λ t. with (place_in ms) (λ place. Some (section_at place t)))
 
   -- the member `sections`, or null, or none
   pub sections_in : Members → Option (Option Sections)
@@ -193,8 +196,8 @@ abbrev mutual
 
 abbrev pub written_scopes : Scopes → Data
 written_scopes s = object (put_all (
-    (codes "mappings", Some (string s.mappings)) ∷
-    (codes "names", Some (written_list string s.names)) ∷ []) no_members)
+    (codes "names", Some (written_list string s.names)) ∷
+    (codes "mappings", Some (string s.mappings)) ∷ []) no_members)
 
 abbrev pub entries : Fields → List (List ℕ × Option Data)
 entries fields =
@@ -215,16 +218,16 @@ entries fields =
 abbrev pub written_fields : Fields → Members
 written_fields fields = put_all (entries fields) no_members
 
-abbrev pub written_offset : Place → Data
-written_offset place = object (put_all (
-    (codes "line", Some (written_number place.line)) ∷
-    (codes "column", Some (written_number place.column)) ∷ []) no_members)
+abbrev pub written_offset : RawSectionOffset → Data
+written_offset offset = object (put_all (
+    (codes "line", Some (written_number offset.line)) ∷
+    (codes "column", Some (written_number offset.column)) ∷ []) no_members)
 
 abbrev pub written_section : Place → Data → Data
 written_section place t = object (put_all (
-    (codes "offset", Some (written_offset place)) ∷
-    (codes "url", Some (written_or_null string place.url)) ∷
-    (codes "map", Some t) ∷ []) no_members)
+    (codes "map", Some t) ∷
+    (codes "offset", Some (written_offset (record { line = place.line; column = place.column }))) ∷
+    (codes "url", Some (written_or_null string place.url)) ∷ []) no_members)
 
 -- null for a missing version, sources, url or map; any other missing key is left out
 abbrev mutual
@@ -236,6 +239,10 @@ abbrev mutual
   written_sections no_more = no_items
   written_sections (bare place rest) = item (written_section place null) (written_sections rest)
   written_sections (mapped place t rest) = item (written_section place (written t)) (written_sections rest)
+
+-- one section alone
+abbrev pub written_one : Section → Data
+written_one s = written_section s.place (written_or_null written s.map)
 
 -- ---- what is read back as it was written
 

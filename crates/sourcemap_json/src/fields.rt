@@ -1,11 +1,12 @@
 // How the fields of a record are read from JSON and written as JSON.
-ghost use Rattle.std.specs.Prelude.{◌≡◌, ℕ, List, Option, Some, Ok, map, option_map, string_bytes};
-ghost use Rattle.serde_json.specs.Data.{Data};
+ghost use Rattle.std.specs.Prelude.{◌≡◌, ℕ, List, Option, Some, Ok, map, option_map, string_bytes, IfOk, IfErr, OnOk};
+ghost use Rattle.serde_json.specs.Data.{Data, string};
 ghost use Rattle.serde_json.specs.Find.{get_member};
 ghost use Rattle.serde_json.specs.View.{view, items_view, members_view};
-ghost use Rattle.sourcemap_json.specs.Fields.{Reads, KeepsOthers, any, text, small_number, or_null, items_read, list, at, needed};
+ghost use Rattle.sourcemap_core.specs.declared.errors.Error.TheVariants.{OutOfMemory};
+ghost use Rattle.sourcemap_json.specs.Fields.{Reads, Writes, put_if, written_number, written_or_null, written_list, KeepsOthers, any, text, small_number, or_null, items_read, list, at, needed};
 
-use serde_json::{Map, Value};
+use serde_json::{Map, Value, put};
 use sourcemap_core::errors::{Error, JsonFault, Result};
 use std::alloc::Global;
 
@@ -18,9 +19,15 @@ pub(crate) trait Field: Drop {
 
     ghost reading: { Data → Option Seen };
 
+    ghost writing: { Seen → Data };
+
     // Takes its texts out of the value.
     fn take(alloc: Global, value: Value) -> Result<Self>
         ensures { Reads see result (reading (view value)) };
+
+    // Leaves its texts to the value.
+    fn give(self, alloc: Global) -> Result<Value>
+        ensures { Writes result (writing (see self)) };
 }
 
 impl Field for Value {
@@ -30,8 +37,14 @@ impl Field for Value {
 
     ghost reading = { any };
 
+    ghost writing = { λ d. d };
+
     fn take(_alloc: Global, value: Value) -> Result<Value> {
         Ok(value)
+    }
+
+    fn give(self, _alloc: Global) -> Result<Value> {
+        Ok(self)
     }
 }
 
@@ -42,11 +55,17 @@ impl Field for String {
 
     ghost reading = { text };
 
+    ghost writing = { string };
+
     fn take(_alloc: Global, value: Value) -> Result<String> {
         match value {
             Value::String(text) => Ok(text),
             _ => Err(Error::BadJson(JsonFault::Shape)),
         }
+    }
+
+    fn give(self, _alloc: Global) -> Result<Value> {
+        Ok(Value::String(self))
     }
 }
 
@@ -57,11 +76,17 @@ impl Field for u32 {
 
     ghost reading = { small_number };
 
+    ghost writing = { written_number };
+
     fn take(_alloc: Global, value: Value) -> Result<u32> {
         match value.as_u64() {
             Some(n) if n < 1 << 32 => Ok(n as u32),
             _ => Err(Error::BadJson(JsonFault::Shape)),
         }
+    }
+
+    fn give(self, _alloc: Global) -> Result<Value> {
+        Ok(Value::from(self))
     }
 }
 
@@ -72,11 +97,20 @@ impl<T: Field> Field for Option<T> {
 
     ghost reading = { or_null T.reading };
 
+    ghost writing = { written_or_null T.writing };
+
     fn take(alloc: Global, value: Value) -> Result<Option<T>> {
         if let Value::Null = value {
             return Ok(None);
         }
         Ok(Some(T::take(alloc, value)?))
+    }
+
+    fn give(self, alloc: Global) -> Result<Value> {
+        match self {
+            Some(field) => field.give(alloc),
+            None => Ok(Value::Null),
+        }
     }
 }
 
@@ -87,11 +121,17 @@ impl<T: Field> Field for Vec<T> {
 
     ghost reading = { list T.reading };
 
+    ghost writing = { written_list T.writing };
+
     fn take(alloc: Global, value: Value) -> Result<Vec<T>> {
         match value {
             Value::Array(items) => take_items(alloc, items),
             _ => Err(Error::BadJson(JsonFault::Shape)),
         }
+    }
+
+    fn give(self, alloc: Global) -> Result<Value> {
+        Ok(Value::Array(give_items(alloc, self)?))
     }
 }
 
@@ -103,6 +143,17 @@ fn take_items<T: Field>(alloc: Global, items: Vec<Value>) -> Result<Vec<T>>
         fields.push(T::take(alloc, item)?)?;
     }
     Ok(fields)
+}
+
+fn give_items<T: Field>(alloc: Global, fields: Vec<T>) -> Result<Vec<Value>>
+    ensures ok { IfOk result (λ v. map view v.items ≡ map T.writing (map T.see fields.items)) }
+    ensures err { IfErr result (λ e. e ≡ OutOfMemory) }
+{
+    let mut items = Vec::with_capacity(alloc, fields.len())?;
+    for field in fields {
+        items.push(field.give(alloc)?)?;
+    }
+    Ok(items)
 }
 
 // The value of a key, taken out; the other keys keep theirs.
@@ -147,4 +198,21 @@ pub(crate) fn take_needed<F: Field>(
         Some(value) => F::take(alloc, value),
         None => Err(Error::BadJson(JsonFault::Shape)),
     }
+}
+
+// Puts a field under its key, if there is one.
+pub(crate) fn put_field<F: Field>(
+    alloc: Global,
+    members: &mut Map<String, Value>,
+    key: &str,
+    field: Option<F>,
+) -> Result<()>
+    ensures ok { OnOk result (members_view members.new.entries
+        ≡ put_if key.now (option_map F.writing (option_map F.see field)) (members_view members.old.entries)) }
+    ensures err { IfErr result (λ e. e ≡ OutOfMemory) }
+{
+    if let Some(field) = field {
+        put(members, alloc, key, field.give(alloc)?)?;
+    }
+    Ok(())
 }

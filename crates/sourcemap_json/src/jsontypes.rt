@@ -1,4 +1,5 @@
 pub use crate::debug_id::DebugId;
+use crate::reading::take_map;
 use serde_json::Value;
 use sourcemap_core::errors::{Error, Result};
 use std::alloc::Global;
@@ -81,17 +82,17 @@ impl RawSourceMap {
     /// The record that a JSON value stands for. A key that is null counts as missing, unknown keys
     /// are passed over, and of two debug ids `debugId` wins. `BadJson(Shape)` if the value is no
     /// object or a key has a value of another kind than its field, a number outside `u32` included.
-    pub fn from_value(_alloc: Global, value: &Value) -> Result<RawSourceMap>
+    pub fn from_value(alloc: Global, value: &Value) -> Result<RawSourceMap>
         ensures { Gives tree result (due (record_of (view value.now))) }
     {
-        Err(Error::OutOfMemory)
+        RawSourceMap::from_owned(alloc, value.clone()?)
     }
 
     /// The same record as by `from_value`, with the texts of the value itself.
-    pub fn from_owned(_alloc: Global, value: Value) -> Result<RawSourceMap>
+    pub fn from_owned(alloc: Global, value: Value) -> Result<RawSourceMap>
         ensures { Gives tree result (due (record_of (view value))) }
     {
-        Err(Error::OutOfMemory)
+        take_map(alloc, value)
     }
 
     /// The record as a JSON value, its keys in the order of their bytes: null for a missing version

@@ -4,4 +4,6 @@
 mod debug_id;
 mod fields;
 pub mod jsontypes;
+mod parts;
 mod reading;
+mod writing;

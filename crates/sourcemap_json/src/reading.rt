@@ -1,88 +1,17 @@
 // Records from values, each text moved out of its value.
-ghost use Rattle.std.specs.Prelude.{◌≡◌, ℕ, List, Option, Some, map, option_map, string_bytes, codes, false};
+ghost use Rattle.std.specs.Prelude.{◌≡◌, ℕ, List, Some, map, option_map, codes, false};
 ghost use Rattle.std.specs.Str.{bytes_eq};
 ghost use Rattle.serde_json.specs.Find.{get_member};
 ghost use Rattle.serde_json.specs.View.{view, items_view, members_view};
-ghost use Rattle.sourcemap_json.specs.DebugId.{debug_id_of};
 ghost use Rattle.sourcemap_json.specs.Fields.{Reads, with, found};
-ghost use Rattle.sourcemap_json.specs.Jsontypes.{Scopes, scopes, scopes_in, scopes_view, offset, offset_in, debug_id, debug_id_in, fields_in, tree_with, sections_from, sections_of, record_of, section_of, section, tree};
+ghost use Rattle.sourcemap_json.specs.Jsontypes.{debug_id_in, fields_in, place_in, section_at, tree_with, sections_from, sections_read, sections_of, record_of, section_of, section, tree};
 
 use crate::debug_id::DebugId;
-use crate::fields::{Field, take_needed, take_optional, take_value};
-use crate::jsontypes::{FacebookScopeMapping, RawSection, RawSectionOffset, RawSourceMap};
+use crate::fields::{take_needed, take_optional, take_value};
+use crate::jsontypes::{RawSection, RawSourceMap};
 use serde_json::{Map, Value};
 use sourcemap_core::errors::{Error, JsonFault, Result};
 use std::alloc::Global;
-
-impl Field for DebugId {
-    ghost Seen = { List ℕ };
-
-    ghost see = { λ id. id };
-
-    ghost reading = { debug_id };
-
-    fn take(alloc: Global, value: Value) -> Result<DebugId> {
-        let text = String::take(alloc, value)?;
-        parsed_id(&text)
-    }
-}
-
-fn parsed_id(text: &String) -> Result<DebugId>
-    ensures { Reads (λ id. id) result (debug_id_of (string_bytes text.now)) }
-{
-    match DebugId::parse(text.as_str()) {
-        Some(id) => Ok(id),
-        None => Err(Error::BadJson(JsonFault::Shape)),
-    }
-}
-
-impl Field for RawSectionOffset {
-    ghost use Rattle.sourcemap_json.specs.declared.jsontypes.RawSectionOffset.{RawSectionOffset};
-
-    ghost Seen = { RawSectionOffset };
-
-    ghost see = { λ offset. offset };
-
-    ghost reading = { offset };
-
-    fn take(alloc: Global, value: Value) -> Result<RawSectionOffset> {
-        match value {
-            Value::Object(members) => take_offset(alloc, members),
-            _ => Err(Error::BadJson(JsonFault::Shape)),
-        }
-    }
-}
-
-fn take_offset(alloc: Global, mut members: Map<String, Value>) -> Result<RawSectionOffset>
-    ensures { Reads (λ offset. offset) result (offset_in (members_view members.entries)) }
-{
-    let line = take_needed(alloc, &mut members, "line")?;
-    let column = take_needed(alloc, &mut members, "column")?;
-    Ok(RawSectionOffset { line, column })
-}
-
-impl Field for FacebookScopeMapping {
-    ghost Seen = { Scopes };
-
-    ghost see = { scopes_view };
-
-    ghost reading = { scopes };
-
-    fn take(alloc: Global, value: Value) -> Result<FacebookScopeMapping> {
-        match value {
-            Value::Object(members) => take_scopes(alloc, members),
-            _ => Err(Error::BadJson(JsonFault::Shape)),
-        }
-    }
-}
-
-fn take_scopes(alloc: Global, mut members: Map<String, Value>) -> Result<FacebookScopeMapping>
-    ensures { Reads scopes_view result (scopes_in (members_view members.entries)) }
-{
-    let names = take_needed(alloc, &mut members, "names")?;
-    let mappings = take_needed(alloc, &mut members, "mappings")?;
-    Ok(FacebookScopeMapping { names, mappings })
-}
 
 // Both keys are read, and the first wins.
 fn take_debug_id(alloc: Global, members: &mut Map<String, Value>) -> Result<Option<DebugId>>
@@ -134,4 +63,81 @@ fn take_fields(
         x_facebook_sources,
         debug_id,
     })
+}
+
+fn take_place(
+    alloc: Global,
+    mut members: Map<String, Value>,
+    map: Option<Box<RawSourceMap>>,
+) -> Result<RawSection>
+    ensures { Reads section result (with (place_in (members_view members.entries))
+        (λ place. Some (section_at place (option_map (λ b. tree b.value) map)))) }
+{
+    let offset = take_needed(alloc, &mut members, "offset")?;
+    let url = take_optional(alloc, &mut members, "url")?;
+    Ok(RawSection { offset, url, map })
+}
+
+/// The record that a value stands for.
+#[cycle(reading)]
+pub(crate) fn take_map(alloc: Global, value: Value) -> Result<RawSourceMap>
+    ensures { Reads tree result (record_of (view value)) }
+{
+    match value {
+        Value::Object(mut members) => {
+            let listed = take_value(&mut members, "sections");
+            let sections = take_sections(alloc, listed)?;
+            take_fields(alloc, members, sections)
+        }
+        _ => Err(Error::BadJson(JsonFault::Shape)),
+    }
+}
+
+#[cycle(reading)]
+fn take_sections(alloc: Global, value: Option<Value>) -> Result<Option<Vec<RawSection>>>
+    ensures { Reads (option_map (λ v. sections_from (map section v.items))) result
+        (found sections_of (option_map view value)) }
+{
+    match value {
+        None | Some(Value::Null) => Ok(None),
+        Some(Value::Array(items)) => Ok(Some(take_list(alloc, items)?)),
+        Some(_) => Err(Error::BadJson(JsonFault::Shape)),
+    }
+}
+
+#[cycle(reading)]
+fn take_list(alloc: Global, items: Vec<Value>) -> Result<Vec<RawSection>>
+    ensures { Reads (λ v. sections_from (map section v.items)) result
+        (sections_read (items_view items.items)) }
+{
+    let mut sections = Vec::with_capacity(alloc, items.len())?;
+    for item in items {
+        sections.push(take_section(alloc, item)?)?;
+    }
+    Ok(sections)
+}
+
+#[cycle(reading)]
+fn take_section(alloc: Global, value: Value) -> Result<RawSection>
+    ensures { Reads section result (section_of (view value)) }
+{
+    match value {
+        Value::Object(mut members) => {
+            let inner = take_value(&mut members, "map");
+            let map = take_inner(alloc, inner)?;
+            take_place(alloc, members, map)
+        }
+        _ => Err(Error::BadJson(JsonFault::Shape)),
+    }
+}
+
+#[cycle(reading)]
+fn take_inner(alloc: Global, value: Option<Value>) -> Result<Option<Box<RawSourceMap>>>
+    ensures { Reads (option_map (λ b. tree b.value)) result
+        (found record_of (option_map view value)) }
+{
+    match value {
+        None | Some(Value::Null) => Ok(None),
+        Some(value) => Ok(Some(Box::new(alloc, take_map(alloc, value)?)?)),
+    }
 }
