@@ -8,11 +8,7 @@ pub mod WritingLemmas
 pub mod VlqLemmas
 pub mod MappingsAnswers
 pub mod MappingsLemmas
-pub mod SortLemmas
-pub mod TokensLemmas
-pub mod UtilsLemmas
 pub mod VlqLemmas
-pub mod WritingLemmas
 pub mod WrittenBytes
 pub mod WrittenLaws
 pub mod WrittenLines

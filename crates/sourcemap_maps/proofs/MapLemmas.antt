@@ -40,9 +40,3 @@ tokens_from-none m i e = rw (drop-past m.tokens i (nothing m i (slice_get m.toke
 
 pub length-tokens_from : (m : MapValue) (i : ℕ) → length (tokens_from m i) ≡ length m.tokens - i
 length-tokens_from m i = rw (length-map, length-enumerate_from i (drop i m.tokens)) (length-drop i m.tokens)
-
--- the closest token, with its own index
-pub lookup-own : (tokens : List RawToken) (p : ℕ × ℕ) (index : ℕ) (raw : RawToken) → Some (index, raw) ≡ closest_token tokens p → slice_get tokens index ≡ Some raw
-lookup-own tokens p index raw e =
-    let own = place-closest destination position_cmp tokens p in
-    subst (λ found. IfSome found (λ (e : ℕ × RawToken). slice_get tokens e.0 ≡ Some e.1)) (sym e) own

@@ -4,5 +4,6 @@ pub mod Stored
 pub mod Token
 pub mod Iterators
 pub mod Decoder
+pub mod DecoderParts
 pub mod Encoder
 pub mod TokenOrder

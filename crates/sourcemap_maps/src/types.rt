@@ -1,12 +1,14 @@
-ghost use Rattle.std.specs.Prelude.{◌≡◌, ◌==◌, not, ℕ, ◌≤◌, ◌<◌, ◌^◌, [], Ok, length, map, min, slice_get, option_map, unwrap_or, string_bytes, vec_len};
+ghost use Rattle.std.specs.Prelude.{◌≡◌, ◌==◌, not, ℕ, ◌≤◌, ◌<◌, ◌^◌, [], Ok, length, map, min, slice_get, option_map, unwrap_or, string_bytes, vec_len, OnOk, IfErr};
 ghost use Rattle.std.specs.Option.{option_copied, ForSome};
 ghost use Rattle.sourcemap_core.specs.Answer.{Gives};
+ghost use Rattle.sourcemap_core.specs.declared.errors.Error.TheVariants.{OutOfMemory};
 ghost use Rattle.sourcemap_maps.specs.Texts.{texts_of, contents_in};
 ghost use Rattle.sourcemap_maps.specs.Types.{distance};
 
 pub use crate::iterators::{NameIter, SourceContentsIter, SourceIter, TokenIter};
+use crate::texts::{contents_or_empty, owned, text_or_empty, with_root};
 pub use crate::token::Token;
-use sourcemap_core::errors::{Error, Result};
+use sourcemap_core::errors::Result;
 use sourcemap_core::tokens::{RawToken, closest_token, sort_tokens};
 use sourcemap_json::jsontypes::DebugId;
 use std::alloc::Global;
@@ -61,7 +63,7 @@ impl SourceMap {
     pub fn new(
         alloc: Global,
         file: Option<&str>,
-        tokens: Vec<RawToken>,
+        mut tokens: Vec<RawToken>,
         names: Vec<String>,
         sources: Vec<String>,
         sources_content: Option<Vec<Option<String>>>,
@@ -72,7 +74,31 @@ impl SourceMap {
         ensures { Gives (λ m. m) result (Ok (made_of (option_copied file.entry) tokens.items
             (texts_of names) (texts_of sources) (unwrap_or (option_map contents_in sources_content) []))) }
     {
-        Err(Error::OutOfMemory)
+        let file = owned(alloc, file)?;
+        sort_tokens(&mut tokens)?;
+        Ok(SourceMap {
+            file,
+            source_root: None,
+            tokens,
+            names,
+            sources,
+            with_root: None,
+            contents: contents_or_empty(alloc, sources_content),
+            ignored: BTreeSet::new(alloc),
+            debug_id: None,
+        })
+    }
+
+    // Puts a root before the sources, in place of the one that was there.
+    pub(crate) fn put_root(&mut self, root: Option<String>) -> Result<()>
+        ensures ok { OnOk result (self.new ≡ record self.old { root = option_map string_bytes root }) }
+        ensures err { IfErr result (λ e. (self.new ≡ self.old) × (e ≡ OutOfMemory)) }
+    {
+        let alloc = *self.tokens.allocator();
+        let with_root = with_root(alloc, text_or_empty(&root), &self.sources)?;
+        self.with_root = with_root;
+        self.source_root = root;
+        Ok(())
     }
 
     /// The name of the generated file.
