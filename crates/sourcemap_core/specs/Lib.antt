@@ -3,10 +3,6 @@ pub mod Bits
 pub mod Errors
 pub mod Vlq
 pub mod Mappings
-pub mod Tokens
-pub mod Utils
-pub mod Vlq
-pub mod MappingsWritten
 pub mod MappingsParts
 pub mod MappingsWritten
 pub mod Tokens

@@ -8,5 +8,4 @@ pub mod mappings;
 mod mappings_written;
 pub mod tokens;
 pub mod utils;
-pub mod mappings_written;
 pub mod vlq;
