@@ -1,11 +1,11 @@
 -- A record level by level.
-use Rattle.std.proofs.Common.{◌≡◌, List, [], ◌∷◌, Option, None, Some, Vec, Global, map, option_map, codes, string_bytes, refl, ap, ◌∙◌}
+use Rattle.std.proofs.Common.{◌≡◌, List, [], ◌∷◌, Option, None, Some, Vec, Global, map, option_map, codes, string_bytes, refl, sym, ap, ◌∙◌}
 use Rattle.std.proofs.lemmas.Iterator.Adapters.{option_map_id}
-use Rattle.serde_json.specs.Data.{Members, no_members, string}
-use Rattle.serde_json.specs.View.{view}
+use Rattle.serde_json.specs.Data.{Members, no_members, string, object, array, item}
+use Rattle.serde_json.specs.View.{view, items_of}
 use Rattle.sourcemap_json.specs.DebugId.{debug_id_text}
 use Rattle.sourcemap_json.specs.Fields.{put_if, written_number, written_or_null, written_list, at, any, text, small_number, or_null, list}
-use Rattle.sourcemap_json.specs.Jsontypes.{Fields, Section, Sections, Tree, flat, tree, tree_with, tree_step, section, section_step, sections_from, fields_view, text_view, debug_id_in, fields_in, scopes, scopes_view, written_fields, written_scopes}
+use Rattle.sourcemap_json.specs.Jsontypes.{Fields, Section, Sections, Tree, flat, tree, tree_with, tree_step, section, section_step, sections_from, fields_view, text_view, debug_id_in, fields_in, scopes, scopes_view, written, written_sections, written_section, written_one, section_with, Place, written_fields, written_scopes}
 use Rattle.sourcemap_json.specs.declared.jsontypes.RawSection.{RawSection}
 use Rattle.sourcemap_json.specs.declared.jsontypes.RawSourceMap.{RawSourceMap, RawSourceMap-F, out-RawSourceMap, roll-RawSourceMap, fold_out-RawSourceMap, fold-roll-RawSourceMap, map-RawSourceMap}
 
@@ -36,6 +36,37 @@ of_sections r (Some v) = refl
 -- the tree of a record, from its fields and its sections
 pub tree-roll : (r : RawSourceMap-F RawSection RawSourceMap) → tree (roll-RawSourceMap r) ≡ tree_with (fields_view r) (option_map (λ v. sections_from (map section v.items)) r.sections)
 tree-roll r = fold-roll-RawSourceMap Section Tree section_step tree_step r ∙ of_sections r r.sections
+
+pub tree-out : (r : RawSourceMap) → tree r ≡ tree_with (fields_view (out-RawSourceMap r)) (option_map (λ v. sections_from (map section v.items)) (out-RawSourceMap r).sections)
+tree-out r = fold_out-RawSourceMap Section Tree section_step tree_step r ∙ of_sections (out-RawSourceMap r) (out-RawSourceMap r).sections
+
+-- sections are written one by one
+written-from : (ss : List Section) → written_sections (sections_from ss) ≡ items_of (map written_one ss)
+written-from [] = refl
+written-from (s ∷ ss) = written-with s.place s.map (sections_from ss) ∙ ap (item (written_one s)) (written-from ss)
+  where
+    written-with : (place : Place) (t : Option Tree) (rest : Sections) → written_sections (section_with place t rest) ≡ item (written_section place (written_or_null written t)) (written_sections rest)
+    written-with place None rest = refl
+    written-with place (Some t) rest = refl
+
+written-with_sections : (fields : Fields) (v : Option (List Section))
+    → written (tree_with fields (option_map sections_from v)) ≡ object (put_if (codes "sections") (option_map (λ ss. array (items_of (map written_one ss))) v) (written_fields fields))
+written-with_sections fields None = refl
+written-with_sections fields (Some ss) = ap (λ items. object (put_if (codes "sections") (Some (array items)) (written_fields fields))) (written-from ss)
+
+sections_listed : {X : Type 0} (f : List Section → X) (v : Option (Vec RawSection Global)) → option_map (λ v. f (map section v.items)) v ≡ option_map f (option_map (λ v. map section v.items) v)
+sections_listed f None = refl
+sections_listed f (Some v) = refl
+
+-- a record is written as its fields and then its sections
+pub written-tree : (r : RawSourceMap) → written (tree r)
+    ≡ object (put_if (codes "sections") (option_map (λ v. array (items_of (map written_one (map section v.items)))) (out-RawSourceMap r).sections) (written_fields (fields_view (out-RawSourceMap r))))
+written-tree r =
+    let fields = fields_view (out-RawSourceMap r) in
+    let sections = (out-RawSourceMap r).sections in
+    ap written (tree-out r ∙ ap (tree_with fields) (sections_listed sections_from sections))
+    ∙ written-with_sections fields (option_map (λ v. map section v.items) sections)
+    ∙ ap (λ v. object (put_if (codes "sections") v (written_fields fields))) (sym (sections_listed (λ ss. array (items_of (map written_one ss))) sections))
 
 -- the fields, from what each key gave
 pub fields_read : (r : RawSourceMap-F RawSection RawSourceMap) (ms : Members)

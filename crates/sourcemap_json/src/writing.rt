@@ -1,13 +1,14 @@
 // Records as values, each text moved into its value.
 ghost use Rattle.std.specs.Prelude.{◌≡◌, map, option_map, IfOk, IfErr};
-ghost use Rattle.serde_json.specs.View.{view, members_view};
+ghost use Rattle.serde_json.specs.Data.{array};
+ghost use Rattle.serde_json.specs.View.{view, items_of, members_view};
 ghost use Rattle.sourcemap_core.specs.declared.errors.Error.TheVariants.{OutOfMemory};
 ghost use Rattle.sourcemap_json.specs.Fields.{Writes, written_or_null};
 ghost use Rattle.sourcemap_json.specs.Jsontypes.{flat, written, written_fields, written_one, section, tree};
 
-use crate::fields::{Field, put_field};
+use crate::fields::put_field;
 use crate::jsontypes::{RawSection, RawSourceMap};
-use serde_json::{Map, Value, put};
+use serde_json::{Map, Value};
 use sourcemap_core::errors::Result;
 use std::alloc::Global;
 
@@ -62,4 +63,52 @@ fn give_fields(alloc: Global, map: RawSourceMap) -> Result<Map<String, Value>>
     )?;
     put_field(alloc, &mut members, "debugId", debug_id)?;
     Ok(members)
+}
+
+#[cycle(writing)]
+pub(crate) fn give_map(alloc: Global, mut map: RawSourceMap) -> Result<Value>
+    ensures { Writes result (written (tree map)) }
+{
+    let listed = match map.sections.take() {
+        Some(sections) => Some(Value::Array(give_list(alloc, sections)?)),
+        None => None,
+    };
+    let mut members = give_fields(alloc, map)?;
+    put_field(alloc, &mut members, "sections", listed)?;
+    Ok(Value::Object(members))
+}
+
+#[cycle(writing)]
+fn give_list(alloc: Global, sections: Vec<RawSection>) -> Result<Vec<Value>>
+    ensures ok { IfOk result (λ v. map view v.items ≡ map written_one (map section sections.items)) }
+    ensures err { IfErr result (λ e. e ≡ OutOfMemory) }
+{
+    let mut items = Vec::with_capacity(alloc, sections.len())?;
+    for section in sections {
+        items.push(give_section(alloc, section)?)?;
+    }
+    Ok(items)
+}
+
+#[cycle(writing)]
+fn give_section(alloc: Global, part: RawSection) -> Result<Value>
+    ensures { Writes result (written_one (section part)) }
+{
+    let RawSection { offset, url, map } = part;
+    let inner = give_inner(alloc, map)?;
+    let mut members = Map::new(alloc);
+    put_field(alloc, &mut members, "map", Some(inner))?;
+    put_field(alloc, &mut members, "offset", Some(offset))?;
+    put_field(alloc, &mut members, "url", Some(url))?;
+    Ok(Value::Object(members))
+}
+
+#[cycle(writing)]
+fn give_inner(alloc: Global, map: Option<Box<RawSourceMap>>) -> Result<Value>
+    ensures { Writes result (written_or_null written (option_map (λ b. tree b.value) map)) }
+{
+    match map {
+        Some(map) => give_map(alloc, Box::into_inner(map)),
+        None => Ok(Value::Null),
+    }
 }

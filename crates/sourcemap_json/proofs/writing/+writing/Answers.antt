@@ -1,0 +1,30 @@
+use Rattle.std.proofs.Common.{◌≡◌, ◌∙◌, ap, sym, map, option_map, codes, Some, Vec, Global}
+use Rattle.std.proofs.lemmas.Iterator.Adapters.{option_map_id}
+use Rattle.serde_json.proofs.Views.{view-Object, view-Array}
+use Rattle.serde_json.specs.Data.{Data, object, array}
+use Rattle.serde_json.specs.View.{view, items_of, members_view}
+use Rattle.sourcemap_json.specs.Fields.{put_if}
+use Rattle.sourcemap_json.specs.Jsontypes.{written_one, written_fields, section}
+use Rattle.sourcemap_json.proofs.JsontypesLemmas.{flat-roll, written-tree}
+use Rattle.sourcemap_json.specs.declared.jsontypes.RawSection.{RawSection}
+use Rattle.sourcemap_json.specs.declared.jsontypes.RawSourceMap.{out-RawSourceMap}
+use Rattle.sourcemap_json.proofs.writing.+writing.Goals as goal
+use Rattle.sourcemap_json.proofs.writing.+writing.Goals.{give_map-in-Some+in_ok-give_list-in-Some, give_map-in-None}
+
+pub give_map-returns : goal.give_map-returns
+give_map-returns t c =
+    let of_list : Vec RawSection Global → Data = λ v. array (items_of (map written_one (map section v.items))) in
+    let listed : option_map view c.match-take.listed ≡ option_map of_list (out-RawSourceMap c.args.map).sections =
+    elim c.match-take.branch [
+      | give_map-in-Some+in_ok-give_list-in-Some w ↦
+          ap (option_map view) w.listed-is
+          ∙ ap Some (view-Array w.in_ok-give_list-in-Some.field-0 ∙ ap (λ ds. array (items_of ds)) w.in_ok-give_list-in-Some.ensures.ok)
+          ∙ ap (option_map of_list) (sym w.in-Some.is ∙ c.take.ensures.value)
+      | give_map-in-None w ↦
+          ap (option_map view) w.listed-is ∙ ap (option_map of_list) (sym w.in-None.is ∙ c.take.ensures.value)
+    ] in
+    view-Object c.put_field.new.members
+    ∙ ap object (c.in_ok-put_field.ensures.ok
+        ∙ ap (λ v. put_if (codes "sections") v (members_view c.in_ok-members.members.entries)) (option_map_id _ ∙ listed)
+        ∙ ap (put_if (codes "sections") _) (c.in_ok-members.ensures.ok ∙ ap written_fields (flat-roll _)))
+    ∙ sym (written-tree c.args.map)
