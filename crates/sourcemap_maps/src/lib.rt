@@ -2,6 +2,7 @@
 //! that a record stands for.
 #![tactic(auto)]
 
+mod copies;
 pub mod decoder;
 pub mod encoder;
 mod iterators;
@@ -10,4 +11,3 @@ mod texts;
 mod token;
 mod token_order;
 pub mod types;
-mod copies;

@@ -1,4 +1,4 @@
-use Rattle.std.proofs.Common.{arith, ◌≡◌, ◌-◌, ◌+◌, vec_len, ap, ◌∙◌, ◌++◌, length, take, replicate, None}
+use Rattle.std.proofs.Common.{arith, ◌≡◌, ◌-◌, ◌+◌, vec_len, ap, ◌∙◌, take}
 use Rattle.sourcemap_maps.proofs.SettersLemmas.{fits, one_more}
 use Rattle.sourcemap_maps.proofs.setters.fit.Goals as goal
 

@@ -1,5 +1,4 @@
 use Rattle.std.proofs.Common.{◌≡◌, ◌-◌, ◌≤◌, ◌++◌, replicate, None, vec_len}
-use Rattle.sourcemap_maps.specs.Texts.{contents_in}
 use Rattle.sourcemap_maps.proofs.setters.fit.Given as goal
 
 -- none was added for each that is more
