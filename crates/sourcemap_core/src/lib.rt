@@ -9,5 +9,6 @@ pub mod mappings;
 mod mappings_written;
 pub mod paths;
 pub mod tokens;
+pub mod utils;
 pub mod vlq;
 pub mod utils;

@@ -1,5 +1,6 @@
 use crate::token::Token;
 use crate::types::SourceMap;
+use std::collections::btree_set;
 
 /// The tokens of a map, in order of line and column of the generated text.
 #[derive(Drop)]
@@ -26,6 +27,24 @@ impl<'a> Iterator for TokenIter<'a> {
             Some(token) => {
                 self.next = token.index + 1;
                 Some(token)
+            }
+        }
+    }
+}
+
+impl TokenIter<'_> {
+    ghost use Rattle.sourcemap_maps.specs.Iterators.{Seeks};
+
+    /// Goes on behind the closest token to a line and a column of the generated text, as a lookup
+    /// finds it. Where there is none the answer is false, and the iterator stays as it was.
+    pub fn seek(&mut self, line: u32, col: u32) -> bool
+        ensures { Seeks self.old (line, col) result self.new }
+    {
+        match self.map.lookup_token(line, col) {
+            None => false,
+            Some(token) => {
+                self.next = token.index + 1;
+                true
             }
         }
     }
@@ -103,5 +122,26 @@ impl<'a> Iterator for SourceContentsIter<'a> {
         }
         self.next = id + 1;
         Some(map.get_source_contents(id))
+    }
+}
+
+/// The numbers of the sources that a debugger passes over, rising, each once.
+#[derive(Drop)]
+pub struct IgnoreListIter<'a> {
+    pub(crate) ids: btree_set::Iter<'a, u32>,
+}
+
+impl<'a> Iterator for IgnoreListIter<'a> {
+    type Item = &'a u32;
+
+    ghost use Rattle.std.specs.Iterator.{YieldsFirstRef, item_count};
+    ghost use Rattle.sourcemap_maps.specs.Iterators.{ids_left};
+
+    ghost next_gives = { YieldsFirstRef ids_left };
+
+    ghost remaining = { item_count ids_left };
+
+    fn next(&mut self) -> Option<&'a u32> {
+        self.ids.next()
     }
 }

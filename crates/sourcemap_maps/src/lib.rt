@@ -3,9 +3,12 @@
 #![tactic(auto)]
 
 mod bytes;
+mod copies;
 pub mod decoder;
 pub mod encoder;
 mod iterators;
+mod setters;
 mod texts;
 mod token;
+mod token_order;
 pub mod types;

@@ -62,7 +62,7 @@ fn without_slash(text: &str) -> &str
 }
 
 // The source as it is shown behind a root.
-fn shown(alloc: Global, root: &str, source: &str) -> Result<String>
+pub(crate) fn shown(alloc: Global, root: &str, source: &str) -> Result<String>
     ensures { Gives string_bytes result (Ok (shown_behind root.now source.now)) }
 {
     let stays = root.is_empty() | is_placed(source);
@@ -77,7 +77,7 @@ fn shown(alloc: Global, root: &str, source: &str) -> Result<String>
     Ok(text)
 }
 
-fn all_shown(alloc: Global, root: &str, sources: &[String]) -> Result<Vec<String>>
+pub(crate) fn all_shown(alloc: Global, root: &str, sources: &[String]) -> Result<Vec<String>>
     ensures { Gives texts_of result (Ok (map (shown_behind root.now) (map string_bytes sources.now))) }
 {
     let mut all = Vec::with_capacity(alloc, sources.len())?;

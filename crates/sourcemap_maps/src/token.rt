@@ -150,6 +150,7 @@ impl fmt::Display for Token<'_> {
     ghost output = { λ token. Known (token_text (answers token)) };
 
     /// `source:line:column`, with `<unknown>` for no source, and ` name=NAME` if there is a name.
+    /// The alternate form adds ` (line:column)` of the generated text, and ` (range)` for a range token.
     fn fmt<W: fmt::Write>(&self, f: &mut fmt::Formatter<W>) -> fmt::Result {
         let source = self.get_source().unwrap_or("<unknown>");
         let line = self.get_src_line();
@@ -158,6 +159,19 @@ impl fmt::Display for Token<'_> {
         if let Some(name) = self.get_name() {
             write!(f, " name={name}")?;
         }
+        if f.alternate() {
+            write!(f, " ({}:{})", self.raw.dst_line, self.raw.dst_col)?;
+            if self.raw.is_range {
+                f.write_str(" (range)")?;
+            }
+        }
         Ok(())
+    }
+}
+
+impl fmt::Debug for Token<'_> {
+    /// The alternate form within `<Token ` and `>`.
+    fn fmt<W: fmt::Write>(&self, f: &mut fmt::Formatter<W>) -> fmt::Result {
+        write!(f, "<Token {self:#}>")
     }
 }
