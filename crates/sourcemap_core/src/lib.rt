@@ -11,4 +11,3 @@ pub mod paths;
 pub mod tokens;
 pub mod utils;
 pub mod vlq;
-pub mod utils;
