@@ -18,7 +18,7 @@ use crate::texts::owned;
 use crate::types::SourceMap;
 use serde_json::Value;
 use sourcemap_core::errors::{Error, Result};
-use sourcemap_core::mappings_written::{write_mappings, write_range_mappings};
+use sourcemap_core::mappings::{write_mappings, write_range_mappings};
 use sourcemap_core::tokens::RawToken;
 use sourcemap_json::jsontypes::{DebugId, RawSourceMap};
 use std::alloc::Global;
