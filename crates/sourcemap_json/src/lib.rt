@@ -7,4 +7,6 @@ mod fields;
 pub mod jsontypes;
 mod parts;
 mod reading;
+#[cfg(test)]
+mod tests;
 mod writing;
