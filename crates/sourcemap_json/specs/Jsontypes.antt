@@ -1,15 +1,17 @@
 -- Which JSON values stand for which record of a source map, and the value that a record is written as.
-use Rattle.std.specs.Prelude.{◌≢◌, ℕ, ◌<◌, ◌^◌, List, [], ◌∷◌, map, codes, Option, Some, None, option_map, string_bytes, String, Vec, IfSome}
+use Rattle.std.specs.Prelude.{Bool, true, false, ◌≢◌, ℕ, ◌<◌, ◌^◌, List, [], ◌∷◌, map, codes, Option, Some, None, option_map, string_bytes, String, Vec, IfSome}
 use Rattle.std.specs.List.{AllByRecursion}
 use Rattle.std.specs.Option.{option_or}
 use Rattle.std.specs.Ordering.{nat_cmp, match_ordering}
 use Rattle.std.specs.Cmp.Lexicographic.{slice_cmp}
 use Rattle.std.specs.declared.alloc.Global.{Global}
 use Rattle.serde_json.specs.Data.{Data, null, boolean, number, string, array, object, Items, no_items, item, Members, no_members, member}
+use Rattle.serde_json.specs.Find.{as_object, get}
 use Rattle.serde_json.specs.View.{view}
 use Rattle.sourcemap_json.specs.DebugId.{IsId, debug_id_of, debug_id_text}
-use Rattle.sourcemap_json.specs.Fields.{with, any, text, small_number, or_null, or_null_of, list, at, needed, written_number, written_or_null, written_list, put_all, put_if}
+use Rattle.sourcemap_json.specs.Fields.{with, found, any, text, small_number, or_null, or_null_of, list, at, needed, written_number, written_or_null, written_list, put_all, put_if}
 use Rattle.sourcemap_json.specs.declared.jsontypes.FacebookScopeMapping.{FacebookScopeMapping}
+use Rattle.sourcemap_json.specs.declared.jsontypes.MinimalRawSourceMap.{MinimalRawSourceMap}
 use Rattle.sourcemap_json.specs.declared.jsontypes.RawSectionOffset.{RawSectionOffset}
 use Rattle.sourcemap_json.specs.declared.jsontypes.RawSection.{RawSection, RawSection-F, fold-RawSection}
 use Rattle.sourcemap_json.specs.declared.jsontypes.RawSourceMap.{RawSourceMap, RawSourceMap-F, fold-RawSourceMap}
@@ -191,6 +193,33 @@ abbrev mutual
   pub map_in : Members → Option (Option Tree)
   map_in no_members = Some None
   map_in (member key d ms) = match_ordering (slice_cmp nat_cmp (codes "map") key) (map_in ms) (or_null_of d (record_of d)) (map_in ms)
+
+-- ---- what tells a record from other values
+
+-- there, and not null
+abbrev pub is_there : Option Data → Bool
+is_there None = false
+is_there (Some null) = false
+is_there (Some (boolean _)) = true
+is_there (Some (number _)) = true
+is_there (Some (string _)) = true
+is_there (Some (array _)) = true
+is_there (Some (object _)) = true
+
+abbrev pub minimal_of : Data → Option MinimalRawSourceMap
+minimal_of d =
+    with (as_object d) (λ _.
+    with (found small_number (get (codes "version") d)) (λ version.
+    Some (record {
+      version = version;
+      file = is_there (get (codes "file") d);
+      sources = is_there (get (codes "sources") d);
+      source_root = is_there (get (codes "sourceRoot") d);
+      sources_content = is_there (get (codes "sourcesContent") d);
+      sections = is_there (get (codes "sections") d);
+      names = is_there (get (codes "names") d);
+      mappings = is_there (get (codes "mappings") d);
+    })))
 
 -- ---- writing
 

@@ -1,10 +1,11 @@
 // How the fields of a record are read from JSON and written as JSON.
 ghost use Rattle.std.specs.Prelude.{◌≡◌, ℕ, List, Option, Some, Ok, map, option_map, string_bytes, IfOk, IfErr, OnOk};
 ghost use Rattle.serde_json.specs.Data.{Data, string};
-ghost use Rattle.serde_json.specs.Find.{get_member};
+ghost use Rattle.serde_json.specs.Find.{get, get_member};
 ghost use Rattle.serde_json.specs.View.{view, items_view, members_view};
 ghost use Rattle.sourcemap_core.specs.declared.errors.Error.TheVariants.{OutOfMemory};
-ghost use Rattle.sourcemap_json.specs.Fields.{Reads, Makes, put_if, written_number, written_or_null, written_list, KeepsOthers, any, text, small_number, or_null, items_read, list, at, needed};
+ghost use Rattle.sourcemap_json.specs.Jsontypes.{is_there};
+ghost use Rattle.sourcemap_json.specs.Fields.{Reads, Makes, put_if, written_number, written_or_null, written_list, KeepsOthers, any, text, small_number, or_null, items_read, found, list, at, needed};
 
 use serde_json::{Map, Value, put};
 use sourcemap_core::errors::{Error, JsonFault, Result};
@@ -91,10 +92,7 @@ impl Field for u32 {
     ghost writing = { written_number };
 
     fn take(_alloc: Global, value: Value) -> Result<u32> {
-        match value.as_u64() {
-            Some(n) if n < 1 << 32 => Ok(n as u32),
-            _ => Err(Error::BadJson(JsonFault::Shape)),
-        }
+        read_number(&value)
     }
 
     fn give(self, _alloc: Global) -> Result<Value> {
@@ -103,6 +101,16 @@ impl Field for u32 {
 
     fn duplicate(&self, _alloc: Global) -> Result<u32> {
         Ok(*self)
+    }
+}
+
+// A whole number below 2^32.
+fn read_number(value: &Value) -> Result<u32>
+    ensures { Reads (λ n. n) result (small_number (view value.now)) }
+{
+    match value.as_u64() {
+        Some(n) if n < 1 << 32 => Ok(n as u32),
+        _ => Err(Error::BadJson(JsonFault::Shape)),
     }
 }
 
@@ -246,4 +254,24 @@ pub(crate) fn put_field<F: Field>(
         put(members, alloc, key, field.give(alloc)?)?;
     }
     Ok(())
+}
+
+// The number of a key that may be missing.
+pub(crate) fn number_at(value: &Value, key: &str) -> Result<Option<u32>>
+    ensures { Reads (λ n. n) result (found small_number (get key.now (view value.now))) }
+{
+    match value.get(key) {
+        None | Some(Value::Null) => Ok(None),
+        Some(number) => Ok(Some(read_number(number)?)),
+    }
+}
+
+// Whether a key is there with a value other than null.
+pub(crate) fn has(value: &Value, key: &str) -> bool
+    ensures { result ≡ is_there (get key.now (view value.now)) }
+{
+    match value.get(key) {
+        None | Some(Value::Null) => false,
+        Some(_) => true,
+    }
 }

@@ -1,9 +1,10 @@
 use crate::copying::copy_map;
 pub use crate::debug_id::DebugId;
+use crate::fields::{Field, has, number_at};
 use crate::reading::take_map;
 use crate::writing::give_map;
 use serde_json::Value;
-use sourcemap_core::errors::Result;
+use sourcemap_core::errors::{Error, JsonFault, Result};
 use std::alloc::Global;
 
 /// Where a section of an index map starts: line and column of the generated text, from 0, the
@@ -72,6 +73,69 @@ pub struct RawSourceMap {
     pub x_facebook_sources: FacebookSources,
     /// The identifier that ties this map to its file.
     pub debug_id: Option<DebugId>,
+}
+
+/// Which keys a value has, as far as they tell a source map from other JSON: each flag says that the
+/// key is there with a value other than null.
+#[derive(Clone, Copy, Debug, PartialEq)]
+pub struct MinimalRawSourceMap {
+    /// The number of the format.
+    pub version: Option<u32>,
+    /// Whether `file` is there.
+    pub file: bool,
+    /// Whether `sources` is there.
+    pub sources: bool,
+    /// Whether `sourceRoot` is there.
+    pub source_root: bool,
+    /// Whether `sourcesContent` is there.
+    pub sources_content: bool,
+    /// Whether `sections` is there.
+    pub sections: bool,
+    /// Whether `names` is there.
+    pub names: bool,
+    /// Whether `mappings` is there.
+    pub mappings: bool,
+}
+
+impl MinimalRawSourceMap {
+    ghost use Rattle.serde_json.specs.View.{view};
+    ghost use Rattle.sourcemap_core.specs.Answer.{Gives};
+    ghost use Rattle.sourcemap_json.specs.Fields.{due};
+    ghost use Rattle.sourcemap_json.specs.Jsontypes.{minimal_of};
+
+    /// The keys of a value. `BadJson(Shape)` if it is no object, or its version is neither null nor
+    /// a `u32`.
+    pub fn from_value(value: &Value) -> Result<MinimalRawSourceMap>
+        ensures { Gives (λ m. m) result (due (minimal_of (view value.now))) }
+    {
+        if !value.is_object() {
+            return Err(Error::BadJson(JsonFault::Shape));
+        }
+        let version = number_at(value, "version")?;
+        Ok(MinimalRawSourceMap {
+            version,
+            file: has(value, "file"),
+            sources: has(value, "sources"),
+            source_root: has(value, "sourceRoot"),
+            sources_content: has(value, "sourcesContent"),
+            sections: has(value, "sections"),
+            names: has(value, "names"),
+            mappings: has(value, "mappings"),
+        })
+    }
+}
+
+impl FacebookScopeMapping {
+    ghost use Rattle.std.specs.Prelude.{Ok};
+    ghost use Rattle.sourcemap_core.specs.Answer.{Gives};
+    ghost use Rattle.sourcemap_json.specs.Jsontypes.{scopes_view};
+
+    /// A copy with the same names and mappings. Only want of memory refuses.
+    pub fn clone(&self) -> Result<FacebookScopeMapping>
+        ensures { Gives scopes_view result (Ok (scopes_view self.now)) }
+    {
+        self.duplicate(*self.names.allocator())
+    }
 }
 
 impl RawSourceMap {

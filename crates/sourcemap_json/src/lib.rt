@@ -10,4 +10,6 @@ mod reading;
 pub mod data_url;
 pub mod decoder;
 pub mod strip_header;
+#[cfg(test)]
+mod tests;
 mod writing;
