@@ -3,3 +3,4 @@ pub mod ListLemmas
 pub mod MapLemmas
 pub mod SettersLemmas
 pub mod DecoderLemmas
+pub mod EqualityLemmas

@@ -5,6 +5,7 @@
 mod copies;
 pub mod decoder;
 pub mod encoder;
+mod equality;
 mod iterators;
 mod setters;
 mod texts;
