@@ -9,3 +9,4 @@ pub mod Encoder
 pub mod EncoderParts
 pub mod Bytes
 pub mod TokenOrder
+pub mod Equality

@@ -6,6 +6,7 @@ mod bytes;
 mod copies;
 pub mod decoder;
 pub mod encoder;
+mod equality;
 mod iterators;
 mod setters;
 mod texts;

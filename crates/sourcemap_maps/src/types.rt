@@ -16,7 +16,7 @@ use std::collections::BTreeSet;
 use std::marker::Model;
 
 /// A source map: tokens that tie places of a generated text to places in sources.
-#[derive(Drop)]
+#[derive(Debug, Drop)]
 pub struct SourceMap {
     pub(crate) file: Option<String>,
     pub(crate) source_root: Option<String>,
