@@ -9,8 +9,8 @@ pub mod TokensLemmas
 pub mod InternerLemmas
 pub mod PathsLemmas
 pub mod UtilsLemmas
-pub mod VlqLemmas
 pub mod WritingLemmas
+pub mod VlqLemmas
 pub mod WrittenBytes
 pub mod WrittenLaws
 pub mod WrittenLines

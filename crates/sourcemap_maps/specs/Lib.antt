@@ -1,0 +1,9 @@
+pub mod Texts
+pub mod Types
+pub mod Stored
+pub mod Token
+pub mod Iterators
+pub mod Decoder
+pub mod DecoderParts
+pub mod Encoder
+pub mod EncoderParts

@@ -1,0 +1,5 @@
+pub mod TextLemmas
+pub mod ListLemmas
+pub mod MapLemmas
+pub mod DecoderLemmas
+pub mod EncoderLemmas

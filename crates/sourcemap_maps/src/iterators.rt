@@ -1,0 +1,107 @@
+use crate::token::Token;
+use crate::types::SourceMap;
+
+/// The tokens of a map, in order of line and column of the generated text.
+#[derive(Drop)]
+pub struct TokenIter<'a> {
+    pub(crate) map: &'a SourceMap,
+    pub(crate) next: usize,
+}
+
+impl<'a> Iterator for TokenIter<'a> {
+    type Item = Token<'a>;
+
+    ghost use Rattle.std.specs.Iterator.{YieldsFirstBy, item_count};
+    ghost use Rattle.sourcemap_maps.specs.Token.{token_value};
+    ghost use Rattle.sourcemap_maps.specs.Iterators.{tokens_left};
+
+    ghost next_gives = { YieldsFirstBy token_value tokens_left };
+
+    ghost remaining = { item_count tokens_left };
+
+    fn next(&mut self) -> Option<Token<'a>> {
+        let map = self.map;
+        match map.get_token(self.next) {
+            None => None,
+            Some(token) => {
+                self.next = token.index + 1;
+                Some(token)
+            }
+        }
+    }
+}
+
+/// The names of a map, in order of their numbers.
+#[derive(Drop)]
+pub struct NameIter<'a> {
+    pub(crate) names: &'a [String],
+}
+
+impl<'a> Iterator for NameIter<'a> {
+    type Item = &'a str;
+
+    ghost use Rattle.std.specs.Iterator.{YieldsFirstRef, item_count};
+    ghost use Rattle.sourcemap_maps.specs.Iterators.{names_left};
+
+    ghost next_gives = { YieldsFirstRef names_left };
+
+    ghost remaining = { item_count names_left };
+
+    fn next(&mut self) -> Option<&'a str> {
+        let (first, rest) = self.names.split_first()?;
+        self.names = rest;
+        Some(first.as_str())
+    }
+}
+
+/// The sources of a map, behind its root, in order of their numbers.
+#[derive(Drop)]
+pub struct SourceIter<'a> {
+    pub(crate) sources: &'a [String],
+}
+
+impl<'a> Iterator for SourceIter<'a> {
+    type Item = &'a str;
+
+    ghost use Rattle.std.specs.Iterator.{YieldsFirstRef, item_count};
+    ghost use Rattle.sourcemap_maps.specs.Iterators.{sources_left};
+
+    ghost next_gives = { YieldsFirstRef sources_left };
+
+    ghost remaining = { item_count sources_left };
+
+    fn next(&mut self) -> Option<&'a str> {
+        let (first, rest) = self.sources.split_first()?;
+        self.sources = rest;
+        Some(first.as_str())
+    }
+}
+
+/// For each source of a map its contents, if the map has them.
+#[derive(Drop)]
+pub struct SourceContentsIter<'a> {
+    pub(crate) map: &'a SourceMap,
+    pub(crate) next: u32,
+}
+
+impl<'a> Iterator for SourceContentsIter<'a> {
+    type Item = Option<&'a str>;
+
+    ghost use Rattle.std.specs.Option.{option_copied};
+    ghost use Rattle.std.specs.Iterator.{YieldsFirstBy, item_count};
+    ghost use Rattle.sourcemap_maps.specs.Iterators.{contents_left};
+
+    ghost next_gives = { YieldsFirstBy option_copied contents_left };
+
+    ghost remaining = { item_count contents_left };
+
+    fn next(&mut self) -> Option<Option<&'a str>> {
+        let map = self.map;
+        let id = self.next;
+        if id >= map.get_source_count() {
+            return None;
+        }
+        self.next = id + 1;
+        Some(map.get_source_contents(id))
+    }
+}

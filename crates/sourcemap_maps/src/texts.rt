@@ -1,0 +1,103 @@
+ghost use Rattle.std.specs.Prelude.{◌≡◌, ◌≤◌, ℕ, vec_len, Ok, [], map, option_map, unwrap_or, string_bytes};
+ghost use Rattle.std.specs.Option.{option_copied, ForSome};
+ghost use Rattle.sourcemap_core.specs.Answer.{Gives};
+ghost use Rattle.sourcemap_maps.specs.Types.{is_placed, shown_behind, without_slash};
+ghost use Rattle.sourcemap_maps.specs.Texts.{texts_of, contents_in};
+
+use sourcemap_core::errors::{Error, Result};
+use std::alloc::Global;
+
+// The text as a string of its own.
+pub(crate) fn owned(alloc: Global, text: Option<&str>) -> Result<Option<String>>
+    ensures { Gives (option_map string_bytes) result (Ok (option_copied text.entry)) }
+{
+    match text {
+        None => Ok(None),
+        Some(text) => Ok(Some(String::from_str(alloc, text)?)),
+    }
+}
+
+// The text, empty where there is none.
+pub(crate) fn text_or_empty(text: &Option<String>) -> &str
+    ensures { result.now ≡ unwrap_or (option_map string_bytes text.now) [] }
+{
+    match text {
+        None => "",
+        Some(text) => text.as_str(),
+    }
+}
+
+// The contents, none where there is no list.
+pub(crate) fn contents_or_empty(
+    alloc: Global,
+    contents: Option<Vec<Option<String>>>,
+) -> Vec<Option<String>>
+    ensures value { contents_in result ≡ unwrap_or (option_map contents_in contents) [] }
+    ensures few { (n : ℕ) → ForSome contents (λ list. vec_len list ≤ n) → vec_len result ≤ n }
+{
+    match contents {
+        None => Vec::new(alloc),
+        Some(contents) => contents,
+    }
+}
+
+// Whether a source stays as it is behind a root.
+pub(crate) fn is_placed(source: &str) -> bool
+    ensures { result ≡ is_placed source.now }
+{
+    let from_top = source.starts_with("/");
+    let plain = source.starts_with("http:");
+    let secure = source.starts_with("https:");
+    from_top | plain | secure
+}
+
+// The text less one slash at its end.
+fn without_slash(text: &str) -> &str
+    ensures { result.now ≡ without_slash text.now }
+{
+    match text.strip_suffix("/") {
+        Some(start) => start,
+        None => text,
+    }
+}
+
+// The source as it is shown behind a root.
+fn shown(alloc: Global, root: &str, source: &str) -> Result<String>
+    ensures { Gives string_bytes result (Ok (shown_behind root.now source.now)) }
+{
+    let stays = root.is_empty() | is_placed(source);
+    if stays {
+        return Ok(String::from_str(alloc, source)?);
+    }
+    let start = without_slash(root);
+    let mut text = String::with_capacity(alloc, start.len() + 1 + source.len())?;
+    text.push_str(start)?;
+    text.push_str("/")?;
+    text.push_str(source)?;
+    Ok(text)
+}
+
+fn all_shown(alloc: Global, root: &str, sources: &[String]) -> Result<Vec<String>>
+    ensures { Gives texts_of result (Ok (map (shown_behind root.now) (map string_bytes sources.now))) }
+{
+    let mut all = Vec::with_capacity(alloc, sources.len())?;
+    for source in sources {
+        all.push(shown(alloc, root, source.as_str())?)?;
+    }
+    Ok(all)
+}
+
+// The sources as they are shown, none where they stay as they are.
+pub(crate) fn with_root(
+    alloc: Global,
+    root: &str,
+    sources: &Vec<String>,
+) -> Result<Option<Vec<String>>>
+    ensures { Gives (λ rooted. texts_of (unwrap_or rooted sources.now)) result
+        (Ok (map (shown_behind root.now) (texts_of sources.now))) }
+{
+    if root.is_empty() {
+        return Ok(None);
+    }
+    Ok(Some(all_shown(alloc, root, sources.as_slice())?))
+}
