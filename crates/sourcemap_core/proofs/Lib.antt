@@ -10,7 +10,11 @@ pub mod InternerLemmas
 pub mod PathsLemmas
 pub mod UtilsLemmas
 pub mod WritingLemmas
+pub mod SortLemmas
+pub mod TokensLemmas
+pub mod UtilsLemmas
 pub mod VlqLemmas
+pub mod WritingLemmas
 pub mod WrittenBytes
 pub mod WrittenLaws
 pub mod WrittenLines

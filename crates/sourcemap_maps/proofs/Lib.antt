@@ -1,5 +1,6 @@
 pub mod TextLemmas
 pub mod ListLemmas
 pub mod MapLemmas
+pub mod SettersLemmas
 pub mod DecoderLemmas
 pub mod EncoderLemmas

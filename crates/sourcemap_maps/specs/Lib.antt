@@ -7,3 +7,4 @@ pub mod Decoder
 pub mod DecoderParts
 pub mod Encoder
 pub mod EncoderParts
+pub mod TokenOrder

@@ -1,5 +1,6 @@
 use crate::token::Token;
 use crate::types::SourceMap;
+use std::collections::btree_set;
 
 /// The tokens of a map, in order of line and column of the generated text.
 #[derive(Drop)]
@@ -103,5 +104,26 @@ impl<'a> Iterator for SourceContentsIter<'a> {
         }
         self.next = id + 1;
         Some(map.get_source_contents(id))
+    }
+}
+
+/// The numbers of the sources that a debugger passes over, rising, each once.
+#[derive(Drop)]
+pub struct IgnoreListIter<'a> {
+    pub(crate) ids: btree_set::Iter<'a, u32>,
+}
+
+impl<'a> Iterator for IgnoreListIter<'a> {
+    type Item = &'a u32;
+
+    ghost use Rattle.std.specs.Iterator.{YieldsFirstRef, item_count};
+    ghost use Rattle.sourcemap_maps.specs.Iterators.{ids_left};
+
+    ghost next_gives = { YieldsFirstRef ids_left };
+
+    ghost remaining = { item_count ids_left };
+
+    fn next(&mut self) -> Option<&'a u32> {
+        self.ids.next()
     }
 }

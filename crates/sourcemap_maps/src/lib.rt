@@ -5,6 +5,9 @@
 pub mod decoder;
 pub mod encoder;
 mod iterators;
+mod setters;
 mod texts;
 mod token;
+mod token_order;
 pub mod types;
+mod copies;
