@@ -10,4 +10,5 @@ mod mappings_written;
 pub mod paths;
 pub mod tokens;
 pub mod utils;
+
 pub mod vlq;

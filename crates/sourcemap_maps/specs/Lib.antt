@@ -8,3 +8,4 @@ pub mod DecoderParts
 pub mod Encoder
 pub mod EncoderParts
 pub mod TokenOrder
+pub mod Bytes

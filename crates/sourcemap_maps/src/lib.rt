@@ -2,6 +2,7 @@
 //! that a record stands for.
 #![tactic(auto)]
 
+mod bytes;
 pub mod decoder;
 pub mod encoder;
 mod iterators;
