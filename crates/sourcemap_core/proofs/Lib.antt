@@ -9,10 +9,6 @@ pub mod TokensLemmas
 pub mod InternerLemmas
 pub mod PathsLemmas
 pub mod UtilsLemmas
-pub mod WritingLemmas
-pub mod SortLemmas
-pub mod TokensLemmas
-pub mod UtilsLemmas
 pub mod VlqLemmas
 pub mod WritingLemmas
 pub mod WrittenBytes

@@ -9,6 +9,4 @@ pub mod Interner
 pub mod Paths
 pub mod Tokens
 pub mod Utils
-pub mod Vlq
-pub mod MappingsWritten
 pub mod WritingSteps

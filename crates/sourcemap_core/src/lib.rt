@@ -10,5 +10,4 @@ mod mappings_written;
 pub mod paths;
 pub mod tokens;
 pub mod utils;
-
 pub mod vlq;
