@@ -4,3 +4,4 @@ pub mod MapLemmas
 pub mod SettersLemmas
 pub mod DecoderLemmas
 pub mod EncoderLemmas
+pub mod BuilderLemmas

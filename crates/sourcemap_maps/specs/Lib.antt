@@ -9,3 +9,5 @@ pub mod Encoder
 pub mod EncoderParts
 pub mod TokenOrder
 pub mod Bytes
+pub mod Builder
+pub mod BuilderStored

@@ -2,7 +2,9 @@
 //! that a record stands for.
 #![tactic(auto)]
 
+pub mod builder;
 mod bytes;
+mod copies;
 pub mod decoder;
 pub mod encoder;
 mod iterators;
@@ -11,4 +13,3 @@ mod texts;
 mod token;
 mod token_order;
 pub mod types;
-mod copies;
