@@ -5,3 +5,4 @@ pub mod SettersLemmas
 pub mod DecoderLemmas
 pub mod EncoderLemmas
 pub mod EqualityLemmas
+pub mod BuilderLemmas

@@ -7,6 +7,9 @@ pub mod Decoder
 pub mod DecoderParts
 pub mod Encoder
 pub mod EncoderParts
+pub mod TokenOrder
 pub mod Bytes
 pub mod TokenOrder
 pub mod Equality
+pub mod Builder
+pub mod BuilderStored

@@ -2,6 +2,7 @@
 //! that a record stands for.
 #![tactic(auto)]
 
+pub mod builder;
 mod bytes;
 mod copies;
 pub mod decoder;
