@@ -9,6 +9,7 @@ pub mod TokensLemmas
 pub mod InternerLemmas
 pub mod PathsLemmas
 pub mod UtilsLemmas
+pub mod WritingLemmas
 pub mod VlqLemmas
 pub mod WrittenBytes
 pub mod WrittenLaws

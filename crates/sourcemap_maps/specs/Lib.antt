@@ -9,7 +9,6 @@ pub mod Encoder
 pub mod EncoderParts
 pub mod TokenOrder
 pub mod Bytes
-pub mod TokenOrder
 pub mod Equality
 pub mod Builder
 pub mod BuilderStored
