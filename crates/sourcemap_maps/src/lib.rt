@@ -10,6 +10,8 @@ pub mod encoder;
 mod equality;
 mod iterators;
 mod setters;
+#[cfg(test)]
+mod tests;
 mod texts;
 mod token;
 mod token_order;
