@@ -1,12 +1,13 @@
 pub mod AnswerLemmas
 pub mod BitLemmas
 pub mod DigitLemmas
+pub mod MappingsAnswers
+pub mod MappingsLemmas
+pub mod MappingsOrder
 pub mod SortLemmas
 pub mod TokensLemmas
 pub mod UtilsLemmas
 pub mod WritingLemmas
-pub mod MappingsAnswers
-pub mod MappingsLemmas
 pub mod VlqLemmas
 pub mod WrittenBytes
 pub mod WrittenLaws

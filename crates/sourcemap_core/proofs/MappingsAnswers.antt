@@ -1,15 +1,17 @@
 -- Two texts of mappings and of range bits have one answer, and its tokens keep the bounds of the map.
-use Rattle.std.proofs.Common.{◌≡◌, ◌≢◌, ℕ, suc, ◌+◌, ◌<◌, ◌≤◌, ◌==◌, ◌^◌, ◌⊎◌, ℤ, List, [], ◌∷◌, ◌++◌, length, Bool, true, false, Option, Some, None, Result, Ok, Err, sym, ap, ap₂, ◌∙◌, refl, subst, inl, inr, append_assoc, append-nil, arith}
+use Rattle.std.proofs.Common.{◌≡◌, ◌≢◌, ℕ, suc, ◌+◌, ◌<◌, ◌≤◌, ◌==◌, ◌^◌, ◌⊎◌, ℤ, List, [], ◌∷◌, ◌++◌, length, Bool, true, false, Option, Some, None, Result, Ok, Err, IfOk, IfErr, sym, ap, ap₂, ◌∙◌, refl, subst, inl, inr, append_assoc, append-nil, arith}
 use Rattle.std.specs.List.{AllByRecursion, slice_split}
 use Rattle.std.proofs.lemmas.Bool.Decides.{nat_tests}
 use Rattle.sourcemap_core.specs.declared.tokens.RawToken.{RawToken}
 use Rattle.sourcemap_core.specs.declared.errors.Error.{Error}
-use Rattle.sourcemap_core.specs.declared.errors.Error.TheVariants.{IncompatibleSourceMap, InvalidBase64}
+use Rattle.sourcemap_core.specs.declared.errors.Error.TheVariants.{IncompatibleSourceMap, InvalidBase64, OutOfMemory}
+use Rattle.sourcemap_core.specs.Answer.{IsAnswer, UnlessMemory}
 use Rattle.sourcemap_core.specs.Bits.{first_foreign}
 use Rattle.sourcemap_core.specs.Vlq.{Reads, HasFault, Answers}
 use Rattle.sourcemap_core.specs.Tokens.{in_order, IsWithin, AllWithin}
 use Rattle.sourcemap_core.specs.Mappings.{Counts, Segment, Line, LineText, is_size, field, token_of, line_tokens, page_tokens, segment_fault, PartRead, PartFault, PartsRead, PartsFault, LineRead, LineFault, LinesRead, LinesFault, line_texts, MappingsAnswer}
 use Rattle.sourcemap_core.proofs.VlqLemmas.{Answers-same}
+use Rattle.sourcemap_core.proofs.TokensLemmas.{AllWithin-in_order}
 
 -- of the readings and the faults of one text there is one at most
 record HasOneAnswer {Y : Type 0} (Reading : Y → Type 0) (Fault : Error → Type 0) : Type 0 where
@@ -212,3 +214,14 @@ AllWithin-page counts n before (text ∷ texts) [] small h = absurd h
 AllWithin-page counts n before (text ∷ texts) (line ∷ page) small h =
     AllWithin-append counts.sources counts.names (line_tokens n line.bits before [] line.segments) (page_tokens (n + 1) (before ++ line.segments) page)
     (AllWithin-text counts n before text line small h.0) (AllWithin-page counts (n + 1) (before ++ line.segments) texts page small h.1)
+
+-- From the tokens of a page to the answer.
+
+module _ (mappings ranges : List ℕ) (counts : Counts) (tokens : List RawToken)
+    (page : List Line) (reads : LinesRead counts 0 [] (line_texts mappings ranges) page) (is : tokens ≡ page_tokens 0 [] page) where
+  pub IsAnswer-sorted : {X : Type 0} (view : X → List RawToken) (result : Result X Error) → IfOk result (λ v. view v ≡ in_order tokens) → IfErr result (λ e. e ≡ OutOfMemory) → IsAnswer view (MappingsAnswer mappings ranges counts) result
+  IsAnswer-sorted view (Ok v) sorted none = (page, reads, sorted ∙ ap in_order is)
+  IsAnswer-sorted view (Err e) none memory = subst (λ f. UnlessMemory f (LinesFault counts 0 [] (line_texts mappings ranges) f)) (sym memory) tt
+
+  pub AllWithin-sorted : counts.names ≤ 4294967295 → AllWithin counts.sources counts.names (in_order tokens)
+  AllWithin-sorted small = AllWithin-in_order counts.sources counts.names tokens (subst (AllWithin counts.sources counts.names) (sym is) (AllWithin-page counts 0 [] (line_texts mappings ranges) page small reads))

@@ -412,7 +412,7 @@ module _ (counts : Counts) (all : List LineText) (n : ℕ) (text : LineText) (le
   PageSoFar-fault e so_far f = UnlessMemory-weaker e (λ h. so_far.fault e (inl h)) f
 
 -- before the first line
-pub PageSoFar-none : (counts : Counts) (all : List LineText) → PageSoFar counts all 0 all [] (record { column = 0; source = 0; line = 0; source_column = 0; name = 0 })
+pub PageSoFar-none : (counts : Counts) (all : List LineText) → PageSoFar counts all 0 all [] (record { rises = true; column = 0; source = 0; line = 0; source_column = 0; name = 0 })
 PageSoFar-none counts all = record {
   before = [];
   page = [];

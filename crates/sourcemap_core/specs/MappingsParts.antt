@@ -1,7 +1,9 @@
 -- What the steps of the reader of mappings add: a number to a segment, a part to a line, a line to a page.
-use Rattle.std.specs.Prelude.{◌≡◌, ◌≢◌, ℕ, ◌<◌, ℤ, if◌then◌else◌, IfSome, List, [], ◌∷◌, ◌++◌, length, slice_index, min, Option, ◌==◌}
+use Rattle.std.specs.Prelude.{◌≡◌, ◌≢◌, ℕ, ◌<◌, ℤ, if◌then◌else◌, IfSome, IsTrue, false, List, [], ◌∷◌, ◌++◌, length, slice_index, min, Option, ◌==◌}
 use Rattle.std.specs.Option.{option_map_or}
-use Rattle.std.specs.List.{slice_split}
+use Rattle.std.specs.List.{slice_split, AllByRecursion}
+use Rattle.std.specs.Ordering.{is_lt}
+use Rattle.sourcemap_core.specs.Tokens.{AreInOrder, position_cmp, destination}
 use denote.Ref.{Bor}
 use Rattle.sourcemap_core.specs.declared.errors.Error.{Error}
 use Rattle.sourcemap_core.specs.declared.errors.Error.TheVariants.{VlqLeftover, InvalidBase64}
@@ -52,6 +54,11 @@ pub record AreTextSums (segments : List Segment) (sums : Sums) : Type 0 where
 pub record AreSums (before here : List Segment) (sums : Sums) : Type 0 where
   pub column : sums.column ≡ sum_at 0 here
   pub text : AreTextSums (before ++ here) sums
+
+-- where no column fell: the tokens are in order, and none stands past this line and the column's sum
+abbrev pub AreInOrderTo : ℕ → Sums → List RawToken → Type 0
+AreInOrderTo line sums tokens = IsTrue sums.rises
+    → AreInOrder tokens × AllByRecursion (λ t. is_lt (position_cmp (line, sums.column) (destination t)) ≡ false) tokens
 
 -- the counts that a reader was given
 abbrev pub counts_of : Limits → Counts

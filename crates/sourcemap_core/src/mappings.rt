@@ -8,8 +8,8 @@ ghost use Rattle.sourcemap_core.specs.Bits.{bit_of, first_foreign};
 ghost use Rattle.sourcemap_core.specs.declared.errors.Error.{Error};
 ghost use Rattle.sourcemap_core.specs.declared.tokens.RawToken.{RawToken};
 ghost use Rattle.sourcemap_core.specs.Mappings.{Counts, MappingsAnswer, Segment, PartsFault, LineFault, LinesRead, LinesFault, beside, line_texts, page_tokens, Line, segment_fault, token_of};
-ghost use Rattle.sourcemap_core.specs.MappingsParts.{AreSteps, AreTextSums, AreSums, AddsParts, AddsLine, counts_of, lines_of, lines_left, fault_in_part, HasFirstPart, HasPartFault};
-ghost use Rattle.sourcemap_core.specs.Tokens.{AreInOrder, AllWithin};
+ghost use Rattle.sourcemap_core.specs.MappingsParts.{AreSteps, AreTextSums, AreSums, AreInOrderTo, AddsParts, AddsLine, counts_of, lines_of, lines_left, fault_in_part, HasFirstPart, HasPartFault};
+ghost use Rattle.sourcemap_core.specs.Tokens.{AreInOrder, AllWithin, destination, in_order};
 ghost use Rattle.sourcemap_core.specs.Vlq.{Reads, HasFault};
 
 use crate::bits::{has_bit, test_digits};
@@ -33,8 +33,10 @@ struct Spot {
 }
 
 // The sums of the numbers so far, modulo 2^32: the column's along a line, the others' along the text.
+// And whether the column never fell, so that the tokens so far are in order.
 #[derive(Clone, Copy)]
 struct Sums {
+    rises: bool,
     column: u32,
     source: u32,
     line: u32,
@@ -122,11 +124,14 @@ fn read_numbers(line: &[u8]) -> Result<(Numbers, Option<&[u8]>)>
 // The sums behind a segment.
 #[inline]
 fn advanced(sums: Sums, read: &Numbers) -> Sums
-    ensures { (before here : List Segment) (s : Segment) → AreSums before here sums → AreSteps s.numbers read.now
+    ensures sums { (before here : List Segment) (s : Segment) → AreSums before here sums → AreSteps s.numbers read.now
         → AreSums before (here ++ s ∷ []) result }
+    ensures rises { IsTrue result.rises → IsTrue sums.rises × (sums.column ≤ result.column) }
 {
+    let column = sums.column.wrapping_add(read.steps[0]);
     Sums {
-        column: sums.column.wrapping_add(read.steps[0]),
+        rises: sums.rises & (sums.column <= column),
+        column,
         source: sums.source.wrapping_add(read.steps[1]),
         line: sums.line.wrapping_add(read.steps[2]),
         source_column: sums.source_column.wrapping_add(read.steps[3]),
@@ -172,8 +177,9 @@ fn field(count: u32, place: u32, sum: u32) -> u32
 // The token of a segment of so many numbers, with the sums up to it.
 #[inline]
 fn token_at(spot: Spot, bits: &[u8], count: u32, sums: Sums) -> RawToken
-    ensures { (before here : List Segment) (s : Segment) → AreSums before here sums → count ≡ min (length s.numbers) 4294967295
+    ensures token { (before here : List Segment) (s : Segment) → AreSums before here sums → count ≡ min (length s.numbers) 4294967295
         → s.place ≡ spot.place → result ≡ token_of spot.line bits.now here (before ++ here) s }
+    ensures destination { destination result ≡ (spot.line, sums.column) }
 {
     RawToken {
         dst_line: spot.line,
@@ -202,6 +208,7 @@ fn add_part(
     ensures fault { (before here : List Segment) (part : List ℕ) (numbers : List ℤ)
         → AreSums before here sums → Reads part numbers → AreSteps numbers read.now
         → IfErr result (λ e. UnlessMemory e (PartsFault (counts_of limits) spot.place (before ++ here) (part ∷ []) e)) }
+    ensures order { AreInOrderTo spot.line sums tokens.old.items → IfOk result (λ after. AreInOrderTo spot.line after tokens.new.items) }
 {
     if read.count == 0 {
         return Ok(sums);
@@ -225,6 +232,7 @@ fn add_parts(
         → IfOk result (AddsParts (counts_of limits) (record { line = line; place = 0 }) bits.now before [] (slice_split (λ b. b == 44) text.now) tokens.old.items tokens.new.items) }
     ensures fault { (before : List Segment) → AreTextSums before sums
         → IfErr result (λ e. UnlessMemory e (PartsFault (counts_of limits) 0 before (slice_split (λ b. b == 44) text.now) e)) }
+    ensures order { AreInOrderTo line (record sums { column = 0 }) tokens.old.items → IfOk result (λ after. AreInOrderTo line after tokens.new.items) }
 {
     let mut sums = Sums { column: 0, ..sums };
     let mut rest = text;
@@ -253,6 +261,8 @@ fn add_line(
         → IfOk result (AddsLine (counts_of limits) number before (text.now, bits.now) tokens.old.items tokens.new.items) }
     ensures fault { (before : List Segment) → AreTextSums before sums
         → IfErr result (λ e. UnlessMemory e (LineFault (counts_of limits) number before (text.now, bits.now) e)) }
+    ensures order { AreInOrderTo number (record sums { column = 0 }) tokens.old.items
+        → IfOk result (λ after. AreInOrderTo (number + 1) (record after { column = 0 }) tokens.new.items) }
 {
     if text.is_empty() {
         return Ok(sums);
@@ -275,14 +285,21 @@ fn next_bits(ranges: Option<&str>) -> (&str, Option<&str>)
     }
 }
 
-// The tokens of the lines, in order of the text.
-fn read_lines(alloc: Global, mappings: &str, ranges: &str, limits: Limits) -> Result<Vec<RawToken>>
-    ensures read { IfOk result (λ v. (page : List Line) × LinesRead (counts_of limits) 0 [] (line_texts mappings.now ranges.now) page
-        × (v.items ≡ page_tokens 0 [] page)) }
+// The tokens of the lines, in order of the text, and whether they are in order of destination too.
+fn read_lines(
+    alloc: Global,
+    mappings: &str,
+    ranges: &str,
+    limits: Limits,
+) -> Result<(Vec<RawToken>, bool)>
+    ensures read { IfOk result (λ read. (page : List Line) × LinesRead (counts_of limits) 0 [] (line_texts mappings.now ranges.now) page
+        × (read.0.items ≡ page_tokens 0 [] page)) }
     ensures fault { IfErr result (λ e. UnlessMemory e (LinesFault (counts_of limits) 0 [] (line_texts mappings.now ranges.now) e)) }
+    ensures order { IfOk result (λ read. IsTrue read.1 → AreInOrder read.0.items) }
 {
     let mut tokens = Vec::with_capacity(alloc, (mappings.len() / 5 + 1).min(1 << 20))?;
     let mut sums = Sums {
+        rises: true,
         column: 0,
         source: 0,
         line: 0,
@@ -307,6 +324,19 @@ fn read_lines(alloc: Global, mappings: &str, ranges: &str, limits: Limits) -> Re
         ranges = later_bits;
         number += 1;
     }
+    Ok((tokens, sums.rises))
+}
+
+// The tokens in order of destination, where they may be known to be so already.
+fn sorted(mut tokens: Vec<RawToken>, rises: bool) -> Result<Vec<RawToken>>
+    requires { IsTrue rises → AreInOrder tokens.items }
+    ensures sorted { IfOk result (λ v. v.items ≡ in_order tokens.items) }
+    ensures memory { IfErr result (λ e. e ≡ Error.OutOfMemory) }
+{
+    if rises {
+        return Ok(tokens);
+    }
+    sort_tokens(&mut tokens)?;
     Ok(tokens)
 }
 
@@ -331,9 +361,8 @@ pub fn parse_mappings(
     ensures within { IfOk result (λ v. AllWithin sources names v.items) }
 {
     let limits = Limits { sources, names };
-    let mut tokens = read_lines(alloc, mappings, ranges, limits)?;
-    sort_tokens(&mut tokens)?;
-    Ok(tokens)
+    let (tokens, rises) = read_lines(alloc, mappings, ranges, limits)?;
+    sorted(tokens, rises)
 }
 
 /// Two texts, of mappings and of range bits, have one answer.

@@ -1,16 +1,15 @@
 -- A record, its parts, and the map that it is decoded to.
-use Rattle.std.proofs.Common.{◌≡◌, ℕ, ◌≤◌, List, length, map, Option, option_map, Result, Ok, Err, refl, sym, ap, subst, ◌∙◌, arith, inl, inr, vec_len, string_bytes, IfOk}
+use Rattle.std.proofs.Common.{◌≡◌, List, length, map, option_map, Result, Ok, Err, refl, sym, ap, subst, ◌∙◌, inl, inr, vec_len, string_bytes, IfOk}
 use Rattle.std.proofs.lemmas.List.{length-map}
-use Rattle.serde_json.specs.View.{view}
 use Rattle.sourcemap_core.specs.Answer.{UnlessMemory, Gives, IsAnswer}
 use Rattle.sourcemap_core.specs.declared.errors.Error.{Error}
 use Rattle.sourcemap_core.specs.declared.errors.Error.TheVariants.{IncompatibleSourceMap}
 use Rattle.sourcemap_core.specs.declared.tokens.RawToken.{RawToken}
-use Rattle.sourcemap_core.specs.Mappings.{Counts, MappingsAnswer}
+use Rattle.sourcemap_core.specs.Mappings.{MappingsAnswer}
 use Rattle.sourcemap_core.specs.Tokens.{AllWithin}
 use Rattle.sourcemap_core.proofs.AnswerLemmas.{UnlessMemory-weaker}
 use Rattle.sourcemap_core.proofs.MappingsAnswers.{MappingsAnswer-same}
-use Rattle.sourcemap_json.specs.Jsontypes.{Fields, text_view}
+use Rattle.sourcemap_json.specs.Jsontypes.{Fields}
 use Rattle.sourcemap_maps.specs.declared.decoder.Parts.{Parts}
 use Rattle.sourcemap_maps.specs.Types.{MapValue, IsWellFormed}
 use Rattle.sourcemap_maps.specs.Decoder.{RecordDecodes, TokensAnswer, HasRoom, map_of, listed, rising, name_read, source_read, file_read}

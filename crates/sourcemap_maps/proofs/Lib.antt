@@ -2,3 +2,4 @@ pub mod TextLemmas
 pub mod ListLemmas
 pub mod MapLemmas
 pub mod DecoderLemmas
+pub mod EncoderLemmas

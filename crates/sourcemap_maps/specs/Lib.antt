@@ -6,3 +6,4 @@ pub mod Iterators
 pub mod Decoder
 pub mod DecoderParts
 pub mod Encoder
+pub mod EncoderParts

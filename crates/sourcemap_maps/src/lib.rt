@@ -5,6 +5,8 @@
 pub mod decoder;
 pub mod encoder;
 mod iterators;
+#[cfg(test)]
+mod tests;
 mod texts;
 mod token;
 pub mod types;

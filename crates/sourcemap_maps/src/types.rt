@@ -184,15 +184,21 @@ impl SourceMap {
         self.sources.len() as u32
     }
 
+    pub(crate) fn shown_sources(&self) -> &Vec<String>
+        ensures texts { texts_of result.now ≡ shown_sources self.now }
+        ensures few { length result.now.items ≤ 4294967295 }
+    {
+        match &self.with_root {
+            Some(sources) => sources,
+            None => &self.sources,
+        }
+    }
+
     /// The source of this number, behind the root if there is one that is not empty.
     pub fn get_source(&self, id: u32) -> Option<&str>
         ensures { option_copied result ≡ source_of self.now id }
     {
-        let sources = match &self.with_root {
-            Some(sources) => sources,
-            None => &self.sources,
-        };
-        match sources.get(id as usize) {
+        match self.shown_sources().get(id as usize) {
             Some(source) => Some(source.as_str()),
             None => None,
         }
@@ -256,12 +262,8 @@ impl SourceMap {
         ensures rest { sources_left result ≡ shown_sources self.now }
         ensures bound { length (sources_left result) ≤ 4294967295 }
     {
-        let sources = match &self.with_root {
-            Some(sources) => sources,
-            None => &self.sources,
-        };
         SourceIter {
-            sources: sources.as_slice(),
+            sources: self.shown_sources().as_slice(),
         }
     }
 

@@ -39,4 +39,5 @@ loop-read-preserved c =
           let so_far = rw (first.split, c.in-Some.is) at (c.loop-read.invariant.so_far before sums) in
           PartsSoFar-more _ (record { line = c.args.line; place = c.loop-read.place }) _ before _ first.part _ _ _ _ _ _ so_far
           (c.in_ok-sums.ensures.added before so_far.here first.part first.numbers so_far.sums_after first.reads first.steps);
+      order = λ before. c.in_ok-sums.ensures.order (c.loop-read.invariant.order before);
     }

@@ -1,7 +1,7 @@
 use Rattle.std.proofs.Common.{length, ◌+◌, ◌≤◌}
 use Rattle.std.specs.Option.{option_map_or}
 use Rattle.sourcemap_core.specs.Mappings.{beside, line_texts}
-use Rattle.sourcemap_core.specs.MappingsParts.{counts_of, lines_left}
+use Rattle.sourcemap_core.specs.MappingsParts.{AreInOrderTo, counts_of, lines_left}
 use Rattle.sourcemap_core.proofs.MappingsLemmas.{PageSoFar}
 use Rattle.sourcemap_core.proofs.mappings.read_lines.Given as goal
 
@@ -9,6 +9,7 @@ abbrev pub invariant-loop-lines : goal.invariant-loop-lines
 invariant-loop-lines l = record {
   numbers : l.number + option_map_or (λ text. length text.now + 1) l.lines 0 ≤ length l.mappings + 1;
   so_far : PageSoFar (counts_of l.limits) (line_texts l.fn.mappings l.fn.ranges) l.number (beside (lines_left l.lines) (lines_left l.ranges)) l.tokens.items l.sums;
+  order : AreInOrderTo l.number (record l.sums { column = 0 }) l.tokens.items;
 }
 
 abbrev pub decreases-loop-lines : goal.decreases-loop-lines
