@@ -5,14 +5,48 @@ use sourcemap::errors::JsonFault;
 use sourcemap::jsontypes::RawSourceMap;
 use sourcemap::{DecodedMap, Error, RawToken, SourceMap, decode, decode_slice};
 use std::alloc::{AllocError, Global};
-use std::io;
 use std::io::{Read, Write};
 use std::test::Fail;
+use std::{io, str};
 
 const MAP: &str =
     "{\"version\":3,\"sources\":[\"coolstuff.js\"],\"names\":[\"x\",\"alert\"],\"mappings\":\"AAAA,GAAIA,GAAI,EACR,IAAIA,GAAK,EAAG,CACVC,MAAM\"}";
 
-const USAGE: &str = "usage: lookup LINE COL | tokens | rewrite | flatten | compose FILE\n";
+const USAGE: &str = "2 usage: lookup LINE COL | tokens | rewrite | flatten | compose FILE";
+
+// Words, a map, and the status and text of the run.
+const RUNS: &str = "lookup 0 5|MAP|0 coolstuff.js:0:4 name=x
+lookup 0 0|MAP|0 coolstuff.js:0:0
+lookup 0 18|MAP|0 coolstuff.js:2:2 name=alert
+lookup 1 0|MAP|0 coolstuff.js:2:8
+lookup 4294967295 4294967295|MAP|0 coolstuff.js:2:8
+lookup 0 5|{\"sources\":[\"a.js\"],\"mappings\":\"AAAO\",\"rangeMappings\":\"B\"}|0 a.js:0:12
+lookup 3 5|{\"sources\":[\"a.js\"],\"mappings\":\"AAAO\",\"rangeMappings\":\"B\"}|0 a.js:0:7
+lookup 0 5|{\"mappings\":\"A\",\"rangeMappings\":\"B\"}|0 <unknown>:4294967295:4294967295
+lookup 0 0|{}|0 none
+lookup 0 0||1 bad json: the text is not JSON
+lookup 0 0|[]|1 bad json: a field has the wrong type
+lookup 0 0|{\"version\":4294967296}|1 bad json: a field has the wrong type
+lookup 0 0|{\"mappings\":\"AAAAAA\"}|1 got 6 segments, expected 4 or 5
+lookup 0 0|{\"mappings\":\"AAAA\"}|1 bad reference to source #0
+lookup 0 0|{\"sections\":[]}|1 encountered incompatible sourcemap format
+lookup 0 0|{\"x_facebook_sources\":[]}|1 encountered incompatible sourcemap format";
+
+const MISUSES: &str = "lookup 1 x
+
+lookup
+lookup 0
+lookup 0 0 0
+lookup +0 0
+lookup 0 4294967296
+Lookup 0 0
+tokens";
+
+// A map, and what it is written as.
+const WRITTEN: &str =
+    "{\"mappings\":\"A\"}|{\"mappings\":\"A\",\"names\":[],\"sources\":[],\"version\":3}
+{\"names\":[1.5,true,7,\"a\"],\"ignoreList\":[3,1,3]}|{\"ignoreList\":[1,3],\"mappings\":\"\",\"names\":[\"\",\"\",\"7\",\"a\"],\"sources\":[],\"version\":3}
+{\"sourceRoot\":\"webpack:///\",\"sources\":[\"./bar.js\"]}|{\"mappings\":\"\",\"names\":[],\"sourceRoot\":\"webpack:///\",\"sources\":[\"./bar.js\"],\"version\":3}";
 
 fn words_of(alloc: Global, line: &str) -> Result<Vec<String>, AllocError> {
     let mut words = Vec::new(alloc);
@@ -80,107 +114,30 @@ impl Write for NarrowWriter {
     }
 }
 
-// What a run prints, its status, and how much of its input is left.
-fn ran(rt: &HostRuntime, line: &str, input: &[u8]) -> Result<(Vec<u8>, u8, usize), Error> {
+// The status of a run, what it printed without the last newline, and how much of its input is left.
+fn ran(rt: &HostRuntime, line: &str, input: &str) -> Result<(String, usize), Fail> {
     let alloc = rt.alloc();
     let words = words_of(alloc, line)?;
-    let mut rest = input;
+    let mut rest = input.as_bytes();
     let mut output = Vec::new(alloc);
     let status = run(rt, alloc, words.as_slice(), &mut rest, &mut output)?;
-    Ok((output, status, rest.len()))
+    let printed = str::from_utf8(output.as_slice())?;
+    let text = printed.strip_suffix('\n').ok_or("no newline")?;
+    Ok((format!(in alloc; "{status} {text}")?, rest.len()))
 }
 
 #[test]
 fn runs_print_answers_refusals_and_usage(rt: HostRuntime) -> Result<(), Fail> {
-    let table = [
-        ("lookup 0 5", MAP, "coolstuff.js:0:4 name=x\n", 0),
-        ("lookup 0 0", MAP, "coolstuff.js:0:0\n", 0),
-        ("lookup 0 18", MAP, "coolstuff.js:2:2 name=alert\n", 0),
-        ("lookup 1 0", MAP, "coolstuff.js:2:8\n", 0),
-        ("lookup 4294967295 4294967295", MAP, "coolstuff.js:2:8\n", 0),
-        (
-            "lookup 0 5",
-            "{\"sources\":[\"a.js\"],\"mappings\":\"AAAO\",\"rangeMappings\":\"B\"}",
-            "a.js:0:12\n",
-            0,
-        ),
-        (
-            "lookup 3 5",
-            "{\"sources\":[\"a.js\"],\"mappings\":\"AAAO\",\"rangeMappings\":\"B\"}",
-            "a.js:0:7\n",
-            0,
-        ),
-        (
-            "lookup 0 5",
-            "{\"mappings\":\"A\",\"rangeMappings\":\"B\"}",
-            "<unknown>:4294967295:4294967295\n",
-            0,
-        ),
-        ("lookup 0 0", "{}", "none\n", 0),
-        (
-            "lookup 0 0",
-            ")]}'\n{\"mappings\":\"A\"}",
-            "<unknown>:4294967295:4294967295\n",
-            0,
-        ),
-        ("lookup 0 0", "", "bad json: the text is not JSON\n", 1),
-        (
-            "lookup 0 0",
-            "[]",
-            "bad json: a field has the wrong type\n",
-            1,
-        ),
-        (
-            "lookup 0 0",
-            "{\"version\":4294967296}",
-            "bad json: a field has the wrong type\n",
-            1,
-        ),
-        (
-            "lookup 0 0",
-            "{\"mappings\":\"AAAAAA\"}",
-            "got 6 segments, expected 4 or 5\n",
-            1,
-        ),
-        (
-            "lookup 0 0",
-            "{\"mappings\":\"AAAA\"}",
-            "bad reference to source #0\n",
-            1,
-        ),
-        (
-            "lookup 0 0",
-            "{\"sections\":[]}",
-            "encountered incompatible sourcemap format\n",
-            1,
-        ),
-        (
-            "lookup 0 0",
-            "{\"x_facebook_sources\":[]}",
-            "encountered incompatible sourcemap format\n",
-            1,
-        ),
-    ];
-    for (line, input, want, status) in table {
-        let (printed, ended, _left) = ran(&rt, line, input.as_bytes())?;
-        assert_eq!(rt; printed.as_slice(), want.as_bytes(), "{line} of {input}");
-        assert_eq!(rt; ended, status, "{line} of {input}");
+    for row in RUNS.lines() {
+        let (line, rest) = row.split_once('|').ok_or("a short row")?;
+        let (input, want) = rest.split_once('|').ok_or("a short row")?;
+        let input = if input == "MAP" { MAP } else { input };
+        let (told, _left) = ran(&rt, line, input)?;
+        assert_eq!(rt; told.as_str(), want, "{row}");
     }
-    for line in [
-        "lookup 1 x",
-        "",
-        "lookup",
-        "lookup 0",
-        "lookup 0 0 0",
-        "lookup +0 0",
-        "lookup 0 4294967296",
-        "Lookup 0 0",
-        "tokens",
-    ] {
-        let (printed, ended, left) = ran(&rt, line, MAP.as_bytes())?;
-        assert_eq!(rt; printed.as_slice(), USAGE.as_bytes(), "{line}");
-        assert_eq!(rt; ended, 2, "{line}");
-        assert_eq!(rt; left, MAP.len(), "{line}");
+    for line in MISUSES.lines() {
+        let (told, left) = ran(&rt, line, MAP)?;
+        assert_eq!(rt; (told.as_str(), left), (USAGE, MAP.len()), "{line}");
     }
     Ok(())
 }
@@ -254,32 +211,15 @@ fn bytes_are_decoded_written_and_read_back(rt: HostRuntime) -> Result<(), Fail> 
     assert!(rt;
         matches!(decode_slice(alloc, b")]}'\r{}"), Err(Error::Io(fault)) if fault.kind() == io::ErrorKind::InvalidData)
     );
-    let table = [
-        (
-            "{\"mappings\":\"A\"}",
-            "{\"mappings\":\"A\",\"names\":[],\"sources\":[],\"version\":3}",
-        ),
-        (
-            MAP,
-            "{\"mappings\":\"AAAA,GAAIA,GAAI,EACR,IAAIA,GAAK,EAAG,CACVC,MAAM\",\"names\":[\"x\",\"alert\"],\"sources\":[\"coolstuff.js\"],\"version\":3}",
-        ),
-        (
-            "{\"names\":[1.5,true,7,\"a\"],\"ignoreList\":[3,1,3]}",
-            "{\"ignoreList\":[1,3],\"mappings\":\"\",\"names\":[\"\",\"\",\"7\",\"a\"],\"sources\":[],\"version\":3}",
-        ),
-        (
-            "{\"sourceRoot\":\"webpack:///\",\"sources\":[\"./bar.js\"]}",
-            "{\"mappings\":\"\",\"names\":[],\"sourceRoot\":\"webpack:///\",\"sources\":[\"./bar.js\"],\"version\":3}",
-        ),
-    ];
-    for (input, want) in table {
-        let map = decode_slice(alloc, input.as_bytes())?;
-        let value = map.to_value()?;
+    let map = decode_slice(alloc, b")]}'\n{\"mappings\":\"A\"}")?;
+    assert!(rt; map.lookup_token(0, 0).is_some());
+    for row in WRITTEN.lines() {
+        let (input, want) = row.split_once('|').ok_or("a short row")?;
+        let value = decode_slice(alloc, input.as_bytes())?.to_value()?;
         let text = value.to_string(alloc)?;
-        assert_eq!(rt; text.as_str(), want);
         let back = DecodedMap::from_value(alloc, &value)?;
         let again = back.to_value()?.to_string(alloc)?;
-        assert_eq!(rt; again.as_str(), want);
+        assert_eq!(rt; (text.as_str(), again.as_str()), (want, want));
     }
     Ok(())
 }
@@ -291,24 +231,31 @@ const FULL: &str =
 fn maps_answer_by_their_parts(rt: HostRuntime) -> Result<(), Fail> {
     let alloc = rt.alloc();
     let DecodedMap::Regular(map) = decode_slice(alloc, FULL.as_bytes())?;
-    assert_eq!(rt; map.get_file(), Some("out.js"));
-    assert_eq!(rt; map.get_source_root(), Some("webpack:///"));
-    assert_eq!(rt; map.get_source_count(), 2);
-    assert_eq!(rt; map.get_source(0), Some("webpack:///./bar.js"));
-    assert_eq!(rt; map.get_source(1), Some("/b.js"));
-    assert_eq!(rt; map.get_source_contents(0), Some("x"));
-    assert_eq!(rt; map.get_source_contents(1), None);
-    assert_eq!(rt; map.get_name_count(), 1);
-    assert!(rt; map.has_names());
-    assert_eq!(rt; map.get_name(0), Some("foo"));
-    assert_eq!(rt; map.get_token_count(), 2);
-    assert_eq!(rt; map.tokens().count(), 2);
-    assert_eq!(rt; map.names().count(), 1);
-    assert_eq!(rt; map.sources().count(), 2);
+    let file = map.get_file();
+    let root = map.get_source_root();
+    let sources = (map.get_source(0), map.get_source(1), map.get_source(2));
+    let contents = (map.get_source_contents(0), map.get_source_contents(1));
+    let names = (map.has_names(), map.get_name(0), map.get_name(1));
+    let counts = (
+        map.get_source_count(),
+        map.get_name_count(),
+        map.get_token_count(),
+    );
+    let given = (
+        map.sources().count(),
+        map.names().count(),
+        map.tokens().count(),
+    );
+    let told = format!(in alloc;
+        "{file:?} {root:?} {sources:?} {contents:?} {names:?} {counts:?} {given:?}"
+    )?;
+    let want =
+        "Some(\"out.js\") Some(\"webpack:///\") (Some(\"webpack:///./bar.js\"), Some(\"/b.js\"), None) (Some(\"x\"), None) (true, Some(\"foo\"), None) (2, 1, 2) (2, 1, 2)";
+    assert_eq!(rt; told.as_str(), want);
     assert_eq!(rt; map.source_contents().count(), 2);
     let id = map.get_debug_id().ok_or("no debug id")?;
-    let printed = format!(in alloc; "{id}")?;
-    assert_eq!(rt; printed.as_str(), "00000000-0000-0000-0000-000000000000");
+    let told = format!(in alloc; "{id}")?;
+    assert_eq!(rt; told.as_str(), "00000000-0000-0000-0000-000000000000");
     Ok(())
 }
 
@@ -317,23 +264,24 @@ fn tokens_answer_by_texts(rt: HostRuntime) -> Result<(), Fail> {
     let alloc = rt.alloc();
     let DecodedMap::Regular(map) = decode_slice(alloc, FULL.as_bytes())?;
     let token = map.lookup_token(0, 0).ok_or("no token")?;
+    let parts = token.to_tuple();
+    let is = (token.is_range(), token.has_source(), token.has_name());
+    let told = format!(in alloc; "{parts:?} {is:?}")?;
     assert_eq!(rt;
-        token.to_tuple(),
-        ("webpack:///./bar.js", 0, 7, Some("foo"))
+        told.as_str(),
+        "(\"webpack:///./bar.js\", 0, 7, Some(\"foo\")) (true, true, true)"
     );
-    assert!(rt; token.is_range() && token.has_source() && token.has_name());
-    assert_eq!(rt; token.sourcemap().get_token_count(), 2);
     let token = map.get_token(1).ok_or("no token")?;
-    assert_eq!(rt; token.get_dst(), (0, 1));
-    assert_eq!(rt; (token.get_dst_line(), token.get_dst_col()), (0, 1));
-    assert_eq!(rt; token.get_src(), (0, 7));
-    assert_eq!(rt; (token.get_src_line(), token.get_src_col()), (0, 7));
-    assert_eq!(rt; (token.get_src_id(), token.get_name_id()), (1, 4294967295));
-    assert_eq!(rt;
-        (token.get_source(), token.get_name()),
-        (Some("/b.js"), None)
-    );
-    assert_eq!(rt; token.get_raw_token().is_range, false);
+    let place = (token.get_dst(), token.get_dst_line(), token.get_dst_col());
+    let source = (token.get_src(), token.get_src_line(), token.get_src_col());
+    let ids = (token.get_src_id(), token.get_name_id());
+    let texts = (token.get_source(), token.get_name());
+    let raw = token.get_raw_token();
+    let count = token.sourcemap().get_token_count();
+    let plain = raw.is_range;
+    let told = format!(in alloc; "{place:?} {source:?} {ids:?} {texts:?} {plain} {count}")?;
+    let want = "((0, 1), 0, 1) ((0, 7), 0, 7) (1, 4294967295) (Some(\"/b.js\"), None) false 2";
+    assert_eq!(rt; told.as_str(), want);
     Ok(())
 }
 
@@ -360,10 +308,7 @@ fn maps_are_made_of_parts_and_records(rt: HostRuntime) -> Result<(), Fail> {
         Vec::new(alloc),
         None,
     )?;
-    let first = map.get_token(0).ok_or("no token")?;
-    assert_eq!(rt; first.get_dst(), (0, 0));
-    let raw = map.as_raw_sourcemap()?;
-    let value = raw.to_value(alloc)?;
+    let value = map.as_raw_sourcemap()?.to_value(alloc)?;
     let text = value.to_string(alloc)?;
     let want =
         "{\"file\":\"f\",\"mappings\":\"A;A\",\"names\":[],\"rangeMappings\":\";B\",\"sources\":[],\"version\":3}";
