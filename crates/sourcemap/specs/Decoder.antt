@@ -7,10 +7,11 @@ use Rattle.std.specs.declared.io.ErrorKind.TheVariants.{InvalidData}
 use Rattle.serde_json.specs.Data.{Data}
 use Rattle.serde_json.specs.Read.{read}
 use Rattle.sourcemap_core.specs.declared.errors.Error.{Error}
-use Rattle.sourcemap_core.specs.declared.errors.Error.TheVariants.{Io, BadJson, IncompatibleSourceMap}
+use Rattle.sourcemap_core.specs.declared.errors.Error.TheVariants.{Io, BadJson, IncompatibleSourceMap, InvalidDataUrl}
 use Rattle.sourcemap_core.specs.declared.errors.JsonFault.TheVariants.{Parse, Shape}
 use Rattle.sourcemap_core.specs.Answer.{UnlessMemory}
 use Rattle.sourcemap_json.specs.Decoder.{behind_header}
+use Rattle.sourcemap_json.specs.DataUrl.{Holds}
 use Rattle.sourcemap_json.specs.Jsontypes.{Tree, plain, indexed, flat, record_of}
 use Rattle.sourcemap_maps.specs.Types.{MapValue}
 use Rattle.sourcemap_maps.specs.Decoder.{RecordDecodes}
@@ -52,6 +53,12 @@ ValueDecodes d answer = MatchOption (record_of d) (answer ≡ Err (BadJson Shape
 -- the map that bytes stand for
 abbrev pub BytesDecode : List ℕ → Result MapValue Error → Type 0
 BytesDecode bytes answer = ((d : Data) × HoldJson bytes d × ValueDecodes d answer) ⊎ IsErrAnd answer (HoldNoJson bytes)
+
+-- the map that a data URL stands for
+abbrev pub UrlDecodes : List ℕ → Result MapValue Error → Type 0
+UrlDecodes url answer =
+    ((bytes : List ℕ) × Holds url bytes × BytesDecode bytes answer)
+    ⊎ ((answer ≡ Err InvalidDataUrl) × ((bytes : List ℕ) → ¬ Holds url bytes))
 
 -- Answers.
 

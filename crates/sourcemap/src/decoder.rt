@@ -6,13 +6,15 @@ ghost use Rattle.sourcemap_core.specs.declared.errors.Error.{Error};
 ghost use Rattle.sourcemap_json.specs.Jsontypes.{tree};
 ghost use Rattle.sourcemap_maps.specs.Types.{MapValue, IsWellFormed};
 ghost use Rattle.sourcemap.specs.Decoded.{map_value};
-ghost use Rattle.sourcemap.specs.Decoder.{HoldJson, HoldNoJson, TreeDecodes, ValueDecodes, BytesDecode, AreSame, UnlessRead, IsAnswerRead, Reading};
+ghost use Rattle.sourcemap.specs.Decoder.{HoldJson, HoldNoJson, TreeDecodes, ValueDecodes, BytesDecode, UrlDecodes, AreSame, UnlessRead, IsAnswerRead, Reading};
 
 use crate::decoded::DecodedMap;
 use crate::errors::{Error, Result};
 use serde_json::Value;
+use sourcemap_json::data_url::data_url_bytes;
 pub use sourcemap_json::decoder::strip_junk_header;
 use sourcemap_json::jsontypes::RawSourceMap;
+pub use sourcemap_json::strip_header::StripHeaderReader;
 pub use sourcemap_maps::decoder::decode_regular;
 use std::alloc::Global;
 use std::io::Read;
@@ -95,6 +97,16 @@ pub fn decode<R: Read + Drop>(alloc: Global, reader: R) -> Result<DecodedMap>
     ensures well_formed { IfOk result (λ m. IsWellFormed (map_value m)) }
 {
     let bytes = read_all(alloc, reader)?;
+    decode_bytes(alloc, bytes.as_slice())
+}
+
+/// The map that a data URL holds: `InvalidDataUrl` if the text is none, else as by `decode_slice`
+/// of the bytes in it.
+pub fn decode_data_url(alloc: Global, url: &str) -> Result<DecodedMap>
+    ensures answer { IsAnswer map_value (UrlDecodes url.now) result }
+    ensures well_formed { IfOk result (λ m. IsWellFormed (map_value m)) }
+{
+    let bytes = data_url_bytes(alloc, url)?;
     decode_bytes(alloc, bytes.as_slice())
 }
 

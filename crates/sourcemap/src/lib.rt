@@ -4,11 +4,12 @@
 mod decoded;
 pub mod decoder;
 pub mod types;
-pub use decoder::{decode, decode_slice};
+pub use decoder::{decode, decode_data_url, decode_slice};
 pub use sourcemap_core::errors::{Error, Result};
 pub use sourcemap_core::{errors, utils, vlq};
 pub use sourcemap_json::jsontypes;
-pub use sourcemap_maps::encoder;
+pub use sourcemap_maps::builder::SourceMapBuilder;
+pub use sourcemap_maps::{builder, encoder};
 pub use types::{
     DecodedMap, NameIter, RawToken, SourceContentsIter, SourceIter, SourceMap, Token, TokenIter,
 };

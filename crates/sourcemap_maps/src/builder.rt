@@ -438,3 +438,30 @@ fn fill(texts: &mut Vec<Option<String>>, count: usize) -> Result<()>
     texts.truncate(count);
     Ok(())
 }
+
+#[cfg(test)]
+mod tests {
+    use super::*;
+    use std::test::Fail;
+
+    #[test]
+    fn texts_keep_their_numbers(rt: HostRuntime) -> std::result::Result<(), Fail> {
+        let mut builder = SourceMapBuilder::new(rt.alloc(), Some("out.js"))?;
+        assert_eq!(rt; builder.add_source("/a/x.js")?, 0);
+        builder.set_source(0, "x.js")?;
+        assert_eq!(rt; builder.add_source("/a/x.js")?, 0);
+        assert_eq!(rt; builder.add_source("x.js")?, 1);
+        assert_eq!(rt; builder.get_source(0), Some("x.js"));
+        let token = builder.add(1, 2, 3, 4, Some("y.js"), Some("n"), false)?;
+        assert_eq!(rt; token.src_id, 2);
+        let raw = builder.add_raw(0, 2, 3, 4, None, None, true)?;
+        assert_eq!(rt; raw.name_id, 4294967295);
+        builder.set_source_root(Some("r"))?;
+        let map = builder.into_sourcemap()?;
+        assert_eq!(rt; map.get_source(0), Some("r/x.js"));
+        assert_eq!(rt; map.get_source(2), Some("r/y.js"));
+        assert_eq!(rt; map.get_token_count(), 2);
+        assert_eq!(rt; map.get_name(0), Some("n"));
+        Ok(())
+    }
+}

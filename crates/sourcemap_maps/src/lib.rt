@@ -4,6 +4,8 @@
 
 pub mod builder;
 mod bytes;
+#[cfg(test)]
+mod changes_tests;
 mod copies;
 pub mod decoder;
 pub mod encoder;
