@@ -106,8 +106,8 @@ pub fn decode_data_url(alloc: Global, url: &str) -> Result<DecodedMap>
     ensures answer { IsAnswer map_value (UrlDecodes url.now) result }
     ensures well_formed { IfOk result (λ m. IsWellFormed (map_value m)) }
 {
-    let bytes = data_url_bytes(alloc, url)?;
-    decode_bytes(alloc, bytes.as_slice())
+    let held = data_url_bytes(alloc, url)?;
+    decode_bytes(alloc, held.as_slice())
 }
 
 // A JSON value, and bytes, have one answer.

@@ -4,6 +4,7 @@
 mod decoded;
 pub mod decoder;
 pub mod types;
+
 pub use decoder::{decode, decode_data_url, decode_slice};
 pub use sourcemap_core::errors::{Error, Result};
 pub use sourcemap_core::{errors, utils, vlq};

@@ -2,13 +2,13 @@
 #![tactic(auto)]
 
 mod copying;
+pub mod data_url;
 mod debug_id;
+pub mod decoder;
 mod fields;
 pub mod jsontypes;
 mod parts;
 mod reading;
-pub mod data_url;
-pub mod decoder;
 pub mod strip_header;
 #[cfg(test)]
 mod tests;
