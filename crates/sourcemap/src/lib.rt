@@ -3,6 +3,8 @@
 
 mod decoded;
 pub mod decoder;
+#[cfg(test)]
+mod tests;
 pub mod types;
 
 pub use decoder::{decode, decode_data_url, decode_slice};
