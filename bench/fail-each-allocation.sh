@@ -1,15 +1,19 @@
 #!/usr/bin/env bash
-# Runs a lookup with the first allocation refused, then with the second, and so on, and counts what
-# came out: the answer (the refused one was never asked for), `out of memory` with status 1, or
-# nothing with status 1 (refused before the run began). Anything else is a fault, and the status is 1.
+# Refuses the first allocation of a run, then of another run the second, and so on.
 #
 #   bench/fail-each-allocation.sh MAP LINE COLUMN ALLOCATIONS
+#   bench/fail-each-allocation.sh --test CRATE TEST ALLOCATIONS
 #
-# Needs a C compiler, for an allocator that is put before the C library's. The program must be built.
+# The first form runs a lookup. It has to give the answer (the refused allocation was never asked
+# for), `out of memory` with status 1, or nothing with status 1 (refused before the run began).
+# The second form runs one test of a crate, whose tests must be built. It has to pass, since what it
+# calls goes on as before or is called again, or to end with the error that memory ran out.
+# Anything else is a fault, and the status is then 1.
+#
+# Needs a C compiler, for an allocator that is put before the C library's.
 set -euo pipefail
-map=$1 line=$2 column=$3 most=$4
-here=$(cd "$(dirname "$0")/.." && pwd)
-program=$here/crates/sourcemap_tool/out/sourcemap_tool
+most=$4
+crates=$(cd "$(dirname "$0")/.." && pwd)/crates
 work=$(mktemp -d)
 trap 'rm -rf "$work"' EXIT
 cat > "$work/failing.c" <<'C'
@@ -37,14 +41,22 @@ int posix_memalign(void **p, size_t a, size_t n) { return refused() ? 12 : next_
 void *aligned_alloc(size_t a, size_t n) { return refused() ? NULL : next_aligned(a, n); }
 C
 cc -shared -fPIC -O1 -o "$work/failing.so" "$work/failing.c" -ldl
-answer=$("$program" lookup "$line" "$column" < "$map")
+
+if [ "$1" = --test ]; then
+    run() { "$crates/$crate/out/${crate}_tests" "$test" 2>&1; }
+    crate=$2 test=$3
+else
+    run() { "$crates/sourcemap_tool/out/sourcemap_tool" lookup "$line" "$column" < "$map" 2> /dev/null; }
+    map=$1 line=$2 column=$3
+fi
+answer=$(run)
 answered=0 refused=0 silent=0 faults=0
 for ((n = 1; n <= most; n++)); do
     status=0
-    text=$(FAIL_AT=$n LD_PRELOAD=$work/failing.so "$program" lookup "$line" "$column" < "$map" 2> /dev/null) || status=$?
+    text=$(export FAIL_AT=$n LD_PRELOAD=$work/failing.so; run) || status=$?
     case "$status $text" in
         "0 $answer") answered=$((answered + 1)) ;;
-        "1 out of memory") refused=$((refused + 1)) ;;
+        "1 out of memory" | "101 error: OutOfMemory"*) refused=$((refused + 1)) ;;
         "1 ") silent=$((silent + 1)) ;;
         *) faults=$((faults + 1)); echo "allocation $n: status $status, $text" ;;
     esac

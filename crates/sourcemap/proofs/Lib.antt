@@ -1,2 +1,4 @@
 pub mod DecoderLemmas
 pub mod DecodedLemmas
+pub mod WrittenLemmas
+pub mod RewriteLemmas

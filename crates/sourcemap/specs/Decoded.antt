@@ -1,7 +1,7 @@
 -- A decoded map as contracts see it.
-use Rattle.std.specs.Prelude.{Result, Ok}
-use Rattle.std.specs.Prelude.{◌≡◌}
+use Rattle.std.specs.Prelude.{◌≡◌, ℕ, List, Ok}
 use Rattle.serde_json.specs.Data.{Data}
+use Rattle.serde_json.specs.Written.{compact_text}
 use Rattle.sourcemap_json.specs.Jsontypes.{Tree, written}
 use Rattle.sourcemap_maps.specs.Types.{MapValue, MeansTheSame}
 use Rattle.sourcemap_maps.specs.Encoder.{IsRecordOf, KeepsParts}
@@ -16,6 +16,10 @@ map_value (Regular m) = m
 -- a value that a map is written as
 abbrev pub IsValueOf : MapValue → Data → Type 0
 IsValueOf m d = (t : Tree) × IsRecordOf m t × (d ≡ written t)
+
+-- the compact text of a value that a map is written as
+abbrev pub IsTextOf : MapValue → List ℕ → Type 0
+IsTextOf m text = (d : Data) × IsValueOf m d × (text ≡ compact_text d)
 
 -- a value stands for a map of the same meaning as this one, with all parts kept
 abbrev pub StandsFor : Data → MapValue → Type 0

@@ -2,5 +2,11 @@ pub mod Decoded
 pub mod Decoder
 pub use Rattle.sourcemap_core.specs.Answer
 pub use Rattle.sourcemap_core.specs.Errors
-pub use Rattle.sourcemap_maps.specs.Token
 pub use Rattle.sourcemap_maps.specs.Types
+pub use Rattle.sourcemap_maps.specs.Token
+pub use Rattle.sourcemap_maps.specs.Iterators
+pub use Rattle.sourcemap_maps.specs.Reading
+pub use Rattle.sourcemap_maps.specs.Encoder
+pub use Rattle.sourcemap_maps.specs.Bytes
+pub use Rattle.sourcemap_maps.specs.Equality
+pub use Rattle.sourcemap_maps.specs.Rewrite

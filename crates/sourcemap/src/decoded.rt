@@ -1,23 +1,30 @@
-ghost use Rattle.std.specs.Prelude.{◌≡◌, Result, IfOk, IfErr, MatchResult, option_map};
+ghost use Rattle.std.specs.Prelude.{◌≡◌, ℕ, List, Ok, Result, IfOk, IfErr, IfSome, OnOk, MatchResult, option_map};
+ghost use Rattle.std.specs.Bool.{Decides};
+ghost use Rattle.std.specs.Cmp.{partial_equiv_from_equiv, on_equiv};
+ghost use Rattle.std.specs.Ordering.{on};
 ghost use Rattle.serde_json.specs.View.{view};
-ghost use Rattle.sourcemap_core.specs.Answer.{Gives, IsAnswer};
+ghost use Rattle.sourcemap_core.specs.Answer.{UnlessMemory, Gives, IsAnswer};
 ghost use Rattle.sourcemap_core.specs.declared.errors.Error.{Error};
 ghost use Rattle.sourcemap_core.specs.declared.errors.Error.TheVariants.{OutOfMemory};
 ghost use Rattle.sourcemap_json.specs.Jsontypes.{tree};
+ghost use Rattle.sourcemap_maps.specs.Bytes.{IsEncoded, IsIo};
+ghost use Rattle.sourcemap_maps.specs.Encoder.{RecordAnswer, KeepsParts};
+ghost use Rattle.sourcemap_maps.specs.Equality.{same_map, same_map_equiv};
 ghost use Rattle.sourcemap_maps.specs.Token.{answers, lookup, token_value};
 ghost use Rattle.sourcemap_maps.specs.Types.{MapValue, IsWellFormed, MeansTheSame, meaning};
 ghost use Rattle.sourcemap.specs.Decoded.{map_value};
 
-use crate::decoder::decode_value;
+use crate::decoder::{decode, decode_data_url, decode_slice, decode_value};
 use crate::errors::Result;
 use serde_json::Value;
-use sourcemap_json::jsontypes::RawSourceMap;
-use sourcemap_maps::encoder::Encodable;
+use sourcemap_json::jsontypes::{DebugId, RawSourceMap};
+use sourcemap_maps::encoder::{Encodable, encode, encode_to};
 use sourcemap_maps::types::{SourceMap, Token};
 use std::alloc::Global;
+use std::io::{Read, Write};
 
 /// A map of any kind.
-#[derive(Drop)]
+#[derive(Debug, Drop)]
 pub enum DecodedMap {
     /// A regular map.
     Regular(SourceMap),
@@ -25,7 +32,7 @@ pub enum DecodedMap {
 
 impl DecodedMap {
     ghost use Rattle.sourcemap.specs.Decoded.{IsValueOf, StandsFor};
-    ghost use Rattle.sourcemap.specs.Decoder.{ValueDecodes};
+    ghost use Rattle.sourcemap.specs.Decoder.{ValueDecodes, BytesDecode, AreSame, IsAnswerRead, Reading};
 
     // The allocator that the map keeps.
     fn allocator(&self) -> Global {
@@ -69,6 +76,73 @@ impl DecodedMap {
     {
         decode_value(alloc, value)
     }
+
+    /// The map that a reader's bytes hold, as by `decode`.
+    pub fn from_reader<R: Read + Drop>(alloc: Global, reader: R) -> Result<Self>
+        ensures answer { Reading (R.remaining reader) (λ bytes. IsAnswerRead map_value (BytesDecode bytes) result) }
+        ensures only { IfSome (R.remaining reader) (λ bytes. (due : Result MapValue Error) → BytesDecode bytes due
+            → IsAnswerRead map_value (AreSame due) result) }
+        ensures well_formed { IfOk result (λ m. IsWellFormed (map_value m)) }
+    {
+        decode(alloc, reader)
+    }
+
+    /// Writes the map's compact JSON text. A write's fault is `Io`.
+    pub fn to_writer<W: Write + Drop>(&self, writer: W) -> Result<()>
+        ensures encoded { OnOk result ((text : List ℕ) × IsEncoded (RecordAnswer (map_value self.now)) text) }
+        ensures fault { IfErr result (λ e. UnlessMemory e (IsIo e)) }
+    {
+        encode(self.allocator(), self, writer)
+    }
+
+    /// The identifier that ties the map to its file.
+    pub fn debug_id(&self) -> Option<DebugId>
+        ensures { result ≡ (map_value self.now).debug_id }
+    {
+        match self {
+            DecodedMap::Regular(map) => map.get_debug_id(),
+        }
+    }
+
+    /// Sets the identifier that ties the map to its file.
+    pub fn set_debug_id(&mut self, debug_id: Option<DebugId>)
+        ensures { map_value self.new ≡ record (map_value self.old) { debug_id = debug_id } }
+    {
+        match self {
+            DecodedMap::Regular(map) => map.set_debug_id(debug_id),
+        }
+    }
+
+    /// A map equal to this one. Only want of memory refuses.
+    pub fn clone(&self) -> Result<Self>
+        ensures { Gives map_value result (Ok (map_value self.now)) }
+    {
+        match self {
+            DecodedMap::Regular(map) => Ok(DecodedMap::Regular(map.clone()?)),
+        }
+    }
+}
+
+fn same_maps(a: &DecodedMap, b: &DecodedMap) -> bool
+    ensures { result ≡ same_map (map_value a.now) (map_value b.now) }
+{
+    match (a, b) {
+        (DecodedMap::Regular(a), DecodedMap::Regular(b)) => a == b,
+    }
+}
+
+/// Maps are equal exactly if they are of one kind and hold the same.
+impl PartialEq for DecodedMap {
+    ghost eq = { on map_value same_map };
+
+    ghost laws = { partial_equiv_from_equiv (on_equiv map_value same_map_equiv) };
+
+    fn eq(&self, other: &Self) -> bool
+        ensures value { result ≡ same_map (map_value self.now) (map_value other.now) }
+        ensures same { Decides result (map_value self.now ≡ map_value other.now) }
+    {
+        same_maps(self, other)
+    }
 }
 
 impl Encodable for DecodedMap {
@@ -98,4 +172,27 @@ fn read_back(map: &DecodedMap) -> Result<DecodedMap>
 {
     let value = map.to_value()?;
     DecodedMap::from_value(map.allocator(), &value)
+}
+
+// What is written as bytes and read back means the same, with all parts kept: nothing but memory and
+// the writing of bytes refuses.
+fn read_back_bytes(map: &DecodedMap) -> Result<DecodedMap>
+    ensures { IsWellFormed (map_value map.now) → MatchResult result
+        (λ back. MeansTheSame (map_value back) (map_value map.now) × KeepsParts (map_value back) (map_value map.now))
+        (λ e. UnlessMemory e (IsIo e)) }
+{
+    let alloc = map.allocator();
+    let mut bytes = Vec::new(alloc);
+    encode_to(alloc, map, &mut bytes)?;
+    decode_slice(alloc, bytes.as_slice())
+}
+
+// And so does what is written as a data URL.
+fn read_back_url(map: &SourceMap) -> Result<DecodedMap>
+    ensures { IsWellFormed map.now → MatchResult result
+        (λ back. MeansTheSame (map_value back) map.now × KeepsParts (map_value back) map.now)
+        (λ e. e ≡ OutOfMemory) }
+{
+    let url = map.to_data_url()?;
+    decode_data_url(map.allocator(), url.as_str())
 }

@@ -1,62 +1,31 @@
-ghost use Rattle.std.specs.Prelude.{◌≡◌, ℕ, List, IfOk, IfSome, MatchResult, Result};
+ghost use Rattle.std.specs.Prelude.{◌≡◌, ℕ, List, IfOk, IfSome, Result};
 ghost use Rattle.serde_json.specs.Data.{Data};
 ghost use Rattle.serde_json.specs.View.{view};
-ghost use Rattle.sourcemap_core.specs.Answer.{IsAnswer, UnlessMemory};
+ghost use Rattle.sourcemap_core.specs.Answer.{IsAnswer};
 ghost use Rattle.sourcemap_core.specs.declared.errors.Error.{Error};
 ghost use Rattle.sourcemap_json.specs.Jsontypes.{tree};
 ghost use Rattle.sourcemap_maps.specs.Types.{MapValue, IsWellFormed};
 ghost use Rattle.sourcemap.specs.Decoded.{map_value};
-ghost use Rattle.sourcemap.specs.Decoder.{HoldJson, HoldNoJson, TreeDecodes, ValueDecodes, BytesDecode, UrlDecodes, AreSame, UnlessRead, IsAnswerRead, Reading};
+ghost use Rattle.sourcemap.specs.Decoder.{TreeDecodes, ValueDecodes, BytesDecode, UrlDecodes, AreSame, IsAnswerRead, Reading};
 
 use crate::decoded::DecodedMap;
-use crate::errors::{Error, Result};
+use crate::errors::Result;
 use serde_json::Value;
 use sourcemap_json::data_url::data_url_bytes;
 pub use sourcemap_json::decoder::strip_junk_header;
 use sourcemap_json::jsontypes::RawSourceMap;
 pub use sourcemap_json::strip_header::StripHeaderReader;
 pub use sourcemap_maps::decoder::decode_regular;
+use sourcemap_maps::reading::{only_regular, read_all, read_record};
 use std::alloc::Global;
 use std::io::Read;
-
-// All bytes that a reader gives.
-fn read_all<R: Read + Drop>(alloc: Global, mut reader: R) -> Result<Vec<u8>>
-    ensures { MatchResult result
-        (λ bytes. IfSome (R.remaining reader) (λ known. bytes.items ≡ known))
-        (λ e. UnlessRead e ⊥) }
-{
-    let mut bytes = Vec::new(alloc);
-    reader.read_to_end(&mut bytes)?;
-    Ok(bytes)
-}
-
-// The JSON value behind a junk header.
-fn read_json(alloc: Global, bytes: &[u8]) -> Result<Value>
-    ensures { MatchResult result
-        (λ value. HoldJson bytes.now (view value))
-        (λ e. UnlessMemory e (HoldNoJson bytes.now e)) }
-{
-    let text = strip_junk_header(bytes)?;
-    Ok(Value::from_slice(alloc, text)?)
-}
 
 // The map of a record.
 fn decode_record(alloc: Global, raw: RawSourceMap) -> Result<DecodedMap>
     ensures answer { IsAnswer map_value (TreeDecodes (tree raw)) result }
     ensures well_formed { IfOk result (λ m. IsWellFormed (map_value m)) }
 {
-    if raw.sections.is_some() || raw.x_facebook_sources.is_some() {
-        return Err(Error::IncompatibleSourceMap);
-    }
-    Ok(DecodedMap::Regular(decode_regular(alloc, raw)?))
-}
-
-// The map of a JSON value, with the value's own texts.
-fn decode_owned(alloc: Global, value: Value) -> Result<DecodedMap>
-    ensures answer { IsAnswer map_value (ValueDecodes (view value)) result }
-    ensures well_formed { IfOk result (λ m. IsWellFormed (map_value m)) }
-{
-    decode_record(alloc, RawSourceMap::from_owned(alloc, value)?)
+    Ok(DecodedMap::Regular(only_regular(alloc, raw)?))
 }
 
 // The map of a JSON value.
@@ -64,7 +33,8 @@ pub(crate) fn decode_value(alloc: Global, value: &Value) -> Result<DecodedMap>
     ensures answer { IsAnswer map_value (ValueDecodes (view value.now)) result }
     ensures well_formed { IfOk result (λ m. IsWellFormed (map_value m)) }
 {
-    decode_record(alloc, RawSourceMap::from_value(alloc, value)?)
+    let raw = RawSourceMap::from_value(alloc, value)?;
+    decode_record(alloc, raw)
 }
 
 // The map of bytes.
@@ -72,7 +42,8 @@ fn decode_bytes(alloc: Global, bytes: &[u8]) -> Result<DecodedMap>
     ensures answer { IsAnswer map_value (BytesDecode bytes.now) result }
     ensures well_formed { IfOk result (λ m. IsWellFormed (map_value m)) }
 {
-    decode_owned(alloc, read_json(alloc, bytes)?)
+    let raw = read_record(alloc, bytes)?;
+    decode_record(alloc, raw)
 }
 
 /// The map that bytes hold, behind a junk header or behind none. A faulty header is `Io` of kind
@@ -100,14 +71,24 @@ pub fn decode<R: Read + Drop>(alloc: Global, reader: R) -> Result<DecodedMap>
     decode_bytes(alloc, bytes.as_slice())
 }
 
-/// The map that a data URL holds: `InvalidDataUrl` if the text is none, else as by `decode_slice`
-/// of the bytes in it.
-pub fn decode_data_url(alloc: Global, url: &str) -> Result<DecodedMap>
+// The map of a data URL.
+fn decode_url(alloc: Global, url: &str) -> Result<DecodedMap>
     ensures answer { IsAnswer map_value (UrlDecodes url.now) result }
     ensures well_formed { IfOk result (λ m. IsWellFormed (map_value m)) }
 {
     let held = data_url_bytes(alloc, url)?;
     decode_bytes(alloc, held.as_slice())
+}
+
+/// The map that a data URL holds: `InvalidDataUrl` if the text is none, else as by `decode_slice`
+/// of the bytes in it.
+pub fn decode_data_url(alloc: Global, url: &str) -> Result<DecodedMap>
+    ensures answer { IsAnswer map_value (UrlDecodes url.now) result }
+    // No other answer is right.
+    ensures only { (due : Result MapValue Error) → UrlDecodes url.now due → IsAnswer map_value (AreSame due) result }
+    ensures well_formed { IfOk result (λ m. IsWellFormed (map_value m)) }
+{
+    decode_url(alloc, url)
 }
 
 // A JSON value, and bytes, have one answer.

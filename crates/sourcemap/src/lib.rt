@@ -4,6 +4,10 @@
 mod decoded;
 pub mod decoder;
 #[cfg(test)]
+mod error_tests;
+#[cfg(test)]
+mod map_tests;
+#[cfg(test)]
 mod tests;
 pub mod types;
 
@@ -14,5 +18,6 @@ pub use sourcemap_json::jsontypes;
 pub use sourcemap_maps::builder::SourceMapBuilder;
 pub use sourcemap_maps::{builder, encoder};
 pub use types::{
-    DecodedMap, NameIter, RawToken, SourceContentsIter, SourceIter, SourceMap, Token, TokenIter,
+    DecodedMap, NameIter, RawToken, RewriteOptions, SourceContentsIter, SourceIter, SourceMap,
+    Token, TokenIter,
 };

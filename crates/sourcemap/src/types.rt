@@ -1,5 +1,5 @@
 pub use crate::decoded::DecodedMap;
 pub use sourcemap_core::tokens::RawToken;
 pub use sourcemap_maps::types::{
-    NameIter, SourceContentsIter, SourceIter, SourceMap, Token, TokenIter,
+    NameIter, RewriteOptions, SourceContentsIter, SourceIter, SourceMap, Token, TokenIter,
 };

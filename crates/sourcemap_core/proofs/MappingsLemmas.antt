@@ -1,5 +1,5 @@
 -- What the steps of the reader of mappings come to.
-use Rattle.std.proofs.Common.{◌≡◌, ◌≢◌, ℕ, zero, suc, slice_index, ◌+◌, ◌^◌, ◌<◌, ◌==◌, true, false, List, [], ◌∷◌, ◌++◌, length, get_or, All, Some, None, sym, ap, ◌∙◌, refl, subst, inl, inr, append_assoc, append-nil, length-append, ℤ, arith, eqb-true}
+use Rattle.std.proofs.Common.{◌≡◌, ◌≢◌, ℕ, zero, suc, slice_index, ◌+◌, ◌^◌, ◌<◌, ◌==◌, true, false, List, [], ◌∷◌, ◌++◌, length, get_or, All, Option, Some, None, sym, ap, ◌∙◌, refl, subst, inl, inr, append_assoc, append-nil, length-append, ℤ, arith, eqb-true}
 use Rattle.sourcemap_core.specs.Answer.{UnlessMemory}
 use Rattle.sourcemap_core.proofs.AnswerLemmas.{UnlessMemory-weaker}
 use Rattle.std.specs.List.{slice_split, onto_first, AllByRecursion}
@@ -15,8 +15,10 @@ use Rattle.sourcemap_core.specs.declared.mappings.Spot.{Spot}
 use Rattle.sourcemap_core.specs.declared.errors.Error.{Error}
 use Rattle.sourcemap_core.specs.declared.errors.Error.TheVariants.{InvalidBase64, VlqLeftover, VlqOverflow}
 use Rattle.sourcemap_core.specs.Bits.{first_foreign}
-use Rattle.sourcemap_core.specs.Mappings.{Counts, Segment, Line, LineText, line_tokens, page_tokens, token_of, segment_fault, PartsRead, PartsFault, LineFault, LinesRead, LinesFault}
-use Rattle.sourcemap_core.specs.MappingsParts.{lines_of, AreSteps, AreTextSums, AreSums, AddsParts, AddsLine, HasFirstPart, HasPartFault, fault_in_part}
+use Rattle.std.specs.Int.{int_rem_euclid}
+use Rattle.std.specs.Prelude.{unsigned_abs, pos}
+use Rattle.sourcemap_core.specs.Mappings.{step, Counts, Segment, Line, LineText, line_tokens, page_tokens, token_of, segment_fault, PartsRead, PartsFault, LineFault, LinesRead, LinesFault}
+use Rattle.sourcemap_core.specs.MappingsParts.{lines_of, AreSteps, AreTextSums, AreSums, AddsParts, AddsLine, HasFirstPart, HasPartFault, fault_in_part, EndsPart, BeginsWithStep}
 use Rattle.sourcemap_core.specs.Vlq.{digit_value, GoesOn, IsChain, IsUnfinished, GoesTo, NumberFault, BeginsWith, Reads, HasFault, IsSound}
 use Rattle.sourcemap_core.proofs.VlqLemmas.{HasFault-later, IsGroup-nonempty, IsSound-more}
 
@@ -187,6 +189,16 @@ read_more line rest behind n read sound lacks begins steps =
       steps,
     )
 
+-- one more number, whatever its step
+sound_more : (line rest behind : List ℕ) (n : ℤ) (sound : IsSound line rest) → Lacks sound.front → BeginsWith rest n behind
+    → (t : IsSound line behind) × Lacks t.front × (t.numbers ≡ sound.numbers ++ n ∷ [])
+sound_more line rest behind n sound lacks begins =
+    let more = IsSound-more line rest behind sound.front sound.numbers n sound.reads sound.split begins in (
+      record { front = sound.front ++ begins.group; numbers = sound.numbers ++ n ∷ []; reads = more.0; split = more.1 },
+      Lacks-append sound.front begins.group lacks (Lacks-chain begins.group begins.is_group.chain),
+      refl,
+    )
+
 -- the end of the line
 pub HasFirstPart-last : (line rest : List ℕ) (read : Numbers) (sound : IsSound line rest) → Lacks sound.front → AreSteps sound.numbers read → rest ≡ [] → HasFirstPart line read None
 HasFirstPart-last line rest read sound lacks steps none =
@@ -218,6 +230,80 @@ HasFirstPart-comma line rest c behind read sound lacks steps first is =
       reads = sound.reads;
       steps = steps;
     }
+
+-- A part of one, four or five numbers.
+
+ended : (line rest : List ℕ) (behind : Option (Bor (List ℕ))) (read : Numbers) (numbers : List ℤ) (sound : IsSound line rest) → Lacks sound.front
+    → sound.numbers ≡ numbers → AreSteps numbers read → EndsPart rest behind → HasFirstPart line read behind
+ended line rest None read numbers sound lacks are steps ends =
+    HasFirstPart-last line rest read sound lacks (subst (λ (ns : List ℤ). AreSteps ns read) (sym are) steps) ends
+ended line rest (Some behind) read numbers sound lacks are steps ends =
+    HasFirstPart-comma line rest 44 behind read sound lacks (subst (λ (ns : List ℤ). AreSteps ns read) (sym are) steps) ends refl
+
+abbrev IsStep : ℤ → ℕ → Type 0
+IsStep n s = s ≡ unsigned_abs (int_rem_euclid n (pos (2 ^ 32)))
+
+each_of_one : (a : ℤ) (v : ℕ) → IsStep a v → (k : ℕ)
+    → slice_index (v ∷ 0 ∷ 0 ∷ 0 ∷ 0 ∷ []) k ≡ step k (record { place = 0; numbers = a ∷ [] })
+each_of_one a v p zero = p
+each_of_one a v p (suc zero) = refl
+each_of_one a v p (suc (suc zero)) = refl
+each_of_one a v p (suc (suc (suc zero))) = refl
+each_of_one a v p (suc (suc (suc (suc zero)))) = refl
+each_of_one a v p (suc (suc (suc (suc (suc k))))) = refl
+
+each_of_four : (a b c d : ℤ) (v w x y : ℕ) → IsStep a v → IsStep b w → IsStep c x → IsStep d y → (k : ℕ)
+    → slice_index (v ∷ w ∷ x ∷ y ∷ 0 ∷ []) k ≡ step k (record { place = 0; numbers = a ∷ b ∷ c ∷ d ∷ [] })
+each_of_four a b c d v w x y p q r s zero = p
+each_of_four a b c d v w x y p q r s (suc zero) = q
+each_of_four a b c d v w x y p q r s (suc (suc zero)) = r
+each_of_four a b c d v w x y p q r s (suc (suc (suc zero))) = s
+each_of_four a b c d v w x y p q r s (suc (suc (suc (suc zero)))) = refl
+each_of_four a b c d v w x y p q r s (suc (suc (suc (suc (suc k))))) = refl
+
+each_of_five : (a b c d e : ℤ) (v w x y z : ℕ) → IsStep a v → IsStep b w → IsStep c x → IsStep d y → IsStep e z → (k : ℕ)
+    → slice_index (v ∷ w ∷ x ∷ y ∷ z ∷ []) k ≡ step k (record { place = 0; numbers = a ∷ b ∷ c ∷ d ∷ e ∷ [] })
+each_of_five a b c d e v w x y z p q r s t zero = p
+each_of_five a b c d e v w x y z p q r s t (suc zero) = q
+each_of_five a b c d e v w x y z p q r s t (suc (suc zero)) = r
+each_of_five a b c d e v w x y z p q r s t (suc (suc (suc zero))) = s
+each_of_five a b c d e v w x y z p q r s t (suc (suc (suc (suc zero)))) = t
+each_of_five a b c d e v w x y z p q r s t (suc (suc (suc (suc (suc k))))) = refl
+
+pub part_of_one : (line r₁ : List ℕ) (v : ℕ) (behind : Option (Bor (List ℕ))) → BeginsWithStep line v r₁ → EndsPart r₁ behind
+    → HasFirstPart line (record { count = 1; steps = v ∷ 0 ∷ 0 ∷ 0 ∷ 0 ∷ [] }) behind
+unfolding sound_more read_none
+part_of_one line r₁ v behind (a, in_line, p) ends =
+    let s₀ = read_none line in
+    let s₁ = sound_more line line r₁ a s₀.0 s₀.1 in_line in
+    ended line r₁ behind _ (a ∷ []) s₁.0 s₁.1 s₁.2 (record { count = refl; five = refl; each = λ k _. each_of_one a v p k }) ends
+
+pub part_of_four : (line r₁ r₂ r₃ r₄ : List ℕ) (v w x y : ℕ) (behind : Option (Bor (List ℕ)))
+    → BeginsWithStep line v r₁ → BeginsWithStep r₁ w r₂ → BeginsWithStep r₂ x r₃ → BeginsWithStep r₃ y r₄ → EndsPart r₄ behind
+    → HasFirstPart line (record { count = 4; steps = v ∷ w ∷ x ∷ y ∷ 0 ∷ [] }) behind
+unfolding sound_more read_none
+part_of_four line r₁ r₂ r₃ r₄ v w x y behind (a, in_line, p) (b, in_1, q) (c, in_2, r) (d, in_3, s) ends =
+    let s₀ = read_none line in
+    let s₁ = sound_more line line r₁ a s₀.0 s₀.1 in_line in
+    let s₂ = sound_more line r₁ r₂ b s₁.0 s₁.1 in_1 in
+    let s₃ = sound_more line r₂ r₃ c s₂.0 s₂.1 in_2 in
+    let s₄ = sound_more line r₃ r₄ d s₃.0 s₃.1 in_3 in
+    ended line r₄ behind _ (a ∷ b ∷ c ∷ d ∷ []) s₄.0 s₄.1 s₄.2
+    (record { count = refl; five = refl; each = λ k _. each_of_four a b c d v w x y p q r s k }) ends
+
+pub part_of_five : (line r₁ r₂ r₃ r₄ r₅ : List ℕ) (v w x y z : ℕ) (behind : Option (Bor (List ℕ)))
+    → BeginsWithStep line v r₁ → BeginsWithStep r₁ w r₂ → BeginsWithStep r₂ x r₃ → BeginsWithStep r₃ y r₄ → BeginsWithStep r₄ z r₅ → EndsPart r₅ behind
+    → HasFirstPart line (record { count = 5; steps = v ∷ w ∷ x ∷ y ∷ z ∷ [] }) behind
+unfolding sound_more read_none
+part_of_five line r₁ r₂ r₃ r₄ r₅ v w x y z behind (a, in_line, p) (b, in_1, q) (c, in_2, r) (d, in_3, s) (e, in_4, t) ends =
+    let s₀ = read_none line in
+    let s₁ = sound_more line line r₁ a s₀.0 s₀.1 in_line in
+    let s₂ = sound_more line r₁ r₂ b s₁.0 s₁.1 in_1 in
+    let s₃ = sound_more line r₂ r₃ c s₂.0 s₂.1 in_2 in
+    let s₄ = sound_more line r₃ r₄ d s₃.0 s₃.1 in_3 in
+    let s₅ = sound_more line r₄ r₅ e s₄.0 s₄.1 in_4 in
+    ended line r₅ behind _ (a ∷ b ∷ c ∷ d ∷ e ∷ []) s₅.0 s₅.1 s₅.2
+    (record { count = refl; five = refl; each = λ k _. each_of_five a b c d e v w x y z p q r s t k }) ends
 
 -- Parts of a line.
 

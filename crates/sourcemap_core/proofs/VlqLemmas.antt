@@ -682,3 +682,16 @@ BeginsWith-first text v h e last =
     let raw : v ≡ raw_of (take 1 text) = omega (arith, sum.0) in
     let begins : BeginsWith text (number_of (raw_of (take 1 text))) (drop 1 text) = BeginsWith-last text 0 v h IsUnfinished-nil e last refl in
     rw raw begins
+
+-- a number of two digits
+pub BeginsWith-second : (text : List ℕ) (v w : ℕ) → 1 < length text → digit_value (get_or text 0 0) ≡ Some v → 32 ≤ v
+    → digit_value (get_or text 1 0) ≡ Some w → w < 32 → BeginsWith text (number_of (v % 32 + 32 * w)) (drop 2 text)
+BeginsWith-second text v w h e goes f last =
+    let some : 0 < length text = omega arith in
+    let first = sum_of-more text 0 v 0 (v % 32) some IsUnfinished-nil e refl refl refl in
+    let unfinished : IsUnfinished (take 1 text) = IsUnfinished-more text 0 v some IsUnfinished-nil e goes refl in
+    let low : v % 32 ≡ raw_of (take 1 text) = omega (arith, first.0) in
+    let second = sum_of-more text 1 w (v % 32) (w % 32) h unfinished f refl low refl in
+    let raw : v % 32 + 32 * w ≡ raw_of (take 2 text) = omega (arith, second.0) in
+    let begins : BeginsWith text (number_of (raw_of (take 2 text))) (drop 2 text) = BeginsWith-last text 1 w h unfinished f last refl in
+    rw raw begins

@@ -1,14 +1,15 @@
 -- What the steps of the reader of mappings add: a number to a segment, a part to a line, a line to a page.
-use Rattle.std.specs.Prelude.{◌≡◌, ◌≢◌, ℕ, ◌<◌, ℤ, if◌then◌else◌, IfSome, IsTrue, false, List, [], ◌∷◌, ◌++◌, length, slice_index, min, Option, ◌==◌}
+use Rattle.std.specs.Prelude.{◌≡◌, ◌≢◌, ℕ, ◌<◌, ℤ, if◌then◌else◌, IfSome, IsTrue, false, List, [], ◌∷◌, ◌++◌, length, slice_index, min, Option, Some, None, ◌==◌, ◌^◌, unsigned_abs, pos}
 use Rattle.std.specs.Option.{option_map_or}
 use Rattle.std.specs.List.{slice_split, AllByRecursion}
+use Rattle.std.specs.Int.{int_rem_euclid}
 use Rattle.std.specs.Ordering.{is_lt}
 use Rattle.sourcemap_core.specs.Tokens.{AreInOrder, position_cmp, destination}
 use denote.Ref.{Bor}
 use Rattle.sourcemap_core.specs.declared.errors.Error.{Error}
 use Rattle.sourcemap_core.specs.declared.errors.Error.TheVariants.{VlqLeftover, InvalidBase64}
 use Rattle.sourcemap_core.specs.declared.tokens.RawToken.{RawToken}
-use Rattle.sourcemap_core.specs.Vlq.{Reads, HasFault}
+use Rattle.sourcemap_core.specs.Vlq.{Reads, HasFault, BeginsWith}
 use Rattle.sourcemap_core.specs.declared.mappings.Sums.{Sums}
 use Rattle.sourcemap_core.specs.declared.mappings.Numbers.{Numbers}
 use Rattle.sourcemap_core.specs.declared.mappings.Limits.{Limits}
@@ -29,6 +30,15 @@ pub record HasFirstPart (line : List ℕ) (read : Numbers) (behind : Option (Bor
   pub shorter : IfSome behind (λ rest. length rest.now < length line)
   pub reads : Reads part numbers
   pub steps : AreSteps numbers read
+
+-- a part ends here: the line does, or a `,` and the line behind it come next
+abbrev pub EndsPart : List ℕ → Option (Bor (List ℕ)) → Type 0
+EndsPart rest None = rest ≡ []
+EndsPart rest (Some behind) = rest ≡ 44 ∷ behind.now
+
+-- a text begins with a number that is this step modulo 2^32, and this is what comes behind it
+abbrev pub BeginsWithStep : List ℕ → ℕ → List ℕ → Type 0
+BeginsWithStep text s rest = (n : ℤ) × BeginsWith text n rest × (s ≡ unsigned_abs (int_rem_euclid n (pos (2 ^ 32))))
 
 -- the digits of a line's first part have this fault
 pub record HasPartFault (line : List ℕ) (e : Error) : Type 0 where

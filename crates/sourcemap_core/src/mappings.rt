@@ -1,5 +1,5 @@
 //! The text of mappings, read: lines between `;`, the parts of a line between `,`.
-ghost use Rattle.std.specs.Prelude.{◌≡◌, ℕ, ◌+◌, ◌<◌, ◌≤◌, ◌==◌, ℤ, List, [], ◌∷◌, ◌++◌, length, nat_lt, min, Result, ◌||◌, if◌then◌else◌, IsTrue, MatchResult, IfOk, IfErr, unsigned_abs, pos, ◌^◌};
+ghost use Rattle.std.specs.Prelude.{◌≡◌, ℕ, ◌+◌, ◌<◌, ◌≤◌, ◌==◌, ℤ, List, [], ◌∷◌, ◌++◌, length, nat_lt, min, Result, ◌||◌, if◌then◌else◌, IsTrue, MatchResult, IfOk, IfErr, IfSome, unsigned_abs, pos, ◌^◌};
 ghost use Rattle.std.specs.Option.{option_map_or};
 ghost use Rattle.std.specs.List.{slice_split};
 ghost use Rattle.std.specs.Int.{int_rem_euclid};
@@ -7,7 +7,7 @@ ghost use Rattle.sourcemap_core.specs.Answer.{IsAnswer, Gives, UnlessMemory};
 ghost use Rattle.sourcemap_core.specs.declared.errors.Error.{Error};
 ghost use Rattle.sourcemap_core.specs.declared.tokens.RawToken.{RawToken};
 ghost use Rattle.sourcemap_core.specs.Mappings.{Counts, MappingsAnswer, Segment, PartsFault, LineFault, LinesRead, LinesFault, beside, line_texts, page_tokens, Line, segment_fault, token_of};
-ghost use Rattle.sourcemap_core.specs.MappingsParts.{AreSteps, AreTextSums, AreSums, AreInOrderTo, AddsParts, AddsLine, counts_of, lines_of, lines_left, fault_in_part, HasFirstPart, HasPartFault};
+ghost use Rattle.sourcemap_core.specs.MappingsParts.{AreSteps, AreTextSums, AreSums, AreInOrderTo, AddsParts, AddsLine, counts_of, lines_of, lines_left, fault_in_part, HasFirstPart, HasPartFault, EndsPart, BeginsWithStep};
 ghost use Rattle.sourcemap_core.specs.Tokens.{AreInOrder, AllWithin, destination, in_order};
 ghost use Rattle.sourcemap_core.specs.Vlq.{Reads};
 
@@ -95,10 +95,70 @@ fn in_part(fault: Error) -> Error
     }
 }
 
+// Whether a part ends here: some, with the line behind its `,` if there is one.
+#[inline(always)]
+fn part_end(rest: &[u8]) -> Option<Option<&[u8]>>
+    ensures { IfSome result (EndsPart rest.now) }
+{
+    match rest {
+        [] => Some(None),
+        [b',', behind @ ..] => Some(Some(behind)),
+        _ => None,
+    }
+}
+
+// The number at the front of a line as a step, if there is one, and the line behind it.
+#[inline(always)]
+fn next_step(rest: &[u8]) -> Option<(u32, &[u8])>
+    ensures { IfSome result (λ read. BeginsWithStep rest.now read.0 read.1.now) }
+{
+    match next_number(rest) {
+        Ok((number, behind)) => Some((step_of(number), behind)),
+        Err(_) => None,
+    }
+}
+
+// The numbers of a line's first part, if there are one, four or five without a fault, and the line
+// behind it. Each number has its own place in the code, where it is mostly of one length.
+#[inline(always)]
+fn usual_part(line: &[u8]) -> Option<(Numbers, Option<&[u8]>)>
+    ensures { IfSome result (λ read. HasFirstPart line.now read.0 read.1) }
+{
+    let (column, rest) = next_step(line)?;
+    if let Some(behind) = part_end(rest) {
+        let steps = [column, 0, 0, 0, 0];
+        return Some((Numbers { count: 1, steps }, behind));
+    }
+    let (source, rest) = next_step(rest)?;
+    let (row, rest) = next_step(rest)?;
+    let (source_column, rest) = next_step(rest)?;
+    if let Some(behind) = part_end(rest) {
+        let steps = [column, source, row, source_column, 0];
+        return Some((Numbers { count: 4, steps }, behind));
+    }
+    let (name, rest) = next_step(rest)?;
+    let behind = part_end(rest)?;
+    let steps = [column, source, row, source_column, name];
+    Some((Numbers { count: 5, steps }, behind))
+}
+
 // The numbers of a line's first part, and the line behind it if there is more; else the first
 // fault of that part's digits. An empty part has no numbers.
-#[inline]
+#[inline(always)]
 fn read_numbers(line: &[u8]) -> Result<(Numbers, Option<&[u8]>)>
+    ensures read { IfOk result (λ read. HasFirstPart line.now read.0 read.1) }
+    ensures fault { IfErr result (λ e. HasPartFault line.now e) }
+{
+    match usual_part(line) {
+        Some(read) => Ok(read),
+        None => any_part(line),
+    }
+}
+
+// The same for a part of any form.
+#[cold]
+#[inline(never)]
+fn any_part(line: &[u8]) -> Result<(Numbers, Option<&[u8]>)>
     ensures read { IfOk result (λ read. HasFirstPart line.now read.0 read.1) }
     ensures fault { IfErr result (λ e. HasPartFault line.now e) }
 {

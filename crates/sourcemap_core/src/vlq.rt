@@ -1,5 +1,5 @@
 //! Numbers written as digits of base 64: the segments of a map's text.
-ghost use Rattle.std.specs.Prelude.{◌≡◌, ◌≢◌, [], ℕ, ◌^◌, ◌<◌, ◌==◌, ◌&&◌, ◌||◌, nat_lt, ℤ, List, ◌++◌, Result, IfOk, IfErr, OnOk, string_bytes};
+ghost use Rattle.std.specs.Prelude.{◌≡◌, ◌≢◌, [], ℕ, ◌^◌, ◌<◌, ◌==◌, ◌&&◌, ◌||◌, nat_lt, ℤ, List, ◌++◌, Result, IfOk, IfErr, IfSome, OnOk, string_bytes};
 ghost use Rattle.sourcemap_core.specs.declared.errors.Error.{Error};
 ghost use Rattle.sourcemap_core.specs.declared.errors.Error.TheVariants.{VlqOverflow};
 ghost use Rattle.sourcemap_core.specs.Answer.{UnlessMemory, IsAnswer, Gives};
@@ -50,7 +50,7 @@ pub(crate) fn glyph_of(value: u8) -> u8
 }
 
 // The number at the front of a text, and the text behind it; else the first fault of that number.
-// Most numbers have one digit.
+// Most numbers have one digit, or two.
 #[inline(always)]
 pub(crate) fn next_number(text: &[u8]) -> Result<(i64, &[u8])>
     ensures number { IfOk result (λ read. BeginsWith text.now read.0 read.1.now) }
@@ -63,7 +63,27 @@ pub(crate) fn next_number(text: &[u8]) -> Result<(i64, &[u8])>
             }
         }
     }
-    long_number(text)
+    match two_digits(text) {
+        Some(read) => Ok(read),
+        None => long_number(text),
+    }
+}
+
+// The number of two digits at the front of a text, if there is one, and the text behind it.
+#[inline(always)]
+fn two_digits(text: &[u8]) -> Option<(i64, &[u8])>
+    ensures { IfSome result (λ read. BeginsWith text.now read.0 read.1.now) }
+{
+    let [first, second, behind @ ..] = text else {
+        return None;
+    };
+    let low = digit_of(*first)?;
+    let high = digit_of(*second)?;
+    if low < 32 || high >= 32 {
+        return None;
+    }
+    let raw = u64::from(low % 32) + 32 * u64::from(high);
+    Some((number_from(raw), behind))
 }
 
 // The same for a number of any length.

@@ -1,5 +1,6 @@
 -- Texts with others in place of some.
-use Rattle.std.proofs.Common.{◌≡◌, ℕ, zero, suc, ◌<◌, ◌≤◌, List, [], ◌∷◌, ◌++◌, length, take, replicate, Option, Some, None, unwrap_or, slice_get, slice_set, refl, ap, arith, option_and_then, is_some, cond, true, false, Result, Ok, Err, OnOk, string_bytes, option_map, String, length-append, sym, ◌∙◌}
+use Rattle.std.proofs.Common.{◌≡◌, ℕ, zero, suc, ◌+◌, ◌<◌, ◌≤◌, List, [], ◌∷◌, ◌++◌, length, take, replicate, map, Option, Some, None, unwrap_or, slice_get, slice_set, refl, ap, arith, option_and_then, is_some, cond, true, false, Result, Ok, Err, OnOk, add-one, sym, ◌∙◌}
+use Rattle.std.proofs.lemmas.List.{length-map, take_all}
 use Rattle.std.specs.Option.{option_or}
 use Rattle.sourcemap_core.specs.declared.errors.Error.{Error}
 use Rattle.sourcemap_core.specs.Interner.{place_of, with_text}
@@ -103,3 +104,46 @@ here-too cs ts i count h e = omega (arith, length-changed_to cs ts)
 pub nothing-changed : (cs : List (Option (List ℕ))) (ts : List (List ℕ)) → length cs ≡ 0 → changed_to cs ts ≡ ts
 nothing-changed [] ts e = changed_to-nothing ts
 nothing-changed (c ∷ cs) ts e = absurd (omega arith)
+
+-- what is shown of a text
+shown-at : (cs : List (Option (List ℕ))) (ts : List (List ℕ)) (i : ℕ) (t : List ℕ) → slice_get ts i ≡ Some t
+    → slice_get (changed_to cs ts) i ≡ Some (unwrap_or (option_and_then (λ text. text) (slice_get cs i)) t)
+shown-at cs [] i t e = cc
+shown-at [] (u ∷ us) zero t e = e
+shown-at [] (u ∷ us) (suc i) t e = e
+shown-at (c ∷ cs) (u ∷ us) zero t e = let same : u ≡ t = cc in rw same refl
+shown-at (c ∷ cs) (u ∷ us) (suc i) t e = shown-at cs us i t e
+
+module _ (f : List ℕ → List ℕ) where
+  further : (news : List (Option (List ℕ))) (ts shown : List (List ℕ)) (i : ℕ) (new : Option (List ℕ)) (t s : List ℕ)
+      → length news ≡ i → slice_get ts i ≡ Some t → slice_get shown i ≡ Some s → unwrap_or new t ≡ f s
+      → changed_to news (take i ts) ≡ take i (map f shown) → changed_to (news ++ new ∷ []) (take (suc i) ts) ≡ take (suc i) (map f shown)
+  further news [] shown i new t s many at here is h = cc
+  further news (u ∷ us) [] i new t s many at here is h = cc
+  further [] (u ∷ us) (v ∷ vs) zero new t s many at here is h =
+      let a : u ≡ t = cc in
+      let b : v ≡ s = cc in
+      rw (a, b) (ap (λ x. x ∷ []) is)
+  further [] (u ∷ us) (v ∷ vs) (suc i) new t s many at here is h = absurd (omega arith)
+  further (c ∷ cs) (u ∷ us) (v ∷ vs) zero new t s many at here is h = absurd (omega arith)
+  further (c ∷ cs) (u ∷ us) (v ∷ vs) (suc i) new t s many at here is h =
+      let first : unwrap_or c u ≡ f v = cc in
+      let rest : changed_to cs (take i us) ≡ take i (map f vs) = cc in
+      let more = further cs us vs i new t s (omega arith) at here is rest in
+      cc
+
+  -- what is shown once it is changed by a function, one text further
+  pub changed_to-further : (news olds : List (Option (List ℕ))) (ts : List (List ℕ)) (i : ℕ) (new : Option (List ℕ)) (t : List ℕ)
+      → length news ≡ i → slice_get ts i ≡ Some t
+      → unwrap_or new t ≡ f (unwrap_or (option_and_then (λ text. text) (slice_get olds i)) t)
+      → changed_to news (take i ts) ≡ take i (map f (changed_to olds ts))
+      → changed_to (news ++ new ∷ []) (take (i + 1) ts) ≡ take (i + 1) (map f (changed_to olds ts))
+  changed_to-further news olds ts i new t many at is h =
+      rw add-one (further news ts (changed_to olds ts) i new t _ many at (shown-at olds ts i t at) is h)
+
+  -- .. and all texts further
+  pub changed_to-through : (news olds : List (Option (List ℕ))) (ts : List (List ℕ)) (i : ℕ) → length ts ≤ i
+      → changed_to news (take i ts) ≡ take i (map f (changed_to olds ts)) → map f (changed_to olds ts) ≡ changed_to news ts
+  changed_to-through news olds ts i past h =
+      let many : length (map f (changed_to olds ts)) ≤ i = rw (length-map, length-changed_to olds ts) past in
+      rw (take_all i ts past, take_all i (map f (changed_to olds ts)) many) at (sym h)

@@ -3,6 +3,15 @@ pub mod ListLemmas
 pub mod MapLemmas
 pub mod SettersLemmas
 pub mod DecoderLemmas
+pub mod ReadingLemmas
 pub mod EncoderLemmas
 pub mod EqualityLemmas
+pub mod BytesLemmas
 pub mod BuilderLemmas
+pub mod NumberingLemmas
+pub mod RenumberingLemmas
+pub mod PrefixesLemmas
+pub mod KeptContentsLemmas
+pub mod RewriteLemmas
+pub mod RewriteMeaning
+pub mod RewriteTwice

@@ -5,8 +5,8 @@ use Rattle.serde_json.specs.Data.{string}
 use Rattle.sourcemap_core.specs.declared.errors.Error.{Error}
 use Rattle.sourcemap_core.specs.Tokens.{reduced}
 use Rattle.sourcemap_core.specs.MappingsWritten.{IsWritten, IsRangeText}
-use Rattle.sourcemap_json.specs.Jsontypes.{Fields, Tree, plain}
-use Rattle.sourcemap_maps.specs.Types.{MapValue, MeansTheSame, contents_of, fitted}
+use Rattle.sourcemap_json.specs.Jsontypes.{Fields, Tree, plain, flat, IsFine}
+use Rattle.sourcemap_maps.specs.Types.{MapValue, IsWellFormed, MeansTheSame, contents_of, fitted}
 use Rattle.sourcemap_maps.specs.Decoder.{RecordDecodes}
 
 -- contents are written only if there are some, and then one item a source
@@ -44,11 +44,6 @@ IsRecordOf m t =
     × IsWritten (length m.names) m.tokens mappings × IsRangeText m.tokens ranges
     × (t ≡ plain (record_with m mappings ranges))
 
--- what a call that writes a map answers: nothing but memory refuses
-abbrev pub RecordAnswer : MapValue → Result Tree Error → Type 0
-RecordAnswer m (Ok t) = IsRecordOf m t
-RecordAnswer m (Err _) = ⊥
-
 -- what is kept of a map that is written and read back
 pub record KeepsParts (back m : MapValue) : Type 0 where
   pub tokens : back.tokens ≡ reduced (length m.names) m.tokens
@@ -63,3 +58,8 @@ pub record KeepsParts (back m : MapValue) : Type 0 where
 -- a record reads back as a map of the same meaning, with all parts kept
 abbrev pub ReadsBack : MapValue → Fields → Type 0
 ReadsBack m r = (back : MapValue) × RecordDecodes r (Ok back) × MeansTheSame back m × KeepsParts back m
+
+-- what a call that writes a map answers: a record that the map is written as, and that reads back; nothing but memory refuses
+abbrev pub RecordAnswer : MapValue → Result Tree Error → Type 0
+RecordAnswer m (Ok t) = IsRecordOf m t × IsFine t × (IsWellFormed m → ReadsBack m (flat t))
+RecordAnswer m (Err _) = ⊥

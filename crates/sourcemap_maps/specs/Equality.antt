@@ -1,5 +1,5 @@
 -- Equality of maps: of all that they hold.
-use Rattle.std.specs.Prelude.{ℕ, List, Bool, ◌&&◌, ◌==◌, nat_eq}
+use Rattle.std.specs.Prelude.{ℕ, List, Bool, nat_eq}
 use Rattle.std.specs.Option.{option_eq}
 use Rattle.std.specs.Bool.{beq}
 use Rattle.std.specs.Ordering.{on, eq_of_both}

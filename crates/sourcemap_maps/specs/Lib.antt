@@ -1,9 +1,11 @@
 pub mod Texts
+pub mod Prefixes
 pub mod Types
 pub mod Stored
 pub mod Token
 pub mod Iterators
 pub mod Decoder
+pub mod Reading
 pub mod DecoderParts
 pub mod Encoder
 pub mod EncoderParts
@@ -12,3 +14,7 @@ pub mod Bytes
 pub mod Equality
 pub mod Builder
 pub mod BuilderStored
+pub mod Rewrite
+pub mod Numbering
+pub mod Renumbering
+pub mod KeptContents

@@ -6,16 +6,19 @@ ghost use Rattle.sourcemap_core.specs.declared.errors.Error.TheVariants.{OutOfMe
 ghost use Rattle.sourcemap_maps.specs.Texts.{contents_in, texts_of};
 ghost use Rattle.sourcemap_maps.specs.Types.{contents_of, fitted};
 ghost use Rattle.sourcemap_maps.specs.Builder.{changed_to, name_if, number_if};
+ghost use Rattle.sourcemap_maps.specs.Prefixes.{cut_by};
 ghost use Rattle.sourcemap_maps.specs.Token.{answers};
 
-use crate::texts::owned;
+use crate::prefixes::cut_text;
+use crate::texts::{owned, put};
 use crate::types::{SourceMap, Token};
-use sourcemap_core::errors::{Error, Result};
+use sourcemap_core::errors::Result;
 use sourcemap_core::interner::Interner;
 use sourcemap_core::tokens::RawToken;
 use sourcemap_json::jsontypes::DebugId;
 use std::alloc::Global;
 use std::collections::BTreeSet;
+use std::convert::AsStr;
 use std::marker::Model;
 
 /// A map that is being built. Sources and names are kept once each and numbered from 0 in the order
@@ -151,6 +154,23 @@ impl SourceMapBuilder {
         let source = String::from_str(alloc, source)?;
         let count = self.interned.len() as usize;
         put(&mut self.changed, count, id as usize, Some(source))
+    }
+
+    /// Cuts from the text that is shown of each source the first of these prefixes that it starts
+    /// with. A prefix that does not end with a slash takes one along, and `~` is one like any other.
+    /// The text that was first given for a source still finds its number. Only want of memory
+    /// refuses.
+    pub fn strip_prefixes<S: AsStr>(&mut self, prefixes: &[S]) -> Result<()>
+        ensures ok { OnOk result (self.new ≡ record self.old {
+          sources = map (cut_by (map S.text prefixes.now)) self.old.sources;
+        }) }
+        ensures err { OnErr result (self.new ≡ self.old) }
+        ensures memory { IsOkUnless result OutOfMemory }
+    {
+        let alloc = *self.tokens.allocator();
+        let changed = cut_texts(alloc, &self.interned, self.changed.as_slice(), prefixes)?;
+        self.changed = changed;
+        Ok(())
     }
 
     /// The text that is shown of the source of this number.
@@ -379,6 +399,27 @@ fn text_at(texts: &[Option<String>], place: usize) -> Option<&str>
     }
 }
 
+// What to show in place of each text once prefixes are cut, where `shown` is what is shown now.
+fn cut_texts<S: AsStr>(
+    alloc: Global,
+    texts: &Interner,
+    shown: &[Option<String>],
+    prefixes: &[S],
+) -> Result<Vec<Option<String>>>
+    ensures value { Gives (λ cut. changed_to (contents_in cut) texts.now) result
+        (Ok (map (cut_by (map S.text prefixes.now)) (changed_to (map (option_map string_bytes) shown.now) texts.now))) }
+    ensures len { IfOk result (λ cut. vec_len cut ≡ length texts.now) }
+{
+    let count = texts.len();
+    let mut cut = Vec::with_capacity(alloc, count as usize)?;
+    for id in 0..count {
+        let text = texts.get(id).unwrap();
+        let shown = text_at(shown, id as usize);
+        cut.push(cut_text(alloc, text, shown, prefixes)?)?;
+    }
+    Ok(cut)
+}
+
 // The texts, or what stands in place of them.
 fn changed_texts(mut texts: Vec<String>, mut changed: Vec<Option<String>>) -> Vec<String>
     requires { vec_len changed ≤ vec_len texts }
@@ -401,67 +442,5 @@ fn change(texts: &mut Vec<String>, place: usize, text: Option<String>)
     match text {
         None => {}
         Some(text) => texts[place] = text,
-    }
-}
-
-// Puts a text at a place of a list that is filled up to `count`.
-fn put(
-    texts: &mut Vec<Option<String>>,
-    count: usize,
-    place: usize,
-    text: Option<String>,
-) -> Result<()>
-    requires { place < count }
-    ensures ok { OnOk result (contents_in texts.new ≡ slice_set (fitted count (contents_in texts.old)) place (option_map string_bytes text)) }
-    ensures err { OnErr result (texts.new.items ≡ texts.old.items) }
-    ensures memory { IsOkUnless result OutOfMemory }
-{
-    fill(texts, count)?;
-    texts[place] = text;
-    Ok(())
-}
-
-// Cuts or fills a list to this length.
-fn fill(texts: &mut Vec<Option<String>>, count: usize) -> Result<()>
-    ensures ok { OnOk result (contents_in texts.new ≡ fitted count (contents_in texts.old)) }
-    ensures len { OnOk result (vec_len texts.new ≡ count) }
-    ensures err { OnErr result (texts.new.items ≡ texts.old.items) }
-    ensures memory { IsOkUnless result OutOfMemory }
-{
-    let len = texts.len();
-    while texts.len() < count {
-        let Ok(()) = texts.push(None) else {
-            texts.truncate(len);
-            return Err(Error::OutOfMemory);
-        };
-    }
-    texts.truncate(count);
-    Ok(())
-}
-
-#[cfg(test)]
-mod tests {
-    use super::*;
-    use std::test::Fail;
-
-    #[test]
-    fn texts_keep_their_numbers(rt: HostRuntime) -> std::result::Result<(), Fail> {
-        let mut builder = SourceMapBuilder::new(rt.alloc(), Some("out.js"))?;
-        assert_eq!(rt; builder.add_source("/a/x.js")?, 0);
-        builder.set_source(0, "x.js")?;
-        assert_eq!(rt; builder.add_source("/a/x.js")?, 0);
-        assert_eq!(rt; builder.add_source("x.js")?, 1);
-        assert_eq!(rt; builder.get_source(0), Some("x.js"));
-        let token = builder.add(1, 2, 3, 4, Some("y.js"), Some("n"), false)?;
-        assert_eq!(rt; token.src_id, 2);
-        let raw = builder.add_raw(0, 2, 3, 4, None, None, true)?;
-        assert_eq!(rt; raw.name_id, 4294967295);
-        builder.set_source_root(Some("r"))?;
-        let map = builder.into_sourcemap()?;
-        assert_eq!(rt; map.get_source(0), Some("r/x.js"));
-        assert_eq!(rt; map.get_source(2), Some("r/y.js"));
-        assert_eq!(rt; map.get_token_count(), 2);
-        assert_eq!(rt; map.get_name(0), Some("n"));
-        Ok(())
     }
 }

@@ -3,8 +3,9 @@ ghost use Rattle.std.specs.Io.KnownBytes.{Appends};
 ghost use Rattle.sourcemap_core.specs.Answer.{UnlessMemory};
 ghost use Rattle.sourcemap_core.specs.declared.errors.Error.TheVariants.{OutOfMemory};
 ghost use Rattle.sourcemap_json.specs.DataUrl.{data_url_of, Holds};
+ghost use Rattle.sourcemap_maps.specs.Types.{MapValue, IsWellFormed};
 ghost use Rattle.sourcemap_maps.specs.Encoder.{RecordAnswer};
-ghost use Rattle.sourcemap_maps.specs.Bytes.{IsEncoded, IsIo};
+ghost use Rattle.sourcemap_maps.specs.Bytes.{IsEncoded, BytesReadBack, UrlReadsBack, IsIo};
 
 use crate::encoder::Encodable;
 use crate::types::SourceMap;
@@ -56,6 +57,8 @@ impl SourceMap {
     pub fn to_data_url(&self) -> Result<String>
         ensures url { IfOk result (λ url. (text : List ℕ) × IsEncoded (RecordAnswer self.now) text
             × (string_bytes url ≡ data_url_of text) × Holds (string_bytes url) text) }
+        // Read back, a well-formed map means the same at every position, with all parts kept.
+        ensures reads_back { IfOk result (λ url. IsWellFormed self.now → UrlReadsBack self.now (string_bytes url)) }
         ensures memory { IsOkUnless result OutOfMemory }
     {
         let alloc = *self.names.allocator();
@@ -64,3 +67,9 @@ impl SourceMap {
         Ok(url)
     }
 }
+
+/// A law: the bytes that a well-formed map is written as stand for a map of the same meaning at
+/// every position, with all parts kept.
+pub fn written_maps_read_back()
+    ensures { (m : MapValue) (text : List ℕ) → IsEncoded (RecordAnswer m) text → IsWellFormed m → BytesReadBack m text }
+{}

@@ -1,4 +1,5 @@
 ghost use Rattle.std.specs.Prelude.{◌≡◌, option_map, string_bytes};
+ghost use Rattle.std.specs.Bool.{Decides};
 ghost use Rattle.std.specs.Option.{option_eq};
 ghost use Rattle.std.specs.Cmp.{partial_equiv_from_equiv};
 ghost use Rattle.std.specs.Cmp.Lexicographic.{pointwise};
@@ -32,22 +33,31 @@ fn same_tokens(a: &Vec<RawToken>, b: &Vec<RawToken>) -> bool
     a == b
 }
 
-/// Maps are equal if they hold the same: file, root, tokens, names, sources, contents (also as
-/// long a list of them), ignore list and debug id.
+fn same_maps(a: &SourceMap, b: &SourceMap) -> bool
+    ensures { result ≡ same_map a.now b.now }
+{
+    let file = same_maybe(&a.file, &b.file);
+    let root = same_maybe(&a.source_root, &b.source_root);
+    let tokens = same_tokens(&a.tokens, &b.tokens);
+    let names = same_texts(&a.names, &b.names);
+    let sources = same_texts(&a.sources, &b.sources);
+    let contents = same_contents(&a.contents, &b.contents);
+    let ignored = a.ignored == b.ignored;
+    let debug_id = a.debug_id == b.debug_id;
+    file & root & tokens & names & sources & contents & ignored & debug_id
+}
+
+/// Maps are equal exactly if they hold the same: file, root, tokens, names, sources, contents (also
+/// as long a list of them), ignore list and debug id.
 impl PartialEq for SourceMap {
     ghost eq = { same_map };
 
     ghost laws = { partial_equiv_from_equiv same_map_equiv };
 
-    fn eq(&self, other: &Self) -> bool {
-        let file = same_maybe(&self.file, &other.file);
-        let root = same_maybe(&self.source_root, &other.source_root);
-        let tokens = same_tokens(&self.tokens, &other.tokens);
-        let names = same_texts(&self.names, &other.names);
-        let sources = same_texts(&self.sources, &other.sources);
-        let contents = same_contents(&self.contents, &other.contents);
-        let ignored = self.ignored == other.ignored;
-        let debug_id = self.debug_id == other.debug_id;
-        file & root & tokens & names & sources & contents & ignored & debug_id
+    fn eq(&self, other: &Self) -> bool
+        ensures value { result ≡ same_map self.now other.now }
+        ensures same { Decides result (self.now ≡ other.now) }
+    {
+        same_maps(self, other)
     }
 }

@@ -3,6 +3,8 @@
 #![tactic(auto)]
 
 pub mod builder;
+#[cfg(test)]
+mod builder_tests;
 mod bytes;
 #[cfg(test)]
 mod changes_tests;
@@ -11,6 +13,14 @@ pub mod decoder;
 pub mod encoder;
 mod equality;
 mod iterators;
+mod kept_contents;
+mod kept_sources;
+mod numbering;
+mod prefixes;
+pub mod reading;
+mod rewrite;
+#[cfg(test)]
+mod rewrite_tests;
 mod setters;
 #[cfg(test)]
 mod tests;

@@ -6,9 +6,9 @@ ghost use Rattle.sourcemap_maps.specs.Types.{fitted, shown_behind};
 ghost use Rattle.sourcemap_core.specs.declared.errors.Error.TheVariants.{OutOfMemory};
 
 use crate::iterators::IgnoreListIter;
-use crate::texts::{all_shown, owned, shown, text_or_empty, with_root};
+use crate::texts::{all_shown, owned, put, shown, text_or_empty};
 use crate::types::SourceMap;
-use sourcemap_core::errors::{Error, Result};
+use sourcemap_core::errors::Result;
 use sourcemap_json::jsontypes::DebugId;
 use std::alloc::Global;
 
@@ -16,6 +16,7 @@ use std::alloc::Global;
 impl SourceMap {
     ghost use Rattle.sourcemap_maps.specs.Iterators.{ids_left};
     ghost use Rattle.std.specs.BTreeSet.{insert_key};
+    ghost use Rattle.std.specs.List.Sorted.{IsStrictlySortedBy};
     ghost use Rattle.std.specs.Ordering.{nat_cmp};
 
     /// Sets the identifier that ties the map to its file.
@@ -44,9 +45,7 @@ impl SourceMap {
     {
         let alloc = *self.names.allocator();
         let root = owned(alloc, root)?;
-        let rooted = with_root(alloc, text_or_empty(&root), &self.sources)?;
-        self.source_root = root;
-        self.with_root = rooted;
+        self.put_root(root)?;
         Ok(())
     }
 
@@ -80,9 +79,7 @@ impl SourceMap {
         let alloc = *self.names.allocator();
         let contents = owned(alloc, contents)?;
         let count = self.sources.len();
-        fit(&mut self.contents, count)?;
-        put(&mut self.contents, id as usize, contents);
-        Ok(())
+        put(&mut self.contents, count, id as usize, contents)
     }
 
     /// Sets the text of the source of this number, as it stands without the root.
@@ -110,36 +107,13 @@ impl SourceMap {
 
     /// The numbers of the sources that a debugger passes over, rising, each once.
     pub fn ignore_list(&self) -> IgnoreListIter<'_>
-        ensures { ids_left result ≡ self.now.ignored }
+        ensures rest { ids_left result ≡ self.now.ignored }
+        ensures rising { IsStrictlySortedBy nat_cmp (ids_left result) }
     {
         IgnoreListIter {
             ids: self.ignored.iter(),
         }
     }
-}
-
-// Cuts or fills a list of contents to this length.
-fn fit(contents: &mut Vec<Option<String>>, count: usize) -> Result<()>
-    ensures ok { OnOk result (contents_in contents.new ≡ fitted count (contents_in contents.old)) }
-    ensures err { OnErr result (contents.new.items ≡ contents.old.items) }
-    ensures memory { IsOkUnless result OutOfMemory }
-{
-    let len = contents.len();
-    while contents.len() < count {
-        let Ok(()) = contents.push(None) else {
-            contents.truncate(len);
-            return Err(Error::OutOfMemory);
-        };
-    }
-    contents.truncate(count);
-    Ok(())
-}
-
-fn put(contents: &mut Vec<Option<String>>, id: usize, text: Option<String>)
-    requires { id < vec_len contents.old }
-    ensures { contents_in contents.new ≡ slice_set (contents_in contents.old) id (option_map string_bytes text) }
-{
-    contents[id] = text;
 }
 
 fn put_text(texts: &mut Vec<String>, id: usize, text: String)

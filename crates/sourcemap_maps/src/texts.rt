@@ -1,7 +1,8 @@
-ghost use Rattle.std.specs.Prelude.{◌≡◌, ◌≤◌, ℕ, vec_len, Ok, [], map, option_map, unwrap_or, string_bytes};
+ghost use Rattle.std.specs.Prelude.{◌≡◌, ◌≤◌, ◌<◌, ℕ, vec_len, Ok, [], map, slice_set, option_map, unwrap_or, string_bytes, OnOk, OnErr, IsOkUnless};
 ghost use Rattle.std.specs.Option.{option_copied, ForSome};
 ghost use Rattle.sourcemap_core.specs.Answer.{Gives};
-ghost use Rattle.sourcemap_maps.specs.Types.{is_placed, shown_behind, without_slash};
+ghost use Rattle.sourcemap_core.specs.declared.errors.Error.TheVariants.{OutOfMemory};
+ghost use Rattle.sourcemap_maps.specs.Types.{fitted, is_placed, shown_behind, without_slash};
 ghost use Rattle.sourcemap_maps.specs.Texts.{texts_of, contents_in};
 
 use sourcemap_core::errors::{Error, Result};
@@ -100,4 +101,39 @@ pub(crate) fn with_root(
         return Ok(None);
     }
     Ok(Some(all_shown(alloc, root, sources.as_slice())?))
+}
+
+// Puts a text at a place of a list that is cut or filled up to `count`.
+pub(crate) fn put(
+    texts: &mut Vec<Option<String>>,
+    count: usize,
+    place: usize,
+    text: Option<String>,
+) -> Result<()>
+    requires { place < count }
+    ensures ok { OnOk result (contents_in texts.new ≡ slice_set (fitted count (contents_in texts.old)) place (option_map string_bytes text)) }
+    ensures err { OnErr result (texts.new.items ≡ texts.old.items) }
+    ensures memory { IsOkUnless result OutOfMemory }
+{
+    fill(texts, count)?;
+    texts[place] = text;
+    Ok(())
+}
+
+// Cuts or fills a list to this length.
+pub(crate) fn fill(texts: &mut Vec<Option<String>>, count: usize) -> Result<()>
+    ensures ok { OnOk result (contents_in texts.new ≡ fitted count (contents_in texts.old)) }
+    ensures len { OnOk result (vec_len texts.new ≡ count) }
+    ensures err { OnErr result (texts.new.items ≡ texts.old.items) }
+    ensures memory { IsOkUnless result OutOfMemory }
+{
+    let len = texts.len();
+    while texts.len() < count {
+        let Ok(()) = texts.push(None) else {
+            texts.truncate(len);
+            return Err(Error::OutOfMemory);
+        };
+    }
+    texts.truncate(count);
+    Ok(())
 }

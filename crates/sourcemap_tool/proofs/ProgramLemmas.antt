@@ -1,15 +1,18 @@
 -- From what was printed to how a run ended.
-use Rattle.std.proofs.Common.{◌≡◌, ◌⊎◌, inl, inr, refl, ℕ, List, [], Option, Some, None, Result, Ok, Err, IfSome, MatchResult, IfOk, string_bytes, String, Global}
+use Rattle.std.proofs.Common.{◌≡◌, ◌⊎◌, inl, inr, refl, sym, ap, ◌∙◌, ℕ, List, [], ◌++◌, Option, Some, None, Result, Ok, Err, IfSome, MatchResult, IfOk, string_bytes, String, Global}
 use Rattle.std.specs.Io.KnownBytes.{Appends}
 use Rattle.sourcemap.specs.Answer.{UnlessMemory}
 use Rattle.sourcemap.specs.Decoder.{BytesDecode, IsAnswerRead, Reading, UnlessRead}
+use Rattle.sourcemap.specs.Rewrite.{no_removal, rewritten}
 use Rattle.sourcemap.specs.Types.{MapValue}
 use Rattle.sourcemap.specs.declared.errors.Error.{Error}
 use Rattle.sourcemap.specs.declared.errors.Error.TheVariants.{OutOfMemory}
 use Rattle.sourcemap_tool.specs.Command.{AskFor}
-use Rattle.sourcemap_tool.specs.Program.{AskForNone, CommandAnswers, Ending, answered, refused, misused, Ends, EndedSo, IsReported, IsWriteFault, PrintsRefusal, Runs, usage_text}
+use Rattle.sourcemap_tool.specs.Program.{AskForNone, CommandAnswers, Ending, answered, refused, misused, Ends, EndedSo, IsReported, IsWriteFault, PrintsRefusal, IsJsonLine, Runs, Says, newline, usage_text}
 use Rattle.sourcemap_tool.specs.declared.command.Command.{Command}
+use Rattle.sourcemap_tool.specs.declared.command.Command.TheVariants.{Lookup, Tokens, Rewrite}
 use Rattle.sourcemap.proofs.DecoderLemmas.{bytes_decode_once}
+use Rattle.sourcemap.proofs.WrittenLemmas.{written_text_once}
 use Rattle.sourcemap_tool.proofs.CommandLemmas.{command_once}
 
 no_memory : (words : List (List ℕ)) (bytes : List ℕ) (e : Error) → e ≡ OutOfMemory → Ends words bytes (refused e)
@@ -72,10 +75,19 @@ runs_out words input e old new (Ok status) is said =
     (has.0, has.1, ended_refused words has.0 e status old new (no_memory words has.0 e is) said.0 said.1)
 runs_out words input e old new (Err fault) is said = tt
 
+json_once : (m : MapValue) (a b : List ℕ) → IsJsonLine m a → IsJsonLine m b → a ≡ b
+json_once m a b (j, of_a, is) (k, of_b, is') = is ∙ ap (λ json. json ++ newline) (written_text_once m j k of_a of_b) ∙ sym is'
+
+says_once : (command : Command) (m : MapValue) (a b : List ℕ) → Says command m a → Says command m b → a ≡ b
+says_once (Lookup line col) m a b p q = p ∙ sym q
+says_once Tokens m a b p q = p ∙ sym q
+says_once Rewrite m a b p q = json_once (rewritten no_removal m) a b p q
+
 answer_once : (bytes : List ℕ) (c d : Command) (a b : List ℕ) → c ≡ d
     → CommandAnswers c bytes (Ok a) → CommandAnswers d bytes (Ok b) → a ≡ b
 answer_once bytes c d a b same (m, of_a, is) (n, of_b, is') =
-    let maps : m ≡ n = bytes_decode_once bytes (Ok m) (Ok n) of_a of_b in cc
+    let maps : m ≡ n = bytes_decode_once bytes (Ok m) (Ok n) of_a of_b in
+    says_once c m a b is (rw (same, maps) is')
 
 -- words and bytes are answered with one text
 pub text_once : (words : List (List ℕ)) (bytes a b : List ℕ)

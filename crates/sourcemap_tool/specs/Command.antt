@@ -2,7 +2,7 @@
 use Rattle.std.specs.Prelude.{◌≡◌, ℕ, ◌≤◌, List, [], ◌∷◌, codes}
 use Rattle.std.specs.Str.Parse.{IsNumeral, digits_value}
 use Rattle.sourcemap_tool.specs.declared.command.Command.{Command}
-use Rattle.sourcemap_tool.specs.declared.command.Command.TheVariants.{Lookup}
+use Rattle.sourcemap_tool.specs.declared.command.Command.TheVariants.{Lookup, Tokens, Rewrite}
 
 -- a word of one or more digits that is a number of 32 bits
 abbrev pub IsNumber : List ℕ → ℕ → Type 0
@@ -12,3 +12,5 @@ IsNumber word n = IsNumeral 10 word × (digits_value 10 word ≤ 4294967295) × 
 abbrev pub AskFor : List (List ℕ) → Command → Type 0
 AskFor words (Lookup line col) = (l c : List ℕ)
     × (words ≡ codes "lookup" ∷ l ∷ c ∷ []) × IsNumber l line × IsNumber c col
+AskFor words Tokens = words ≡ codes "tokens" ∷ []
+AskFor words Rewrite = words ≡ codes "rewrite" ∷ []

@@ -1,10 +1,13 @@
 -- What a run prints, and the status that it ends with.
-use Rattle.std.specs.Prelude.{◌≡◌, ℕ, List, [], ◌∷◌, ◌++◌, codes, Option, Some, None, IfSome, Result, Ok, Err, String, string_bytes, ◌⊎◌}
+use Rattle.std.specs.Prelude.{◌≡◌, ℕ, List, [], ◌∷◌, ◌++◌, codes, flat_map, if◌then◌else◌, Option, Some, None, IfSome, Result, Ok, Err, String, string_bytes, ◌⊎◌}
+use Rattle.std.specs.Fmt.{decimal}
 use Rattle.std.specs.Io.KnownBytes.{Appends}
+use Rattle.sourcemap.specs.Decoded.{IsTextOf}
 use Rattle.sourcemap.specs.Answer.{UnlessMemory}
 use Rattle.sourcemap.specs.Errors.{error_text, FromIo}
 use Rattle.sourcemap.specs.Decoder.{BytesDecode, Reading, UnlessRead}
-use Rattle.sourcemap.specs.Token.{lookup, token_text, says, TokenValue}
+use Rattle.sourcemap.specs.Rewrite.{no_removal, rewritten}
+use Rattle.sourcemap.specs.Token.{lookup, token_text, tokens_from, says, TokenValue}
 use Rattle.sourcemap.specs.Types.{MapValue}
 use Rattle.sourcemap.specs.declared.errors.Error.{Error}
 use Rattle.sourcemap.specs.declared.errors.Error.TheVariants.{OutOfMemory}
@@ -12,7 +15,7 @@ use Rattle.std.specs.declared.alloc.Global.{Global}
 use Rattle.std.specs.declared.io.Error.{Error as IoError}
 use Rattle.sourcemap_tool.specs.Command.{AskFor}
 use Rattle.sourcemap_tool.specs.declared.command.Command.{Command}
-use Rattle.sourcemap_tool.specs.declared.command.Command.TheVariants.{Lookup}
+use Rattle.sourcemap_tool.specs.declared.command.Command.TheVariants.{Lookup, Tokens, Rewrite}
 
 abbrev pub newline : List ℕ
 newline = 10 ∷ []
@@ -25,9 +28,24 @@ abbrev pub found_text : Option TokenValue → List ℕ
 found_text (Some token) = token_text (says token)
 found_text None = codes "none"
 
+-- what tells a range token from another
+abbrev pub range_mark : TokenValue → List ℕ
+range_mark t = if t.raw.is_range then codes " range" else []
+
+-- the line of a token: its place in the generated text, its text, and whether it is a range token
+abbrev pub token_line : TokenValue → List ℕ
+token_line t =
+    decimal t.raw.dst_line ++ codes ":" ++ decimal t.raw.dst_col ++ codes " " ++ token_text (says t) ++ range_mark t ++ newline
+
+-- the compact JSON text that a map is written as, and a newline
+abbrev pub IsJsonLine : MapValue → List ℕ → Type 0
+IsJsonLine m text = (json : List ℕ) × IsTextOf m json × (text ≡ json ++ newline)
+
 -- what a command says of a map
-abbrev pub answer_text : Command → MapValue → List ℕ
-answer_text (Lookup line col) m = found_text (lookup m (line, col)) ++ newline
+abbrev pub Says : Command → MapValue → List ℕ → Type 0
+Says (Lookup line col) m text = text ≡ found_text (lookup m (line, col)) ++ newline
+Says Tokens m text = text ≡ flat_map token_line (tokens_from m 0)
+Says Rewrite m text = IsJsonLine (rewritten no_removal m) text
 
 -- the line of a refusal; std does not say what its own faults print
 abbrev pub IsRefusal : Error → List ℕ → Type 0
@@ -51,7 +69,7 @@ Prints misused printed = printed ≡ usage_text
 
 -- what a command says of the map that bytes stand for, or why they stand for none
 abbrev pub CommandAnswers : Command → List ℕ → Result (List ℕ) Error → Type 0
-CommandAnswers command bytes (Ok text) = (m : MapValue) × BytesDecode bytes (Ok m) × (text ≡ answer_text command m)
+CommandAnswers command bytes (Ok text) = (m : MapValue) × BytesDecode bytes (Ok m) × Says command m text
 CommandAnswers command bytes (Err e) = BytesDecode bytes (Err e)
 
 -- words that ask for no command

@@ -1,4 +1,4 @@
-ghost use Rattle.std.specs.Prelude.{◌≡◌, List, ℕ, map, string_bytes, MatchOption, MatchResult};
+ghost use Rattle.std.specs.Prelude.{◌≡◌, List, [], ◌∷◌, ℕ, map, string_bytes, MatchOption, MatchResult};
 ghost use Rattle.sourcemap.specs.declared.errors.Error.TheVariants.{OutOfMemory};
 ghost use Rattle.sourcemap_tool.specs.Command.{IsNumber, AskFor};
 
@@ -10,6 +10,10 @@ use std::alloc::Global;
 pub enum Command {
     /// `lookup LINE COL`: the closest token to a line and a column of the generated text.
     Lookup(u32, u32),
+    /// `tokens`: a line for each token.
+    Tokens,
+    /// `rewrite`: the map rewritten with default options, as JSON text.
+    Rewrite,
 }
 
 // The number that a word of digits is. A sign, which `parse` would take, is none.
@@ -22,6 +26,31 @@ fn number_of(word: &str) -> Option<u32>
     word.parse().ok()
 }
 
+// The command that a word alone asks for.
+fn lone(word: &str) -> Option<Command>
+    ensures { MatchOption result
+        ((command : _) → ¬ AskFor (word.now ∷ []) command)
+        (AskFor (word.now ∷ [])) }
+{
+    match word {
+        "tokens" => Some(Command::Tokens),
+        "rewrite" => Some(Command::Rewrite),
+        _ => None,
+    }
+}
+
+// The command that a word and two numbers ask for.
+fn placed(verb: &str, line: &str, col: &str) -> Option<Command>
+    ensures { MatchOption result
+        ((command : _) → ¬ AskFor (verb.now ∷ line.now ∷ col.now ∷ []) command)
+        (AskFor (verb.now ∷ line.now ∷ col.now ∷ [])) }
+{
+    if verb != "lookup" {
+        return None;
+    }
+    Some(Command::Lookup(number_of(line)?, number_of(col)?))
+}
+
 /// The command that the words ask for, none for other words. LINE and COL are one or more ASCII
 /// digits of a value of at most 4294967295. Only want of memory refuses.
 pub fn parse_words(_alloc: Global, words: &[String]) -> Result<Option<Command>>
@@ -31,16 +60,11 @@ pub fn parse_words(_alloc: Global, words: &[String]) -> Result<Option<Command>>
         (AskFor (map string_bytes words.now)))
         (λ e. e ≡ OutOfMemory) }
 {
-    let [verb, line, col] = words else {
-        return Ok(None);
-    };
-    if verb.as_str() != "lookup" {
-        return Ok(None);
+    match words {
+        [word] => Ok(lone(word.as_str())),
+        [verb, line, col] => Ok(placed(verb.as_str(), line.as_str(), col.as_str())),
+        _ => Ok(None),
     }
-    let (Some(line), Some(col)) = (number_of(line.as_str()), number_of(col.as_str())) else {
-        return Ok(None);
-    };
-    Ok(Some(Command::Lookup(line, col)))
 }
 
 // Words ask for one command.

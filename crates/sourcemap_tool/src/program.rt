@@ -1,12 +1,15 @@
-ghost use Rattle.std.specs.Prelude.{◌≡◌, ℕ, List, IsNone, IfOk, IfErr, MatchResult, map, string_bytes};
+ghost use Rattle.std.specs.Prelude.{◌≡◌, ◌++◌, ℕ, List, IsNone, IfOk, IfErr, MatchResult, map, string_bytes};
 ghost use Rattle.std.specs.Io.KnownBytes.{Appends};
 ghost use Rattle.sourcemap.specs.Decoded.{map_value};
 ghost use Rattle.sourcemap.specs.Decoder.{IsAnswerRead, Reading};
+ghost use Rattle.sourcemap.specs.Rewrite.{no_removal, rewritten};
+ghost use Rattle.sourcemap.specs.Token.{token_value};
 ghost use Rattle.sourcemap.specs.declared.errors.Error.TheVariants.{OutOfMemory};
-ghost use Rattle.sourcemap_tool.specs.Program.{AskForNone, CommandAnswers, Ends, answered, IsRefusal, IsReported, IsWriteFault, PrintsRefusal, Runs, answer_text};
+ghost use Rattle.sourcemap_tool.specs.declared.command.Command.TheVariants.{Lookup, Tokens, Rewrite};
+ghost use Rattle.sourcemap_tool.specs.Program.{AskForNone, CommandAnswers, Ends, answered, IsRefusal, IsReported, IsWriteFault, PrintsRefusal, Runs, Says, IsJsonLine, range_mark, token_line};
 
 use crate::command::{Command, parse_words};
-use sourcemap::{DecodedMap, Error, Result, decode};
+use sourcemap::{DecodedMap, Error, Result, RewriteOptions, SourceMap, Token, decode};
 use std::alloc::Global;
 use std::io::{Read, Write};
 use std::rt::Files;
@@ -15,10 +18,12 @@ const USAGE: &str = "usage: lookup LINE COL | tokens | rewrite | flatten | compo
 
 const NO_MEMORY: &str = "out of memory\n";
 
-/// What a command says of a map: for `Lookup` the closest token's text or `none`, and a newline.
-/// No command so far takes a second map. Only want of memory refuses.
+/// What a command says of a map: for `Lookup` the closest token's text or `none`, and a newline; for
+/// `Tokens` a line for each token, of its line and column in the generated text, its text, and
+/// ` range` for a range token; for `Rewrite` the compact JSON text of the map rewritten with default
+/// options, and a newline. No command so far takes a second map. Only want of memory refuses.
 pub fn apply<F: Files>(
-    _rt: &F,
+    rt: &F,
     alloc: Global,
     command: &Command,
     map: DecodedMap,
@@ -26,15 +31,97 @@ pub fn apply<F: Files>(
 ) -> Result<String>
     requires { IsNone adjustment }
     ensures { MatchResult result
-        (λ text. string_bytes text ≡ answer_text command.now (map_value map))
+        (λ text. Says command.now (map_value map) (string_bytes text))
         (λ e. e ≡ OutOfMemory) }
 {
     match *command {
-        Command::Lookup(line, col) => match map.lookup_token(line, col) {
-            Some(token) => Ok(format!(in alloc; "{token}\n")?),
-            None => Ok(String::from_str(alloc, "none\n")?),
-        },
+        Command::Lookup(line, col) => lookup_text(alloc, &map, line, col),
+        Command::Tokens => tokens_text(alloc, &regular(map)),
+        Command::Rewrite => rewritten_text(rt, alloc, regular(map)),
     }
+}
+
+// The regular map that it is: there is no other kind yet.
+fn regular(map: DecodedMap) -> SourceMap
+    ensures { result ≡ map_value map }
+{
+    match map {
+        DecodedMap::Regular(map) => map,
+    }
+}
+
+// The text of the closest token to a place, or that there is none.
+fn lookup_text(alloc: Global, map: &DecodedMap, line: u32, col: u32) -> Result<String>
+    ensures { MatchResult result
+        (λ text. Says (Lookup line col) (map_value map.now) (string_bytes text))
+        (λ e. e ≡ OutOfMemory) }
+{
+    match map.lookup_token(line, col) {
+        Some(token) => Ok(format!(in alloc; "{token}\n")?),
+        None => Ok(String::from_str(alloc, "none\n")?),
+    }
+}
+
+// The lines of all tokens.
+fn tokens_text(alloc: Global, map: &SourceMap) -> Result<String>
+    ensures { MatchResult result
+        (λ text. Says Tokens map.now (string_bytes text))
+        (λ e. e ≡ OutOfMemory) }
+{
+    let mut text = String::new(alloc);
+    for token in map.tokens() {
+        push_line(&mut text, &token)?;
+    }
+    Ok(text)
+}
+
+// Puts a token's line at the end of a text.
+fn push_line(text: &mut String, token: &Token<'_>) -> Result<()>
+    ensures { MatchResult result
+        (λ _. string_bytes text.new ≡ string_bytes text.old ++ token_line (token_value token.now))
+        (λ e. e ≡ OutOfMemory) }
+{
+    let line = token.get_dst_line();
+    let col = token.get_dst_col();
+    let mark = range_mark(token);
+    write!(text, "{line}:{col} {token}{mark}\n")?;
+    Ok(())
+}
+
+// What tells a range token from another.
+fn range_mark(token: &Token<'_>) -> &'static str
+    ensures { result.now ≡ range_mark (token_value token.now) }
+{
+    if token.is_range() { " range" } else { "" }
+}
+
+// The JSON text of the map rewritten with default options.
+fn rewritten_text<F: Files>(rt: &F, alloc: Global, map: SourceMap) -> Result<String>
+    ensures { MatchResult result
+        (λ text. Says Rewrite map (string_bytes text))
+        (λ e. e ≡ OutOfMemory) }
+{
+    let rewritten = rewritten(rt, map)?;
+    json_line(alloc, &DecodedMap::Regular(rewritten))
+}
+
+// The map rewritten with default options.
+fn rewritten<F: Files>(rt: &F, map: SourceMap) -> Result<SourceMap>
+    ensures { MatchResult result (λ m. m ≡ rewritten no_removal map) (λ e. e ≡ OutOfMemory) }
+{
+    map.rewrite(rt, &RewriteOptions::default())
+}
+
+// The compact JSON text of a map, and a newline.
+fn json_line(alloc: Global, map: &DecodedMap) -> Result<String>
+    ensures { MatchResult result
+        (λ text. IsJsonLine (map_value map.now) (string_bytes text))
+        (λ e. e ≡ OutOfMemory) }
+{
+    let value = map.to_value()?;
+    let mut text = value.to_string(alloc)?;
+    text.push('\n')?;
+    Ok(text)
 }
 
 // The text that a refusal prints.

@@ -1,4 +1,5 @@
-use crate::program::run;
+use crate::command::{Command, parse_words};
+use crate::program::{apply, run};
 use sourcemap::decoder::decode_regular;
 use sourcemap::encoder::Encodable;
 use sourcemap::errors::JsonFault;
@@ -30,7 +31,28 @@ lookup 0 0|{\"version\":4294967296}|1 bad json: a field has the wrong type
 lookup 0 0|{\"mappings\":\"AAAAAA\"}|1 got 6 segments, expected 4 or 5
 lookup 0 0|{\"mappings\":\"AAAA\"}|1 bad reference to source #0
 lookup 0 0|{\"sections\":[]}|1 encountered incompatible sourcemap format
-lookup 0 0|{\"x_facebook_sources\":[]}|1 encountered incompatible sourcemap format";
+lookup 0 0|{\"x_facebook_sources\":[]}|1 encountered incompatible sourcemap format
+tokens|{\"sources\":[\"a.js\"],\"mappings\":\"AAAO\",\"rangeMappings\":\"B\"}|0 0:0 a.js:0:7 range
+tokens|{\"sections\":[]}|1 encountered incompatible sourcemap format
+rewrite|MAP|0 {\"mappings\":\"AAAA,GAAIA,GAAI,EACR,IAAIA,GAAK,EAAG,CACVC,MAAM\",\"names\":[\"x\",\"alert\"],\"sources\":[\"coolstuff.js\"],\"version\":3}
+rewrite|{\"sources\":[\"a.js\",\"b.js\"],\"sourcesContent\":[\"x\",\"y\"],\"mappings\":\"ACAA\",\"sourceRoot\":\"r\"}|0 {\"mappings\":\"AAAA\",\"names\":[],\"sources\":[\"r/b.js\"],\"sourcesContent\":[\"y\"],\"version\":3}
+rewrite|{\"sections\":[]}|1 encountered incompatible sourcemap format";
+
+// What `rewrite` says of the map.
+const REWRITTEN: &str =
+    "{\"mappings\":\"AAAA,GAAIA,GAAI,EACR,IAAIA,GAAK,EAAG,CACVC,MAAM\",\"names\":[\"x\",\"alert\"],\"sources\":[\"coolstuff.js\"],\"version\":3}\n";
+
+// What `tokens` says of the map.
+const LINES: &str = "0:0 coolstuff.js:0:0
+0:3 coolstuff.js:0:4 name=x
+0:6 coolstuff.js:0:8
+0:8 coolstuff.js:1:0
+0:12 coolstuff.js:1:4 name=x
+0:15 coolstuff.js:1:9
+0:17 coolstuff.js:1:12
+0:18 coolstuff.js:2:2 name=alert
+0:24 coolstuff.js:2:8
+";
 
 const MISUSES: &str = "lookup 1 x
 
@@ -40,7 +62,10 @@ lookup 0 0 0
 lookup +0 0
 lookup 0 4294967296
 Lookup 0 0
-tokens";
+tokens 0
+Rewrite
+flatten
+compose a.map";
 
 // A map, and what it is written as.
 const WRITTEN: &str =
@@ -139,6 +164,34 @@ fn runs_print_answers_refusals_and_usage(rt: HostRuntime) -> Result<(), Fail> {
         let (told, left) = ran(&rt, line, MAP)?;
         assert_eq!(rt; (told.as_str(), left), (USAGE, MAP.len()), "{line}");
     }
+    Ok(())
+}
+
+#[test]
+fn words_ask_for_commands_that_are_answered(rt: HostRuntime) -> Result<(), Fail> {
+    let alloc = rt.alloc();
+    let rows = [
+        (
+            "lookup 0 18",
+            Command::Lookup(0, 18),
+            "coolstuff.js:2:2 name=alert\n",
+        ),
+        ("tokens", Command::Tokens, LINES),
+        ("rewrite", Command::Rewrite, REWRITTEN),
+    ];
+    for (line, command, want) in rows {
+        let words = words_of(alloc, line)?;
+        assert_eq!(rt;
+            parse_words(alloc, words.as_slice())?,
+            Some(command),
+            "{line}"
+        );
+        let map = decode_slice(alloc, MAP.as_bytes())?;
+        let text = apply(&rt, alloc, &command, map, None)?;
+        assert_eq!(rt; text.as_str(), want, "{line}");
+    }
+    let words = words_of(alloc, "tokens tokens")?;
+    assert_eq!(rt; parse_words(alloc, words.as_slice())?, None);
     Ok(())
 }
 

@@ -1,9 +1,9 @@
 -- The bytes that were read are the reader's.
-use Rattle.std.proofs.Common.{◌≡◌}
 use Rattle.std.proofs.lemmas.Result.{err_from_is_err_and}
 use Rattle.sourcemap.specs.Decoded.{map_value}
 use Rattle.sourcemap.specs.Decoder.{BytesDecode}
-use Rattle.sourcemap.proofs.DecoderLemmas.{answer_of_reader, fault_of_reader, reader_only}
+use Rattle.sourcemap_maps.proofs.ReadingLemmas.{answer_of_reader, fault_of_reader}
+use Rattle.sourcemap.proofs.DecoderLemmas.{reader_only}
 use Rattle.sourcemap.proofs.decoder.decode.Goals as goal
 
 pub returns-clause-answer : goal.returns-clause-answer

@@ -1,9 +1,17 @@
--- What kept the bytes from being JSON is their fault.
+-- The record that bytes hold answers for them.
 use Rattle.std.proofs.lemmas.Result.{err_from_is_err_and}
-use Rattle.sourcemap.proofs.DecoderLemmas.{fault_of_bytes}
+use Rattle.sourcemap_json.specs.Jsontypes.{tree}
+use Rattle.sourcemap_maps.proofs.ReadingLemmas.{answer_of_bytes, fault_of_bytes}
+use Rattle.sourcemap.specs.Decoded.{map_value}
+use Rattle.sourcemap.specs.Decoder.{TreeDecodes}
 use Rattle.sourcemap.proofs.decoder.decode_bytes.Goals as goal
 
-pub returns-in_err-read_json-clause-answer : goal.returns-in_err-read_json-clause-answer
-returns-in_err-read_json-clause-answer c =
+pub returns-clause-answer : goal.returns-clause-answer
+returns-clause-answer c =
+    answer_of_bytes map_value TreeDecodes c.args.bytes.now (tree c.in_ok-raw.raw) c.in_ok-raw.ensures
+    c.decode_record.result c.decode_record.ensures.answer
+
+pub returns-in_err-raw-clause-answer : goal.returns-in_err-raw-clause-answer
+returns-in_err-raw-clause-answer c =
     let p = err_from_is_err_and c.from_residual.result c.from_residual.ensures.1 in
-    rw (p.1, p.2) (fault_of_bytes c.args.bytes.now _ c.in_err-read_json.ensures)
+    rw (p.1, p.2) (fault_of_bytes map_value TreeDecodes c.args.bytes.now _ c.in_err-raw.ensures)

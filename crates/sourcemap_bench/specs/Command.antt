@@ -1,0 +1,17 @@
+-- What the words of a run ask for.
+use Rattle.std.specs.Prelude.{◌≡◌, ℕ, List, [], ◌∷◌, codes}
+use Rattle.sourcemap_bench.specs.declared.command.Operation.{Operation}
+use Rattle.sourcemap_bench.specs.declared.command.Operation.TheVariants.{Decode, DecodeReader, Lookup, Tokens, Encode, Rewrite}
+use Rattle.sourcemap_bench.specs.declared.command.Command.{Command}
+
+abbrev pub word_of : Operation → List ℕ
+word_of Decode = codes "decode"
+word_of DecodeReader = codes "decode-reader"
+word_of Lookup = codes "lookup"
+word_of Tokens = codes "tokens"
+word_of Encode = codes "encode"
+word_of Rewrite = codes "rewrite"
+
+-- the words that ask for an operation; how often, the second says
+abbrev pub AskFor : List (List ℕ) → Command → Type 0
+AskFor words command = (rounds : List ℕ) × (words ≡ word_of command.operation ∷ rounds ∷ [])

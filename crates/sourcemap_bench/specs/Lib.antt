@@ -1,0 +1,4 @@
+pub mod Command
+pub mod Draws
+pub mod Sums
+pub mod Work

@@ -1,0 +1,24 @@
+-- Checksums of answers, numbers of 32 bits.
+use Rattle.std.specs.Prelude.{ℕ, ◌+◌, ◌*◌, ◌%◌, ◌^◌, ◌==◌, List, fold, Option, Some, None, if◌then◌else◌}
+use Rattle.sourcemap.specs.Token.{TokenValue, says, lookup, tokens_from}
+use Rattle.sourcemap.specs.Types.{MapValue}
+
+-- a sum with one more number
+abbrev pub mixed : ℕ → ℕ → ℕ
+mixed sum number = (31 * sum + number) % 2 ^ 32
+
+-- the number of an answer
+abbrev pub worth : Option TokenValue → ℕ
+worth None = 0
+worth (Some t) =
+    if t.raw.src_id == 4294967295 then 0 else ((says t).line + 7 * (says t).column + 1) % 2 ^ 32
+
+abbrev pub lookup_sum : MapValue → List (ℕ × ℕ) → ℕ → ℕ
+lookup_sum m positions start = fold (λ sum p. mixed sum (worth (lookup m p))) start positions
+
+-- a sum with these tokens
+abbrev pub with_all : ℕ → List TokenValue → ℕ
+with_all sum tokens = fold (λ sum t. mixed sum (worth (Some t))) sum tokens
+
+abbrev pub token_sum : MapValue → ℕ → ℕ
+token_sum m start = with_all start (tokens_from m 0)

@@ -1,0 +1,61 @@
+//! Checksums of answers.
+ghost use Rattle.std.specs.Prelude.{◌≡◌, ℕ, fold, option_map};
+ghost use Rattle.sourcemap.specs.Token.{lookup, token_value, tokens_from};
+ghost use Rattle.sourcemap_bench.specs.Sums.{mixed, worth, lookup_sum, token_sum};
+
+use sourcemap::{SourceMap, Token};
+
+/// A sum with one more number.
+#[inline]
+pub fn mixed(sum: u32, number: u32) -> u32
+    ensures { result ≡ mixed sum number }
+{
+    ((31 * u64::from(sum) + u64::from(number)) % (1 << 32)) as u32
+}
+
+/// The number of an answer: 0 for none and for a token without a source, else made of the place in
+/// the source.
+#[inline]
+pub fn worth(token: Option<Token<'_>>) -> u32
+    ensures { result ≡ worth (option_map token_value token.entry) }
+{
+    match token {
+        Some(token) if token.has_source() => {
+            let line = u64::from(token.get_src_line());
+            let column = u64::from(token.get_src_col());
+            ((line + 7 * column + 1) % (1 << 32)) as u32
+        }
+        _ => 0,
+    }
+}
+
+// A sum with the answer to the lookup of one position.
+#[inline]
+fn asked(map: &SourceMap, sum: u32, position: (u32, u32)) -> u32
+    ensures { result ≡ mixed sum (worth (lookup map.now position)) }
+{
+    let (line, column) = position;
+    mixed(sum, worth(map.lookup_token(line, column)))
+}
+
+/// A sum with the answers to lookups of these positions.
+pub fn lookup_sum(map: &SourceMap, positions: &[(u32, u32)], start: u32) -> u32
+    ensures { result ≡ lookup_sum map.now positions.now start }
+{
+    let mut sum = start;
+    for position in positions {
+        sum = asked(map, sum, *position);
+    }
+    sum
+}
+
+/// A sum with all tokens, in order.
+pub fn token_sum(map: &SourceMap, start: u32) -> u32
+    ensures { result ≡ token_sum map.now start }
+{
+    let mut sum = start;
+    for token in map.tokens() {
+        sum = mixed(sum, worth(Some(token)));
+    }
+    sum
+}

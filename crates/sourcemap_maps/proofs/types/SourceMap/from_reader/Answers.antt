@@ -1,0 +1,20 @@
+-- The bytes that were read are the reader's.
+use Rattle.std.proofs.lemmas.Result.{err_from_is_err_and}
+use Rattle.sourcemap_maps.specs.Reading.{BytesStandFor, RegularDecodes}
+use Rattle.sourcemap_maps.proofs.ReadingLemmas.{regular_decodes_once, answer_of_reader, fault_of_reader, reader_only}
+use Rattle.sourcemap_maps.proofs.types.SourceMap.from_reader.Goals as goal
+
+pub returns-clause-answer : goal.returns-clause-answer
+returns-clause-answer g c =
+    answer_of_reader (λ m. m) (BytesStandFor RegularDecodes) (g.R.Read.remaining c.args.reader) c.in_ok-bytes.bytes.items
+    c.regular_in.result c.in_ok-bytes.ensures (rw (← c.as_slice.ensures.value) c.regular_in.ensures.answer)
+
+pub returns-clause-only : goal.returns-clause-only
+returns-clause-only g c =
+    reader_only (λ m. m) RegularDecodes regular_decodes_once (g.R.Read.remaining c.args.reader) c.in_ok-bytes.bytes.items
+    c.regular_in.result c.in_ok-bytes.ensures (rw (← c.as_slice.ensures.value) c.regular_in.ensures.answer)
+
+pub returns-in_err-bytes-clause-answer : goal.returns-in_err-bytes-clause-answer
+returns-in_err-bytes-clause-answer g c =
+    let p = err_from_is_err_and c.from_residual.result c.from_residual.ensures.1 in
+    rw (p.1, p.2) (fault_of_reader (λ m. m) (BytesStandFor RegularDecodes) (g.R.Read.remaining c.args.reader) _ c.in_err-bytes.ensures)

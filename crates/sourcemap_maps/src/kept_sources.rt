@@ -1,0 +1,111 @@
+ghost use Rattle.std.specs.Prelude.{◌≡◌, ◌∷◌, [], ◌++◌, None, Ok, OnOk, IsOkUnless, codes, cond, filter, map, not, option_map, string_bytes};
+ghost use Rattle.std.specs.List.{list_any};
+ghost use Rattle.std.specs.Str.{bytes_eq};
+ghost use Rattle.sourcemap_core.specs.Answer.{Gives};
+ghost use Rattle.sourcemap_core.specs.Paths.{common_prefix};
+ghost use Rattle.sourcemap_core.specs.declared.errors.Error.TheVariants.{OutOfMemory};
+ghost use Rattle.sourcemap_maps.specs.Texts.{texts_of};
+ghost use Rattle.sourcemap_maps.specs.Prefixes.{cut_by};
+ghost use Rattle.sourcemap_maps.specs.Rewrite.{all_prefixes, common_if, present};
+
+use crate::prefixes::cut_text;
+use sourcemap_core::errors::Result;
+use sourcemap_core::utils::find_common_prefix;
+use std::alloc::Global;
+
+// What stands in a list of prefixes for what paths have in common.
+const COMMON: &str = "~";
+
+// What the paths among texts have in common.
+fn common_of(alloc: Global, texts: &[String]) -> Result<Option<String>>
+    ensures { Gives (option_map string_bytes) result (Ok (common_prefix (map string_bytes texts.now))) }
+{
+    find_common_prefix(alloc, texts.iter().map(|text| text.as_str()))
+}
+
+// Whether it is asked for.
+fn asks_for_common(prefixes: &[&str]) -> bool
+    ensures { result ≡ list_any (λ prefix. bytes_eq prefix (codes "~")) (map (λ prefix. prefix.now) prefixes.now) }
+{
+    for prefix in prefixes {
+        if *prefix == COMMON {
+            return true;
+        }
+    }
+    false
+}
+
+fn common_if_asked(alloc: Global, prefixes: &[&str], texts: &[String]) -> Result<Option<String>>
+    ensures { Gives (option_map string_bytes) result
+        (Ok (common_if (map (λ prefix. prefix.now) prefixes.now) (map string_bytes texts.now))) }
+{
+    if asks_for_common(prefixes) {
+        let common = common_of(alloc, texts)?;
+        Ok(common)
+    } else {
+        Ok(None)
+    }
+}
+
+// The prefixes of a list that are given as they are.
+fn plain_prefixes(alloc: Global, prefixes: &[&str]) -> Result<Vec<String>>
+    ensures { Gives texts_of result
+        (Ok (filter (λ prefix. not (bytes_eq prefix (codes "~"))) (map (λ prefix. prefix.now) prefixes.now))) }
+{
+    let mut list = Vec::new(alloc);
+    for prefix in prefixes {
+        if *prefix != COMMON {
+            list.push(String::from_str(alloc, prefix)?)?;
+        }
+    }
+    Ok(list)
+}
+
+// The list with one more text, if there is one.
+fn with_one_more(mut texts: Vec<String>, text: Option<String>) -> Result<Vec<String>>
+    ensures { Gives texts_of result
+        (Ok (texts_of texts ++ present (option_map string_bytes text ∷ []))) }
+{
+    if let Some(text) = text {
+        texts.push(text)?;
+    }
+    Ok(texts)
+}
+
+// Cuts a text in place.
+fn cut(alloc: Global, text: &mut String, prefixes: &[String]) -> Result<()>
+    ensures ok { OnOk result (string_bytes text.new ≡ cut_by (map string_bytes prefixes.now) (string_bytes text.old)) }
+    ensures memory { IsOkUnless result OutOfMemory }
+{
+    if let Some(rest) = cut_text(alloc, text.as_str(), None, prefixes)? {
+        *text = rest;
+    }
+    Ok(())
+}
+
+fn cut_all(alloc: Global, texts: &mut [String], prefixes: &[String]) -> Result<()>
+    ensures ok { OnOk result (map string_bytes texts.new ≡ map (cut_by (map string_bytes prefixes.now)) (map string_bytes texts.old)) }
+    ensures memory { IsOkUnless result OutOfMemory }
+{
+    for text in texts.iter_mut() {
+        cut(alloc, text, prefixes)?;
+    }
+    Ok(())
+}
+
+// The texts less the prefixes of a list, in which `~` stands for what the paths have in common.
+pub(crate) fn cut_sources(
+    alloc: Global,
+    mut texts: Vec<String>,
+    prefixes: &[&str],
+    paths: &[String],
+) -> Result<Vec<String>>
+    ensures { Gives texts_of result
+        (Ok (map (cut_by (all_prefixes (map (λ prefix. prefix.now) prefixes.now) (map string_bytes paths.now))) (texts_of texts))) }
+{
+    let common = common_if_asked(alloc, prefixes, paths)?;
+    let plain = plain_prefixes(alloc, prefixes)?;
+    let all = with_one_more(plain, common)?;
+    cut_all(alloc, texts.as_mut_slice(), all.as_slice())?;
+    Ok(texts)
+}

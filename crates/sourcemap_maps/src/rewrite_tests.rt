@@ -1,0 +1,118 @@
+use crate::decoder::decode_regular;
+use crate::encoder::Encodable;
+use crate::types::RewriteOptions;
+use serde_json::Value;
+use sourcemap_core::errors::{Error, Result};
+use sourcemap_json::jsontypes::RawSourceMap;
+use std::alloc::Global;
+use std::rt::Files;
+use std::test::Fail;
+
+// Two paths.
+const PATHS: &str = "{\"mappings\":\"AAAA,CCAA\",\"sources\":[\"/a/b/x.js\",\"/a/b/y.js\"]}";
+
+const CONTENTS: &str =
+    "{\"mappings\":\"ACAA\",\"sources\":[\"a.js\",\"b.js\"],\"sourcesContent\":[\"x\",\"y\"]}";
+
+const ROOTED: &str =
+    "{\"mappings\":\"AAAA,GAAIA,GAAI,EACR,IAAIA,GAAK,EAAG,CACVC,MAAM\",\"names\":[\"x\",\"alert\"],\"sourceRoot\":\"r\",\"sources\":[\"coolstuff.js\"]}";
+
+const NAMED: &str =
+    "{\"debugId\":\"00000000-0000-0000-0000-000000000000\",\"mappings\":\"AAAA,GAAIA,GAAI,EACR,IAAIA,GAAK,EAAG,CACVC,MAAM\",\"names\":[\"x\",\"alert\"],\"sources\":[\"coolstuff.js\"]}";
+
+// Tokens of the sources 1, 2 and 1 and of the names 1, 1 and 0, where sources 1 and 2 have one text.
+const TWICE: &str =
+    "{\"ignoreList\":[1],\"mappings\":\"ACAAC,CCAAA,CDAAD\",\"names\":[\"m\",\"n\"],\"sources\":[\"a.js\",\"b.js\",\"b.js\"],\"sourcesContent\":[\"x\",null,\"y\"]}";
+
+// The text of a map that is rewritten.
+fn rewritten<F: Files>(
+    rt: &F,
+    alloc: Global,
+    text: &str,
+    options: &RewriteOptions<'_>,
+) -> Result<String> {
+    let record = RawSourceMap::from_owned(alloc, Value::from_str(alloc, text)?)?;
+    let map = decode_regular(alloc, record)?.rewrite(rt, options)?;
+    let written = map.as_raw_sourcemap()?.into_value(alloc)?;
+    Ok(written.to_string(alloc)?)
+}
+
+#[test]
+fn keeps_what_is_used(rt: HostRuntime) -> std::result::Result<(), Fail> {
+    let options = RewriteOptions::default();
+    for (text, wanted) in [
+        (
+            CONTENTS,
+            "{\"mappings\":\"AAAA\",\"names\":[],\"sources\":[\"b.js\"],\"sourcesContent\":[\"y\"],\"version\":3}",
+        ),
+        (
+            ROOTED,
+            "{\"mappings\":\"AAAA,GAAIA,GAAI,EACR,IAAIA,GAAK,EAAG,CACVC,MAAM\",\"names\":[\"x\",\"alert\"],\"sources\":[\"r/coolstuff.js\"],\"version\":3}",
+        ),
+        (
+            TWICE,
+            "{\"mappings\":\"AAAAA,CAAAA,CAAAC\",\"names\":[\"n\",\"m\"],\"sources\":[\"b.js\"],\"sourcesContent\":[\"y\"],\"version\":3}",
+        ),
+    ] {
+        let shown = rewritten(&rt, rt.alloc(), text, &options)?;
+        assert_eq!(rt; shown.as_str(), wanted);
+    }
+    Ok(())
+}
+
+#[test]
+fn prefixes_are_cut(rt: HostRuntime) -> std::result::Result<(), Fail> {
+    let rows: [(&[&str], &str); 2] = [
+        (
+            &["~"],
+            "{\"mappings\":\"AAAA,CCAA\",\"names\":[],\"sources\":[\"x.js\",\"y.js\"],\"version\":3}",
+        ),
+        (
+            &["~", "/b", "/a"],
+            "{\"mappings\":\"AAAA,CCAA\",\"names\":[],\"sources\":[\"b/x.js\",\"b/y.js\"],\"version\":3}",
+        ),
+    ];
+    for (prefixes, wanted) in rows {
+        let options = RewriteOptions {
+            strip_prefixes: prefixes,
+            ..RewriteOptions::default()
+        };
+        let shown = rewritten(&rt, rt.alloc(), PATHS, &options)?;
+        assert_eq!(rt; shown.as_str(), wanted);
+    }
+    Ok(())
+}
+
+#[test]
+fn names_and_contents_are_left_out(rt: HostRuntime) -> std::result::Result<(), Fail> {
+    let options = RewriteOptions {
+        with_names: false,
+        with_source_contents: false,
+        ..RewriteOptions::default()
+    };
+    for (text, wanted) in [
+        (
+            NAMED,
+            "{\"debugId\":\"00000000-0000-0000-0000-000000000000\",\"mappings\":\"AAAA,GAAI,GAAI,EACR,IAAI,GAAK,EAAG,CACV,MAAM\",\"names\":[],\"sources\":[\"coolstuff.js\"],\"version\":3}",
+        ),
+        (
+            CONTENTS,
+            "{\"mappings\":\"AAAA\",\"names\":[],\"sources\":[\"b.js\"],\"version\":3}",
+        ),
+    ] {
+        let shown = rewritten(&rt, rt.alloc(), text, &options)?;
+        assert_eq!(rt; shown.as_str(), wanted);
+    }
+    Ok(())
+}
+
+#[test]
+fn files_are_not_read(rt: HostRuntime) -> std::result::Result<(), Fail> {
+    let options = RewriteOptions {
+        load_local_source_contents: true,
+        ..RewriteOptions::default()
+    };
+    let refused = rewritten(&rt, rt.alloc(), CONTENTS, &options);
+    assert!(rt; matches!(refused, Err(Error::IncompatibleSourceMap)));
+    Ok(())
+}
