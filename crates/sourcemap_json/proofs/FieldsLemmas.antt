@@ -12,7 +12,7 @@ use Rattle.serde_json.specs.Data.{Data, Members, member}
 use Rattle.serde_json.specs.Find.{get_member}
 use Rattle.serde_json.specs.View.{view, members_view}
 use Rattle.serde_json.proofs.Views.{Entry}
-use Rattle.sourcemap_json.specs.Fields.{KeepsOthers, found, at}
+use Rattle.sourcemap_json.specs.Groups.{KeepsBut}
 
 not_equal : (o : Ordering) (a b : Option Data) → is_eq o ≡ false → match_ordering o a b a ≡ a
 not_equal Less a b e = refl
@@ -37,31 +37,14 @@ pub remove_other : (key other : List ℕ) (es : List Entry) → bytes_eq other k
 remove_other key other [] apart = refl
 remove_other key other (e ∷ es) apart = removed_at _ key other e es _ refl apart (remove_other key other es apart)
 
--- all members but these are as before
-pub record Untouched (keys : List (List ℕ)) (before after : Members) : Type 0 where
-  pub stays : (other : List ℕ) → list_any (bytes_eq other) keys ≡ false → get_member other after ≡ get_member other before
-
 neither : (a b : Bool) → (a || b) ≡ false → (a ≡ false) × (b ≡ false)
 neither true b h = absurd (true≢false h)
 neither false b h = (refl, h)
 
-pub untouched_more : {keys : List (List ℕ)} {a b : Members} (key : List ℕ) (d : Members) → Untouched keys a b → KeepsOthers key b d → Untouched (key ∷ keys) a d
-untouched_more {keys = keys} key d before step = record {
-  stays = λ other apart.
-      let both = neither (bytes_eq other key) (list_any (bytes_eq other) keys) apart in
-      step other both.0 ∙ before.stays other both.1;
-}
-
-pub untouched_two : (k l : List ℕ) (a b : Members)
+-- what keeps all but two keys, said of the list of the two
+pub kept_but_two : (k l : List ℕ) (a b : Members)
     → ((other : List ℕ) → bytes_eq other k ≡ false → bytes_eq other l ≡ false → get_member other b ≡ get_member other a)
-    → Untouched (k ∷ l ∷ []) a b
-untouched_two k l a b step = record {
-  stays = λ other apart.
-      let both = neither (bytes_eq other k) (list_any (bytes_eq other) (l ∷ [])) apart in
-      step other both.0 (neither (bytes_eq other l) false both.1).0;
-}
-
--- what a key gave after others were taken out
-pub gave : {X : Type 0} {keys : List (List ℕ)} {a b : Members} (read : Data → Option X) (key : List ℕ) (x : Option X)
-    → Untouched keys a b → list_any (bytes_eq key) keys ≡ false → at key read b ≡ Some x → at key read a ≡ Some x
-gave read key x u apart e = sym (ap (found read) (u.stays key apart)) ∙ e
+    → KeepsBut (k ∷ l ∷ []) a b
+kept_but_two k l a b step = λ other apart.
+    let both = neither (bytes_eq other k) (list_any (bytes_eq other) (l ∷ [])) apart in
+    step other both.0 (neither (bytes_eq other l) false both.1).0

@@ -6,3 +6,4 @@ pub mod ReadingLemmas
 pub mod StripHeaderLemmas
 pub mod DataUrlLemmas
 pub mod ReadBackLemmas
+pub mod GroupsLemmas

@@ -6,6 +6,7 @@ pub mod data_url;
 mod debug_id;
 pub mod decoder;
 mod fields;
+mod groups;
 pub mod jsontypes;
 mod parts;
 mod reading;

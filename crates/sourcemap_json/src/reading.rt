@@ -1,13 +1,15 @@
 // Records from values, each text moved out of its value.
-ghost use Rattle.std.specs.Prelude.{◌≡◌, ℕ, List, Some, map, option_map, codes, false};
+ghost use Rattle.std.specs.Prelude.{◌≡◌, ℕ, List, Some, map, option_map, codes, false, OnOk};
 ghost use Rattle.std.specs.Str.{bytes_eq};
 ghost use Rattle.serde_json.specs.Find.{get_member};
 ghost use Rattle.serde_json.specs.View.{view, items_view, members_view};
 ghost use Rattle.sourcemap_json.specs.Fields.{Reads, with, found};
+ghost use Rattle.sourcemap_json.specs.Groups.{KeepsBut, heading_in, heading_names, heading_view, content_in, content_names, content_view, extras_in, extras_view, groups_view};
 ghost use Rattle.sourcemap_json.specs.Jsontypes.{debug_id_in, fields_in, place_in, section_at, tree_with, sections_from, sections_read, sections_of, record_of, section_of, section, tree};
 
 use crate::debug_id::DebugId;
 use crate::fields::{take_needed, take_optional, take_value};
+use crate::groups::{Content, Extras, Groups, Heading, joined};
 use crate::jsontypes::{RawSection, RawSourceMap};
 use serde_json::{Map, Value};
 use sourcemap_core::errors::{Error, JsonFault, Result};
@@ -26,43 +28,80 @@ fn take_debug_id(alloc: Global, members: &mut Map<String, Value>) -> Result<Opti
     Ok(new.or(old))
 }
 
+fn take_heading(alloc: Global, members: &mut Map<String, Value>) -> Result<Heading>
+    ensures value { Reads heading_view result (heading_in (members_view members.old.entries)) }
+    ensures others { OnOk result (KeepsBut heading_names
+        (members_view members.old.entries) (members_view members.new.entries)) }
+{
+    let version = take_optional(alloc, members, "version")?;
+    let file = take_optional(alloc, members, "file")?;
+    let sources = take_optional(alloc, members, "sources")?;
+    let source_root = take_optional(alloc, members, "sourceRoot")?;
+    Ok(Heading {
+        version,
+        file,
+        sources,
+        source_root,
+    })
+}
+
+fn take_content(alloc: Global, members: &mut Map<String, Value>) -> Result<Content>
+    ensures value { Reads content_view result (content_in (members_view members.old.entries)) }
+    ensures others { OnOk result (KeepsBut content_names
+        (members_view members.old.entries) (members_view members.new.entries)) }
+{
+    let sources_content = take_optional(alloc, members, "sourcesContent")?;
+    let names = take_optional(alloc, members, "names")?;
+    let range_mappings = take_optional(alloc, members, "rangeMappings")?;
+    let mappings = take_optional(alloc, members, "mappings")?;
+    Ok(Content {
+        sources_content,
+        names,
+        range_mappings,
+        mappings,
+    })
+}
+
+fn take_extras(alloc: Global, members: &mut Map<String, Value>) -> Result<Extras>
+    ensures { Reads extras_view result (extras_in (members_view members.old.entries)) }
+{
+    let ignore_list = take_optional(alloc, members, "ignoreList")?;
+    let x_facebook_offsets = take_optional(alloc, members, "x_facebook_offsets")?;
+    let x_metro_module_paths = take_optional(alloc, members, "x_metro_module_paths")?;
+    let x_facebook_sources = take_optional(alloc, members, "x_facebook_sources")?;
+    Ok(Extras {
+        ignore_list,
+        x_facebook_offsets,
+        x_metro_module_paths,
+        x_facebook_sources,
+    })
+}
+
+fn take_groups(alloc: Global, mut members: Map<String, Value>) -> Result<Groups>
+    ensures { Reads groups_view result (fields_in (members_view members.entries)) }
+{
+    let debug_id = take_debug_id(alloc, &mut members)?;
+    let heading = take_heading(alloc, &mut members)?;
+    let content = take_content(alloc, &mut members)?;
+    let extras = take_extras(alloc, &mut members)?;
+    Ok(Groups {
+        heading,
+        content,
+        extras,
+        debug_id,
+    })
+}
+
 fn take_fields(
     alloc: Global,
-    mut members: Map<String, Value>,
+    members: Map<String, Value>,
     sections: Option<Vec<RawSection>>,
 ) -> Result<RawSourceMap>
     ensures { Reads tree result (with (fields_in (members_view members.entries))
         (λ fields. Some (tree_with fields (option_map (λ v. sections_from (map section v.items)) sections)))) }
 {
-    let debug_id = take_debug_id(alloc, &mut members)?;
-    let version = take_optional(alloc, &mut members, "version")?;
-    let file = take_optional(alloc, &mut members, "file")?;
-    let sources = take_optional(alloc, &mut members, "sources")?;
-    let source_root = take_optional(alloc, &mut members, "sourceRoot")?;
-    let sources_content = take_optional(alloc, &mut members, "sourcesContent")?;
-    let names = take_optional(alloc, &mut members, "names")?;
-    let range_mappings = take_optional(alloc, &mut members, "rangeMappings")?;
-    let mappings = take_optional(alloc, &mut members, "mappings")?;
-    let ignore_list = take_optional(alloc, &mut members, "ignoreList")?;
-    let x_facebook_offsets = take_optional(alloc, &mut members, "x_facebook_offsets")?;
-    let x_metro_module_paths = take_optional(alloc, &mut members, "x_metro_module_paths")?;
-    let x_facebook_sources = take_optional(alloc, &mut members, "x_facebook_sources")?;
-    Ok(RawSourceMap {
-        version,
-        file,
-        sources,
-        source_root,
-        sources_content,
-        sections,
-        names,
-        range_mappings,
-        mappings,
-        ignore_list,
-        x_facebook_offsets,
-        x_metro_module_paths,
-        x_facebook_sources,
-        debug_id,
-    })
+    let groups = take_groups(alloc, members)?;
+    Ok(joined(groups, sections))
 }
 
 fn take_place(

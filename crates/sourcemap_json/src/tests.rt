@@ -9,15 +9,40 @@ fn read(alloc: Global, text: &str) -> Result<RawSourceMap, Error> {
     RawSourceMap::from_owned(alloc, Value::from_str(alloc, text)?)
 }
 
-fn check_written(rt: &impl Abort, alloc: Global, text: &str, wanted: &str) -> Result<(), Fail> {
+fn is_of_wrong_shape(alloc: Global, text: &str) -> bool {
+    matches!(read(alloc, text), Err(Error::BadJson(JsonFault::Shape)))
+}
+
+// A record that is alive at a `?` makes the function dear to prove, so each step is its own.
+fn written(alloc: Global, text: &str) -> Result<Value, Error> {
     let record = read(alloc, text)?;
-    let written = record.to_value(alloc)?;
-    let again = RawSourceMap::from_value(alloc, &written)?;
-    assert!(rt; again == record, "{text}");
-    let shown = written.to_string(alloc)?;
+    record.to_value(alloc)
+}
+
+fn is_read_back(alloc: Global, written: &Value, text: &str) -> Result<bool, Error> {
+    let record = read(alloc, text)?;
+    is_read_as(alloc, written, &record)
+}
+
+fn is_read_as(alloc: Global, written: &Value, record: &RawSourceMap) -> Result<bool, Error> {
+    let again = RawSourceMap::from_value(alloc, written)?;
+    Ok(again == *record)
+}
+
+fn moved(alloc: Global, written: &Value) -> Result<Value, Error> {
+    RawSourceMap::from_value(alloc, written)?.into_value(alloc)
+}
+
+fn check_written(rt: &impl Abort, alloc: Global, text: &str, wanted: &str) -> Result<(), Fail> {
+    let written = written(alloc, text)?;
+    assert!(rt; is_read_back(alloc, &written, text)?, "{text}");
+    check_shown(rt, alloc, &written, wanted)?;
+    check_shown(rt, alloc, &moved(alloc, &written)?, wanted)
+}
+
+fn check_shown(rt: &impl Abort, alloc: Global, value: &Value, wanted: &str) -> Result<(), Fail> {
+    let shown = value.to_string(alloc)?;
     assert_eq!(rt; shown.as_str(), wanted);
-    let moved = again.into_value(alloc)?.to_string(alloc)?;
-    assert_eq!(rt; moved.as_str(), wanted);
     Ok(())
 }
 
@@ -41,11 +66,7 @@ fn wrong_shapes(rt: HostRuntime) -> Result<(), Fail> {
         "{\"debugId\":\"00000000000000000000000000000000\",\"debug_id\":\"x\"}",
     ];
     for text in texts {
-        let outcome = read(rt.alloc(), text);
-        assert!(rt;
-            matches!(&outcome, Err(Error::BadJson(JsonFault::Shape))),
-            "{text}"
-        );
+        assert!(rt; is_of_wrong_shape(rt.alloc(), text), "{text}");
     }
     Ok(())
 }
@@ -71,45 +92,69 @@ fn written_texts(rt: HostRuntime) -> Result<(), Fail> {
     check_written(&rt, alloc, whole, whole)
 }
 
-#[test]
-fn debug_ids(rt: HostRuntime) -> Result<(), Fail> {
-    let alloc = rt.alloc();
-    let zeros = "00000000-0000-0000-0000-000000000000";
-    let record = read(
-        alloc,
-        "{\"debug_id\":\"11111111-1111-1111-1111-111111111111\",\"debugId\":\"00000000000000000000000000000000\"}",
-    )?;
-    let id = record.debug_id.ok_or("no id")?;
-    assert_eq!(rt; id.to_string(alloc)?.as_str(), zeros);
-    assert!(rt; DebugId::parse(zeros) == Some(DebugId::from_uuid(id.uuid())));
-    let upper = DebugId::parse("ABCDEFABCDEFABCDEFABCDEFABCDEFAB").ok_or("no id")?;
-    assert_eq!(rt;
-        upper.to_string(alloc)?.as_str(),
-        "abcdefab-cdef-abcd-efab-cdefabcdefab"
-    );
-    assert!(rt; DebugId::parse("{00000000-0000-0000-0000-000000000000}").is_none());
+fn id_in(alloc: Global, text: &str) -> Result<Option<DebugId>, Error> {
+    let record = read(alloc, text)?;
+    Ok(record.debug_id)
+}
+
+fn check_id(rt: &impl Abort, alloc: Global, id: DebugId, wanted: &str) -> Result<(), Fail> {
+    let shown = id.to_string(alloc)?;
+    assert_eq!(rt; shown.as_str(), wanted);
     Ok(())
 }
 
 #[test]
+fn debug_ids(rt: HostRuntime) -> Result<(), Fail> {
+    let zeros = "00000000-0000-0000-0000-000000000000";
+    let first = id_in(
+        rt.alloc(),
+        "{\"debug_id\":\"11111111-1111-1111-1111-111111111111\",\"debugId\":\"00000000000000000000000000000000\"}",
+    )?;
+    let id = first.ok_or("no id")?;
+    check_id(&rt, rt.alloc(), id, zeros)?;
+    assert!(rt; DebugId::parse(zeros) == Some(DebugId::from_uuid(id.uuid())));
+    let upper = DebugId::parse("ABCDEFABCDEFABCDEFABCDEFABCDEFAB").ok_or("no id")?;
+    check_id(
+        &rt,
+        rt.alloc(),
+        upper,
+        "abcdefab-cdef-abcd-efab-cdefabcdefab",
+    )?;
+    assert!(rt; DebugId::parse("{00000000-0000-0000-0000-000000000000}").is_none());
+    Ok(())
+}
+
+fn names_in(alloc: Global, value: &Value) -> Result<Option<Vec<Value>>, Error> {
+    let record = RawSourceMap::from_value(alloc, value)?;
+    Ok(record.names)
+}
+
+fn check_names(rt: &impl Abort, names: &[Value]) {
+    assert_eq!(rt; names.len(), 4);
+    assert!(rt; names[1] == Value::Bool(true));
+    assert!(rt; names[2] == Value::from(7u8));
+}
+
+#[test]
 fn names_and_keys(rt: HostRuntime) -> Result<(), Fail> {
-    let alloc = rt.alloc();
     let value = Value::from_str(
-        alloc,
+        rt.alloc(),
         "{\"names\":[1.5,true,7,\"a\"],\"mappings\":null,\"version\":3}",
     )?;
     let minimal = MinimalRawSourceMap::from_value(&value)?;
     assert!(rt; minimal.names && !minimal.mappings && minimal.version == Some(3));
-    let names = RawSourceMap::from_value(alloc, &value)?
-        .names
-        .ok_or("no names")?;
-    assert_eq!(rt; names.len(), 4);
-    assert!(rt; names[1] == Value::Bool(true));
-    assert!(rt; names[2] == Value::from(7u8));
+    let names = names_in(rt.alloc(), &value)?.ok_or("no names")?;
+    check_names(&rt, &names);
+    Ok(())
+}
+
+#[test]
+fn scopes_are_copied(rt: HostRuntime) -> Result<(), Fail> {
     let scopes = FacebookScopeMapping {
-        names: Vec::new(alloc),
-        mappings: String::from_str(alloc, "AAA")?,
+        mappings: String::from_str(rt.alloc(), "AAA")?,
+        names: Vec::new(rt.alloc()),
     };
-    assert!(rt; scopes.clone()? == scopes);
+    let copy = scopes.clone()?;
+    assert!(rt; copy == scopes);
     Ok(())
 }

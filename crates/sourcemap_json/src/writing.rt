@@ -1,68 +1,94 @@
 // Records as values, each text moved into its value.
-ghost use Rattle.std.specs.Prelude.{◌≡◌, map, option_map, IfOk, IfErr};
+ghost use Rattle.std.specs.Prelude.{◌≡◌, map, option_map, IfOk, IfErr, OnOk};
 ghost use Rattle.serde_json.specs.Data.{array};
 ghost use Rattle.serde_json.specs.View.{view, items_of, members_view};
 ghost use Rattle.sourcemap_core.specs.declared.errors.Error.TheVariants.{OutOfMemory};
-ghost use Rattle.sourcemap_json.specs.Fields.{Makes, written_or_null};
+ghost use Rattle.sourcemap_json.specs.Fields.{Makes, put_all, written_or_null};
+ghost use Rattle.sourcemap_json.specs.Groups.{heading_entries, heading_view, content_entries, content_view, extra_entries, extras_view, groups_view};
 ghost use Rattle.sourcemap_json.specs.Jsontypes.{flat, written, written_fields, written_one, section, tree};
 
 use crate::fields::put_field;
+use crate::groups::{Content, Extras, Groups, Heading, split};
 use crate::jsontypes::{RawSection, RawSourceMap};
 use serde_json::{Map, Value};
 use sourcemap_core::errors::Result;
 use std::alloc::Global;
+
+fn put_heading(alloc: Global, members: &mut Map<String, Value>, heading: Heading) -> Result<()>
+    ensures ok { OnOk result (members_view members.new.entries
+        ≡ put_all (heading_entries (heading_view heading)) (members_view members.old.entries)) }
+    ensures err { IfErr result (λ e. e ≡ OutOfMemory) }
+{
+    let Heading {
+        version,
+        file,
+        sources,
+        source_root,
+    } = heading;
+    put_field(alloc, members, "version", Some(version))?;
+    put_field(alloc, members, "file", file)?;
+    put_field(alloc, members, "sources", Some(sources))?;
+    put_field(alloc, members, "sourceRoot", source_root)
+}
+
+fn put_content(alloc: Global, members: &mut Map<String, Value>, content: Content) -> Result<()>
+    ensures ok { OnOk result (members_view members.new.entries
+        ≡ put_all (content_entries (content_view content)) (members_view members.old.entries)) }
+    ensures err { IfErr result (λ e. e ≡ OutOfMemory) }
+{
+    let Content {
+        sources_content,
+        names,
+        range_mappings,
+        mappings,
+    } = content;
+    put_field(alloc, members, "sourcesContent", sources_content)?;
+    put_field(alloc, members, "names", names)?;
+    put_field(alloc, members, "rangeMappings", range_mappings)?;
+    put_field(alloc, members, "mappings", mappings)
+}
+
+fn put_extras(alloc: Global, members: &mut Map<String, Value>, extras: Extras) -> Result<()>
+    ensures ok { OnOk result (members_view members.new.entries
+        ≡ put_all (extra_entries (extras_view extras)) (members_view members.old.entries)) }
+    ensures err { IfErr result (λ e. e ≡ OutOfMemory) }
+{
+    let Extras {
+        ignore_list,
+        x_facebook_offsets,
+        x_metro_module_paths,
+        x_facebook_sources,
+    } = extras;
+    put_field(alloc, members, "ignoreList", ignore_list)?;
+    put_field(alloc, members, "x_facebook_offsets", x_facebook_offsets)?;
+    put_field(alloc, members, "x_metro_module_paths", x_metro_module_paths)?;
+    put_field(alloc, members, "x_facebook_sources", x_facebook_sources)
+}
+
+fn give_groups(alloc: Global, groups: Groups) -> Result<Map<String, Value>>
+    ensures ok { IfOk result (λ m. members_view m.entries ≡ written_fields (groups_view groups)) }
+    ensures err { IfErr result (λ e. e ≡ OutOfMemory) }
+{
+    let Groups {
+        heading,
+        content,
+        extras,
+        debug_id,
+    } = groups;
+    let mut members = Map::new(alloc);
+    put_heading(alloc, &mut members, heading)?;
+    put_content(alloc, &mut members, content)?;
+    put_extras(alloc, &mut members, extras)?;
+    put_field(alloc, &mut members, "debugId", debug_id)?;
+    Ok(members)
+}
 
 // All keys but the sections, which are dropped.
 fn give_fields(alloc: Global, map: RawSourceMap) -> Result<Map<String, Value>>
     ensures ok { IfOk result (λ m. members_view m.entries ≡ written_fields (flat (tree map))) }
     ensures err { IfErr result (λ e. e ≡ OutOfMemory) }
 {
-    let RawSourceMap {
-        version,
-        file,
-        sources,
-        source_root,
-        sources_content,
-        sections: _,
-        names,
-        range_mappings,
-        mappings,
-        ignore_list,
-        x_facebook_offsets,
-        x_metro_module_paths,
-        x_facebook_sources,
-        debug_id,
-    } = map;
-    let mut members = Map::new(alloc);
-    put_field(alloc, &mut members, "version", Some(version))?;
-    put_field(alloc, &mut members, "file", file)?;
-    put_field(alloc, &mut members, "sources", Some(sources))?;
-    put_field(alloc, &mut members, "sourceRoot", source_root)?;
-    put_field(alloc, &mut members, "sourcesContent", sources_content)?;
-    put_field(alloc, &mut members, "names", names)?;
-    put_field(alloc, &mut members, "rangeMappings", range_mappings)?;
-    put_field(alloc, &mut members, "mappings", mappings)?;
-    put_field(alloc, &mut members, "ignoreList", ignore_list)?;
-    put_field(
-        alloc,
-        &mut members,
-        "x_facebook_offsets",
-        x_facebook_offsets,
-    )?;
-    put_field(
-        alloc,
-        &mut members,
-        "x_metro_module_paths",
-        x_metro_module_paths,
-    )?;
-    put_field(
-        alloc,
-        &mut members,
-        "x_facebook_sources",
-        x_facebook_sources,
-    )?;
-    put_field(alloc, &mut members, "debugId", debug_id)?;
-    Ok(members)
+    give_groups(alloc, split(map))
 }
 
 #[cycle(writing)]
