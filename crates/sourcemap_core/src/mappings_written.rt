@@ -46,12 +46,13 @@ fn has_name(token: RawToken, names: u32) -> bool
     token.src_id != NOTHING && token.name_id < names
 }
 
+// The column alone tells most tokens apart.
 #[inline]
 fn is_repeat(previous: Option<RawToken>, token: RawToken) -> bool
     ensures { result ≡ repeats previous token }
 {
     match previous {
-        Some(before) => token == before,
+        Some(before) => token.dst_col == before.dst_col && token == before,
         None => false,
     }
 }
