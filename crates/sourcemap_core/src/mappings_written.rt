@@ -111,84 +111,79 @@ fn push_difference(
 }
 
 // The segment of a token.
-#[inline]
+#[inline(always)]
 fn push_segment(
     text: &mut String,
-    against: RawToken,
-    token: RawToken,
+    against: &RawToken,
+    token: &RawToken,
     names: u32,
 ) -> std::result::Result<(), AllocError>
-    ensures text { OnOk result (Adds (numbers names against token) (string_bytes text.old) (string_bytes text.new)) }
-    ensures small { OnOk result (HasSmallPlaces token) }
+    ensures text { OnOk result (Adds (numbers names against.now token.now) (string_bytes text.old) (string_bytes text.new)) }
+    ensures small { OnOk result (HasSmallPlaces token.now) }
 {
     push_difference(text, token.dst_col, against.dst_col)?;
-    if !has_source(token) {
+    if !has_source(*token) {
         return Ok(());
     }
     push_difference(text, token.src_id, against.src_id)?;
     push_difference(text, token.src_line, against.src_line)?;
     push_difference(text, token.src_col, against.src_col)?;
-    if has_name(token, names) {
+    if has_name(*token, names) {
         push_difference(text, token.name_id, against.name_id)?;
     }
     Ok(())
 }
 
-// What the first segment of a line is taken against.
-#[inline]
-fn at_line(against: RawToken, line: u32) -> RawToken
-    ensures value { result ≡ at_line against line }
+// Turns what a segment is taken against to a line.
+#[inline(always)]
+fn turn_to(against: &mut RawToken, line: u32)
+    ensures value { against.new ≡ at_line against.old line }
     ensures small { line < 2 ^ 32 }
 {
-    if against.dst_line == line {
-        return against;
-    }
-    RawToken {
-        dst_line: line,
-        dst_col: 0,
-        ..against
+    if against.dst_line != line {
+        against.dst_line = line;
+        against.dst_col = 0;
     }
 }
 
-// What the segment behind a token's is taken against.
-#[inline]
-fn moved(against: RawToken, token: RawToken, names: u32) -> RawToken
-    ensures { result ≡ moved names against token }
+// Moves what a segment is taken against behind a token.
+#[inline(always)]
+fn move_behind(against: &mut RawToken, token: &RawToken, names: u32)
+    ensures { against.new ≡ moved names against.old token.now }
 {
-    let source = if has_source(token) { token } else { against };
-    let name_id = if has_name(token, names) {
-        token.name_id
-    } else {
-        against.name_id
-    };
-    RawToken {
-        dst_line: token.dst_line,
-        dst_col: token.dst_col,
-        name_id,
-        is_range: false,
-        ..source
+    against.dst_line = token.dst_line;
+    against.dst_col = token.dst_col;
+    if !has_source(*token) {
+        return;
+    }
+    against.src_id = token.src_id;
+    against.src_line = token.src_line;
+    against.src_col = token.src_col;
+    if has_name(*token, names) {
+        against.name_id = token.name_id;
     }
 }
 
-// Adds the segment of a token to a text that has come to the line of `against`, and answers what the
+// Adds the segment of a token to a text that has come to the line of `against`, which is then what the
 // segment behind it is taken against.
-#[inline]
+#[inline(always)]
 fn push_token(
     text: &mut String,
-    against: RawToken,
+    against: &mut RawToken,
     previous: Option<RawToken>,
-    token: RawToken,
+    token: &RawToken,
     names: u32,
-) -> std::result::Result<RawToken, AllocError>
-    ensures text { OnOk result (Adds (numbers names (at_line against token.dst_line) token)
-        (string_bytes text.old ++ gap previous against.dst_line token) (string_bytes text.new)) }
-    ensures small { OnOk result ((token.dst_line < 2 ^ 32) × HasSmallPlaces token) }
-    ensures next { IfOk result (λ next. next ≡ moved names (at_line against token.dst_line) token) }
+) -> std::result::Result<(), AllocError>
+    ensures text { OnOk result (Adds (numbers names (at_line against.old token.now.dst_line) token.now)
+        (string_bytes text.old ++ gap previous against.old.dst_line token.now) (string_bytes text.new)) }
+    ensures small { OnOk result ((token.now.dst_line < 2 ^ 32) × HasSmallPlaces token.now) }
+    ensures next { OnOk result (against.new ≡ moved names (at_line against.old token.now.dst_line) token.now) }
 {
-    push_gap(text, previous, against.dst_line, token)?;
-    let against = at_line(against, token.dst_line);
+    push_gap(text, previous, against.dst_line, *token)?;
+    turn_to(against, token.dst_line);
     push_segment(text, against, token, names)?;
-    Ok(moved(against, token, names))
+    move_behind(against, token, names);
+    Ok(())
 }
 
 /// The text of mappings of some tokens in order, for a map of so many names: the lines from 0 to the
@@ -209,7 +204,7 @@ pub fn write_mappings(alloc: Global, tokens: &[RawToken], names: u32) -> Result<
     let mut previous = None;
     for token in tokens {
         if !is_repeat(previous, *token) {
-            against = push_token(&mut text, against, previous, *token, names)?;
+            push_token(&mut text, &mut against, previous, token, names)?;
         }
         previous = Some(*token);
     }
