@@ -40,5 +40,5 @@ moved names against t = record against {
   src_line = (if has_source t then t.src_line else against.src_line);
   src_col = (if has_source t then t.src_col else against.src_col);
   src_id = (if has_source t then t.src_id else against.src_id);
-  name_id = (if has_name names t then t.name_id else against.name_id)
+  name_id = (if has_name names t then t.name_id else against.name_id);
 }

@@ -110,26 +110,34 @@ fn push_difference(
     }
 }
 
-// The segment of a token.
+// The segment of a token on the line of `against`, which moves on to what the segment behind it is
+// taken against.
 #[inline(always)]
 fn push_segment(
     text: &mut String,
-    against: &RawToken,
+    against: &mut RawToken,
     token: &RawToken,
     names: u32,
 ) -> std::result::Result<(), AllocError>
-    ensures text { OnOk result (Adds (numbers names against.now token.now) (string_bytes text.old) (string_bytes text.new)) }
+    ensures text { OnOk result (Adds (numbers names against.old token.now) (string_bytes text.old) (string_bytes text.new)) }
     ensures small { OnOk result (HasSmallPlaces token.now) }
+    ensures next { OnOk result (against.new ≡ moved names against.old token.now) }
 {
     push_difference(text, token.dst_col, against.dst_col)?;
+    against.dst_line = token.dst_line;
+    against.dst_col = token.dst_col;
     if !has_source(*token) {
         return Ok(());
     }
     push_difference(text, token.src_id, against.src_id)?;
+    against.src_id = token.src_id;
     push_difference(text, token.src_line, against.src_line)?;
+    against.src_line = token.src_line;
     push_difference(text, token.src_col, against.src_col)?;
+    against.src_col = token.src_col;
     if has_name(*token, names) {
         push_difference(text, token.name_id, against.name_id)?;
+        against.name_id = token.name_id;
     }
     Ok(())
 }
@@ -143,24 +151,6 @@ fn turn_to(against: &mut RawToken, line: u32)
     if against.dst_line != line {
         against.dst_line = line;
         against.dst_col = 0;
-    }
-}
-
-// Moves what a segment is taken against behind a token.
-#[inline(always)]
-fn move_behind(against: &mut RawToken, token: &RawToken, names: u32)
-    ensures { against.new ≡ moved names against.old token.now }
-{
-    against.dst_line = token.dst_line;
-    against.dst_col = token.dst_col;
-    if !has_source(*token) {
-        return;
-    }
-    against.src_id = token.src_id;
-    against.src_line = token.src_line;
-    against.src_col = token.src_col;
-    if has_name(*token, names) {
-        against.name_id = token.name_id;
     }
 }
 
@@ -181,9 +171,7 @@ fn push_token(
 {
     push_gap(text, previous, against.dst_line, *token)?;
     turn_to(against, token.dst_line);
-    push_segment(text, against, token, names)?;
-    move_behind(against, token, names);
-    Ok(())
+    push_segment(text, against, token, names)
 }
 
 /// The text of mappings of some tokens in order, for a map of so many names: the lines from 0 to the
