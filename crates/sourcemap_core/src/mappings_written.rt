@@ -1,5 +1,5 @@
 //! The texts that a list of tokens is written as.
-ghost use Rattle.std.specs.Prelude.{◌≡◌, ℕ, ◌+◌, ◌-◌, ◌<◌, ◌^◌, List, [], ◌∷◌, ◌++◌, replicate, OnOk, IfOk, IfErr, string_bytes, option_map, Option, false};
+ghost use Rattle.std.specs.Prelude.{◌≡◌, ℕ, ◌+◌, ◌-◌, ◌<◌, ◌^◌, List, [], ◌∷◌, ◌++◌, replicate, OnOk, IfOk, IfErr, string_bytes, option_map, option_copied, Option, false};
 ghost use Rattle.std.specs.List.{list_any};
 ghost use Rattle.std.specs.Option.{option_map_or};
 ghost use Rattle.sourcemap_core.specs.Tokens.{AreInOrder, AllWithin, without_repeats, reduced};
@@ -48,18 +48,18 @@ fn has_name(token: RawToken, names: u32) -> bool
 
 // The column alone tells most tokens apart.
 #[inline]
-fn is_repeat(previous: Option<RawToken>, token: RawToken) -> bool
-    ensures { result ≡ repeats previous token }
+fn is_repeat(previous: Option<&RawToken>, token: &RawToken) -> bool
+    ensures { result ≡ repeats (option_copied previous.entry) token.now }
 {
     match previous {
-        Some(before) => token.dst_col == before.dst_col && token == before,
+        Some(before) => token.dst_col == before.dst_col && *token == *before,
         None => false,
     }
 }
 
 #[inline]
-fn follows_on(previous: Option<RawToken>, token: RawToken) -> bool
-    ensures { result ≡ follows previous token }
+fn follows_on(previous: Option<&RawToken>, token: &RawToken) -> bool
+    ensures { result ≡ follows (option_copied previous.entry) token.now }
 {
     match previous {
         Some(before) => before.dst_line == token.dst_line,
@@ -81,11 +81,11 @@ fn push_line_ends(text: &mut String, from: u32, to: u32) -> std::result::Result<
 #[inline]
 fn push_gap(
     text: &mut String,
-    previous: Option<RawToken>,
+    previous: Option<&RawToken>,
     line: u32,
-    token: RawToken,
+    token: &RawToken,
 ) -> std::result::Result<(), AllocError>
-    ensures text { OnOk result (string_bytes text.new ≡ string_bytes text.old ++ gap previous line token) }
+    ensures text { OnOk result (string_bytes text.new ≡ string_bytes text.old ++ gap (option_copied previous.entry) line token.now) }
 {
     if follows_on(previous, token) {
         text.push(',')?;
@@ -160,16 +160,16 @@ fn turn_to(against: &mut RawToken, line: u32)
 fn push_token(
     text: &mut String,
     against: &mut RawToken,
-    previous: Option<RawToken>,
+    previous: Option<&RawToken>,
     token: &RawToken,
     names: u32,
 ) -> std::result::Result<(), AllocError>
     ensures text { OnOk result (Adds (numbers names (at_line against.old token.now.dst_line) token.now)
-        (string_bytes text.old ++ gap previous against.old.dst_line token.now) (string_bytes text.new)) }
+        (string_bytes text.old ++ gap (option_copied previous.entry) against.old.dst_line token.now) (string_bytes text.new)) }
     ensures small { OnOk result ((token.now.dst_line < 2 ^ 32) × HasSmallPlaces token.now) }
     ensures next { OnOk result (against.new ≡ moved names (at_line against.old token.now.dst_line) token.now) }
 {
-    push_gap(text, previous, against.dst_line, *token)?;
+    push_gap(text, previous, against.dst_line, token)?;
     turn_to(against, token.dst_line);
     push_segment(text, against, token, names)
 }
@@ -191,10 +191,10 @@ pub fn write_mappings(alloc: Global, tokens: &[RawToken], names: u32) -> Result<
     let mut against = START;
     let mut previous = None;
     for token in tokens {
-        if !is_repeat(previous, *token) {
+        if !is_repeat(previous, token) {
             push_token(&mut text, &mut against, previous, token, names)?;
         }
-        previous = Some(*token);
+        previous = Some(token);
     }
     Ok(text)
 }
@@ -236,10 +236,10 @@ fn range_text(alloc: Global, tokens: &[RawToken]) -> Result<String>
             flags.clear();
             line = token.dst_line;
         }
-        if !is_repeat(before, *token) {
+        if !is_repeat(before, token) {
             flags.push(token.is_range)?;
         }
-        before = Some(*token);
+        before = Some(token);
     }
     push_bits(&mut text, flags.as_slice())?;
     Ok(text)
