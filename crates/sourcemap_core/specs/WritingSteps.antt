@@ -34,12 +34,11 @@ at_line against n = if against.dst_line == n then against else record against { 
 
 -- what the segment behind that of t is taken against
 abbrev pub moved : ℕ → RawToken → RawToken → RawToken
-moved names against t = record {
+moved names against t = record against {
   dst_line = t.dst_line;
   dst_col = t.dst_col;
   src_line = (if has_source t then t.src_line else against.src_line);
   src_col = (if has_source t then t.src_col else against.src_col);
   src_id = (if has_source t then t.src_id else against.src_id);
   name_id = (if has_name names t then t.name_id else against.name_id);
-  is_range = false;
 }

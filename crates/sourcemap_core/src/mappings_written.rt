@@ -1,5 +1,5 @@
 //! The texts that a list of tokens is written as.
-ghost use Rattle.std.specs.Prelude.{◌≡◌, ℕ, ◌+◌, ◌-◌, ◌<◌, ◌^◌, List, [], ◌∷◌, ◌++◌, replicate, OnOk, IfOk, IfErr, string_bytes, option_map, Option, false};
+ghost use Rattle.std.specs.Prelude.{◌≡◌, ℕ, ◌+◌, ◌-◌, ◌<◌, ◌^◌, List, [], ◌∷◌, ◌++◌, replicate, OnOk, IfOk, IfErr, string_bytes, option_map, option_copied, Option, false};
 ghost use Rattle.std.specs.List.{list_any};
 ghost use Rattle.std.specs.Option.{option_map_or};
 ghost use Rattle.sourcemap_core.specs.Tokens.{AreInOrder, AllWithin, without_repeats, reduced};
@@ -46,19 +46,20 @@ fn has_name(token: RawToken, names: u32) -> bool
     token.src_id != NOTHING && token.name_id < names
 }
 
+// The column alone tells most tokens apart.
 #[inline]
-fn is_repeat(previous: Option<RawToken>, token: RawToken) -> bool
-    ensures { result ≡ repeats previous token }
+fn is_repeat(previous: Option<&RawToken>, token: &RawToken) -> bool
+    ensures { result ≡ repeats (option_copied previous.entry) token.now }
 {
     match previous {
-        Some(before) => token == before,
+        Some(before) => token.dst_col == before.dst_col && *token == *before,
         None => false,
     }
 }
 
 #[inline]
-fn follows_on(previous: Option<RawToken>, token: RawToken) -> bool
-    ensures { result ≡ follows previous token }
+fn follows_on(previous: Option<&RawToken>, token: &RawToken) -> bool
+    ensures { result ≡ follows (option_copied previous.entry) token.now }
 {
     match previous {
         Some(before) => before.dst_line == token.dst_line,
@@ -80,11 +81,11 @@ fn push_line_ends(text: &mut String, from: u32, to: u32) -> std::result::Result<
 #[inline]
 fn push_gap(
     text: &mut String,
-    previous: Option<RawToken>,
+    previous: Option<&RawToken>,
     line: u32,
-    token: RawToken,
+    token: &RawToken,
 ) -> std::result::Result<(), AllocError>
-    ensures text { OnOk result (string_bytes text.new ≡ string_bytes text.old ++ gap previous line token) }
+    ensures text { OnOk result (string_bytes text.new ≡ string_bytes text.old ++ gap (option_copied previous.entry) line token.now) }
 {
     if follows_on(previous, token) {
         text.push(',')?;
@@ -109,85 +110,68 @@ fn push_difference(
     }
 }
 
-// The segment of a token.
-#[inline]
+// The segment of a token on the line of `against`, which moves on to what the segment behind it is
+// taken against.
+#[inline(always)]
 fn push_segment(
     text: &mut String,
-    against: RawToken,
-    token: RawToken,
+    against: &mut RawToken,
+    token: &RawToken,
     names: u32,
 ) -> std::result::Result<(), AllocError>
-    ensures text { OnOk result (Adds (numbers names against token) (string_bytes text.old) (string_bytes text.new)) }
-    ensures small { OnOk result (HasSmallPlaces token) }
+    ensures text { OnOk result (Adds (numbers names against.old token.now) (string_bytes text.old) (string_bytes text.new)) }
+    ensures small { OnOk result (HasSmallPlaces token.now) }
+    ensures next { OnOk result (against.new ≡ moved names against.old token.now) }
 {
     push_difference(text, token.dst_col, against.dst_col)?;
-    if !has_source(token) {
+    against.dst_line = token.dst_line;
+    against.dst_col = token.dst_col;
+    if !has_source(*token) {
         return Ok(());
     }
     push_difference(text, token.src_id, against.src_id)?;
+    against.src_id = token.src_id;
     push_difference(text, token.src_line, against.src_line)?;
+    against.src_line = token.src_line;
     push_difference(text, token.src_col, against.src_col)?;
-    if has_name(token, names) {
+    against.src_col = token.src_col;
+    if has_name(*token, names) {
         push_difference(text, token.name_id, against.name_id)?;
+        against.name_id = token.name_id;
     }
     Ok(())
 }
 
-// What the first segment of a line is taken against.
-#[inline]
-fn at_line(against: RawToken, line: u32) -> RawToken
-    ensures value { result ≡ at_line against line }
+// Turns what a segment is taken against to a line.
+#[inline(always)]
+fn turn_to(against: &mut RawToken, line: u32)
+    ensures value { against.new ≡ at_line against.old line }
     ensures small { line < 2 ^ 32 }
 {
-    if against.dst_line == line {
-        return against;
-    }
-    RawToken {
-        dst_line: line,
-        dst_col: 0,
-        ..against
+    if against.dst_line != line {
+        against.dst_line = line;
+        against.dst_col = 0;
     }
 }
 
-// What the segment behind a token's is taken against.
-#[inline]
-fn moved(against: RawToken, token: RawToken, names: u32) -> RawToken
-    ensures { result ≡ moved names against token }
-{
-    let source = if has_source(token) { token } else { against };
-    let name_id = if has_name(token, names) {
-        token.name_id
-    } else {
-        against.name_id
-    };
-    RawToken {
-        dst_line: token.dst_line,
-        dst_col: token.dst_col,
-        name_id,
-        is_range: false,
-        ..source
-    }
-}
-
-// Adds the segment of a token to a text that has come to the line of `against`, and answers what the
+// Adds the segment of a token to a text that has come to the line of `against`, which is then what the
 // segment behind it is taken against.
-#[inline]
+#[inline(always)]
 fn push_token(
     text: &mut String,
-    against: RawToken,
-    previous: Option<RawToken>,
-    token: RawToken,
+    against: &mut RawToken,
+    previous: Option<&RawToken>,
+    token: &RawToken,
     names: u32,
-) -> std::result::Result<RawToken, AllocError>
-    ensures text { OnOk result (Adds (numbers names (at_line against token.dst_line) token)
-        (string_bytes text.old ++ gap previous against.dst_line token) (string_bytes text.new)) }
-    ensures small { OnOk result ((token.dst_line < 2 ^ 32) × HasSmallPlaces token) }
-    ensures next { IfOk result (λ next. next ≡ moved names (at_line against token.dst_line) token) }
+) -> std::result::Result<(), AllocError>
+    ensures text { OnOk result (Adds (numbers names (at_line against.old token.now.dst_line) token.now)
+        (string_bytes text.old ++ gap (option_copied previous.entry) against.old.dst_line token.now) (string_bytes text.new)) }
+    ensures small { OnOk result ((token.now.dst_line < 2 ^ 32) × HasSmallPlaces token.now) }
+    ensures next { OnOk result (against.new ≡ moved names (at_line against.old token.now.dst_line) token.now) }
 {
     push_gap(text, previous, against.dst_line, token)?;
-    let against = at_line(against, token.dst_line);
-    push_segment(text, against, token, names)?;
-    Ok(moved(against, token, names))
+    turn_to(against, token.dst_line);
+    push_segment(text, against, token, names)
 }
 
 /// The text of mappings of some tokens in order, for a map of so many names: the lines from 0 to the
@@ -207,10 +191,10 @@ pub fn write_mappings(alloc: Global, tokens: &[RawToken], names: u32) -> Result<
     let mut against = START;
     let mut previous = None;
     for token in tokens {
-        if !is_repeat(previous, *token) {
-            against = push_token(&mut text, against, previous, *token, names)?;
+        if !is_repeat(previous, token) {
+            push_token(&mut text, &mut against, previous, token, names)?;
         }
-        previous = Some(*token);
+        previous = Some(token);
     }
     Ok(text)
 }
@@ -252,10 +236,10 @@ fn range_text(alloc: Global, tokens: &[RawToken]) -> Result<String>
             flags.clear();
             line = token.dst_line;
         }
-        if !is_repeat(before, *token) {
+        if !is_repeat(before, token) {
             flags.push(token.is_range)?;
         }
-        before = Some(*token);
+        before = Some(token);
     }
     push_bits(&mut text, flags.as_slice())?;
     Ok(text)

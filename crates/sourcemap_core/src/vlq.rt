@@ -40,13 +40,13 @@ pub(crate) fn digit_of(byte: u8) -> Option<u8>
     if value < 64 { Some(value) } else { None }
 }
 
-// The digit of a value.
+// The digit of a value. The remainder lets the compiler see that it is an ASCII character.
 #[inline]
 pub(crate) fn glyph_of(value: u8) -> u8
     requires { value < 64 }
     ensures { result ≡ glyph value }
 {
-    GLYPHS[value as usize]
+    GLYPHS[value as usize] % 128
 }
 
 // The number at the front of a text, and the text behind it; else the first fault of that number.

@@ -5,16 +5,16 @@ use Rattle.sourcemap_core.proofs.mappings_written.push_segment.Goals as goal
 
 pub returns-in_ok-push_difference-5-clause-text : goal.returns-in_ok-push_difference-5-clause-text
 returns-in_ok-push_difference-5-clause-text c =
-    let source : has_source c.args.token ≡ true = cc in
-    let name : has_name c.args.names c.args.token ≡ true = cc in
-    named_added c.args.names c.args.against c.args.token _ _ _ _ _ _ source name
+    let source : has_source c.args.token.now ≡ true = cc in
+    let name : has_name c.args.names c.args.token.now ≡ true = cc in
+    named_added c.args.names c.args.against.now c.args.token.now _ _ _ _ _ _ source name
     c.in_ok-push_difference.ensures.text c.in_ok-push_difference-2.ensures.text c.in_ok-push_difference-3.ensures.text
     c.in_ok-push_difference-4.ensures.text c.in_ok-push_difference-5.ensures.text
 
 pub returns-else-has_name-clause-text : goal.returns-else-has_name-clause-text
 returns-else-has_name-clause-text c =
-    let source : has_source c.args.token ≡ true = cc in
-    let name : has_name c.args.names c.args.token ≡ false = cc in
-    unnamed_added c.args.names c.args.against c.args.token _ _ _ _ _ source name
+    let source : has_source c.args.token.now ≡ true = cc in
+    let name : has_name c.args.names c.args.token.now ≡ false = cc in
+    unnamed_added c.args.names c.args.against.now c.args.token.now _ _ _ _ _ source name
     c.in_ok-push_difference.ensures.text c.in_ok-push_difference-2.ensures.text c.in_ok-push_difference-3.ensures.text
     c.in_ok-push_difference-4.ensures.text

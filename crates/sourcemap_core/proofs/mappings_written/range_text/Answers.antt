@@ -1,4 +1,4 @@
-use Rattle.std.proofs.Common.{◌≡◌, ℕ, ◌+◌, ◌-◌, ◌<◌, Bool, List, [], ◌∷◌, ◌++◌, take, get_or, replicate, string_bytes, Some, true, false, sym, ap, subst, ◌∙◌, refl, arith}
+use Rattle.std.proofs.Common.{option_copied, ◌≡◌, ℕ, ◌+◌, ◌-◌, ◌<◌, Bool, List, [], ◌∷◌, ◌++◌, take, get_or, replicate, string_bytes, Some, true, false, sym, ap, subst, ◌∙◌, refl, arith}
 use Rattle.std.proofs.lemmas.List.{take_more, take_all}
 use Rattle.sourcemap_core.specs.declared.tokens.RawToken.{RawToken}
 use Rattle.sourcemap_core.specs.Bits.{IsBitText}
@@ -40,7 +40,7 @@ loop-token-preserved c =
     let done = take i tokens in
     let more : take (i + 1) tokens ≡ done ++ token ∷ [] = take_more tokens i (base 0 0 []) (omega arith) in
     let walked = c.loop-token.invariant.walked in
-    let down = next_line i c.loop-token.line tokens c.loop-token.before token (base 0 0 []) c.requires (omega arith) refl walked in
+    let down = next_line i c.loop-token.line tokens (option_copied c.loop-token.before) token (base 0 0 []) c.requires (omega arith) refl walked in
     let text = string_bytes c.loop-token.text in
     let flags = c.loop-token.flags.items in
     let line : c.if-line-token.line ≡ token.dst_line =
@@ -67,16 +67,16 @@ loop-token-preserved c =
     let kept = walked_and_ranging c.if-line-token.line token tokens (i + 1) done (string_bytes c.if-line-token.text) c.if-not-is_repeat.flags.items line more in
     elim c.if-not-is_repeat.branch [
       | then-not-is_repeat+in_ok-push w ↦
-          let new : repeats c.loop-token.before token ≡ false = cc in
+          let new : repeats (option_copied c.loop-token.before) token ≡ false = cc in
           let flags_are : c.if-not-is_repeat.flags.items ≡ c.if-line-token.flags.items ++ token.is_range ∷ [] = ap (λ v. v.items) w.flags-is ∙ w.in_ok-push.ensures.items in
-          kept (Walked-more c.loop-token.line done c.loop-token.before token new down walked)
+          kept (Walked-more c.loop-token.line done (option_copied c.loop-token.before) token new down walked)
           (subst (λ (fs : List Bool). Ranging token.dst_line (without_repeats (done ++ token ∷ [])) (string_bytes c.if-line-token.text) fs) (sym flags_are)
-          (Ranging-more c.loop-token.line done c.loop-token.before token (string_bytes c.if-line-token.text) c.if-line-token.flags.items new walked turned))
+          (Ranging-more c.loop-token.line done (option_copied c.loop-token.before) token (string_bytes c.if-line-token.text) c.if-line-token.flags.items new walked turned))
       | else-not-is_repeat w ↦
-          let again : repeats c.loop-token.before token ≡ true = cc in
-          kept (Walked-repeat_here c.loop-token.line done c.loop-token.before token again walked)
+          let again : repeats (option_copied c.loop-token.before) token ≡ true = cc in
+          kept (Walked-repeat_here c.loop-token.line done (option_copied c.loop-token.before) token again walked)
           (subst (λ (fs : List Bool). Ranging token.dst_line (without_repeats (done ++ token ∷ [])) (string_bytes c.if-line-token.text) fs) (sym (ap (λ v. v.items) w.flags-is))
-          (Ranging-repeat c.loop-token.line done c.loop-token.before token token.dst_line (string_bytes c.if-line-token.text) c.if-line-token.flags.items again walked turned))
+          (Ranging-repeat c.loop-token.line done (option_copied c.loop-token.before) token token.dst_line (string_bytes c.if-line-token.text) c.if-line-token.flags.items again walked turned))
     ]
 
 pub returns-clause-text : goal.returns-clause-text
@@ -85,8 +85,8 @@ returns-clause-text c =
     let invariant = c.loop-token.invariant in
     let all : take c.loop-token.token-index tokens ≡ tokens = take_all c.loop-token.token-index tokens (omega arith) in
     let written = c.in_ok-push_bits-2.ensures.written in
-    let whole = Ranging-end c.loop-token.line tokens c.loop-token.before (string_bytes c.loop-token.text) written.0 c.loop-token.flags.items
+    let whole = Ranging-end c.loop-token.line tokens (option_copied c.loop-token.before) (string_bytes c.loop-token.text) written.0 c.loop-token.flags.items
     (subst (λ (fs : List Bool). IsBitText fs written.0) c.as_slice-2.ensures.value written.1)
-    (subst (λ (ts : List RawToken). Walked c.loop-token.line ts c.loop-token.before) all invariant.walked)
+    (subst (λ (ts : List RawToken). Walked c.loop-token.line ts (option_copied c.loop-token.before)) all invariant.walked)
     (subst (λ (ts : List RawToken). Ranging c.loop-token.line (without_repeats ts) (string_bytes c.loop-token.text) c.loop-token.flags.items) all invariant.ranging) in
     subst (λ (t : List ℕ). LineByLine (IsRangeLine (without_repeats tokens)) tokens t) (sym written.2) whole

@@ -1,4 +1,4 @@
-use Rattle.std.proofs.Common.{take, string_bytes}
+use Rattle.std.proofs.Common.{option_copied, take, string_bytes}
 use Rattle.sourcemap_core.specs.Tokens.{without_repeats}
 use Rattle.sourcemap_core.proofs.WrittenWalk.{Walked}
 use Rattle.sourcemap_core.proofs.WrittenRanges.{Ranging}
@@ -6,6 +6,6 @@ use Rattle.sourcemap_core.proofs.mappings_written.range_text.Given as goal
 
 abbrev pub invariant-loop-token : goal.invariant-loop-token
 invariant-loop-token l = record {
-  walked : Walked l.line (take l.token-index l.tokens) l.before;
+  walked : Walked l.line (take l.token-index l.tokens) (option_copied l.before);
   ranging : Ranging l.line (without_repeats (take l.token-index l.tokens)) (string_bytes l.text) l.flags.items;
 }

@@ -1,6 +1,6 @@
-use Rattle.std.proofs.Common.{take, string_bytes}
+use Rattle.std.proofs.Common.{option_copied, take, string_bytes}
 use Rattle.sourcemap_core.proofs.WrittenSegments.{Writing}
 use Rattle.sourcemap_core.proofs.mappings_written.write_mappings.Given as goal
 
 abbrev pub invariant-loop-token : goal.invariant-loop-token
-invariant-loop-token l = Writing l.names (take l.token-index l.tokens) l.previous l.against (string_bytes l.text)
+invariant-loop-token l = Writing l.names (take l.token-index l.tokens) (option_copied l.previous) l.against (string_bytes l.text)
