@@ -12,41 +12,22 @@ MAPS         a folder with *.map files, at any depth
 The program must be built (./sourcemap does that). Each difference is printed with its reason, or as
 UNEXPLAINED, and then the status is 1. A reason is given only where what was printed bears it out:
 
-- stable sort: the same tokens at the same places, in another order among those of one place
-- distance of columns: a range token that stands on another line than the position, and whose source
-  column is answered here as it stands
-- range bits: records that are equal but for `rangeMappings`, where what is written here reads back as the
-  tokens of the map, less those that repeat the one before
-- panic: the reference panicked at writing range bits, and what is written here reads back as above
+- stable sort, range bits, panic: of records, see `reason_of_record` in comparing.py
+- stable sort: of `tokens`, the same tokens at the same places, in another order among those of one place; of
+  a lookup, the same tokens at the place that was found, in another order, and the right one of those here
+- distance of columns: a range token that stands on another line than the position, where the reference adds
+  the distance of columns to the source column and nothing else differs
 - fault: both refuse, with another of the text's faults
 - not there: this program does not know the word yet
 - kind not there: a map of a kind that the reference's `stat` calls other than regular, which this program
   refuses as incompatible; to be taken out of this script once the program reads such maps
 """
-import argparse, json, re, tempfile
-from comparing import TOOL, answer, compare_all, is_reordered, kind_of, noted, without_repeats
+import argparse, re, tempfile
+from comparing import TOOL, answer, compare_all, is_reordered, kind_of, noted, reason_of_record
 
 WORDS = ['tokens', 'rewrite', 'flatten']
 ANSWER = re.compile(rb'(.*):(\d+):(\d+)((?: name=.*)?)', re.DOTALL)
-PLACE = re.compile(rb' \((\d+):(\d+)\) \(range\)$')
-
-
-def tokens_of(text):
-    return answer([TOOL, 'tokens'], text)[1]
-
-
-def reads_back(data, written):
-    return without_repeats(tokens_of(written)) == without_repeats(tokens_of(data))
-
-
-def reason_of_record(data, here, there):
-    """Why two written records differ."""
-    here_map, there_map = json.loads(here), json.loads(there)
-    here_ranges = here_map.pop('rangeMappings', None)
-    there_map.pop('rangeMappings', None)
-    if here_map == there_map and here_ranges is not None:
-        return 'range bits' if reads_back(data, here) else None
-    return 'stable sort' if is_reordered(tokens_of(here), tokens_of(there)) else None
+PLACE = re.compile(rb' \((\d+):(\d+)\)( \(range\))?$')
 
 
 def is_kind_missing(kind, here):
@@ -61,34 +42,43 @@ def reason(word, data, kind, here, there):
         return 'kind not there'
     if here[0] == 1 and there[0] == 1:
         return 'fault'
-    if here[0]:
-        return None
-    if there[0] == 101:
-        has_ranges = word == 'rewrite' and 'rangeMappings' in json.loads(here[1])
-        return 'panic' if has_ranges and reads_back(data, here[1]) else None
-    if there[0]:
-        return None
     if word == 'tokens':
-        return 'stable sort' if is_reordered(here[1], there[1]) else None
-    return reason_of_record(data, here[1], there[1])
+        return None if here[0] or there[0] or not is_reordered(here[1], there[1]) else 'stable sort'
+    return reason_of_record(data, here, there)
 
 
-def as_it_stands(position, told, placed):
-    """What the reference tells of a range token on another line, less the distance of columns; None of
-    another token. `placed` is what it told with the token's place, as `a.js:0:7 (0:0) (range)`."""
-    line, column = map(int, position.split())
-    stands, parts = PLACE.search(placed), ANSWER.fullmatch(told)
-    if not stands or not parts or int(stands[1]) == line:
-        return None
-    distance = (column - int(stands[2])) % 2**32
-    return b'%b:%b:%d%b' % (parts[1], parts[2], int(parts[3]) - distance, parts[4])
+def is_moved(here, told, distance):
+    """Whether two tokens' texts differ only by the distance that the second one's source column is moved."""
+    own, other = ANSWER.fullmatch(here), ANSWER.fullmatch(told)
+    if not own or not other or (own[1], own[2], own[4]) != (other[1], other[2], other[4]):
+        return False
+    return int(other[3]) == min(int(own[3]) + distance, 2**32 - 1)
 
 
-def reason_of_lookup(position, kind, here, told, placed):
+def is_among_equals(reference, data, position, place, here):
+    """Whether both programs have the same tokens at a place, in another order, and the answer given here is
+    the right one of those: the first if the position is that place, else the last."""
+    own, other = ([line for line in answer([program, 'tokens'], data)[1].split(b'\n') if line.startswith(place + b' ')]
+                  for program in (TOOL, reference))
+    if own == other or sorted(own) != sorted(other):
+        return False
+    due = own[0 if place == position.replace(' ', ':').encode() else -1]
+    return due == place + b' ' + here
+
+
+def reason_of_lookup(reference, data, position, kind, here, told, placed):
+    """Why two answers to a lookup differ. `placed` is the reference's with the token's place, as
+    `a.js:0:7 (0:0) (range)`."""
     if is_kind_missing(kind, here):
         return 'kind not there'
-    stands = as_it_stands(position, told, placed)
-    return 'distance of columns' if stands and here == (0, stands + b'\n') else None
+    stands = PLACE.search(placed)
+    if here[0] or not stands:
+        return None
+    text, (line, column) = here[1][:-1], map(int, position.split())
+    if stands[3] and int(stands[1]) != line and is_moved(text, told, (column - int(stands[2])) % 2**32):
+        return 'distance of columns'
+    place = stands[1] + b':' + stands[2]
+    return 'stable sort' if is_among_equals(reference, data, position, place, text) else None
 
 
 def drawn_positions(reference, data, count):
@@ -109,7 +99,7 @@ def compare_lookups(reference, count, name, data, kind):
     for i, position in enumerate(positions.decode().splitlines()):
         here = answer([TOOL, 'lookup', *position.split()], data)
         yield noted(f'{name}, lookup {position}', here, (0, told[i] + b'\n'),
-                    lambda: reason_of_lookup(position, kind, here, told[i], placed[i]))
+                    lambda: reason_of_lookup(reference, data, position, kind, here, told[i], placed[i]))
 
 
 def compare_word(reference, word, name, data, kind):
