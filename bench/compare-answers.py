@@ -17,21 +17,36 @@ UNEXPLAINED, and then the status is 1. A reason is given only where what was pri
   a lookup, the same tokens at the place that was found, in another order, and the right one of those here
 - distance of columns: a range token that stands on another line than the position, where the reference adds
   the distance of columns to the source column and nothing else differs
+- digits: this program refuses a byte, named as a character, or a number that the map's mappings have, where the
+  byte is no digit or the number has more than 63 bits
 - fault: both refuse, with another of the text's faults
 - not there: this program does not know the word yet
-- kind not there: a map of a kind that the reference's `stat` calls other than regular, which this program
-  refuses as incompatible; to be taken out of this script once the program reads such maps
+- kind not there: a map that the reference's `stat` calls `index` or `hermes` and that this program refuses
+  as incompatible; to be taken out of this script once the program reads such maps
 """
-import argparse, re, tempfile
+import argparse, json, re, tempfile
 from comparing import TOOL, answer, compare_all, is_reordered, kind_of, noted, reason_of_record
 
 WORDS = ['tokens', 'rewrite', 'flatten']
+OVERFLOW = b'vlq decode caused an overflow\n'
+FOREIGN = re.compile(r'invalid base64 character: (.)\n', re.DOTALL)
+DIGIT = re.compile('[A-Za-z0-9+/]')
+TOO_GREAT = re.compile('[g-z0-9+/]{12}[I-Zg-z0-9+/]')
 ANSWER = re.compile(rb'(.*):(\d+):(\d+)((?: name=.*)?)', re.DOTALL)
 PLACE = re.compile(rb' \((\d+):(\d+)\)( \(range\))?$')
 
 
+def is_refused_digit(data, here):
+    """Whether this program refuses digits that the reference takes, and the map has such."""
+    mappings = json.loads(data[data.index(b'{'):]).get('mappings') if here[0] == 1 else None
+    refused = FOREIGN.fullmatch(here[1].decode(errors='replace'))
+    if refused and mappings:
+        return not DIGIT.fullmatch(refused[1]) and refused[1] in mappings.encode().decode('latin-1')
+    return bool(mappings) and here[1] == OVERFLOW and bool(TOO_GREAT.search(mappings))
+
+
 def is_kind_missing(kind, here):
-    return kind != 'regular' and here == (1, b'encountered incompatible sourcemap format\n')
+    return kind in ('index', 'hermes') and here == (1, b'encountered incompatible sourcemap format\n')
 
 
 def reason(word, data, kind, here, there):
@@ -42,6 +57,8 @@ def reason(word, data, kind, here, there):
         return 'kind not there'
     if here[0] == 1 and there[0] == 1:
         return 'fault'
+    if is_refused_digit(data, here):
+        return 'digits'
     if word == 'tokens':
         return None if here[0] or there[0] or not is_reordered(here[1], there[1]) else 'stable sort'
     return reason_of_record(data, here, there)
@@ -71,6 +88,8 @@ def reason_of_lookup(reference, data, position, kind, here, told, placed):
     `a.js:0:7 (0:0) (range)`."""
     if is_kind_missing(kind, here):
         return 'kind not there'
+    if is_refused_digit(data, here):
+        return 'digits'
     stands = PLACE.search(placed)
     if here[0] or not stands:
         return None
