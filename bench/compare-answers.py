@@ -12,60 +12,41 @@ MAPS         a folder with *.map files, at any depth
 The program must be built (./sourcemap does that). Each difference is printed with its reason, or as
 UNEXPLAINED, and then the status is 1. A reason is given only where what was printed bears it out:
 
-- stable sort: the same tokens at the same places, in another order among those of one place
-- distance of columns: a range token that stands on another line than the position
-- range bits: records that are equal but for `rangeMappings`, where what is written here reads back as the
-  tokens of the map, less those that repeat the one before
-- panic: the reference panicked
+- stable sort, range bits, panic: of records, see `reason_of_record` in comparing.py
+- stable sort: of `tokens`, the same tokens at the same places, in another order among those of one place; of
+  a lookup, the same tokens at the place that was found, in another order, and the right one of those here
+- distance of columns: a range token that stands on another line than the position, where the reference adds
+  the distance of columns to the source column and nothing else differs
+- digits: this program refuses a byte, named as a character, or a number that the map's mappings have, where the
+  byte is no digit or the number has more than 63 bits
 - fault: both refuse, with another of the text's faults
 - not there: this program does not know the word yet
-- kind not there: a map of a kind that the reference's `stat` calls other than regular, which this program
-  refuses as incompatible; to be taken out of this script once the program reads such maps
+- kind not there: a map that the reference's `stat` calls `index` or `hermes` and that this program refuses
+  as incompatible; to be taken out of this script once the program reads such maps
 """
-import argparse, json, pathlib, subprocess, sys, tempfile
+import argparse, json, re, tempfile
+from comparing import TOOL, answer, compare_all, is_reordered, kind_of, noted, reason_of_record
 
-HERE = pathlib.Path(__file__).resolve().parent.parent
-TOOL = str(HERE / 'crates/sourcemap_tool/out/sourcemap_tool')
 WORDS = ['tokens', 'rewrite', 'flatten']
+OVERFLOW = b'vlq decode caused an overflow\n'
+FOREIGN = re.compile(r'invalid base64 character: (.)\n', re.DOTALL)
+DIGIT = re.compile('[A-Za-z0-9+/]')
+TOO_GREAT = re.compile('[g-z0-9+/]{12}[I-Zg-z0-9+/]')
+ANSWER = re.compile(rb'(.*):(\d+):(\d+)((?: name=.*)?)', re.DOTALL)
+PLACE = re.compile(rb' \((\d+):(\d+)\)( \(range\))?$')
 
 
-def answer(command, data):
-    told = subprocess.run(command, input=data, capture_output=True)
-    return told.returncode, told.stdout.decode(errors='replace')
-
-
-def place(line):
-    return line.split(' ', 1)[0]
-
-
-def without_repeats(lines):
-    return [line for i, line in enumerate(lines) if i == 0 or lines[i - 1] != line]
-
-
-def is_reordered(here, there):
-    here, there = here.splitlines(), there.splitlines()
-    return list(map(place, here)) == list(map(place, there)) and sorted(here) == sorted(there)
-
-
-def tokens_of(text):
-    return answer([TOOL, 'tokens'], text.encode())[1]
-
-
-def reason_of_record(data, here, there):
-    """Why two written records differ."""
-    here_map, there_map = json.loads(here), json.loads(there)
-    here_ranges = here_map.pop('rangeMappings', None)
-    there_map.pop('rangeMappings', None)
-    if here_map == there_map and here_ranges is not None:
-        back, whole = tokens_of(here).splitlines(), tokens_of(data.decode(errors='replace')).splitlines()
-        return 'range bits' if without_repeats(back) == without_repeats(whole) else None
-    if is_reordered(tokens_of(here), tokens_of(there)):
-        return 'stable sort'
-    return None
+def is_refused_digit(data, here):
+    """Whether this program refuses digits that the reference takes, and the map has such."""
+    mappings = json.loads(data[data.index(b'{'):]).get('mappings') if here[0] == 1 else None
+    refused = FOREIGN.fullmatch(here[1].decode(errors='replace'))
+    if refused and mappings:
+        return not DIGIT.fullmatch(refused[1]) and refused[1] in mappings.encode().decode('latin-1')
+    return bool(mappings) and here[1] == OVERFLOW and bool(TOO_GREAT.search(mappings))
 
 
 def is_kind_missing(kind, here):
-    return kind != 'regular' and here == (1, 'encountered incompatible sourcemap format\n')
+    return kind in ('index', 'hermes') and here == (1, b'encountered incompatible sourcemap format\n')
 
 
 def reason(word, data, kind, here, there):
@@ -74,62 +55,75 @@ def reason(word, data, kind, here, there):
         return 'not there'
     if is_kind_missing(kind, here):
         return 'kind not there'
-    if there[0] == 101:
-        return 'panic'
     if here[0] == 1 and there[0] == 1:
         return 'fault'
-    if here[0] or there[0]:
-        return None
+    if is_refused_digit(data, here):
+        return 'digits'
     if word == 'tokens':
-        return 'stable sort' if is_reordered(here[1], there[1]) else None
-    return reason_of_record(data, here[1], there[1])
+        return None if here[0] or there[0] or not is_reordered(here[1], there[1]) else 'stable sort'
+    return reason_of_record(data, here, there)
 
 
-def reason_of_lookup(position, kind, here, far):
-    """`far` is the reference's answer with the token's place, as `a.js:0:7 (0:0) (range)`."""
+def is_moved(here, told, distance):
+    """Whether two tokens' texts differ only by the distance that the second one's source column is moved."""
+    own, other = ANSWER.fullmatch(here), ANSWER.fullmatch(told)
+    if not own or not other or (own[1], own[2], own[4]) != (other[1], other[2], other[4]):
+        return False
+    return int(other[3]) == min(int(own[3]) + distance, 2**32 - 1)
+
+
+def is_among_equals(reference, data, position, place, here):
+    """Whether both programs have the same tokens at a place, in another order, and the answer given here is
+    the right one of those: the first if the position is that place, else the last."""
+    own, other = ([line for line in answer([program, 'tokens'], data)[1].split(b'\n') if line.startswith(place + b' ')]
+                  for program in (TOOL, reference))
+    if own == other or sorted(own) != sorted(other):
+        return False
+    due = own[0 if place == position.replace(' ', ':').encode() else -1]
+    return due == place + b' ' + here
+
+
+def reason_of_lookup(reference, data, position, kind, here, told, placed):
+    """Why two answers to a lookup differ. `placed` is the reference's with the token's place, as
+    `a.js:0:7 (0:0) (range)`."""
     if is_kind_missing(kind, here):
         return 'kind not there'
-    if far.endswith(' (range)'):
-        line = far[:-len(' (range)')].rsplit('(', 1)[1].split(':')[0]
-        if line != position.split()[0]:
-            return 'distance of columns'
-    return None
+    if is_refused_digit(data, here):
+        return 'digits'
+    stands = PLACE.search(placed)
+    if here[0] or not stands:
+        return None
+    text, (line, column) = here[1][:-1], map(int, position.split())
+    if stands[3] and int(stands[1]) != line and is_moved(text, told, (column - int(stands[2])) % 2**32):
+        return 'distance of columns'
+    place = stands[1] + b':' + stands[2]
+    return 'stable sort' if is_among_equals(reference, data, position, place, text) else None
 
 
-class Tally:
-    """Counts answers, and prints those that differ."""
-
-    def __init__(self):
-        self.same, self.reasons, self.unexplained = 0, {}, 0
-
-    def note(self, what, equal, why, here, there):
-        if equal:
-            self.same += 1
-        elif why:
-            self.reasons[why] = self.reasons.get(why, 0) + 1
-            if not why.endswith('not there'):
-                print(f'{why}: {what}')
-        else:
-            self.unexplained += 1
-            print(f'UNEXPLAINED: {what}\n    here  {here[:200]!r}\n    there {there[:200]!r}')
-
-
-def compare_lookups(reference, name, data, kind, count, tally):
+def drawn_positions(reference, data, count):
+    """Positions for the map, None if the reference draws none for it."""
     drawn = [answer([reference, 'positions', str(n), *more], data)
              for n, more in ((count // 2, ['7']), (count - count // 2, ['11', 'wild']))]
-    if any(status for status, _ in drawn):
-        return  # no tokens to draw beside
-    positions = drawn[0][1] + drawn[1][1]
-    with tempfile.NamedTemporaryFile('w') as file:
+    return None if any(status for status, _ in drawn) else b''.join(text for _, text in drawn)
+
+
+def compare_lookups(reference, count, name, data, kind):
+    positions = drawn_positions(reference, data, count)
+    if positions is None:
+        return
+    with tempfile.NamedTemporaryFile() as file:
         file.write(positions)
         file.flush()
-        there = answer([reference, 'batch', file.name], data)[1].splitlines()
-        far = answer([reference, 'dst', file.name], data)[1].splitlines()
-    for position, want, whole in zip(positions.splitlines(), there, far):
+        told, placed = (answer([reference, word, file.name], data)[1].split(b'\n') for word in ('batch', 'dst'))
+    for i, position in enumerate(positions.decode().splitlines()):
         here = answer([TOOL, 'lookup', *position.split()], data)
-        equal = here[1] == want + '\n'
-        why = None if equal else reason_of_lookup(position, kind, here, whole)
-        tally.note(f'{name}, lookup {position}', equal, why, here[1], want)
+        yield noted(f'{name}, lookup {position}', here, (0, told[i] + b'\n'),
+                    lambda: reason_of_lookup(reference, data, position, kind, here, told[i], placed[i]))
+
+
+def compare_word(reference, word, name, data, kind):
+    here, there = answer([TOOL, word], data), answer([reference, word], data)
+    return noted(f'{name}, {word}', here, there, lambda: reason(word, data, kind, here, there))
 
 
 def main():
@@ -138,20 +132,13 @@ def main():
     words.add_argument('maps')
     words.add_argument('--positions', type=int, default=10)
     given = words.parse_args()
-    tally = Tally()
-    paths = sorted(pathlib.Path(given.maps).rglob('*.map'))
-    for path in paths:
-        name, data = str(path.relative_to(given.maps)), path.read_bytes()
-        kind = answer([given.reference, 'stat'], data)[1].split('\t')[0]
-        for word in WORDS:
-            here, there = answer([TOOL, word], data), answer([given.reference, word], data)
-            equal = here == there
-            why = None if equal else reason(word, data, kind, here, there)
-            tally.note(f'{name}, {word}', equal, why, here[1], there[1])
-        compare_lookups(given.reference, name, data, kind, given.positions, tally)
-    meant = ', '.join(f'{n} {why}' for why, n in sorted(tally.reasons.items())) or 'none meant to differ'
-    print(f'{len(paths)} maps: {tally.same} answers the same, {meant}, {tally.unexplained} unexplained')
-    sys.exit(1 if tally.unexplained else 0)
+
+    def compare(name, data):
+        kind = kind_of(given.reference, data)
+        notes = [compare_word(given.reference, word, name, data, kind) for word in WORDS]
+        return notes + list(compare_lookups(given.reference, given.positions, name, data, kind))
+
+    compare_all(given.maps, compare)
 
 
 main()

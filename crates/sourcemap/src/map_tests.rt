@@ -95,6 +95,41 @@ fn each_write_may_fail(rt: HostRuntime) -> std::result::Result<(), Fail> {
     Ok(())
 }
 
+// One of the calls that change what a builder has for source 0, by its number.
+fn change_source(builder: &mut SourceMapBuilder, step: u32) -> Result<()> {
+    if builder.get_source(0).is_none() {
+        return Ok(());
+    }
+    match step {
+        0 => builder.set_source(0, "/p/c.js"),
+        1 => builder.set_source_contents(0, Some("text")),
+        _ => builder.strip_prefixes(&["/p"]),
+    }
+}
+
+// One of the calls that add a token to a builder, by its number.
+fn add(builder: &mut SourceMapBuilder, other: &SourceMap, step: u32) -> Result<()> {
+    match step {
+        0 => {
+            if let Some(token) = other.lookup_token(0, 5) {
+                builder.add_token(&token, true)?;
+            }
+        }
+        1 => {
+            if let Some(token) = other.get_token(0) {
+                builder.add_token(&token, false)?;
+            }
+        }
+        2 => {
+            builder.add(1, 2, 3, 4, Some("b.js"), None, false)?;
+        }
+        _ => {
+            builder.add_raw(1, 5, 3, 4, Some(1), None, false)?;
+        }
+    }
+    Ok(())
+}
+
 // One of the calls that put something into a builder, by its number.
 fn give(builder: &mut SourceMapBuilder, other: &SourceMap, step: u32) -> Result<()> {
     match step {
@@ -107,19 +142,8 @@ fn give(builder: &mut SourceMapBuilder, other: &SourceMap, step: u32) -> Result<
             builder.add_source("a.js")?;
         }
         4 => builder.add_to_ignore_list(1)?,
-        5 => {
-            if let Some(token) = other.lookup_token(0, 5) {
-                builder.add_token(&token, true)?;
-            }
-        }
-        6 => {
-            if let Some(token) = other.get_token(0) {
-                builder.add_token(&token, false)?;
-            }
-        }
-        _ => {
-            builder.add(1, 2, 3, 4, Some("b.js"), None, false)?;
-        }
+        5..=8 => add(builder, other, step - 5)?,
+        _ => change_source(builder, step.saturating_sub(9))?,
     }
     Ok(())
 }
@@ -133,7 +157,7 @@ fn what_a_builder_is_given_is_written(rt: HostRuntime) -> std::result::Result<()
     )?;
     let mut builder = SourceMapBuilder::new(alloc, None)?;
     builder.set_debug_id(DebugId::parse("0123456789abcdef0123456789abcdef"));
-    for step in 0..8 {
+    for step in 0..12 {
         // Where memory runs out, the same call is made again.
         if let Err(Error::OutOfMemory) = give(&mut builder, &other, step) {
             give(&mut builder, &other, step)?;
@@ -144,7 +168,7 @@ fn what_a_builder_is_given_is_written(rt: HostRuntime) -> std::result::Result<()
     let mut written = Vec::new(alloc);
     builder.into_sourcemap()?.to_writer(&mut written)?;
     let want =
-        "{\"debugId\":\"01234567-89ab-cdef-0123-456789abcdef\",\"file\":\"out.js\",\"ignoreList\":[1],\"mappings\":\"AAAYC,AAAL;ECGH\",\"names\":[\"n\",\"x\"],\"rangeMappings\":\"D;\",\"sourceRoot\":\"r\",\"sources\":[\"a.js\",\"b.js\"],\"version\":3}";
+        "{\"debugId\":\"01234567-89ab-cdef-0123-456789abcdef\",\"file\":\"out.js\",\"ignoreList\":[1],\"mappings\":\"AAAYC,AAAL;ECGH,GAAA\",\"names\":[\"n\",\"x\"],\"rangeMappings\":\"D;\",\"sourceRoot\":\"r\",\"sources\":[\"c.js\",\"b.js\"],\"sourcesContent\":[\"text\",null],\"version\":3}";
     assert_eq!(rt; written.as_slice(), want.as_bytes());
     Ok(())
 }

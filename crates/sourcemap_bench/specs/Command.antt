@@ -3,6 +3,7 @@ use Rattle.std.specs.Prelude.{◌≡◌, ℕ, List, [], ◌∷◌, codes}
 use Rattle.sourcemap_bench.specs.declared.command.Operation.{Operation}
 use Rattle.sourcemap_bench.specs.declared.command.Operation.TheVariants.{Decode, DecodeReader, Lookup, Tokens, Encode, Rewrite}
 use Rattle.sourcemap_bench.specs.declared.command.Command.{Command}
+use Rattle.sourcemap_bench.specs.declared.command.Command.TheVariants.{Repeat, Write}
 
 abbrev pub word_of : Operation → List ℕ
 word_of Decode = codes "decode"
@@ -12,6 +13,7 @@ word_of Tokens = codes "tokens"
 word_of Encode = codes "encode"
 word_of Rewrite = codes "rewrite"
 
--- the words that ask for an operation; how often, the second says
+-- the words that ask for a command; how often an operation is repeated, the second says
 abbrev pub AskFor : List (List ℕ) → Command → Type 0
-AskFor words command = (rounds : List ℕ) × (words ≡ word_of command.operation ∷ rounds ∷ [])
+AskFor words (Repeat operation _) = (rounds : List ℕ) × (words ≡ word_of operation ∷ rounds ∷ [])
+AskFor words Write = words ≡ codes "write" ∷ []

@@ -2,3 +2,4 @@ pub mod Command
 pub mod Draws
 pub mod Sums
 pub mod Work
+pub mod Written

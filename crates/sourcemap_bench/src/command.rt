@@ -18,13 +18,13 @@ pub enum Operation {
     Rewrite,
 }
 
-/// An operation, and how often it is repeated.
+/// What a run is asked for.
 #[derive(Clone, Copy, Debug, PartialEq, Eq)]
-pub struct Command {
-    /// What is repeated.
-    pub operation: Operation,
-    /// How often.
-    pub rounds: u32,
+pub enum Command {
+    /// `OPERATION N`: an operation, repeated so often.
+    Repeat(Operation, u32),
+    /// `write`: the text that the map is written as.
+    Write,
 }
 
 // The operation of a word.
@@ -42,15 +42,33 @@ fn operation_of(word: &str) -> Option<Operation>
     }
 }
 
-/// The command that two words ask for, an operation and a decimal number below 2^32; none for
-/// other words.
+// The command that a word alone asks for.
+fn lone(word: &str) -> Option<Command>
+    ensures { IfSome result (AskFor (word.now ∷ [])) }
+{
+    match word {
+        "write" => Some(Command::Write),
+        _ => None,
+    }
+}
+
+// The command that an operation and a decimal number below 2^32 ask for.
+fn repeat(word: &str, rounds: &str) -> Option<Command>
+    ensures { IfSome result (AskFor (word.now ∷ rounds.now ∷ [])) }
+{
+    let operation = operation_of(word)?;
+    let rounds = rounds.parse().ok()?;
+    Some(Command::Repeat(operation, rounds))
+}
+
+/// The command that the words ask for: `write`, or an operation and a decimal number below 2^32;
+/// none for other words.
 pub fn parse_words(words: &[String]) -> Option<Command>
     ensures { IfSome result (AskFor (map string_bytes words.now)) }
 {
-    let [word, rounds] = words else {
-        return None;
-    };
-    let operation = operation_of(word.as_str())?;
-    let rounds = rounds.as_str().parse().ok()?;
-    Some(Command { operation, rounds })
+    match words {
+        [word] => lone(word.as_str()),
+        [word, rounds] => repeat(word.as_str(), rounds.as_str()),
+        _ => None,
+    }
 }

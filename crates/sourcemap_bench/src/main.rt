@@ -1,27 +1,35 @@
-// Repeats one operation on the source map on standard input, so that it can be timed.
+// Repeats one operation on the source map on standard input, so that it can be timed, or writes it.
 #![tactic(auto)]
 
 mod command;
 mod draws;
 mod sums;
 mod work;
+mod written;
 
-use command::{Command, parse_words};
+use command::{Command, Operation, parse_words};
 use sourcemap::Result;
 use std::alloc::Global;
-use std::env;
 use std::io::Read;
 use std::process::ExitCode;
 use std::rt::Files;
+use std::{env, io};
 use work::{prepared, repeated};
+use written::write_map;
 
 const USAGE: &str =
-    "usage: decode N | decode-reader N | lookup N | tokens N | encode N | rewrite N";
+    "usage: decode N | decode-reader N | lookup N | tokens N | encode N | rewrite N | write";
 
-// The checksum of what the command computed of these bytes.
-fn checksum<F: Files>(rt: &F, alloc: Global, command: Command, bytes: Vec<u8>) -> Result<u32> {
-    let work = prepared(alloc, command.operation, bytes)?;
-    repeated(rt, alloc, &work, command.rounds)
+// The checksum of what so many rounds of an operation computed of these bytes.
+fn checksum<F: Files>(
+    rt: &F,
+    alloc: Global,
+    operation: Operation,
+    rounds: u32,
+    bytes: Vec<u8>,
+) -> Result<u32> {
+    let work = prepared(alloc, operation, bytes)?;
+    repeated(rt, alloc, &work, rounds)
 }
 
 fn main(rt: HostRuntime) -> Result<ExitCode> {
@@ -33,7 +41,12 @@ fn main(rt: HostRuntime) -> Result<ExitCode> {
     };
     let mut bytes = Vec::new(alloc);
     rt.reader().read_to_end(&mut bytes)?;
-    let sum = checksum(&rt, alloc, command, bytes)?;
-    println!(rt; "{sum}")?;
+    match command {
+        Command::Repeat(operation, rounds) => {
+            let sum = checksum(&rt, alloc, operation, rounds, bytes)?;
+            println!(rt; "{sum}")?;
+        }
+        Command::Write => write_map(alloc, bytes.as_slice(), &mut io::writer(&rt))?,
+    }
     Ok(ExitCode::SUCCESS)
 }

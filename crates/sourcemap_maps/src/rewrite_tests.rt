@@ -24,6 +24,19 @@ const NAMED: &str =
 const TWICE: &str =
     "{\"ignoreList\":[1],\"mappings\":\"ACAAC,CCAAA,CDAAD\",\"names\":[\"m\",\"n\"],\"sources\":[\"a.js\",\"b.js\",\"b.js\"],\"sourcesContent\":[\"x\",null,\"y\"]}";
 
+// A range token, and a token without a source.
+const RANGED: &str =
+    "{\"file\":\"out.js\",\"mappings\":\"AAAO,E\",\"rangeMappings\":\"B\",\"sources\":[\"a.js\"]}";
+
+// A source that no token uses counts for what the paths have in common.
+const UNUSED: &str = "{\"mappings\":\"AAAA\",\"sources\":[\"/a/b/x.js\",\"/a/c/y.js\"]}";
+
+// Paths have something in common as they stand without the root.
+const UNDER_ROOT: &str = "{\"mappings\":\"AAAA\",\"sourceRoot\":\"/r\",\"sources\":[\"x.js\"]}";
+
+// A tilde asks for what the paths have in common, and is no prefix itself.
+const TILDE: &str = "{\"mappings\":\"AAAA\",\"sources\":[\"~/x.js\"]}";
+
 // The text of a map that is rewritten.
 fn rewritten<F: Files>(
     rt: &F,
@@ -53,6 +66,10 @@ fn keeps_what_is_used(rt: HostRuntime) -> std::result::Result<(), Fail> {
             TWICE,
             "{\"mappings\":\"AAAAA,CAAAA,CAAAC\",\"names\":[\"n\",\"m\"],\"sources\":[\"b.js\"],\"sourcesContent\":[\"y\"],\"version\":3}",
         ),
+        (
+            RANGED,
+            "{\"file\":\"out.js\",\"mappings\":\"AAAO,E\",\"names\":[],\"rangeMappings\":\"B\",\"sources\":[\"a.js\"],\"version\":3}",
+        ),
     ] {
         let shown = rewritten(&rt, rt.alloc(), text, &options)?;
         assert_eq!(rt; shown.as_str(), wanted);
@@ -62,22 +79,44 @@ fn keeps_what_is_used(rt: HostRuntime) -> std::result::Result<(), Fail> {
 
 #[test]
 fn prefixes_are_cut(rt: HostRuntime) -> std::result::Result<(), Fail> {
-    let rows: [(&[&str], &str); 2] = [
+    let rows: [(&str, &[&str], &str); 6] = [
         (
+            PATHS,
             &["~"],
             "{\"mappings\":\"AAAA,CCAA\",\"names\":[],\"sources\":[\"x.js\",\"y.js\"],\"version\":3}",
         ),
         (
+            PATHS,
             &["~", "/b", "/a"],
             "{\"mappings\":\"AAAA,CCAA\",\"names\":[],\"sources\":[\"b/x.js\",\"b/y.js\"],\"version\":3}",
         ),
+        (
+            UNUSED,
+            &["~"],
+            "{\"mappings\":\"AAAA\",\"names\":[],\"sources\":[\"b/x.js\"],\"version\":3}",
+        ),
+        (
+            UNDER_ROOT,
+            &["~"],
+            "{\"mappings\":\"AAAA\",\"names\":[],\"sources\":[\"/r/x.js\"],\"version\":3}",
+        ),
+        (
+            UNDER_ROOT,
+            &["/r"],
+            "{\"mappings\":\"AAAA\",\"names\":[],\"sources\":[\"x.js\"],\"version\":3}",
+        ),
+        (
+            TILDE,
+            &["~"],
+            "{\"mappings\":\"AAAA\",\"names\":[],\"sources\":[\"~/x.js\"],\"version\":3}",
+        ),
     ];
-    for (prefixes, wanted) in rows {
+    for (text, prefixes, wanted) in rows {
         let options = RewriteOptions {
             strip_prefixes: prefixes,
             ..RewriteOptions::default()
         };
-        let shown = rewritten(&rt, rt.alloc(), PATHS, &options)?;
+        let shown = rewritten(&rt, rt.alloc(), text, &options)?;
         assert_eq!(rt; shown.as_str(), wanted);
     }
     Ok(())

@@ -1,0 +1,122 @@
+"""What the comparing scripts share: running programs, telling lists of tokens apart, and counting."""
+import collections, concurrent.futures, json, pathlib, subprocess, sys
+
+CRATES = pathlib.Path(__file__).resolve().parent.parent / 'crates'
+TOOL = str(CRATES / 'sourcemap_tool/out/sourcemap_tool')
+BENCH = str(CRATES / 'sourcemap_bench/out/sourcemap_bench')
+MAPS_AT_ONCE = 3
+MARK = b' range'
+
+Note = collections.namedtuple('Note', 'what why here there')
+
+
+def answer(command, data):
+    """The status of a program that is given these bytes, and what it prints."""
+    told = subprocess.run(command, input=data, stdout=subprocess.PIPE, stderr=subprocess.DEVNULL)
+    return told.returncode, told.stdout
+
+
+def kind_of(reference, data):
+    return answer([reference, 'stat'], data)[1].split(b'\t')[0].decode(errors='replace')
+
+
+def lines_of(text):
+    return text.split(b'\n')
+
+
+def place(line):
+    return line.split(b' ', 1)[0]
+
+
+def without_repeats(text):
+    lines = lines_of(text)
+    return [line for i, line in enumerate(lines) if i == 0 or lines[i - 1] != line]
+
+
+def without_marks(text):
+    return [line[:-len(MARK)] if line.endswith(MARK) else line for line in without_repeats(text)]
+
+
+def is_reordered(here, there):
+    """Whether two texts have the same tokens at the same places, in another order among those of one place."""
+    here, there = lines_of(here), lines_of(there)
+    return list(map(place, here)) == list(map(place, there)) and sorted(here) == sorted(there)
+
+
+def tokens_here(data):
+    return answer([TOOL, 'tokens'], data)[1]
+
+
+def reads_back(data, written):
+    return without_repeats(tokens_here(written)) == without_repeats(tokens_here(data))
+
+
+def without_order(record):
+    """The parts of a record, but for its mappings and for the order of its sources and names."""
+    parts = {key: part for key, part in record.items() if key not in ('mappings', 'rangeMappings')}
+    contents = parts.pop('sourcesContent', [None] * len(parts['sources']))
+    parts['sources'] = sorted(map(repr, zip(parts['sources'], contents)))
+    parts['names'] = sorted(parts['names'])
+    return parts
+
+
+def reason_of_record(data, here, there):
+    """Why two answers differ that are records written of a map, None if nothing bears a reason out.
+
+    - range bits: but for `rangeMappings` the records are equal, and what is written here reads back as the
+      tokens of the map, less those that repeat the one before
+    - panic: the reference panicked, what is written here has range bits, and it reads back as above
+    - stable sort: the same sources with the same contents and the same names, in whatever order, and the same
+      tokens at the same places, in another order among those of one place
+    """
+    if here[0] or there[0] not in (0, 101):
+        return None
+    record = json.loads(here[1])
+    ranges = record.pop('rangeMappings', None)
+    if there[0] == 101:
+        return 'panic' if ranges and reads_back(data, here[1]) else None
+    other = json.loads(there[1])
+    other.pop('rangeMappings', None)
+    if record == other:
+        return 'range bits' if ranges and reads_back(data, here[1]) else None
+    is_sorted = without_order(record) == without_order(other) and is_reordered(tokens_here(here[1]), tokens_here(there[1]))
+    return 'stable sort' if is_sorted else None
+
+
+def first_difference(here, there):
+    """The two texts from some bytes before the first at which they differ."""
+    both = zip(here, there)
+    at = next((i for i, (a, b) in enumerate(both) if a != b), min(len(here), len(there)))
+    start = max(0, at - 80)
+    return here[start:start + 200], there[start:start + 200]
+
+
+def noted(what, here, there, reason):
+    """A comparison of two answers. For the reason of a difference `reason` is called, which answers None
+    where nothing bears one out."""
+    if here == there:
+        return Note(what, 'same', b'', b'')
+    return Note(what, reason() or 'UNEXPLAINED', *first_difference(here[1], there[1]))
+
+
+def report(note):
+    if note.why == 'UNEXPLAINED':
+        print(f'UNEXPLAINED: {note.what}\n    here  {note.here!r}\n    there {note.there!r}', flush=True)
+    elif note.why != 'same' and not note.why.endswith('not there'):
+        print(f'{note.why}: {note.what}', flush=True)
+
+
+def compare_all(folder, compare):
+    """Calls `compare` with the name and the bytes of each map below a folder, prints the notes that it
+    answers and their counts, and ends the run."""
+    paths = sorted(pathlib.Path(folder).rglob('*.map'))
+    counts = collections.Counter()
+    with concurrent.futures.ThreadPoolExecutor(MAPS_AT_ONCE) as pool:
+        for notes in pool.map(lambda path: compare(str(path.relative_to(folder)), path.read_bytes()), paths):
+            for note in notes:
+                counts[note.why] += 1
+                report(note)
+    same, unexplained = counts.pop('same', 0), counts.pop('UNEXPLAINED', 0)
+    meant = ', '.join(f'{n} {why}' for why, n in sorted(counts.items())) or 'none meant to differ'
+    print(f'{len(paths)} maps: {same} answers the same, {meant}, {unexplained} unexplained')
+    sys.exit(1 if unexplained else 0)

@@ -1,0 +1,36 @@
+-- From the call that writes to what is said of a map's bytes.
+use Rattle.std.proofs.Common.{◌⊎◌, inl, inr, ℕ, List, Option, Result, Ok, Err, IfErr, OnOk}
+use Rattle.std.specs.Io.KnownBytes.{Appends}
+use Rattle.sourcemap.specs.Answer.{UnlessMemory}
+use Rattle.sourcemap.specs.Bytes.{IsEncoded, IsIo}
+use Rattle.sourcemap.specs.Decoder.{BytesDecode}
+use Rattle.sourcemap.specs.Encoder.{RecordAnswer}
+use Rattle.sourcemap.specs.Types.{MapValue}
+use Rattle.sourcemap.specs.declared.errors.Error.{Error}
+use Rattle.sourcemap.specs.declared.errors.Error.TheVariants.{OutOfMemory}
+use Rattle.sourcemap_bench.specs.Written.{IsWritten, IsUnwritten}
+
+unless_memory : (e : Error) (P Q : Type 0) → (P → Q) → UnlessMemory e P → UnlessMemory e Q
+unless_memory OutOfMemory P Q f h = tt
+unless_memory _ P Q f h = f h
+
+-- nothing but the writer refuses
+writer_failed : (bytes : List ℕ) (m : MapValue) (e : Error) → RecordAnswer m (Err e) ⊎ IsIo e → IsUnwritten bytes e
+writer_failed bytes m e (inl never) = absurd never
+writer_failed bytes m e (inr io) = inr io
+
+-- what keeps bytes from being a map
+pub no_map : (bytes : List ℕ) (e : Error) → UnlessMemory e (BytesDecode bytes (Err e)) → UnlessMemory e (IsUnwritten bytes e)
+no_map bytes e h = unless_memory e (BytesDecode bytes (Err e)) (IsUnwritten bytes e) inl h
+
+pub text_written : {T : Type 0} (bytes : List ℕ) (m : MapValue) (r : Result T Error) (old new : Option (List ℕ))
+    → BytesDecode bytes (Ok m) → OnOk r ((text : List ℕ) × IsEncoded (RecordAnswer m) text × Appends old new text)
+    → OnOk r (IsWritten bytes old new)
+text_written bytes m (Ok _) old new stand h = (m, stand, h)
+text_written bytes m (Err _) old new stand h = tt
+
+pub text_unwritten : {T : Type 0} (bytes : List ℕ) (m : MapValue) (r : Result T Error)
+    → IfErr r (λ e. UnlessMemory e (RecordAnswer m (Err e) ⊎ IsIo e))
+    → IfErr r (λ e. UnlessMemory e (IsUnwritten bytes e))
+text_unwritten bytes m (Ok _) h = tt
+text_unwritten bytes m (Err e) h = unless_memory e (RecordAnswer m (Err e) ⊎ IsIo e) (IsUnwritten bytes e) (writer_failed bytes m e) h

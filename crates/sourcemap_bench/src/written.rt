@@ -1,0 +1,34 @@
+//! A map as it is written.
+ghost use Rattle.std.specs.Prelude.{IfErr, OnOk};
+ghost use Rattle.sourcemap.specs.Answer.{UnlessMemory};
+ghost use Rattle.sourcemap_bench.specs.Written.{IsWritten, IsUnwritten};
+
+use sourcemap::encoder::encode_to;
+use sourcemap::{Result, decode_slice};
+use std::alloc::Global;
+use std::io::Write;
+
+/// Writes the compact JSON text of the map that the bytes hold. Refused as by `decode_slice`; a
+/// write's fault is `Io`.
+pub fn write_map<W: Write>(alloc: Global, bytes: &[u8], output: &mut W) -> Result<()>
+    ensures written { OnOk result (IsWritten bytes.now (W.contents output.old) (W.contents output.new)) }
+    ensures fault { IfErr result (λ e. UnlessMemory e (IsUnwritten bytes.now e)) }
+{
+    let map = decode_slice(alloc, bytes)?;
+    encode_to(alloc, &map, output)
+}
+
+#[cfg(test)]
+mod tests {
+    use super::write_map;
+    use std::test::Fail;
+
+    #[test]
+    fn maps_are_written_without_what_says_nothing(rt: HostRuntime) -> Result<(), Fail> {
+        let mut text = Vec::new(rt.alloc());
+        write_map(rt.alloc(), b"{\"mappings\":\"A,,C\"}", &mut text)?;
+        let want = b"{\"mappings\":\"A,C\",\"names\":[],\"sources\":[],\"version\":3}";
+        assert_eq!(rt; text.as_slice(), want.as_slice());
+        Ok(())
+    }
+}
