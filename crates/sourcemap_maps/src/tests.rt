@@ -5,6 +5,7 @@ use sourcemap_core::errors::{Error, Result};
 use sourcemap_core::tokens::RawToken;
 use sourcemap_json::jsontypes::RawSourceMap;
 use std::alloc::Global;
+use std::process::Abort;
 use std::test::Fail;
 
 const NOTHING: u32 = 4294967295;
@@ -63,9 +64,20 @@ fn ranges_of(record: &RawSourceMap) -> &str {
     }
 }
 
-#[test]
-fn looks_up_and_writes(rt: HostRuntime) -> std::result::Result<(), Fail> {
-    let mut tokens = Vec::new(rt.alloc());
+fn check_lookup(
+    rt: &impl Abort,
+    alloc: Global,
+    map: &SourceMap,
+    place: (u32, u32),
+    want: &str,
+) -> std::result::Result<(), Fail> {
+    let (line, col) = place;
+    let found = looked_up(alloc, map, line, col)?;
+    assert_eq!(rt; found.as_str(), want, "at {line}:{col}");
+    Ok(())
+}
+
+fn push_readme(tokens: &mut Vec<RawToken>) -> Result<()> {
     for (col, src, name) in [
         (24, (2, 8), NOTHING),
         (0, (0, 0), NOTHING),
@@ -79,45 +91,79 @@ fn looks_up_and_writes(rt: HostRuntime) -> std::result::Result<(), Fail> {
     ] {
         tokens.push(token(col, src, name, false))?;
     }
-    let map = made(rt.alloc(), tokens)?;
-    for (line, col, want) in [
-        (0, 0, "coolstuff.js:0:0"),
-        (0, 5, "coolstuff.js:0:4 name=x"),
-        (0, 18, "coolstuff.js:2:2 name=alert"),
-        (1, 0, "coolstuff.js:2:8"),
-    ] {
-        let found = looked_up(rt.alloc(), &map, line, col)?;
-        assert_eq!(rt; found.as_str(), want, "at {line}:{col}");
-    }
-    let written = map.as_raw_sourcemap()?;
-    assert_eq!(rt; mappings_of(&written), README);
-    assert_eq!(rt; ranges_of(&written), "none");
-    let back = decode_regular(rt.alloc(), written)?;
-    let found = looked_up(rt.alloc(), &back, 0, 20)?;
-    assert_eq!(rt; found.as_str(), "coolstuff.js:2:2 name=alert");
     Ok(())
+}
+
+fn readme(alloc: Global) -> Result<SourceMap> {
+    let mut tokens = Vec::new(alloc);
+    push_readme(&mut tokens)?;
+    made(alloc, tokens)
+}
+
+fn check_readme(rt: &impl Abort, alloc: Global, map: &SourceMap) -> std::result::Result<(), Fail> {
+    check_lookup(rt, alloc, map, (0, 0), "coolstuff.js:0:0")?;
+    check_lookup(rt, alloc, map, (0, 5), "coolstuff.js:0:4 name=x")?;
+    check_lookup(rt, alloc, map, (0, 18), "coolstuff.js:2:2 name=alert")?;
+    check_lookup(rt, alloc, map, (1, 0), "coolstuff.js:2:8")
+}
+
+fn check_texts(rt: &impl Abort, record: &RawSourceMap, mappings: &str, ranges: &str) {
+    assert_eq!(rt; mappings_of(record), mappings);
+    assert_eq!(rt; ranges_of(record), ranges);
+}
+
+// The map that is read from what this one is written as.
+fn read_back(
+    rt: &impl Abort,
+    alloc: Global,
+    map: &SourceMap,
+    mappings: &str,
+    ranges: &str,
+) -> Result<SourceMap> {
+    let written = map.as_raw_sourcemap()?;
+    check_texts(rt, &written, mappings, ranges);
+    decode_regular(alloc, written)
+}
+
+// A map that is alive at a `?` makes a test dear to prove. So a test owns it, and calls functions
+// that are lent it.
+#[test]
+fn looks_up_and_writes(rt: HostRuntime) -> std::result::Result<(), Fail> {
+    let map = readme(rt.alloc())?;
+    check_readme(&rt, rt.alloc(), &map)?;
+    let back = read_back(&rt, rt.alloc(), &map, README, "none")?;
+    check_lookup(
+        &rt,
+        rt.alloc(),
+        &back,
+        (0, 20),
+        "coolstuff.js:2:2 name=alert",
+    )
+}
+
+fn push_ranges(tokens: &mut Vec<RawToken>) -> Result<()> {
+    tokens.push(token(0, (0, 0), NOTHING, false))?;
+    tokens.push(token(0, (0, 0), NOTHING, false))?;
+    tokens.push(token(5, (0, 5), NOTHING, true))?;
+    Ok(())
+}
+
+fn ranges(alloc: Global) -> Result<SourceMap> {
+    let mut tokens = Vec::new(alloc);
+    push_ranges(&mut tokens)?;
+    made(alloc, tokens)
+}
+
+fn check_ranges(rt: &impl Abort, alloc: Global, map: &SourceMap) -> std::result::Result<(), Fail> {
+    check_lookup(rt, alloc, map, (0, 4), "coolstuff.js:0:0")?;
+    check_lookup(rt, alloc, map, (0, 9), "coolstuff.js:0:9")?;
+    check_lookup(rt, alloc, map, (3, 9), "coolstuff.js:0:5")
 }
 
 #[test]
 fn ranges_reach_along_their_line(rt: HostRuntime) -> std::result::Result<(), Fail> {
-    let mut tokens = Vec::new(rt.alloc());
-    tokens.push(token(0, (0, 0), NOTHING, false))?;
-    tokens.push(token(0, (0, 0), NOTHING, false))?;
-    tokens.push(token(5, (0, 5), NOTHING, true))?;
-    let map = made(rt.alloc(), tokens)?;
-    let written = map.as_raw_sourcemap()?;
-    assert_eq!(rt; mappings_of(&written), "AAAA,KAAK");
-    assert_eq!(rt; ranges_of(&written), "C");
-    let back = decode_regular(rt.alloc(), written)?;
-    for (line, col, want) in [
-        (0, 4, "coolstuff.js:0:0"),
-        (0, 9, "coolstuff.js:0:9"),
-        (3, 9, "coolstuff.js:0:5"),
-    ] {
-        let before = looked_up(rt.alloc(), &map, line, col)?;
-        let after = looked_up(rt.alloc(), &back, line, col)?;
-        assert_eq!(rt; before.as_str(), want, "at {line}:{col}");
-        assert_eq!(rt; after.as_str(), want, "read back, at {line}:{col}");
-    }
-    Ok(())
+    let map = ranges(rt.alloc())?;
+    check_ranges(&rt, rt.alloc(), &map)?;
+    let back = read_back(&rt, rt.alloc(), &map, "AAAA,KAAK", "C")?;
+    check_ranges(&rt, rt.alloc(), &back)
 }
