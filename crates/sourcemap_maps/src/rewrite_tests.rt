@@ -151,7 +151,9 @@ fn files_are_not_read(rt: HostRuntime) -> std::result::Result<(), Fail> {
         load_local_source_contents: true,
         ..RewriteOptions::default()
     };
-    let refused = rewritten(&rt, rt.alloc(), CONTENTS, &options);
-    assert!(rt; matches!(refused, Err(Error::IncompatibleSourceMap)));
-    Ok(())
+    match rewritten(&rt, rt.alloc(), CONTENTS, &options) {
+        Err(Error::IncompatibleSourceMap) => Ok(()),
+        Err(fault) => Err(Fail::from(fault)),
+        Ok(_) => Err(Fail::from("files were read")),
+    }
 }
