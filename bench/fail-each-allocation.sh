@@ -56,7 +56,7 @@ for ((n = 1; n <= most; n++)); do
     text=$(export FAIL_AT=$n LD_PRELOAD=$work/failing.so; run) || status=$?
     case "$status $text" in
         "0 $answer") answered=$((answered + 1)) ;;
-        "1 out of memory" | "101 error: OutOfMemory"*) refused=$((refused + 1)) ;;
+        "1 out of memory" | "101 error: OutOfMemory"* | "101 error: AllocError"*) refused=$((refused + 1)) ;;
         "1 ") silent=$((silent + 1)) ;;
         *) faults=$((faults + 1)); echo "allocation $n: status $status, $text" ;;
     esac
