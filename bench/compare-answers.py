@@ -7,7 +7,7 @@ REFERENCE    a program over the Rust crate. It knows this program's words, and a
              `positions N SEED [wild]`, `batch FILE` and `dst FILE` (an answer for each position of a
              file; the second with the token's place in the generated text)
 MAPS         a folder with *.map files, at any depth
---positions  positions of each map that are looked up (10): half of them beside tokens, half anywhere
+--positions  positions of each map that are looked up (20): half of them beside tokens, half anywhere
 
 The program must be built (./sourcemap does that). Each difference is printed with its reason, or as
 UNEXPLAINED, and then the status is 1. A reason is given only where what was printed bears it out:
@@ -18,8 +18,8 @@ UNEXPLAINED, and then the status is 1. A reason is given only where what was pri
 - distance of columns: a range token that stands on another line than the position, where the reference adds
   the distance of columns to the source column and nothing else differs
 - digits: this program refuses a byte, named as a character, or a number that the map's mappings have, where the
-  byte is no digit or the number has more than 63 bits
-- fault: both refuse, with another of the text's faults
+  byte is no digit or the number has more than 63 bits; the reference takes them, or refuses what comes later
+- fault: both refuse the text as JSON, with another of its faults
 - not there: this program does not know the word yet
 - kind not there: a map that the reference's `stat` calls `index` or `hermes` and that this program refuses
   as incompatible; to be taken out of this script once the program reads such maps
@@ -28,6 +28,7 @@ import argparse, json, re, tempfile
 from comparing import TOOL, answer, compare_all, is_reordered, kind_of, noted, reason_of_record
 
 WORDS = ['tokens', 'rewrite', 'flatten']
+JSON_FAULT = b'bad json: '
 OVERFLOW = b'vlq decode caused an overflow\n'
 FOREIGN = re.compile(r'invalid base64 character: (.)\n', re.DOTALL)
 DIGIT = re.compile('[A-Za-z0-9+/]')
@@ -55,10 +56,10 @@ def reason(word, data, kind, here, there):
         return 'not there'
     if is_kind_missing(kind, here):
         return 'kind not there'
-    if here[0] == 1 and there[0] == 1:
-        return 'fault'
     if is_refused_digit(data, here):
         return 'digits'
+    if here[0] == 1 and there[0] == 1:
+        return 'fault' if here[1].startswith(JSON_FAULT) and there[1].startswith(JSON_FAULT) else None
     if word == 'tokens':
         return None if here[0] or there[0] or not is_reordered(here[1], there[1]) else 'stable sort'
     return reason_of_record(data, here, there)
@@ -130,7 +131,7 @@ def main():
     words = argparse.ArgumentParser(usage=__doc__)
     words.add_argument('reference')
     words.add_argument('maps')
-    words.add_argument('--positions', type=int, default=10)
+    words.add_argument('--positions', type=int, default=20)
     given = words.parse_args()
 
     def compare(name, data):
