@@ -1,4 +1,5 @@
 use crate::Error;
+use crate::errors::{Base64Fault, RangeFault};
 use std::test::Fail;
 use std::{io, str};
 
@@ -23,5 +24,24 @@ fn faults_of_the_library_print_its_texts(rt: HostRuntime) -> Result<(), Fail> {
         let text = format!(in alloc; "{fault}")?;
         assert_eq!(rt; text.as_str(), want);
     }
+    Ok(())
+}
+
+#[test]
+fn faults_of_places_print_their_numbers(rt: HostRuntime) -> Result<(), Fail> {
+    let alloc = rt.alloc();
+    let range = Error::from(RangeFault {
+        start: 12,
+        size: 3,
+        len: 14,
+    });
+    let text = format!(in alloc; "{range}")?;
+    assert_eq!(rt; text.as_str(), "parse error: 12+3 past 14");
+    let digit = Error::from(Base64Fault { at: 7 });
+    let text = format!(in alloc; "{digit}")?;
+    assert_eq!(rt;
+        text.as_str(),
+        "invalid range mapping index: bad base64 at 7"
+    );
     Ok(())
 }

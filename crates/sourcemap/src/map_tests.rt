@@ -1,13 +1,14 @@
 use crate::builder::SourceMapBuilder;
 use crate::decoder::decode_regular;
-use crate::encoder::encode_to;
+use crate::encoder::{encode, encode_to};
 use crate::jsontypes::{DebugId, RawSourceMap};
-use crate::types::SourceMap;
+use crate::types::{RewriteOptions, SourceMap};
 use crate::{Error, Result};
 use serde_json::Value;
 use std::alloc::Global;
 use std::io;
 use std::io::Write;
+use std::rt::Files;
 use std::test::Fail;
 
 // A regular map, and what it is written as.
@@ -36,6 +37,19 @@ fn maps_are_written_as_told(rt: HostRuntime) -> std::result::Result<(), Fail> {
             assert_eq!(rt; written.as_slice(), want.as_bytes(), "{text}");
         }
     }
+    Ok(())
+}
+
+#[test]
+fn a_lent_map_is_encoded(rt: HostRuntime) -> std::result::Result<(), Fail> {
+    let map = read(
+        rt.alloc(),
+        "{\"sources\":[\"a.js\"],\"mappings\":\"AAAA,C\"}",
+    )?;
+    let mut written = Vec::new(rt.alloc());
+    encode(rt.alloc(), &map, &mut written)?;
+    let want = b"{\"mappings\":\"AAAA,C\",\"names\":[],\"sources\":[\"a.js\"],\"version\":3}";
+    assert_eq!(rt; written.as_slice(), want.as_slice());
     Ok(())
 }
 
@@ -220,6 +234,30 @@ fn refused_changes_leave_a_map_as_it_was(rt: HostRuntime) -> std::result::Result
     map.to_writer(&mut written)?;
     let want =
         "{\"file\":\"out.js\",\"ignoreList\":[0],\"mappings\":\"AAAA\",\"names\":[],\"sourceRoot\":\"r\",\"sources\":[\"b.js\",\"c.js\"],\"sourcesContent\":[\"text\",null],\"version\":3}";
+    assert_eq!(rt; written.as_slice(), want.as_bytes());
+    Ok(())
+}
+
+// What a map without its names is written as.
+fn without_names<F: Files>(rt: &F, alloc: Global, map: SourceMap) -> Result<Vec<u8>> {
+    let options = RewriteOptions {
+        with_names: false,
+        ..RewriteOptions::default()
+    };
+    let mut written = Vec::new(alloc);
+    map.rewrite(rt, &options)?.to_writer(&mut written)?;
+    Ok(written)
+}
+
+#[test]
+fn maps_without_names_keep_id_and_contents(rt: HostRuntime) -> std::result::Result<(), Fail> {
+    let map = read(
+        rt.alloc(),
+        "{\"debug_id\":\"11111111-1111-1111-1111-111111111111\",\"mappings\":\"ACAAA,CDAAC\",\"names\":[\"m\",\"n\"],\"sources\":[\"a.js\",\"b.js\"],\"sourcesContent\":[\"x\",\"y\"]}",
+    )?;
+    let written = without_names(&rt, rt.alloc(), map)?;
+    let want =
+        "{\"debugId\":\"11111111-1111-1111-1111-111111111111\",\"mappings\":\"AAAA,CCAA\",\"names\":[],\"sources\":[\"b.js\",\"a.js\"],\"sourcesContent\":[\"y\",\"x\"],\"version\":3}";
     assert_eq!(rt; written.as_slice(), want.as_bytes());
     Ok(())
 }

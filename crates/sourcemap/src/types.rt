@@ -1,5 +1,6 @@
 pub use crate::decoded::DecodedMap;
 pub use sourcemap_core::tokens::RawToken;
 pub use sourcemap_maps::types::{
-    NameIter, RewriteOptions, SourceContentsIter, SourceIter, SourceMap, Token, TokenIter,
+    IgnoreListIter, NameIter, RewriteOptions, SourceContentsIter, SourceIter, SourceMap, Token,
+    TokenIter,
 };

@@ -5,7 +5,7 @@ ghost use Rattle.sourcemap_core.specs.declared.errors.Error.TheVariants.{OutOfMe
 ghost use Rattle.sourcemap_maps.specs.Texts.{texts_of, contents_in};
 ghost use Rattle.sourcemap_maps.specs.Types.{distance};
 
-pub use crate::iterators::{NameIter, SourceContentsIter, SourceIter, TokenIter};
+pub use crate::iterators::{IgnoreListIter, NameIter, SourceContentsIter, SourceIter, TokenIter};
 pub use crate::rewrite::RewriteOptions;
 use crate::texts::{contents_or_empty, owned, text_or_empty, with_root};
 pub use crate::token::Token;
