@@ -43,7 +43,8 @@ impl DecodedMap {
 
     /// The closest token to a line and a column of the generated text: the first at that place,
     /// else the last before it, on whichever line, else none. A range token on that line adds the
-    /// columns from its own to the one asked for.
+    /// columns from its own to the one asked for to its column in the source, where the sum stays at
+    /// 4294967295 at most.
     pub fn lookup_token(&self, line: u32, col: u32) -> Option<Token<'_>>
         ensures value { option_map token_value result ≡ lookup (map_value self.now) (line, col) }
         ensures meaning { option_map answers result ≡ meaning (map_value self.now) (line, col) }

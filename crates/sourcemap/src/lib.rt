@@ -1,12 +1,20 @@
 //! Source maps: read, asked, changed and written.
 #![tactic(auto)]
 
+#[cfg(test)]
+mod builder_tests;
+#[cfg(test)]
+mod changes_tests;
 mod decoded;
 pub mod decoder;
 #[cfg(test)]
 mod error_tests;
 #[cfg(test)]
 mod map_tests;
+#[cfg(test)]
+mod record_tests;
+#[cfg(test)]
+mod rewrite_tests;
 #[cfg(test)]
 mod tests;
 pub mod types;

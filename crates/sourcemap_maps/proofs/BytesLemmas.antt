@@ -17,7 +17,7 @@ use Rattle.sourcemap_json.proofs.ReadBackLemmas.{record-back}
 use Rattle.sourcemap_maps.specs.Types.{MapValue, IsWellFormed}
 use Rattle.sourcemap_maps.specs.Encoder.{IsRecordOf, RecordAnswer, ReadsBack, record_with, written_contents, written_ids}
 use Rattle.sourcemap_maps.specs.Reading.{HoldJson, RegularDecodes}
-use Rattle.sourcemap_maps.specs.Bytes.{IsText, IsEncoded, BytesReadBack, UrlReadsBack}
+use Rattle.sourcemap_maps.specs.Bytes.{IsText, IsEncoded, IsCompactTextOf, BytesReadBack, UrlReadsBack}
 use Rattle.sourcemap_maps.proofs.ReadingLemmas.{value_of_record}
 
 -- at most one level, and no fraction
@@ -173,6 +173,14 @@ shallow m mappings ranges = let p = (flat_written m mappings ranges).0 in omega 
 
 no_fraction : (m : MapValue) (mappings : List ℕ) (ranges : Option (List ℕ)) → has_float (written (plain (record_with m mappings ranges))) ≡ false
 no_fraction m mappings ranges = (flat_written m mappings ranges).1
+
+-- no number in what a map is written as has a fraction
+pub record-whole : (m : MapValue) (t : Tree) → IsRecordOf m t → has_float (written t) ≡ false
+record-whole m t (mappings, ranges, of_mappings, of_ranges, is) = ap (λ t. has_float (written t)) is ∙ no_fraction m mappings ranges
+
+-- so the text is the compact one
+pub encoded-compact : (m : MapValue) (text : List ℕ) → IsEncoded (RecordAnswer m) text → IsCompactTextOf m text
+encoded-compact m text h = (h.0, h.1.0, h.2.compact (record-whole m h.0 h.1.0))
 
 -- a text that begins with a brace has no junk header
 no_header : (text : List ℕ) (ms : Members) → text ≡ compact_text (object ms) → behind_header text ≡ Some text

@@ -7,7 +7,7 @@ use Rattle.sourcemap_core.specs.declared.errors.Error.{Error}
 use Rattle.sourcemap_core.specs.declared.errors.Error.TheVariants.{Io}
 use Rattle.sourcemap_json.specs.Jsontypes.{Tree, written}
 use Rattle.sourcemap_maps.specs.Types.{MapValue, MeansTheSame}
-use Rattle.sourcemap_maps.specs.Encoder.{KeepsParts}
+use Rattle.sourcemap_maps.specs.Encoder.{IsRecordOf, KeepsParts}
 use Rattle.sourcemap_maps.specs.Reading.{IsJson, BytesStandFor, UrlStandsFor, RegularDecodes}
 
 -- the compact text of a record's value, but for the digits of a fraction in it, which are not said; a text
@@ -19,6 +19,10 @@ pub record IsText (t : Tree) (text : List ℕ) : Type 0 where
 -- the text of a record that may be answered
 abbrev pub IsEncoded : (Result Tree Error → Type 0) → List ℕ → Type 0
 IsEncoded Encodes text = (t : Tree) × Encodes (Ok t) × IsText t text
+
+-- the compact text of the value of a record that a map is written as
+abbrev pub IsCompactTextOf : MapValue → List ℕ → Type 0
+IsCompactTextOf m text = (t : Tree) × IsRecordOf m t × (text ≡ compact_text (written t))
 
 -- bytes that stand for a regular map of the same meaning as this one, with all parts kept
 abbrev pub BytesReadBack : MapValue → List ℕ → Type 0

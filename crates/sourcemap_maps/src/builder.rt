@@ -142,8 +142,8 @@ impl SourceMapBuilder {
         self.names.add(name)
     }
 
-    /// Changes the text that is shown of a source. The text that was first given for it still
-    /// finds its number. Only want of memory refuses.
+    /// Changes the text that is shown of the source of this number, of which there must be one. The
+    /// text that was first given for it still finds its number. Only want of memory refuses.
     pub fn set_source(&mut self, id: u32, source: &str) -> Result<()>
         requires { id < length self.old.sources }
         ensures ok { OnOk result (self.new ≡ record self.old { sources = slice_set self.old.sources id source.now }) }
@@ -194,8 +194,8 @@ impl SourceMapBuilder {
         Ok(())
     }
 
-    /// Sets the contents of the source of this number. The list of contents is then as long as
-    /// that of the sources. Only want of memory refuses.
+    /// Sets the contents of the source of this number, of which there must be one. The list of
+    /// contents is then as long as that of the sources. Only want of memory refuses.
     pub fn set_source_contents(&mut self, id: u32, contents: Option<&str>) -> Result<()>
         requires { id < length self.old.sources }
         ensures ok { OnOk result (self.new ≡ record self.old {

@@ -5,7 +5,7 @@ ghost use Rattle.sourcemap_core.specs.declared.errors.Error.TheVariants.{OutOfMe
 ghost use Rattle.sourcemap_json.specs.DataUrl.{data_url_of, Holds};
 ghost use Rattle.sourcemap_maps.specs.Types.{MapValue, IsWellFormed};
 ghost use Rattle.sourcemap_maps.specs.Encoder.{RecordAnswer};
-ghost use Rattle.sourcemap_maps.specs.Bytes.{IsEncoded, BytesReadBack, UrlReadsBack, IsIo};
+ghost use Rattle.sourcemap_maps.specs.Bytes.{IsEncoded, IsCompactTextOf, BytesReadBack, UrlReadsBack, IsIo};
 
 use crate::encoder::Encodable;
 use crate::types::SourceMap;
@@ -67,6 +67,12 @@ impl SourceMap {
         Ok(url)
     }
 }
+
+/// A law: the bytes that a map is written as are the compact text of its record's value, for no
+/// number in that has a fraction.
+pub fn written_maps_are_compact()
+    ensures { (m : MapValue) (text : List ℕ) → IsEncoded (RecordAnswer m) text → IsCompactTextOf m text }
+{}
 
 /// A law: the bytes that a well-formed map is written as stand for a map of the same meaning at
 /// every position, with all parts kept.

@@ -14,7 +14,7 @@ ghost use Rattle.sourcemap_maps.specs.Types.{fitted};
 ghost use Rattle.sourcemap_maps.specs.Encoder.{written_ids};
 ghost use Rattle.sourcemap_maps.specs.EncoderParts.{AreTextsOf, AreListsOf, IsHeadingOf, record_of_parts, some_contents};
 
-pub use crate::bytes::{encode, encode_to, written_maps_read_back};
+pub use crate::bytes::{encode, encode_to, written_maps_are_compact, written_maps_read_back};
 use crate::texts::owned;
 use crate::types::SourceMap;
 use serde_json::Value;

@@ -1,3 +1,5 @@
+ghost use Rattle.std.specs.Prelude.{◌≡◌, ⊤};
+
 use crate::token::Token;
 use crate::types::SourceMap;
 use std::collections::btree_set;
@@ -12,7 +14,7 @@ pub struct TokenIter<'a> {
 impl<'a> Iterator for TokenIter<'a> {
     type Item = Token<'a>;
 
-    ghost use Rattle.std.specs.Iterator.{YieldsFirstBy, item_count};
+    ghost use Rattle.std.specs.Iterator.{MakesProgress, YieldsFirstBy, item_count};
     ghost use Rattle.sourcemap_maps.specs.Token.{token_value};
     ghost use Rattle.sourcemap_maps.specs.Iterators.{tokens_left};
 
@@ -20,7 +22,11 @@ impl<'a> Iterator for TokenIter<'a> {
 
     ghost remaining = { item_count tokens_left };
 
-    fn next(&mut self) -> Option<Token<'a>> {
+    fn next(&mut self) -> Option<Token<'a>>
+        ensures steps { YieldsFirstBy token_value tokens_left self.old result self.new }
+        ensures goes { MakesProgress (λ _. ⊤) (item_count tokens_left) self.old result self.new }
+        ensures same_map { self.new.map ≡ self.old.map }
+    {
         let map = self.map;
         match map.get_token(self.next) {
             None => None,

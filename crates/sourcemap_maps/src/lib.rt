@@ -3,11 +3,7 @@
 #![tactic(auto)]
 
 pub mod builder;
-#[cfg(test)]
-mod builder_tests;
 mod bytes;
-#[cfg(test)]
-mod changes_tests;
 mod copies;
 pub mod decoder;
 pub mod encoder;
@@ -19,11 +15,7 @@ mod numbering;
 mod prefixes;
 pub mod reading;
 mod rewrite;
-#[cfg(test)]
-mod rewrite_tests;
 mod setters;
-#[cfg(test)]
-mod tests;
 mod texts;
 mod token;
 mod token_order;

@@ -26,7 +26,7 @@ impl SourceMap {
         self.debug_id = debug_id;
     }
 
-    /// Sets the name of the generated file.
+    /// Sets the name of the generated file. Only want of memory refuses.
     pub fn set_file(&mut self, file: Option<&str>) -> Result<()>
         ensures ok { OnOk result (self.new ≡ record self.old { file = option_copied file.entry }) }
         ensures err { OnErr result (self.new ≡ self.old) }
@@ -37,7 +37,8 @@ impl SourceMap {
         Ok(())
     }
 
-    /// Sets the root that is put before the sources.
+    /// Sets the root that is put before the sources, with one slash between them. Sources that begin
+    /// with `/`, `http:` or `https:` are shown without it. Only want of memory refuses.
     pub fn set_source_root(&mut self, root: Option<&str>) -> Result<()>
         ensures ok { OnOk result (self.new ≡ record self.old { root = option_copied root.entry }) }
         ensures err { OnErr result (self.new ≡ self.old) }
@@ -56,7 +57,8 @@ impl SourceMap {
         self.names.clear();
     }
 
-    /// Puts a source's number on the list of those that a debugger passes over.
+    /// Puts a number on the list of the sources that a debugger passes over; one that no source has
+    /// is taken as well. Only want of memory refuses.
     pub fn add_to_ignore_list(&mut self, id: u32) -> Result<()>
         ensures ok { OnOk result (self.new ≡ record self.old { ignored = insert_key nat_cmp self.old.ignored id }) }
         ensures err { OnErr result (self.new ≡ self.old) }
@@ -66,8 +68,8 @@ impl SourceMap {
         Ok(())
     }
 
-    /// Sets the contents of the source of this number. The list of contents is then as long as
-    /// that of the sources.
+    /// Sets the contents of the source of this number, of which there must be one. The list of
+    /// contents is then as long as that of the sources. Only want of memory refuses.
     pub fn set_source_contents(&mut self, id: u32, contents: Option<&str>) -> Result<()>
         requires { id < length self.old.sources }
         ensures ok { OnOk result (self.new ≡ record self.old {
@@ -82,7 +84,8 @@ impl SourceMap {
         put(&mut self.contents, count, id as usize, contents)
     }
 
-    /// Sets the text of the source of this number, as it stands without the root.
+    /// Sets the text of the source of this number, of which there must be one, as it stands without
+    /// the root. Only want of memory refuses.
     pub fn set_source(&mut self, id: u32, source: &str) -> Result<()>
         requires { id < length self.old.sources }
         ensures ok { OnOk result (self.new ≡ record self.old { sources = slice_set self.old.sources id source.now }) }

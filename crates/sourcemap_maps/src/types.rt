@@ -60,7 +60,10 @@ impl SourceMap {
     ghost use Rattle.sourcemap_maps.specs.Token.{answers, lookup, token_at, token_value, tokens_from};
 
     /// A map of these parts, its tokens sorted stably by line and column of the generated text.
-    /// It has no root, passes over no source and has no debug id. Only want of memory refuses.
+    /// It has no root, passes over no source and has no debug id. A missing list of contents is the
+    /// same as an empty one. Names, sources and contents are to be at most 4294967295 each, so that
+    /// each has a number; a token may name a source or a name that is not there, and has none then.
+    /// Only want of memory refuses.
     pub fn new(
         alloc: Global,
         file: Option<&str>,
@@ -159,7 +162,8 @@ impl SourceMap {
 
     /// The token closest to a line and a column of the generated text: the first token there, else
     /// the last token before it, on whichever line, else none. A range token found on its own line
-    /// adds the columns from its own to the one asked for to its column in the source.
+    /// adds the columns from its own to the one asked for to its column in the source, where the sum
+    /// stays at 4294967295 at most.
     pub fn lookup_token(&self, line: u32, col: u32) -> Option<Token<'_>>
         ensures value { option_map token_value result ≡ lookup self.now (line, col) }
         ensures meaning { option_map answers result ≡ meaning self.now (line, col) }
@@ -241,6 +245,7 @@ impl SourceMap {
 
     /// The tokens, in order of line and column of the generated text.
     pub fn tokens(&self) -> TokenIter<'_>
+        ensures map { result.map.now ≡ self.now }
         ensures rest { tokens_left result ≡ tokens_from self.now 0 }
         ensures bound { length (tokens_left result) < 2 ^ 64 }
     {

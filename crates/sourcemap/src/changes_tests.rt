@@ -1,7 +1,5 @@
-use crate::token::Token;
-use crate::types::SourceMap;
-use sourcemap_core::errors::{Error, Result};
-use sourcemap_core::tokens::RawToken;
+use crate::errors::{Error, Result};
+use crate::types::{RawToken, SourceMap, Token};
 use std::alloc::Global;
 use std::process::Abort;
 use std::test::Fail;

@@ -1,7 +1,7 @@
 use crate::builder::SourceMapBuilder;
+use crate::errors::Result;
+use crate::jsontypes::DebugId;
 use crate::types::SourceMap;
-use sourcemap_core::errors::Result;
-use sourcemap_json::jsontypes::DebugId;
 use std::alloc::Global;
 use std::process::Abort;
 use std::test::Fail;

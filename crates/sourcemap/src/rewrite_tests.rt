@@ -1,9 +1,9 @@
 use crate::decoder::decode_regular;
 use crate::encoder::Encodable;
+use crate::errors::{Error, Result};
+use crate::jsontypes::RawSourceMap;
 use crate::types::{RewriteOptions, SourceMap};
 use serde_json::Value;
-use sourcemap_core::errors::{Error, Result};
-use sourcemap_json::jsontypes::RawSourceMap;
 use std::alloc::Global;
 use std::process::Abort;
 use std::rt::Files;

@@ -1,9 +1,8 @@
 use crate::decoder::decode_regular;
 use crate::encoder::Encodable;
-use crate::types::SourceMap;
-use sourcemap_core::errors::{Error, Result};
-use sourcemap_core::tokens::RawToken;
-use sourcemap_json::jsontypes::RawSourceMap;
+use crate::errors::{Error, Result};
+use crate::jsontypes::RawSourceMap;
+use crate::types::{RawToken, SourceMap};
 use std::alloc::Global;
 use std::process::Abort;
 use std::test::Fail;
