@@ -1,14 +1,14 @@
 #!/usr/bin/env python3
 """Times this library and a reference program side by side, and writes the ratios as Markdown.
 
-    bench/compare-speed.py REFERENCE MAP.. [--rounds N] [--growth N] [--instructions]
+    bench/compare-speed.py REFERENCE MAP.. [--rounds N] [--growth N..] [--instructions]
 
 REFERENCE       a program over the Rust crate, or the folder of its Cargo project, which is then built.
                 It knows the words `bench OPERATION N`, `stat` and `--raw lookup LINE COL`.
 MAP             maps to take, as files
 --rounds        rounds of each figure, of which the least counts (7)
---growth        tokens of the smallest of four made maps, each with twice the tokens of the one before
-                (250000); 0 leaves them out
+--growth        tokens of the smallest of four made maps, each with twice the tokens of the one before;
+                a table for each such number (75000 250000), and none for 0
 --instructions  counts instructions with valgrind too, which is slow
 
 The programs must be built (./sourcemap does that for one; `rt run` in crates/sourcemap_bench for the other).
@@ -152,21 +152,25 @@ def map_table(programs, path, rounds, counted):
             print(row('instructions, ' + TITLES[operation], programs.counts(path, operation), 'million', 1), flush=True)
 
 
+def growth_row(title, programs, figures):
+    """A line for each program, of pairs of figures on maps of 1, 2, 4 and 8 times the tokens."""
+    if None in figures:
+        return
+    for i, name in enumerate(programs.commands):
+        shown = ' | '.join(f'{f[i] / figures[0][i]:.2f}' for f in figures[1:])
+        print(f'| {title} | {name} | {figures[0][i] * 1e3:.1f} ms | {shown} |', flush=True)
+
+
 def growth_table(programs, smallest, rounds):
-    print('\nGrowth, on made maps: the time of an operation on 2, 4 and 8 times the tokens, '
-          'by that on the first map.\n')
+    print(f'\nGrowth, on made maps: the figure on 2, 4 and 8 times the tokens, by that on a map of {smallest:,} tokens.\n')
     print('| Operation | Program | 1 | 2 | 4 | 8 |\n|---|---|---|---|---|---|')
     with tempfile.TemporaryDirectory() as folder:
         paths = [made_map(smallest * k, folder) for k in (1, 2, 4, 8)]
         for operation in OPERATIONS:
-            if operation in ('lookup', 'tokens'):
-                continue
-            figures = [programs.times(path, operation, rounds) for path in paths]
-            if None in figures:
-                continue
-            for i, name in enumerate(programs.commands):
-                shown = ' | '.join(f'{f[i] / figures[0][i]:.2f}' for f in figures[1:])
-                print(f'| {TITLES[operation]} | {name} | {figures[0][i] * 1e3:.1f} ms | {shown} |', flush=True)
+            if operation not in ('lookup', 'tokens'):
+                growth_row(TITLES[operation], programs, [programs.times(path, operation, rounds) for path in paths])
+        for words in (['lookup', '3', '100'], ['rewrite']):
+            growth_row('run of `' + ' '.join(words) + '`', programs, [programs.whole(path, words, rounds) for path in paths])
         for i, program in enumerate(([str(TOOL)], [programs.reference, '--raw'])):
             figures = [peak([*program, 'lookup', '3', '100'], path) for path in paths]
             shown = ' | '.join(f'{f / figures[0]:.2f}' for f in figures[1:])
@@ -178,14 +182,15 @@ def main():
     words.add_argument('reference')
     words.add_argument('maps', nargs='*')
     words.add_argument('--rounds', type=int, default=7)
-    words.add_argument('--growth', type=int, default=250000)
+    words.add_argument('--growth', type=int, nargs='+', default=[75000, 250000])
     words.add_argument('--instructions', action='store_true')
     given = words.parse_args()
     programs = Pair(reference_program(given.reference))
     for path in given.maps:
         map_table(programs, path, given.rounds, given.instructions)
-    if given.growth:
-        growth_table(programs, given.growth, given.rounds)
+    for smallest in given.growth:
+        if smallest:
+            growth_table(programs, smallest, given.rounds)
 
 
 main()

@@ -86,7 +86,7 @@ fn set_texts(rt: &impl Abort, map: &mut SourceMap) -> std::result::Result<(), Fa
     assert_eq!(rt; map.get_source(1), Some("root/b.js"));
     assert!(rt; map.get_source_count() == 5);
     map.set_source_contents(2, Some("text"))?;
-    assert_eq!(rt; map.contents.len(), 5);
+    assert_eq!(rt; map.source_contents().count(), 5);
     assert_eq!(rt; map.get_source_contents(2), Some("text"));
     Ok(())
 }

@@ -19,6 +19,10 @@ use crate::tokens::{RawToken, sort_tokens};
 use crate::vlq::next_number;
 use std::alloc::Global;
 
+// For how many tokens room is made at most before the first is read. A list that grows past what the
+// allocator keeps at hand is moved, and its pages are touched twice.
+const FIRST_TOKENS: usize = 1 << 23;
+
 // How many sources and names the map has.
 #[derive(Clone, Copy)]
 struct Limits {
@@ -369,7 +373,7 @@ fn read_lines(
         (LinesFault (counts_of limits) 0 [] (line_texts mappings.now ranges.now) e)) }
     ensures order { IfOk result (λ read. IsTrue read.1 → AreInOrder read.0.items) }
 {
-    let mut tokens = Vec::with_capacity(alloc, (mappings.len() / 5 + 1).min(1 << 20))?;
+    let mut tokens = Vec::with_capacity(alloc, (mappings.len() / 5 + 1).min(FIRST_TOKENS))?;
     let mut sums = Sums {
         rises: true,
         column: 0,
