@@ -5,7 +5,7 @@ ghost use Rattle.serde_json.specs.Find.{get, get_member};
 ghost use Rattle.serde_json.specs.View.{view, items_view, members_view};
 ghost use Rattle.sourcemap_core.specs.declared.errors.Error.TheVariants.{OutOfMemory};
 ghost use Rattle.sourcemap_json.specs.Jsontypes.{is_there};
-ghost use Rattle.sourcemap_json.specs.Fields.{Reads, Makes, put_if, written_number, written_or_null, written_list, KeepsOthers, any, text, small_number, or_null, items_read, found, list, at, needed};
+ghost use Rattle.sourcemap_json.specs.Fields.{due, Reads, Makes, put_if, written_number, written_or_null, written_list, KeepsOthers, any, text, small_number, or_null, items_read, found, list, at, needed};
 
 use serde_json::{Map, Value, put};
 use sourcemap_core::errors::{Error, JsonFault, Result};
@@ -106,7 +106,7 @@ impl Field for u32 {
 
 // A whole number below 2^32.
 fn read_number(value: &Value) -> Result<u32>
-    ensures { Reads (λ n. n) result (small_number (view value.now)) }
+    ensures { result ≡ due (small_number (view value.now)) }
 {
     match value.as_u64() {
         Some(n) if n < 1 << 32 => Ok(n as u32),
@@ -258,7 +258,7 @@ pub(crate) fn put_field<F: Field>(
 
 // The number of a key that may be missing.
 pub(crate) fn number_at(value: &Value, key: &str) -> Result<Option<u32>>
-    ensures { Reads (λ n. n) result (found small_number (get key.now (view value.now))) }
+    ensures { result ≡ due (found small_number (get key.now (view value.now))) }
 {
     match value.get(key) {
         None | Some(Value::Null) => Ok(None),

@@ -98,15 +98,15 @@ pub struct MinimalRawSourceMap {
 }
 
 impl MinimalRawSourceMap {
+    ghost use Rattle.std.specs.Prelude.{◌≡◌};
     ghost use Rattle.serde_json.specs.View.{view};
-    ghost use Rattle.sourcemap_core.specs.Answer.{Gives};
     ghost use Rattle.sourcemap_json.specs.Fields.{due};
     ghost use Rattle.sourcemap_json.specs.Jsontypes.{minimal_of};
 
     /// The keys of a value. `BadJson(Shape)` if it is no object, or its version is neither null nor
-    /// a `u32`.
+    /// a `u32`. It takes no memory.
     pub fn from_value(value: &Value) -> Result<MinimalRawSourceMap>
-        ensures { Gives (λ m. m) result (due (minimal_of (view value.now))) }
+        ensures { result ≡ due (minimal_of (view value.now)) }
     {
         if !value.is_object() {
             return Err(Error::BadJson(JsonFault::Shape));
