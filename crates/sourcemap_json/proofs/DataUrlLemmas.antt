@@ -1,7 +1,7 @@
 -- A data URL has one answer.
 use Rattle.std.proofs.Common.{◌≡◌, List, ℕ, refl, ap, Result, Ok, Err, ◌∙◌, sym}
 use Rattle.base64.specs.Engines.{standard}
-use Rattle.base64.specs.GeneralPurpose.{encode_of, decode_of, IsBytes}
+use Rattle.base64.specs.GeneralPurpose.{encode_of, decode_of}
 use Rattle.base64.proofs.EngineFacts.{decode_of-encode_of}
 use Rattle.sourcemap_core.specs.declared.errors.Error.{Error}
 use Rattle.sourcemap_json.specs.DataUrl.{Holds, DataUrlAnswer}

@@ -1,9 +1,10 @@
 -- A record level by level.
-use Rattle.std.proofs.Common.{◌≡◌, List, [], ◌∷◌, Option, None, Some, Vec, Global, map, option_map, codes, refl, sym, ap, ◌∙◌}
+use Rattle.std.proofs.Common.{◌≡◌, List, [], ◌∷◌, Option, None, Some, Vec, Global, map, option_map, codes, IfSome, subst, refl, sym, ap, ◌∙◌}
+use Rattle.std.specs.List.{AllByRecursion}
 use Rattle.serde_json.specs.Data.{object, array, item}
 use Rattle.serde_json.specs.View.{items_of}
 use Rattle.sourcemap_json.specs.Fields.{put_if, written_or_null}
-use Rattle.sourcemap_json.specs.Jsontypes.{Fields, Section, Sections, Tree, flat, tree, tree_with, tree_step, section, section_step, sections_from, fields_view, written, written_sections, written_section, written_one, section_with, Place, written_fields}
+use Rattle.sourcemap_json.specs.Jsontypes.{AreInRange, IsInRange, IsSectionInRange, AreSectionsInRange, section_at, Fields, Section, Sections, Tree, flat, tree, tree_with, tree_step, section, section_step, sections_from, fields_view, written, written_sections, written_section, written_one, section_with, Place, written_fields}
 use Rattle.sourcemap_json.specs.declared.jsontypes.RawSection.{RawSection}
 use Rattle.sourcemap_json.specs.declared.jsontypes.RawSourceMap.{RawSourceMap, RawSourceMap-F, out-RawSourceMap, roll-RawSourceMap, fold_out-RawSourceMap, fold-roll-RawSourceMap, map-RawSourceMap}
 
@@ -65,3 +66,22 @@ written-tree r =
     ap written (tree-out r ∙ ap (tree_with fields) (sections_listed sections_from sections))
     ∙ written-with_sections fields (option_map (λ v. map section v.items) sections)
     ∙ ap (λ v. object (put_if (codes "sections") v (written_fields fields))) (sym (sections_listed (λ ss. array (items_of (map written_one ss))) sections))
+
+-- ---- a record is in range where its fields and its sections are
+
+in_range-from : (ss : List Section) → AllByRecursion IsSectionInRange ss → AreSectionsInRange (sections_from ss)
+in_range-from [] h = tt
+in_range-from (s ∷ ss) h = in_range-with s.place s.map (sections_from ss) h.0 (in_range-from ss h.1)
+  where
+    in_range-with : (place : Place) (t : Option Tree) (rest : Sections) → IsSectionInRange (section_at place t) → AreSectionsInRange rest → AreSectionsInRange (section_with place t rest)
+    in_range-with place None rest h more = (h.0, more)
+    in_range-with place (Some t) rest h more = (h.0, h.1, more)
+
+in_range-with_sections : (fields : Fields) (v : Option (Vec RawSection Global)) → AreInRange fields → IfSome v (λ v. AllByRecursion IsSectionInRange (map section v.items))
+    → IsInRange (tree_with fields (option_map (λ v. sections_from (map section v.items)) v))
+in_range-with_sections fields None h all = h
+in_range-with_sections fields (Some v) h all = (h, in_range-from (map section v.items) all)
+
+pub in_range-tree : (r : RawSourceMap) → AreInRange (fields_view (out-RawSourceMap r)) → IfSome (out-RawSourceMap r).sections (λ v. AllByRecursion IsSectionInRange (map section v.items))
+    → IsInRange (tree r)
+in_range-tree r h all = subst IsInRange (sym (tree-out r)) (in_range-with_sections (fields_view (out-RawSourceMap r)) (out-RawSourceMap r).sections h all)

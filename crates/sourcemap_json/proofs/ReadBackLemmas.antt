@@ -1,5 +1,5 @@
 -- What was written is read back.
-use Rattle.std.proofs.Common.{◌≡◌, ◌≢◌, ℕ, zero, suc, Result, Ok, Err, IfOk, ◌<◌, ◌^◌, ◌||◌, ◌==◌, List, [], ◌∷◌, Option, Some, None, option_map, map, length, Bool, true, false, if◌then◌else◌, nat_lt, IfSome, All, codes, inl, true≢false, refl, sym, ap, ◌∙◌, arith}
+use Rattle.std.proofs.Common.{◌≡◌, ◌≢◌, ℕ, zero, suc, Result, Ok, Err, IfOk, OnOk, ◌<◌, ◌^◌, ◌||◌, ◌==◌, List, [], ◌∷◌, Option, Some, None, option_map, map, length, Bool, true, false, if◌then◌else◌, nat_lt, IfSome, All, codes, inl, true≢false, refl, sym, ap, ◌∙◌, arith}
 use Rattle.std.proofs.lemmas.Bool.Decides.{nat_tests}
 use Rattle.std.specs.List.{AllByRecursion}
 use Rattle.std.specs.Option.{option_or}
@@ -16,7 +16,7 @@ use Rattle.uuid.proofs.TextLemmas.{by_index_length}
 use Rattle.uuid.proofs.RoundTrips.{parses_hyphenated}
 use Rattle.sourcemap_json.specs.DebugId.{IsId, debug_id_of, debug_id_text}
 use Rattle.sourcemap_json.specs.Fields.{Makes, KeepsOthers, found, at, any, text, small, small_number, or_null, or_null_of, list, items_read, written_number, written_or_null, written_list, put_if, put_all}
-use Rattle.sourcemap_json.specs.Jsontypes.{Fields, Scopes, Tree, plain, indexed, Sections, no_more, bare, mapped, IsSmall, IsFine, IsFineFields, AreFine, scopes, debug_id, debug_id_in, fields_in, sections_read, record_of, written, written_fields, written_scopes, written_sections, entries}
+use Rattle.sourcemap_json.specs.Jsontypes.{IsSmall, Fields, Scopes, Tree, plain, indexed, Sections, no_more, bare, mapped, AreInRange, IsInRange, AreSectionsInRange, HasNoNullFile, HaveNoNullFile, scopes, debug_id, debug_id_in, fields_in, sections_read, record_of, written, written_fields, written_scopes, written_sections, entries}
 use Rattle.sourcemap_json.proofs.ReadingLemmas.{sections_in-at, fields_kept}
 
 -- ---- what a key gives after entries were put
@@ -142,8 +142,8 @@ or_none (Some x) = refl
 at_key : {X : Type 0} (read : Data → Option X) (key : List ℕ) (f : Fields) (x : Option X) → found read (looked (entries f) key None) ≡ Some x → at key read (written_fields f) ≡ Some x
 at_key read key f x h = ap (found read) (get-put_all (entries f) key no_members) ∙ h
 
-pub fields-back : (f : Fields) → IsFineFields f → fields_in (written_fields f) ≡ Some f
-fields-back f fine =
+pub fields-back : (f : Fields) → AreInRange f → f.file ≢ Some null → fields_in (written_fields f) ≡ Some f
+fields-back f fine no_null =
     let id : debug_id_in (written_fields f) ≡ Some f.debug_id =
     rw (
       at_key debug_id (codes "debugId") f f.debug_id (back debug_id (λ id. string (debug_id_text id)) f.debug_id (some_then IsId _ id-back f.debug_id fine.debug_id)),
@@ -152,7 +152,7 @@ fields-back f fine =
     rw (
       id,
       at_key small_number (codes "version") f f.version (back_null small_number written_number f.version (some_then IsSmall _ number-back f.version fine.version)),
-      at_key any (codes "file") f f.file (file-back f.file fine.file),
+      at_key any (codes "file") f f.file (file-back f.file no_null),
       at_key (list (or_null text)) (codes "sources") f f.sources (back_null (list (or_null text)) (written_list (written_or_null string)) f.sources (for_some _ texts-back f.sources)),
       at_key text (codes "sourceRoot") f f.source_root (back text string f.source_root (for_some _ (λ s. refl) f.source_root)),
       at_key (list (or_null text)) (codes "sourcesContent") f f.sources_content (back (list (or_null text)) (written_list (written_or_null string)) f.sources_content (for_some _ texts-back f.sources_content)),
@@ -176,25 +176,26 @@ nullable (plain f) x = refl
 nullable (indexed f ss) x = refl
 
 mutual
-  pub record-back : (t : Tree) → IsFine t → record_of (written t) ≡ Some t
-  record-back (plain f) fine =
-      rw (sections_in-at (written_fields f), get-put_all (entries f) (codes "sections") no_members, fields-back f fine) refl
-  record-back (indexed f ss) fine =
+  pub record-back : (t : Tree) → IsInRange t → HasNoNullFile t → record_of (written t) ≡ Some t
+  record-back (plain f) fine no_null =
+      rw (sections_in-at (written_fields f), get-put_all (entries f) (codes "sections") no_members, fields-back f fine no_null) refl
+  record-back (indexed f ss) fine no_null =
       rw (
         sections_in-at (put (codes "sections") (array (written_sections ss)) (written_fields f)),
         get_member-put (codes "sections") (array (written_sections ss)) (written_fields f),
-        sections-back ss fine.1,
+        sections-back ss fine.1 no_null.1,
         fields_kept (written_fields f) (put (codes "sections") (array (written_sections ss)) (written_fields f)) (kept-put (codes "sections") (array (written_sections ss)) (written_fields f)),
-        fields-back f fine.0,
+        fields-back f fine.0 no_null.0,
       ) refl
 
-  sections-back : (ss : Sections) → AreFine ss → sections_read (written_sections ss) ≡ Some ss
-  sections-back no_more fine = refl
-  sections-back (bare p rest) fine =
-      rw (small-back p.line fine.0.0, small-back p.column fine.0.1, back_null text string p.url (for_some _ (λ s. refl) p.url), sections-back rest fine.1) refl
-  sections-back (mapped p t rest) fine =
-      rw (nullable t (record_of (written t)), record-back t fine.1, small-back p.line fine.0.0, small-back p.column fine.0.1, back_null text string p.url (for_some _ (λ s. refl) p.url), sections-back rest fine.2) refl
+  sections-back : (ss : Sections) → AreSectionsInRange ss → HaveNoNullFile ss → sections_read (written_sections ss) ≡ Some ss
+  sections-back no_more fine no_null = refl
+  sections-back (bare p rest) fine no_null =
+      rw (small-back p.line fine.0.0, small-back p.column fine.0.1, back_null text string p.url (for_some _ (λ s. refl) p.url), sections-back rest fine.1 no_null) refl
+  sections-back (mapped p t rest) fine no_null =
+      rw (nullable t (record_of (written t)), record-back t fine.1 no_null.0, small-back p.line fine.0.0, small-back p.column fine.0.1, back_null text string p.url (for_some _ (λ s. refl) p.url), sections-back rest fine.2 no_null.1) refl
 
-pub read_back : (r : Result Value Error) (t : Tree) → Makes view r (written t) → IfOk r (λ v. IsFine t → record_of (view v) ≡ Some t)
-read_back (Ok v) t is = λ fine. ap record_of is ∙ record-back t fine
-read_back (Err e) t is = tt
+pub read_back : (r : Result Value Error) (t : Tree) → Makes view r (written t) → OnOk r (IsInRange t)
+    → IfOk r (λ v. HasNoNullFile t → record_of (view v) ≡ Some t)
+read_back (Ok v) t is fine = λ no_null. ap record_of is ∙ record-back t fine no_null
+read_back (Err e) t is fine = tt

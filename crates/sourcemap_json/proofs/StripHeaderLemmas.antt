@@ -3,7 +3,7 @@ use Rattle.std.proofs.Common.{◌≡◌, ◌≢◌, ℕ, suc, ◌+◌, ◌-◌, 
 use Rattle.std.proofs.Math.Seq.{drop-cons, take-append_seam}
 use Rattle.std.proofs.lemmas.List.{drop-take, length-take-le}
 use Rattle.std.proofs.lemmas.Bool.Decides.{nat_tests}
-use Rattle.sourcemap_json.specs.Decoder.{behind_junk, goes_on_in_line}
+use Rattle.sourcemap_json.specs.Decoder.{behind_junk}
 use Rattle.sourcemap_json.specs.StripHeaderReader.{left_at, left_of, Gave}
 use Rattle.sourcemap_json.specs.declared.strip_header.StripHeaderReader.{StripHeaderReader}
 use Rattle.sourcemap_json.specs.declared.strip_header.Place.{Place}

@@ -36,6 +36,10 @@ abbrev pub Makes : {X Y : Type 0} → (X → Y) → Result X Error → Y → Typ
 Makes see (Ok x) seen = see x ≡ seen
 Makes see (Err e) _ = e ≡ OutOfMemory
 
+-- a bound that every value meets
+abbrev pub Any : {X : Type 0} → X → Type 0
+Any _ = Unit {0}
+
 -- ---- reading
 
 abbrev pub any : Data → Option Data

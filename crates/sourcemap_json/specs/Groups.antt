@@ -1,13 +1,13 @@
 -- The keys of a record in three groups, in the order in which they are read and written. The debug
 -- id, which has two keys, stands beside them.
-use Rattle.std.specs.Prelude.{◌≡◌, ℕ, List, [], ◌∷◌, map, codes, Option, Some, option_map, string_bytes, false}
-use Rattle.std.specs.List.{list_any}
+use Rattle.std.specs.Prelude.{◌≡◌, ℕ, List, [], ◌∷◌, map, codes, Option, Some, IfSome, option_map, string_bytes, false}
+use Rattle.std.specs.List.{list_any, AllByRecursion}
 use Rattle.std.specs.Str.{bytes_eq}
 use Rattle.serde_json.specs.Data.{Data, string, Members}
 use Rattle.serde_json.specs.Find.{get_member}
 use Rattle.serde_json.specs.View.{view}
 use Rattle.sourcemap_json.specs.Fields.{with, any, text, small_number, or_null, list, at, written_number, written_or_null, written_list}
-use Rattle.sourcemap_json.specs.Jsontypes.{Fields, Scopes, scopes, scopes_view, text_view, texts_view, written_scopes}
+use Rattle.sourcemap_json.specs.Jsontypes.{IsSmall, Fields, Scopes, scopes, scopes_view, text_view, texts_view, written_scopes}
 use Rattle.sourcemap_json.specs.declared.groups.Heading.{Heading}
 use Rattle.sourcemap_json.specs.declared.groups.Content.{Content}
 use Rattle.sourcemap_json.specs.declared.groups.Extras.{Extras}
@@ -90,6 +90,14 @@ extras_view x = record {
 
 abbrev pub groups_view : Groups → Fields
 groups_view g = fields_from (heading_view g.heading) (content_view g.content) (extras_view g.extras) g.debug_id
+
+-- ---- which values a group may have
+
+abbrev pub IsHeadingInRange : HeadingKeys → Type 0
+IsHeadingInRange h = IfSome h.version IsSmall
+
+abbrev pub AreExtrasInRange : ExtraKeys → Type 0
+AreExtrasInRange x = IfSome x.ignore_list (AllByRecursion IsSmall) × IfSome x.x_facebook_offsets (AllByRecursion (λ n. IfSome n IsSmall))
 
 -- ---- reading
 

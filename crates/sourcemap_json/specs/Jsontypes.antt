@@ -278,26 +278,44 @@ written_one s = written_section s.place (written_or_null written s.map)
 abbrev pub IsSmall : ℕ → Type 0
 IsSmall n = n < 2 ^ 32
 
-pub record IsFineFields (fields : Fields) : Type 0 where
+pub record AreInRange (fields : Fields) : Type 0 where
   pub version : IfSome fields.version IsSmall
-  pub file : fields.file ≢ Some null
   pub ignore_list : IfSome fields.ignore_list (AllByRecursion IsSmall)
   pub x_facebook_offsets : IfSome fields.x_facebook_offsets (AllByRecursion (λ n. IfSome n IsSmall))
   pub debug_id : IfSome fields.debug_id IsId
 
-abbrev pub IsFinePlace : Place → Type 0
-IsFinePlace place = IsSmall place.line × IsSmall place.column
+abbrev pub IsPlaceInRange : Place → Type 0
+IsPlaceInRange place = IsSmall place.line × IsSmall place.column
 
--- numbers are below 2^32, a debug id is 16 bytes, and no file is a written null
+-- numbers are below 2^32 and a debug id is 16 bytes, as in every record that there is
 abbrev mutual
-  pub IsFine : Tree → Type 0
-  IsFine (plain fields) = IsFineFields fields
-  IsFine (indexed fields sections) = IsFineFields fields × AreFine sections
+  pub IsInRange : Tree → Type 0
+  IsInRange (plain fields) = AreInRange fields
+  IsInRange (indexed fields sections) = AreInRange fields × AreSectionsInRange sections
 
-  pub AreFine : Sections → Type 0
-  AreFine no_more = Unit {0}
-  AreFine (bare place rest) = IsFinePlace place × AreFine rest
-  AreFine (mapped place t rest) = IsFinePlace place × IsFine t × AreFine rest
+  pub AreSectionsInRange : Sections → Type 0
+  AreSectionsInRange no_more = Unit {0}
+  AreSectionsInRange (bare place rest) = IsPlaceInRange place × AreSectionsInRange rest
+  AreSectionsInRange (mapped place t rest) = IsPlaceInRange place × IsInRange t × AreSectionsInRange rest
+
+-- one section alone
+abbrev pub IsSectionInRange : Section → Type 0
+IsSectionInRange s = IsPlaceInRange s.place × IfSome s.map IsInRange
+
+-- no file is a JSON null, which is read as none; in the maps of sections neither
+abbrev mutual
+  pub HasNoNullFile : Tree → Type 0
+  HasNoNullFile (plain fields) = fields.file ≢ Some null
+  HasNoNullFile (indexed fields sections) = (fields.file ≢ Some null) × HaveNoNullFile sections
+
+  pub HaveNoNullFile : Sections → Type 0
+  HaveNoNullFile no_more = Unit {0}
+  HaveNoNullFile (bare place rest) = HaveNoNullFile rest
+  HaveNoNullFile (mapped place t rest) = HasNoNullFile t × HaveNoNullFile rest
+
+-- a tree that is read back as it was written
+abbrev pub IsFine : Tree → Type 0
+IsFine t = IsInRange t × HasNoNullFile t
 
 -- ---- what a clause sees of a record
 

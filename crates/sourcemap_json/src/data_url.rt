@@ -39,7 +39,7 @@ fn body(url: &[u8]) -> Option<&[u8]>
 
 /// The bytes that a data URL of a source map holds: `data:application/json`, then `;charset=utf-8`,
 /// `;charset=utf8` or nothing, then `;base64,` and padded standard base64. `InvalidDataUrl` for any
-/// other text.
+/// other text. Else only want of memory refuses.
 pub fn data_url_bytes(alloc: Global, url: &str) -> Result<Vec<u8>>
     ensures { IsAnswer (λ v. v.items) (DataUrlAnswer url.now) result }
 {
@@ -53,7 +53,8 @@ pub fn data_url_bytes(alloc: Global, url: &str) -> Result<Vec<u8>>
     }
 }
 
-/// The data URL of bytes, with the charset `utf-8`. Only want of memory refuses.
+/// The data URL of bytes, with the charset `utf-8`; `data_url_bytes` gives them back. Only want of
+/// memory refuses.
 pub fn data_url(alloc: Global, bytes: &[u8]) -> Result<String>
     ensures text { IfOk result (λ url. string_bytes url ≡ data_url_of bytes.now) }
     ensures reads_back { IfOk result (λ url. Holds (string_bytes url) bytes.now) }

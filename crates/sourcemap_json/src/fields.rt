@@ -1,11 +1,12 @@
 // How the fields of a record are read from JSON and written as JSON.
-ghost use Rattle.std.specs.Prelude.{◌≡◌, ℕ, List, Option, Some, Ok, map, option_map, string_bytes, IfOk, IfErr, OnOk};
+ghost use Rattle.std.specs.Prelude.{◌≡◌, ℕ, List, Option, Some, Ok, map, option_map, string_bytes, IfOk, IfErr, IfSome, OnOk};
+ghost use Rattle.std.specs.List.{AllByRecursion};
 ghost use Rattle.serde_json.specs.Data.{Data, string};
 ghost use Rattle.serde_json.specs.Find.{get, get_member};
 ghost use Rattle.serde_json.specs.View.{view, items_view, members_view};
 ghost use Rattle.sourcemap_core.specs.declared.errors.Error.TheVariants.{OutOfMemory};
-ghost use Rattle.sourcemap_json.specs.Jsontypes.{is_there};
-ghost use Rattle.sourcemap_json.specs.Fields.{Reads, Makes, put_if, written_number, written_or_null, written_list, KeepsOthers, any, text, small_number, or_null, items_read, found, list, at, needed};
+ghost use Rattle.sourcemap_json.specs.Jsontypes.{IsSmall, is_there};
+ghost use Rattle.sourcemap_json.specs.Fields.{Any, due, Reads, Makes, put_if, written_number, written_or_null, written_list, KeepsOthers, any, text, small_number, or_null, items_read, found, list, at, needed};
 
 use serde_json::{Map, Value, put};
 use sourcemap_core::errors::{Error, JsonFault, Result};
@@ -22,13 +23,17 @@ pub(crate) trait Field: Drop {
 
     ghost writing: { Seen → Data };
 
+    // What each value of the type meets.
+    ghost in_range: { Seen → Type 0 };
+
     // Takes its texts out of the value.
     fn take(alloc: Global, value: Value) -> Result<Self>
         ensures { Reads see result (reading (view value)) };
 
     // Leaves its texts to the value.
     fn give(self, alloc: Global) -> Result<Value>
-        ensures { Makes view result (writing (see self)) };
+        ensures value { Makes view result (writing (see self)) }
+        ensures in_range { OnOk result (in_range (see self)) };
 
     // The same, on its own.
     fn duplicate(&self, alloc: Global) -> Result<Self>
@@ -43,6 +48,8 @@ impl Field for Value {
     ghost reading = { any };
 
     ghost writing = { λ d. d };
+
+    ghost in_range = { Any };
 
     fn take(_alloc: Global, value: Value) -> Result<Value> {
         Ok(value)
@@ -65,6 +72,8 @@ impl Field for String {
     ghost reading = { text };
 
     ghost writing = { string };
+
+    ghost in_range = { Any };
 
     fn take(_alloc: Global, value: Value) -> Result<String> {
         match value {
@@ -91,6 +100,8 @@ impl Field for u32 {
 
     ghost writing = { written_number };
 
+    ghost in_range = { IsSmall };
+
     fn take(_alloc: Global, value: Value) -> Result<u32> {
         read_number(&value)
     }
@@ -106,7 +117,7 @@ impl Field for u32 {
 
 // A whole number below 2^32.
 fn read_number(value: &Value) -> Result<u32>
-    ensures { Reads (λ n. n) result (small_number (view value.now)) }
+    ensures { result ≡ due (small_number (view value.now)) }
 {
     match value.as_u64() {
         Some(n) if n < 1 << 32 => Ok(n as u32),
@@ -122,6 +133,8 @@ impl<T: Field> Field for Option<T> {
     ghost reading = { or_null T.reading };
 
     ghost writing = { written_or_null T.writing };
+
+    ghost in_range = { λ o. IfSome o T.in_range };
 
     fn take(alloc: Global, value: Value) -> Result<Option<T>> {
         if let Value::Null = value {
@@ -153,6 +166,8 @@ impl<T: Field> Field for Vec<T> {
     ghost reading = { list T.reading };
 
     ghost writing = { written_list T.writing };
+
+    ghost in_range = { AllByRecursion T.in_range };
 
     fn take(alloc: Global, value: Value) -> Result<Vec<T>> {
         match value {
@@ -186,6 +201,7 @@ fn take_items<T: Field>(alloc: Global, items: Vec<Value>) -> Result<Vec<T>>
 
 fn give_items<T: Field>(alloc: Global, fields: Vec<T>) -> Result<Vec<Value>>
     ensures ok { IfOk result (λ v. map view v.items ≡ map T.writing (map T.see fields.items)) }
+    ensures in_range { OnOk result (AllByRecursion T.in_range (map T.see fields.items)) }
     ensures err { IfErr result (λ e. e ≡ OutOfMemory) }
 {
     let mut items = Vec::with_capacity(alloc, fields.len())?;
@@ -248,6 +264,7 @@ pub(crate) fn put_field<F: Field>(
 ) -> Result<()>
     ensures ok { OnOk result (members_view members.new.entries
         ≡ put_if key.now (option_map F.writing (option_map F.see field)) (members_view members.old.entries)) }
+    ensures in_range { OnOk result (IfSome (option_map F.see field) F.in_range) }
     ensures err { IfErr result (λ e. e ≡ OutOfMemory) }
 {
     if let Some(field) = field {
@@ -258,7 +275,7 @@ pub(crate) fn put_field<F: Field>(
 
 // The number of a key that may be missing.
 pub(crate) fn number_at(value: &Value, key: &str) -> Result<Option<u32>>
-    ensures { Reads (λ n. n) result (found small_number (get key.now (view value.now))) }
+    ensures { result ≡ due (found small_number (get key.now (view value.now))) }
 {
     match value.get(key) {
         None | Some(Value::Null) => Ok(None),

@@ -22,11 +22,13 @@ pub struct RawSectionOffset {
 pub struct FacebookScopeMapping {
     /// The names of the functions.
     pub names: Vec<String>,
-    /// Where they stand, in digits.
+    /// Where they stand, in base64 digits: segments of a step in the column, in the number of the
+    /// name and in the line, between commas, and lines of segments between semicolons.
     pub mappings: String,
 }
 
-/// For each source its scopes, of which the first entry counts.
+/// For each source, in the order of the sources, its scopes: a list of which the first entry counts,
+/// or `None`.
 pub type FacebookSources = Option<Vec<Option<Vec<FacebookScopeMapping>>>>;
 
 /// A section of an index map as it stands in JSON.
@@ -45,27 +47,29 @@ pub struct RawSection {
 #[derive(Debug, PartialEq, Drop)]
 #[cycle(records)]
 pub struct RawSourceMap {
-    /// The number of the format.
+    /// The number of the format: 3, but none is refused here.
     pub version: Option<u32>,
     /// The generated file: a text, or a value that names none.
     pub file: Option<Value>,
-    /// The sources.
+    /// The texts of the sources, without the root; `None` for one without a text.
     pub sources: Option<Vec<Option<String>>>,
-    /// What stands before each source.
+    /// The root: what stands before each source.
     pub source_root: Option<String>,
-    /// The contents of the sources.
+    /// The contents of the sources, in their order; `None` for one without contents.
     pub sources_content: Option<Vec<Option<String>>>,
     /// The sections of an index map.
     pub sections: Option<Vec<RawSection>>,
     /// The names: texts, or values that name nothing.
     pub names: Option<Vec<Value>>,
-    /// Which tokens are range tokens, in digits.
+    /// Which tokens are range tokens, in base64 digits, line by line.
     pub range_mappings: Option<String>,
-    /// The tokens, in digits.
+    /// The tokens, in base64 digits: segments between commas, and lines of segments, one a line of
+    /// the generated text, between semicolons.
     pub mappings: Option<String>,
-    /// The numbers of the sources that a debugger passes over.
+    /// The numbers, from 0, of the sources that a debugger passes over.
     pub ignore_list: Option<Vec<u32>>,
-    /// Where each module of a bundle starts.
+    /// The line, from 0, at which each module of a bundle starts; `None` for a number without a
+    /// module.
     pub x_facebook_offsets: Option<Vec<Option<u32>>>,
     /// The path of each module of a bundle.
     pub x_metro_module_paths: Option<Vec<String>>,
@@ -79,7 +83,7 @@ pub struct RawSourceMap {
 /// key is there with a value other than null.
 #[derive(Clone, Copy, Debug, PartialEq)]
 pub struct MinimalRawSourceMap {
-    /// The number of the format.
+    /// The number of the format; `None` where it is missing or null.
     pub version: Option<u32>,
     /// Whether `file` is there.
     pub file: bool,
@@ -98,15 +102,15 @@ pub struct MinimalRawSourceMap {
 }
 
 impl MinimalRawSourceMap {
+    ghost use Rattle.std.specs.Prelude.{◌≡◌};
     ghost use Rattle.serde_json.specs.View.{view};
-    ghost use Rattle.sourcemap_core.specs.Answer.{Gives};
     ghost use Rattle.sourcemap_json.specs.Fields.{due};
     ghost use Rattle.sourcemap_json.specs.Jsontypes.{minimal_of};
 
     /// The keys of a value. `BadJson(Shape)` if it is no object, or its version is neither null nor
-    /// a `u32`.
+    /// a `u32`. It takes no memory.
     pub fn from_value(value: &Value) -> Result<MinimalRawSourceMap>
-        ensures { Gives (λ m. m) result (due (minimal_of (view value.now))) }
+        ensures { result ≡ due (minimal_of (view value.now)) }
     {
         if !value.is_object() {
             return Err(Error::BadJson(JsonFault::Shape));
@@ -143,18 +147,19 @@ impl RawSourceMap {
     ghost use Rattle.serde_json.specs.View.{view};
     ghost use Rattle.sourcemap_core.specs.Answer.{Gives};
     ghost use Rattle.sourcemap_json.specs.Fields.{due};
-    ghost use Rattle.sourcemap_json.specs.Jsontypes.{tree, record_of, written, IsFine};
+    ghost use Rattle.sourcemap_json.specs.Jsontypes.{tree, record_of, written, HasNoNullFile};
 
     /// The record that a JSON value stands for. A key that is null counts as missing, unknown keys
     /// are passed over, and of two debug ids `debugId` wins. `BadJson(Shape)` if the value is no
     /// object or a key has a value of another kind than its field, a number outside `u32` included.
+    /// Else only want of memory refuses.
     pub fn from_value(alloc: Global, value: &Value) -> Result<RawSourceMap>
         ensures { Gives tree result (due (record_of (view value.now))) }
     {
         RawSourceMap::from_owned(alloc, value.clone()?)
     }
 
-    /// The same record as by `from_value`, with the texts of the value itself.
+    /// The same record as by `from_value`, and the same faults, with the texts of the value itself.
     pub fn from_owned(alloc: Global, value: Value) -> Result<RawSourceMap>
         ensures { Gives tree result (due (record_of (view value))) }
     {
@@ -163,19 +168,21 @@ impl RawSourceMap {
 
     /// The record as a JSON value, its keys in the order of their bytes: null for a missing version
     /// or sources, and for a section's missing URL or map, while any other missing key is left out.
-    /// Only want of memory refuses.
+    /// It is read back as this record, unless a `file`, of the record or of a section's map, is a
+    /// JSON null: that is read as `None`. Only want of memory refuses.
     pub fn to_value(&self, alloc: Global) -> Result<Value>
         ensures value { Gives view result (Ok (written (tree self.now))) }
-        ensures reads_back { IfOk result (λ v. IsFine (tree self.now)
+        ensures reads_back { IfOk result (λ v. HasNoNullFile (tree self.now)
             → record_of (view v) ≡ Some (tree self.now)) }
     {
         copy_map(self, alloc)?.into_value(alloc)
     }
 
-    /// The same value as by `to_value`, with the texts of the record itself.
+    /// The same value as by `to_value`, with the texts of the record itself. Only want of memory
+    /// refuses.
     pub fn into_value(self, alloc: Global) -> Result<Value>
         ensures value { Gives view result (Ok (written (tree self))) }
-        ensures reads_back { IfOk result (λ v. IsFine (tree self)
+        ensures reads_back { IfOk result (λ v. HasNoNullFile (tree self)
             → record_of (view v) ≡ Some (tree self)) }
     {
         give_map(alloc, self)

@@ -2,9 +2,9 @@
 ghost use Rattle.std.specs.Prelude.{◌≡◌, ℕ, List, string_bytes};
 ghost use Rattle.serde_json.specs.Data.{string};
 ghost use Rattle.serde_json.specs.View.{members_view};
-ghost use Rattle.sourcemap_json.specs.DebugId.{debug_id_of, debug_id_text};
-ghost use Rattle.sourcemap_json.specs.Fields.{Reads};
-ghost use Rattle.sourcemap_json.specs.Jsontypes.{Scopes, scopes, scopes_in, scopes_view, written_scopes, offset, offset_in, written_offset, debug_id};
+ghost use Rattle.sourcemap_json.specs.DebugId.{IsId, debug_id_of, debug_id_text};
+ghost use Rattle.sourcemap_json.specs.Fields.{Any, Reads};
+ghost use Rattle.sourcemap_json.specs.Jsontypes.{IsSmall, Scopes, scopes, scopes_in, scopes_view, written_scopes, offset, offset_in, written_offset, debug_id};
 
 use crate::debug_id::DebugId;
 use crate::fields::{Field, put_field, take_needed};
@@ -21,6 +21,8 @@ impl Field for DebugId {
     ghost reading = { debug_id };
 
     ghost writing = { λ id. string (debug_id_text id) };
+
+    ghost in_range = { IsId };
 
     fn take(alloc: Global, value: Value) -> Result<DebugId> {
         let text = String::take(alloc, value)?;
@@ -55,6 +57,8 @@ impl Field for RawSectionOffset {
     ghost reading = { offset };
 
     ghost writing = { written_offset };
+
+    ghost in_range = { λ offset. IsSmall offset.line × IsSmall offset.column };
 
     fn take(alloc: Global, value: Value) -> Result<RawSectionOffset> {
         match value {
@@ -91,6 +95,8 @@ impl Field for FacebookScopeMapping {
     ghost reading = { scopes };
 
     ghost writing = { written_scopes };
+
+    ghost in_range = { Any };
 
     fn take(alloc: Global, value: Value) -> Result<FacebookScopeMapping> {
         match value {

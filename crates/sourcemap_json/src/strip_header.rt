@@ -77,8 +77,8 @@ fn skip(place: Place, chunk: &[u8]) -> Skipped
 
 /// A reader that gives the bytes behind a junk header, without the newline that ends the header;
 /// all bytes where there is none. A carriage return in the header with another byte than a newline
-/// behind it is a fault of kind `InvalidData`, which each later read answers again. After a fault
-/// of the inner reader it goes on.
+/// behind it is a fault of kind `InvalidData`, which each later read answers again, one into an
+/// empty buffer too. After a fault of the inner reader it goes on.
 #[derive(Debug, Drop)]
 pub struct StripHeaderReader<R> {
     reader: R,
@@ -128,6 +128,7 @@ impl<R: Read + Drop> StripHeaderReader<R> {
         ensures bound { ReadsAtMost result buf.new }
         ensures bytes { ReadConsumes (left_of R.remaining self.old) (left_of R.remaining self.new) result buf.new }
         ensures refused { HasFaultyHeader R.remaining self.old → IsErr result }
+        ensures stays { HasFaultyHeader R.remaining self.old → HasFaultyHeader R.remaining self.new }
         ensures fault { IfErr result (λ e. IsTrue (has_failed self.new) → error_kind e ≡ InvalidData) }
     {
         for _ in 0..u64::MAX {
@@ -184,18 +185,20 @@ impl<R: Read + Drop> Read for StripHeaderReader<R> {
     fn read(&mut self, buf: &mut [u8]) -> io::Result<usize>
         ensures bound { ReadsAtMost result buf.new }
         ensures bytes { ReadConsumes (left_of R.remaining self.old) (left_of R.remaining self.new) result buf.new }
-        // a faulty header is refused, and then again at each read that has room
+        // a faulty header is refused by each read that has room, and no read gets past it
         ensures refused { HasFaultyHeader R.remaining self.old → 0 < length buf.old → IsErr result }
-        ensures again { IsTrue (has_failed self.old) → 0 < length buf.old → IsErr result × IsTrue (has_failed self.new) }
+        ensures stays { HasFaultyHeader R.remaining self.old → HasFaultyHeader R.remaining self.new }
+        // once the fault was met, each later read answers it, one without room too
+        ensures again { IsTrue (has_failed self.old) → IsErr result × IsTrue (has_failed self.new) }
         ensures fault { IfErr result (λ e. IsTrue (has_failed self.new) → error_kind e ≡ InvalidData) }
     {
+        if let Place::Faulty = self.place {
+            return Err(io::Error::from(io::ErrorKind::InvalidData));
+        }
         if buf.is_empty() {
             return Ok(0);
         }
-        match self.place {
-            Place::Faulty => Err(io::Error::from(io::ErrorKind::InvalidData)),
-            _ => self.read_behind_junk(buf),
-        }
+        self.read_behind_junk(buf)
     }
 }
 
@@ -252,9 +255,10 @@ mod tests {
     fn faults(rt: HostRuntime) {
         let mut buf = [0u8; 4];
         let mut faulty = StripHeaderReader::new(OneByOne(b")]}'\r[1, 2, 3]"));
-        for _ in 0..2 {
+        assert_eq!(rt; faulty.read(&mut []).map_err(|e| e.kind()), Ok(0));
+        for room in [4, 0, 4] {
             assert_eq!(rt;
-                faulty.read(&mut buf).map_err(|e| e.kind()),
+                faulty.read(&mut buf[..room]).map_err(|e| e.kind()),
                 Err(ErrorKind::InvalidData)
             );
         }

@@ -1,11 +1,13 @@
-// Records as values, each text moved into its value.
-ghost use Rattle.std.specs.Prelude.{◌≡◌, map, option_map, IfOk, IfErr, OnOk};
+// Records as values, each text moved into its value. Whoever writes a number has it in hand, and so
+// can say that it fits its type.
+ghost use Rattle.std.specs.Prelude.{◌≡◌, map, option_map, IfOk, IfErr, IfSome, OnOk};
+ghost use Rattle.std.specs.List.{AllByRecursion};
 ghost use Rattle.serde_json.specs.Data.{array};
 ghost use Rattle.serde_json.specs.View.{view, items_of, members_view};
 ghost use Rattle.sourcemap_core.specs.declared.errors.Error.TheVariants.{OutOfMemory};
 ghost use Rattle.sourcemap_json.specs.Fields.{Makes, put_all, written_or_null};
-ghost use Rattle.sourcemap_json.specs.Groups.{heading_entries, heading_view, content_entries, content_view, extra_entries, extras_view, groups_view};
-ghost use Rattle.sourcemap_json.specs.Jsontypes.{flat, written, written_fields, written_one, section, tree};
+ghost use Rattle.sourcemap_json.specs.Groups.{IsHeadingInRange, AreExtrasInRange, heading_entries, heading_view, content_entries, content_view, extra_entries, extras_view, groups_view};
+ghost use Rattle.sourcemap_json.specs.Jsontypes.{AreInRange, IsInRange, IsSectionInRange, flat, written, written_fields, written_one, section, tree};
 
 use crate::fields::put_field;
 use crate::groups::{Content, Extras, Groups, Heading, split};
@@ -17,6 +19,7 @@ use std::alloc::Global;
 fn put_heading(alloc: Global, members: &mut Map<String, Value>, heading: Heading) -> Result<()>
     ensures ok { OnOk result (members_view members.new.entries
         ≡ put_all (heading_entries (heading_view heading)) (members_view members.old.entries)) }
+    ensures in_range { OnOk result (IsHeadingInRange (heading_view heading)) }
     ensures err { IfErr result (λ e. e ≡ OutOfMemory) }
 {
     let Heading {
@@ -51,6 +54,7 @@ fn put_content(alloc: Global, members: &mut Map<String, Value>, content: Content
 fn put_extras(alloc: Global, members: &mut Map<String, Value>, extras: Extras) -> Result<()>
     ensures ok { OnOk result (members_view members.new.entries
         ≡ put_all (extra_entries (extras_view extras)) (members_view members.old.entries)) }
+    ensures in_range { OnOk result (AreExtrasInRange (extras_view extras)) }
     ensures err { IfErr result (λ e. e ≡ OutOfMemory) }
 {
     let Extras {
@@ -67,6 +71,7 @@ fn put_extras(alloc: Global, members: &mut Map<String, Value>, extras: Extras) -
 
 fn give_groups(alloc: Global, groups: Groups) -> Result<Map<String, Value>>
     ensures ok { IfOk result (λ m. members_view m.entries ≡ written_fields (groups_view groups)) }
+    ensures in_range { OnOk result (AreInRange (groups_view groups)) }
     ensures err { IfErr result (λ e. e ≡ OutOfMemory) }
 {
     let Groups {
@@ -86,6 +91,7 @@ fn give_groups(alloc: Global, groups: Groups) -> Result<Map<String, Value>>
 // All keys but the sections, which are dropped.
 fn give_fields(alloc: Global, map: RawSourceMap) -> Result<Map<String, Value>>
     ensures ok { IfOk result (λ m. members_view m.entries ≡ written_fields (flat (tree map))) }
+    ensures in_range { OnOk result (AreInRange (flat (tree map))) }
     ensures err { IfErr result (λ e. e ≡ OutOfMemory) }
 {
     give_groups(alloc, split(map))
@@ -93,7 +99,8 @@ fn give_fields(alloc: Global, map: RawSourceMap) -> Result<Map<String, Value>>
 
 #[cycle(writing)]
 pub(crate) fn give_map(alloc: Global, mut map: RawSourceMap) -> Result<Value>
-    ensures { Makes view result (written (tree map)) }
+    ensures value { Makes view result (written (tree map)) }
+    ensures in_range { OnOk result (IsInRange (tree map)) }
 {
     let listed = match map.sections.take() {
         Some(sections) => Some(Value::Array(give_list(alloc, sections)?)),
@@ -107,6 +114,7 @@ pub(crate) fn give_map(alloc: Global, mut map: RawSourceMap) -> Result<Value>
 #[cycle(writing)]
 fn give_list(alloc: Global, sections: Vec<RawSection>) -> Result<Vec<Value>>
     ensures ok { IfOk result (λ v. map view v.items ≡ map written_one (map section sections.items)) }
+    ensures in_range { OnOk result (AllByRecursion IsSectionInRange (map section sections.items)) }
     ensures err { IfErr result (λ e. e ≡ OutOfMemory) }
 {
     let mut items = Vec::with_capacity(alloc, sections.len())?;
@@ -118,7 +126,8 @@ fn give_list(alloc: Global, sections: Vec<RawSection>) -> Result<Vec<Value>>
 
 #[cycle(writing)]
 fn give_section(alloc: Global, part: RawSection) -> Result<Value>
-    ensures { Makes view result (written_one (section part)) }
+    ensures value { Makes view result (written_one (section part)) }
+    ensures in_range { OnOk result (IsSectionInRange (section part)) }
 {
     let RawSection { offset, url, map } = part;
     let inner = give_inner(alloc, map)?;
@@ -131,7 +140,8 @@ fn give_section(alloc: Global, part: RawSection) -> Result<Value>
 
 #[cycle(writing)]
 fn give_inner(alloc: Global, map: Option<Box<RawSourceMap>>) -> Result<Value>
-    ensures { Makes view result (written_or_null written (option_map (λ b. tree b.value) map)) }
+    ensures value { Makes view result (written_or_null written (option_map (λ b. tree b.value) map)) }
+    ensures in_range { OnOk result (IfSome (option_map (λ b. tree b.value) map) IsInRange) }
 {
     match map {
         Some(map) => give_map(alloc, Box::into_inner(map)),

@@ -194,7 +194,7 @@ text_back m mappings ranges text fine back is =
     let t : Tree = plain (record_with m mappings ranges) in
     let bare = no_header text (written_fields (record_with m mappings ranges)) (is.compact (no_fraction m mappings ranges)) in
     let holds : HoldJson text (written t) = (text, bare, is.reads_back (shallow m mappings ranges)) in
-    (back.0, inl (written t, holds, value_of_record RegularDecodes (written t) t (record-back t fine) (Ok back.0) back.1), back.2, back.3)
+    (back.0, inl (written t, holds, value_of_record RegularDecodes (written t) t (record-back t fine.0 fine.1) (Ok back.0) back.1), back.2, back.3)
 
 -- what a map is written as reads back
 pub encoded-back : (m : MapValue) (text : List ℕ) → IsEncoded (RecordAnswer m) text → IsWellFormed m → BytesReadBack m text

@@ -1,5 +1,4 @@
-use Rattle.std.proofs.Common.{arith, ◌≡◌, drop, take, [], List, ℕ}
-use Rattle.std.proofs.lemmas.Grind.{common_steps}
+use Rattle.std.proofs.Common.{arith, take, []}
 use Rattle.std.proofs.lemmas.List.{length-take-le}
 use Rattle.sourcemap_json.proofs.StripHeaderLemmas.{gave_junk, gave_end, nothing_behind, turned}
 use Rattle.sourcemap_json.proofs.strip_header.StripHeaderReader.turn_in_header.Goals as goal
