@@ -1,15 +1,21 @@
 -- What the iterators of a map still give.
 use Rattle.std.specs.Prelude.{◌≡◌, ℕ, ◌+◌, List, length, drop, map, Bool, true, false, Option, Some, None, string_bytes}
+use Rattle.std.specs.Iterator.{YieldsFirstBy}
 use Rattle.sourcemap_maps.specs.Types.{fitted}
-use Rattle.sourcemap_maps.specs.Token.{TokenValue, lookup, tokens_from}
+use Rattle.sourcemap_maps.specs.Token.{TokenValue, lookup, token_value, tokens_from}
 use Rattle.sourcemap_maps.specs.declared.iterators.IgnoreListIter.{IgnoreListIter}
 use Rattle.sourcemap_maps.specs.declared.iterators.TokenIter.{TokenIter}
+use Rattle.sourcemap_maps.specs.declared.token.Token.{Token}
 use Rattle.sourcemap_maps.specs.declared.iterators.NameIter.{NameIter}
 use Rattle.sourcemap_maps.specs.declared.iterators.SourceIter.{SourceIter}
 use Rattle.sourcemap_maps.specs.declared.iterators.SourceContentsIter.{SourceContentsIter}
 
 abbrev pub tokens_left : TokenIter → List TokenValue
 tokens_left it = tokens_from it.map.now it.next
+
+-- the first token left is given, those behind it stay, and so does the map
+abbrev pub GivesToken : TokenIter → Option Token → TokenIter → Type 0
+GivesToken old token new = YieldsFirstBy token_value tokens_left old token new × (new.map ≡ old.map)
 
 -- a found token leaves the tokens behind it, and no token leaves the iterator as it was
 abbrev pub Seeks : TokenIter → ℕ × ℕ → Bool → TokenIter → Type 0

@@ -1,5 +1,3 @@
-ghost use Rattle.std.specs.Prelude.{◌≡◌, ⊤};
-
 use crate::token::Token;
 use crate::types::SourceMap;
 use std::collections::btree_set;
@@ -14,19 +12,14 @@ pub struct TokenIter<'a> {
 impl<'a> Iterator for TokenIter<'a> {
     type Item = Token<'a>;
 
-    ghost use Rattle.std.specs.Iterator.{MakesProgress, YieldsFirstBy, item_count};
-    ghost use Rattle.sourcemap_maps.specs.Token.{token_value};
-    ghost use Rattle.sourcemap_maps.specs.Iterators.{tokens_left};
+    ghost use Rattle.std.specs.Iterator.{item_count};
+    ghost use Rattle.sourcemap_maps.specs.Iterators.{GivesToken, tokens_left};
 
-    ghost next_gives = { YieldsFirstBy token_value tokens_left };
+    ghost next_gives = { GivesToken };
 
     ghost remaining = { item_count tokens_left };
 
-    fn next(&mut self) -> Option<Token<'a>>
-        ensures steps { YieldsFirstBy token_value tokens_left self.old result self.new }
-        ensures goes { MakesProgress (λ _. ⊤) (item_count tokens_left) self.old result self.new }
-        ensures same_map { self.new.map ≡ self.old.map }
-    {
+    fn next(&mut self) -> Option<Token<'a>> {
         let map = self.map;
         match map.get_token(self.next) {
             None => None,
