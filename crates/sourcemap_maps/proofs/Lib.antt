@@ -12,6 +12,7 @@ pub mod NumberingLemmas
 pub mod RenumberingLemmas
 pub mod PrefixesLemmas
 pub mod KeptContentsLemmas
+pub mod KeptTextsLemmas
 pub mod RewriteLemmas
 pub mod RewriteMeaning
 pub mod RewriteTwice

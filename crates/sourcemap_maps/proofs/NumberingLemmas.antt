@@ -1,18 +1,21 @@
 -- Texts that are kept once each, and their new numbers.
-use Rattle.std.proofs.Common.{◌≡◌, ◌≢◌, refl, sym, ap, subst, ◌∙◌, ℕ, zero, suc, ◌+◌, ◌<◌, ◌≤◌, List, [], ◌∷◌, ◌++◌, length, map, fold, Bool, true, false, cond, Some, None, Option, arith, inl, inr, ◌⊎◌, slice_get, slice_set, get_or, is_some, option_map, replicate, string_bytes, String}
+use Rattle.std.proofs.Common.{◌≡◌, ◌≢◌, refl, sym, ap, subst, ◌∙◌, ℕ, zero, suc, ◌+◌, ◌<◌, ◌≤◌, List, [], ◌∷◌, ◌++◌, append_assoc, length, map, fold, Bool, true, false, cond, Some, None, Option, arith, inl, inr, ◌⊎◌, slice_get, slice_set, get_or, is_some, option_map, replicate, string_bytes, String}
+use Rattle.std.specs.HashMap.{IsEmpty, hash_map_len}
 use Rattle.std.specs.List.{AllByRecursion}
+use Rattle.std.specs.Map.{lookup}
 use Rattle.std.specs.Option.{option_or}
 use Rattle.std.specs.Str.{bytes_eq}
 use Rattle.std.specs.declared.alloc.Global.{Global}
 use Rattle.std.proofs.lemmas.Bool.{cases_Bool, cases_eq}
 use Rattle.std.proofs.lemmas.Slice.Eq.{bytes_eq-Decides}
 use Rattle.std.proofs.lemmas.List.Sums.{fold-append}
-use Rattle.std.proofs.lemmas.List.{length_push, append-nil, length-set, length-replicate}
+use Rattle.std.proofs.lemmas.List.{map_push, length_push, append-nil, length-set, length-replicate}
 use Rattle.std.proofs.lemmas.Option.{slice_get_within, slice_get_past, slice_get-map, slice_get_read}
-use Rattle.sourcemap_core.specs.Interner.{place_of, with_text}
-use Rattle.sourcemap_core.proofs.InternerLemmas.{place_of-append, place_of-last, slice_get-place_of}
+use Rattle.sourcemap_core.specs.Interner.{place_of, with_text, AreDistinct}
+use Rattle.sourcemap_core.proofs.InternerLemmas.{AreDistinct-append, place_of-append, place_of-last, slice_get-place_of}
 use Rattle.sourcemap_maps.specs.Rewrite.{present, kept_once, number_in}
-use Rattle.sourcemap_maps.specs.Numbering.{with_text_if, first_some, HasPlace, missing, AreFew, IsMet, IsMetOrNot, IsNumbering, NumbersMore, Meets}
+use Rattle.sourcemap_maps.specs.Numbering.{with_text_if, first_some, HasPlace, kept_of, met_texts, IsMet, IsMetOrNot, NumbersMore, id_of, IsIndex, IsNumbering, Meets}
+use Rattle.sourcemap_maps.specs.declared.numbering.NewNumbers.{NewNumbers}
 use Rattle.sourcemap_maps.specs.declared.numbering.Numbering.{Numbering}
 
 pub option_or-None : {A : Type 0} (o : Option A) → option_or o None ≡ o
@@ -37,6 +40,9 @@ kept_once-push os o = ap kept_once (present-push os o) ∙ by_case o
     by_case None = ap kept_once (append-nil (present os))
     by_case (Some t) = fold-push with_text [] (present os) t
 
+pub kept_of-push : (texts : List (List ℕ)) (ids : List ℕ) (id : ℕ) → kept_of texts (ids ++ id ∷ []) ≡ with_text_if (kept_of texts ids) (slice_get texts id)
+kept_of-push texts ids id = ap (λ os. kept_once (present os)) (map_push (slice_get texts) ids id) ∙ kept_once-push (map (slice_get texts) ids) (slice_get texts id)
+
 -- a text that has a place keeps it
 pub place_of-with_text : (texts : List (List ℕ)) (text other : List ℕ) (n : ℕ) → place_of other texts ≡ Some n → place_of other (with_text texts text) ≡ Some n
 place_of-with_text texts text other n e =
@@ -59,6 +65,29 @@ place_of-with_text texts text other n e =
 pub place_of-with_text_if : (texts : List (List ℕ)) (o : Option (List ℕ)) (other : List ℕ) (n : ℕ) → place_of other texts ≡ Some n → place_of other (with_text_if texts o) ≡ Some n
 place_of-with_text_if texts None other n e = e
 place_of-with_text_if texts (Some t) other n e = place_of-with_text texts t other n e
+
+-- also when more numbers are met
+pub place_of-kept_of : (texts : List (List ℕ)) (ids more : List ℕ) (text : List ℕ) (n : ℕ) → place_of text (kept_of texts ids) ≡ Some n → place_of text (kept_of texts (ids ++ more)) ≡ Some n
+place_of-kept_of texts ids [] text n e = rw (append-nil ids) e
+place_of-kept_of texts ids (id ∷ more) text n e =
+    let next : place_of text (kept_of texts (ids ++ id ∷ [])) ≡ Some n =
+    ap (place_of text) (kept_of-push texts ids id) ∙ place_of-with_text_if (kept_of texts ids) (slice_get texts id) text n e in
+    subst (λ all. place_of text (kept_of texts all) ≡ Some n) (append_assoc ids (id ∷ []) more) (place_of-kept_of texts (ids ++ id ∷ []) more text n next)
+
+AreDistinct-with_text : (texts : List (List ℕ)) (text : List ℕ) → AreDistinct texts → AreDistinct (with_text texts text)
+AreDistinct-with_text texts text distinct = by_case (place_of text texts) refl
+  where
+    by_case : (o : Option ℕ) → place_of text texts ≡ o → AreDistinct (with_text texts text)
+    by_case None e = rw e (AreDistinct-append texts text distinct e)
+    by_case (Some n) e = rw e distinct
+
+-- texts that are kept once are distinct
+pub distinct-kept_of : (texts : List (List ℕ)) (ids : List ℕ) → AreDistinct (kept_of texts ids)
+distinct-kept_of texts ids = after [] (present (map (slice_get texts) ids)) (λ text id e. cc)
+  where
+    after : (kept us : List (List ℕ)) → AreDistinct kept → AreDistinct (fold with_text kept us)
+    after kept [] distinct = distinct
+    after kept (u ∷ us) distinct = after (with_text kept u) us (AreDistinct-with_text kept u distinct)
 
 -- What the first gives.
 
@@ -96,7 +125,15 @@ used-kept os = all_kept os []
 
 -- No more are kept than there are.
 
-pub AreFew-none : (texts : List (List ℕ)) → AreFew [] texts
+-- how many of the texts are not among those that are kept
+abbrev missing : List (List ℕ) → List (List ℕ) → ℕ
+missing kept [] = 0
+missing kept (text ∷ texts) = cond (is_some (place_of text kept)) 0 1 + missing kept texts
+
+abbrev AreFew : List (List ℕ) → List (List ℕ) → Type 0
+AreFew kept texts = length kept + missing kept texts ≤ length texts
+
+AreFew-none : (texts : List (List ℕ)) → AreFew [] texts
 AreFew-none [] = omega arith
 AreFew-none (t ∷ ts) = let rest : AreFew [] ts = AreFew-none ts in omega arith
 
@@ -132,7 +169,7 @@ one_less kept (t ∷ ts) added (suc i) at new =
     let rest = one_less kept ts added i at new in
     omega arith
 
-pub AreFew-with_text_if : (kept texts : List (List ℕ)) (i : ℕ) → AreFew kept texts → AreFew (with_text_if kept (slice_get texts i)) texts
+AreFew-with_text_if : (kept texts : List (List ℕ)) (i : ℕ) → AreFew kept texts → AreFew (with_text_if kept (slice_get texts i)) texts
 AreFew-with_text_if kept texts i few = by_case (slice_get texts i) refl
   where
     length-new : (t : List ℕ) → place_of t kept ≡ None → length (with_text kept t) ≡ length kept + 1
@@ -150,7 +187,7 @@ AreFew-with_text_if kept texts i few = by_case (slice_get texts i) refl
     by_case (Some t) e = by_text t e (place_of t kept) refl
 
 -- there is room for a new one
-pub room-for_new : (kept texts : List (List ℕ)) (i : ℕ) (text : List ℕ) → AreFew kept texts → slice_get texts i ≡ Some text → place_of text kept ≡ None → length kept < length texts
+room-for_new : (kept texts : List (List ℕ)) (i : ℕ) (text : List ℕ) → AreFew kept texts → slice_get texts i ≡ Some text → place_of text kept ≡ None → length kept < length texts
 room-for_new kept texts i text few at new =
     let less = one_less kept texts text i at new in
     omega arith
@@ -159,14 +196,17 @@ fold-present : (kept : List (List ℕ)) (o : Option (List ℕ)) (os : List (Opti
 fold-present kept None os = refl
 fold-present kept (Some t) os = refl
 
-pub kept_once-few : (texts : List (List ℕ)) (ids : List ℕ) → length (kept_once (present (map (slice_get texts) ids))) ≤ length texts
-kept_once-few texts ids = let all = few_after [] ids (AreFew-none texts) in omega arith
+AreFew-kept_of : (texts : List (List ℕ)) (ids : List ℕ) → AreFew (kept_of texts ids) texts
+AreFew-kept_of texts ids = few_after [] ids (AreFew-none texts)
   where
     few_after : (kept : List (List ℕ)) (ids : List ℕ) → AreFew kept texts → AreFew (fold with_text kept (present (map (slice_get texts) ids))) texts
     few_after kept [] few = few
     few_after kept (id ∷ ids) few =
         rw (fold-present kept (slice_get texts id) (map (slice_get texts) ids))
         (few_after (with_text_if kept (slice_get texts id)) ids (AreFew-with_text_if kept texts id few))
+
+pub kept_once-few : (texts : List (List ℕ)) (ids : List ℕ) → length (kept_of texts ids) ≤ length texts
+kept_once-few texts ids = let all = AreFew-kept_of texts ids in omega arith
 
 -- a text that is kept has the number of its place, also when more are kept
 pub number_in-with_text_if : (kept : List (List ℕ)) (added o : Option (List ℕ)) → HasPlace kept o → number_in (with_text_if kept added) o ≡ number_in kept o
@@ -241,97 +281,113 @@ first_some-met f (y ∷ ys) (suc k) x e =
 
 -- A numbering.
 
-pub numbering-new : (texts : List (List ℕ)) (n : Numbering) → n.numbers.items ≡ replicate (length texts) 4294967295 → n.order.items ≡ [] → n.kept ≡ [] → IsNumbering texts n
-numbering-new texts n numbers order kept = record {
-  few = rw kept (AreFew-none texts);
-  many = ap length numbers ∙ length-replicate (length texts) 4294967295;
-  met = subst (λ xs. AllByRecursion (IsMet texts n) xs) (sym order) tt;
-  others = λ id text e. inl (ap (λ xs. slice_get xs id) numbers ∙ slice_get-replicate (length texts) 4294967295 id (slice_get_within texts id text e));
+pub numbering-new : (texts : List (List ℕ)) (n : Numbering) → n.met.numbers.items ≡ replicate (length texts) 4294967295 → n.met.order.items ≡ [] → IsEmpty n.ids → IsNumbering texts n
+numbering-new texts n numbers order none = record {
+  numbered = record {
+    many = ap length numbers ∙ length-replicate (length texts) 4294967295;
+    met = subst (λ xs. AllByRecursion (IsMet texts n.met) xs) (sym order) tt;
+    others = λ id text e. inl (ap (λ xs. slice_get xs id) numbers ∙ slice_get-replicate (length texts) 4294967295 id (slice_get_within texts id text e));
+  };
+  index = record {
+    places = λ text. ap (lookup (λ key. bytes_eq text key.now)) none ∙ sym (ap (λ ids. place_of text (kept_of texts ids)) order);
+    count = ap length none ∙ sym (ap (λ ids. length (kept_of texts ids)) order);
+  };
 }
 
 module _ (texts : List (List ℕ)) (n : Numbering) (id : ℕ) (text : List ℕ) (is : IsNumbering texts n) (named : slice_get texts id ≡ Some text) where
-  pub known-met : (known : ℕ) → slice_get n.numbers.items id ≡ Some known → known ≢ 4294967295 → (k : ℕ) × (slice_get n.order.items k ≡ Some id) × (place_of text n.kept ≡ Some known)
-  known-met known numbered apart = by_case (is.others id text named)
+  pub known-met : (known : ℕ) → slice_get n.met.numbers.items id ≡ Some known → known ≢ 4294967295 → (k : ℕ) × (slice_get n.met.order.items k ≡ Some id) × (place_of text (met_texts texts n.met) ≡ Some known)
+  known-met known numbered apart = by_case (is.numbered.others id text named)
     where
-      by_case : IsMetOrNot texts n id → (k : ℕ) × (slice_get n.order.items k ≡ Some id) × (place_of text n.kept ≡ Some known)
+      by_case : IsMetOrNot texts n.met id → (k : ℕ) × (slice_get n.met.order.items k ≡ Some id) × (place_of text (met_texts texts n.met) ≡ Some known)
       by_case (inl none) = let same : 4294967295 ≡ known = cc in absurd (apart (sym same))
       by_case (inr (k, at)) =
-          let met = All-at (IsMet texts n) n.order.items k id at is.met in
+          let met = All-at (IsMet texts n.met) n.met.order.items k id at is.numbered.met in
           let same_text : met.text ≡ text = let e = met.named in cc in
           let same_number : met.number ≡ known = let e = met.numbered in cc in
-          (k, at, subst (λ t. place_of t n.kept ≡ Some known) same_text (met.placed ∙ ap Some same_number))
+          (k, at, subst (λ t. place_of t (met_texts texts n.met) ≡ Some known) same_text (met.placed ∙ ap Some same_number))
 
   -- one that was met before
-  pub more-known : (known : ℕ) → slice_get n.numbers.items id ≡ Some known → known ≢ 4294967295 → NumbersMore texts id n n
+  pub more-known : (known : ℕ) → slice_get n.met.numbers.items id ≡ Some known → known ≢ 4294967295 → NumbersMore texts id n.met n.met
   more-known known numbered apart =
       let met = known-met known numbered apart in
       record {
         kept = rw (named, met.2) refl;
-        met = λ f none. first_some-met f n.order.items met.0 id met.1;
-        numbering = is;
+        met = λ f none. first_some-met f n.met.order.items met.0 id met.1;
       }
 
-  pub number-known : (known : ℕ) → slice_get n.numbers.items id ≡ Some known → known ≢ 4294967295 → number_in n.kept (slice_get texts id) ≡ known
+  pub number-known : (known : ℕ) → slice_get n.met.numbers.items id ≡ Some known → known ≢ 4294967295 → number_in (met_texts texts n.met) (slice_get texts id) ≡ known
   number-known known numbered apart = let met = known-met known numbered apart in rw (named, met.2) refl
 
-  pub room : length texts ≤ 4294967295 → place_of text n.kept ≡ None → length n.kept < 4294967295
-  room few new = let less = room-for_new n.kept texts id text is.few named new in omega arith
+  pub room : length texts ≤ 4294967295 → id_of n.ids text ≡ None → hash_map_len n.ids < 4294967295
+  room few new =
+      let less = room-for_new (met_texts texts n.met) texts id text (AreFew-kept_of texts n.met.order.items) named (sym (is.index.places text) ∙ new) in
+      omega (arith, is.index.count)
 
   -- one that was not
   module _ (number : ℕ) (next : Numbering) (meets : Meets text id number n next) where
-    within : id < length n.numbers.items
-    within = let here = slice_get_within texts id text named in omega (arith, is.many)
+    within : id < length n.met.numbers.items
+    within = let here = slice_get_within texts id text named in omega (arith, is.numbered.many)
 
-    numbered : slice_get next.numbers.items id ≡ Some number
-    numbered = ap (λ xs. slice_get xs id) meets.numbers ∙ slice_get-set_same n.numbers.items id number within
+    numbered : slice_get next.met.numbers.items id ≡ Some number
+    numbered = ap (λ xs. slice_get xs id) meets.numbers ∙ slice_get-set_same n.met.numbers.items id number within
 
-    kept_more : next.kept ≡ with_text_if n.kept (slice_get texts id)
-    kept_more = rw named meets.kept
+    kept_more : met_texts texts next.met ≡ with_text_if (met_texts texts n.met) (slice_get texts id)
+    kept_more = ap (kept_of texts) meets.order ∙ kept_of-push texts n.met.order.items id
 
-    still_met : (x : ℕ) → IsMet texts n x → IsMet texts next x
+    kept_new : met_texts texts next.met ≡ with_text (met_texts texts n.met) text
+    kept_new = kept_more ∙ ap (with_text_if (met_texts texts n.met)) named
+
+    placed : place_of text (met_texts texts next.met) ≡ Some number
+    placed = ap (place_of text) kept_new ∙ meets.place (met_texts texts n.met) is.index
+
+    here_met : IsMet texts next.met id
+    here_met = record { text = text; number = number; named = named; numbered = numbered; placed = placed }
+
+    still_met : (x : ℕ) → IsMet texts n.met x → IsMet texts next.met x
     still_met x met =
         elim (cases_eq x id) [
-          | inl same ↦
-              let named' : slice_get texts x ≡ Some text = rw same named in
-              record { text = text; number = number; named = named'; numbered = rw same numbered; placed = meets.place }
+          | inl same ↦ subst (IsMet texts next.met) (sym same) here_met
           | inr other ↦ record {
             text = met.text;
             number = met.number;
             named = met.named;
-            numbered = ap (λ xs. slice_get xs x) meets.numbers ∙ slice_get-set_other n.numbers.items id x number other ∙ met.numbered;
-            placed = ap (place_of met.text) meets.kept ∙ place_of-with_text n.kept text met.text met.number met.placed;
+            numbered = ap (λ xs. slice_get xs x) meets.numbers ∙ slice_get-set_other n.met.numbers.items id x number other ∙ met.numbered;
+            placed = ap (place_of met.text) kept_new ∙ place_of-with_text (met_texts texts n.met) text met.text met.number met.placed;
           }
         ]
 
-    other_or_met : (x : ℕ) (t : List ℕ) → slice_get texts x ≡ Some t → IsMetOrNot texts next x
+    other_or_met : (x : ℕ) (t : List ℕ) → slice_get texts x ≡ Some t → IsMetOrNot texts next.met x
     other_or_met x t e =
         elim (cases_eq x id) [
-          | inl same ↦ inr (length n.order.items, ap (λ xs. slice_get xs (length n.order.items)) meets.order ∙ slice_get-last n.order.items id ∙ ap Some (sym same))
-          | inr other ↦ elim (is.others x t e) [
-            | inl none ↦ inl (ap (λ xs. slice_get xs x) meets.numbers ∙ slice_get-set_other n.numbers.items id x number other ∙ none)
-            | inr at ↦ inr (at.0, ap (λ xs. slice_get xs at.0) meets.order ∙ slice_get-pushed n.order.items id x at.0 at.1)
+          | inl same ↦ inr (length n.met.order.items, ap (λ xs. slice_get xs (length n.met.order.items)) meets.order ∙ slice_get-last n.met.order.items id ∙ ap Some (sym same))
+          | inr other ↦ elim (is.numbered.others x t e) [
+            | inl none ↦ inl (ap (λ xs. slice_get xs x) meets.numbers ∙ slice_get-set_other n.met.numbers.items id x number other ∙ none)
+            | inr at ↦ inr (at.0, ap (λ xs. slice_get xs at.0) meets.order ∙ slice_get-pushed n.met.order.items id x at.0 at.1)
           ]
         ]
 
-    pub more-new : NumbersMore texts id n next
+    pub more-new : NumbersMore texts id n.met next.met
     more-new = record {
       kept = kept_more;
-      met = λ f none. ap (first_some f) meets.order ∙ first_some-push f n.order.items id;
-      numbering = record {
-        few = subst (λ kept. AreFew kept texts) (sym kept_more) (AreFew-with_text_if n.kept texts id is.few);
-        many = ap length meets.numbers ∙ length-set n.numbers.items id number ∙ is.many;
-        met = subst (AllByRecursion (IsMet texts next)) (sym meets.order)
-            (All-pushed (IsMet texts next) n.order.items id (All-weaker (IsMet texts n) (IsMet texts next) still_met n.order.items is.met)
-            (record { text = text; number = number; named = named; numbered = numbered; placed = meets.place }));
-        others = other_or_met;
-      };
+      met = λ f none. ap (first_some f) meets.order ∙ first_some-push f n.met.order.items id;
     }
 
-    pub number-new : number_in next.kept (slice_get texts id) ≡ number
-    number-new = rw (named, meets.place) refl
+    pub numbering-more : IsNumbering texts next
+    numbering-more = record {
+      numbered = record {
+        many = ap length meets.numbers ∙ length-set n.met.numbers.items id number ∙ is.numbered.many;
+        met = subst (AllByRecursion (IsMet texts next.met)) (sym meets.order)
+            (All-pushed (IsMet texts next.met) n.met.order.items id (All-weaker (IsMet texts n.met) (IsMet texts next.met) still_met n.met.order.items is.numbered.met) here_met);
+        others = other_or_met;
+      };
+      index = subst (λ kept. IsIndex kept next.ids) (sym kept_new) (meets.index (met_texts texts n.met) is.index);
+    }
+
+    pub number-new : number_in (met_texts texts next.met) (slice_get texts id) ≡ number
+    number-new = rw (named, placed) refl
 
 -- a number past the texts
-pub more-past : (texts : List (List ℕ)) (n : Numbering) (id : ℕ) → IsNumbering texts n → length texts ≤ id → NumbersMore texts id n n
-more-past texts n id is past =
+pub more-past : (texts : List (List ℕ)) (n : NewNumbers) (id : ℕ) → length texts ≤ id → NumbersMore texts id n n
+more-past texts n id past =
     let none = slice_get_past texts id past in
-    record { kept = rw none refl; met = λ f h. rw (h none) (sym (option_or-None (first_some f n.order.items))); numbering = is }
+    record { kept = rw none refl; met = λ f h. rw (h none) (sym (option_or-None (first_some f n.order.items))) }

@@ -1,29 +1,22 @@
 -- Tokens with new numbers, one after another.
-use Rattle.std.proofs.Common.{◌≡◌, refl, sym, ap, subst, ◌∙◌, ℕ, ◌+◌, ◌<◌, ◌≤◌, List, [], ◌∷◌, ◌++◌, length, map, take, drop, get_or, Option, arith, slice_get, slice_set, append_assoc, replicate}
+use Rattle.std.proofs.Common.{◌≡◌, refl, sym, ap, subst, ◌∙◌, ℕ, ◌+◌, ◌<◌, ◌≤◌, List, [], ◌∷◌, ◌++◌, length, map, take, drop, get_or, Option, arith, slice_get, slice_set, append_assoc}
 use Rattle.std.specs.List.{AllByRecursion}
 use Rattle.std.specs.Option.{option_or}
 use Rattle.std.proofs.lemmas.List.{map_push, drop_more, take_more, take_all, drop_all, set_at, get_or_at, length-map, length-take-le, append-nil}
 use Rattle.sourcemap_core.specs.declared.tokens.RawToken.{RawToken}
-use Rattle.sourcemap_maps.specs.Rewrite.{present, kept_once}
-use Rattle.sourcemap_maps.specs.Numbering.{with_text_if, first_some, HasPlace, NumbersMore, AreMet, kept_of, numbered_by}
-use Rattle.sourcemap_maps.specs.declared.numbering.Numbering.{Numbering}
-use Rattle.sourcemap_maps.proofs.NumberingLemmas.{kept_once-push, used-kept, first_some-push, number_in-with_text_if, numbering-new}
-
-kept_of-push : (texts : List (List ℕ)) (ids : List ℕ) (id : ℕ) → kept_of texts (ids ++ id ∷ []) ≡ with_text_if (kept_of texts ids) (slice_get texts id)
-kept_of-push texts ids id = ap (λ os. kept_once (present os)) (map_push (slice_get texts) ids id) ∙ kept_once-push (map (slice_get texts) ids) (slice_get texts id)
+use Rattle.sourcemap_maps.specs.Numbering.{with_text_if, first_some, HasPlace, kept_of, met_texts, NumbersMore, AreMet, numbered_by, numbered_with}
+use Rattle.sourcemap_maps.specs.declared.numbering.NewNumbers.{NewNumbers}
+use Rattle.sourcemap_maps.proofs.NumberingLemmas.{kept_of-push, used-kept, first_some-push, number_in-with_text_if}
 
 module _ (S N : List (List ℕ)) where
-  pub AreMet-none : (s n : Numbering) → s.numbers.items ≡ replicate (length S) 4294967295 → s.order.items ≡ [] → s.kept ≡ []
-      → n.numbers.items ≡ replicate (length N) 4294967295 → n.order.items ≡ [] → n.kept ≡ [] → AreMet S N [] s n
-  AreMet-none s n sn so sk nn empty nk = record {
-    kept_sources = sk;
-    kept_names = nk;
-    first = λ f none. ap (first_some f) so;
-    numbered_sources = numbering-new S s sn so sk;
-    numbered_names = numbering-new N n nn empty nk;
+  pub AreMet-none : (s n : NewNumbers) → s.order.items ≡ [] → n.order.items ≡ [] → AreMet S N [] s n
+  AreMet-none s n none nothing = record {
+    kept_sources = ap (kept_of S) none;
+    kept_names = ap (kept_of N) nothing;
+    first = λ f past. ap (first_some f) none;
   }
 
-  pub AreMet-push : (ts : List RawToken) (t : RawToken) (s n s' n' : Numbering) → AreMet S N ts s n → NumbersMore S t.src_id s s' → NumbersMore N t.name_id n n' → AreMet S N (ts ++ t ∷ []) s' n'
+  pub AreMet-push : (ts : List RawToken) (t : RawToken) (s n s' n' : NewNumbers) → AreMet S N ts s n → NumbersMore S t.src_id s s' → NumbersMore N t.name_id n n' → AreMet S N (ts ++ t ∷ []) s' n'
   AreMet-push ts t s n s' n' met more_s more_n = record {
     kept_sources = more_s.kept ∙ ap (λ kept. with_text_if kept (slice_get S t.src_id)) met.kept_sources
         ∙ sym (ap (kept_of S) (map_push (λ (u : RawToken). u.src_id) ts t) ∙ kept_of-push S (map (λ u. u.src_id) ts) t.src_id);
@@ -31,8 +24,6 @@ module _ (S N : List (List ℕ)) where
         ∙ sym (ap (kept_of N) (map_push (λ (u : RawToken). u.name_id) ts t) ∙ kept_of-push N (map (λ u. u.name_id) ts) t.name_id);
     first = λ f none. more_s.met f (none t.src_id) ∙ ap (λ o. option_or o (f t.src_id)) (met.first f none)
         ∙ sym (ap (first_some f) (map_push (λ (u : RawToken). u.src_id) ts t) ∙ first_some-push f (map (λ u. u.src_id) ts) t.src_id);
-    numbered_sources = more_s.numbering;
-    numbered_names = more_n.numbering;
   }
 
   All-unmapped : {X Y : Type 0} (P : Y → Type 0) (f : X → Y) (xs : List X) → AllByRecursion P (map f xs) → AllByRecursion (λ x. P (f x)) xs
@@ -55,33 +46,33 @@ module _ (S N : List (List ℕ)) where
       (All-unmapped (λ x. HasPlace (kept_of texts (map id ts)) (slice_get texts x)) id ts
       (All-unmapped (HasPlace (kept_of texts (map id ts))) (slice_get texts) (map id ts) (used-kept (map (slice_get texts) (map id ts)))))
 
-  numbered-push : (ts : List RawToken) (t : RawToken) (s n s' n' : Numbering) → AreMet S N ts s n → NumbersMore S t.src_id s s' → NumbersMore N t.name_id n n'
-      → map (numbered_by S N s'.kept n'.kept) (ts ++ t ∷ []) ≡ map (numbered_by S N s.kept n.kept) ts ++ numbered_by S N s'.kept n'.kept t ∷ []
+  numbered-push : (ts : List RawToken) (t : RawToken) (s n s' n' : NewNumbers) → AreMet S N ts s n → NumbersMore S t.src_id s s' → NumbersMore N t.name_id n n'
+      → map (numbered_with S N s' n') (ts ++ t ∷ []) ≡ map (numbered_with S N s n) ts ++ numbered_with S N s' n' t ∷ []
   numbered-push ts t s n s' n' met more_s more_n =
-      let same : map (numbered_by S N s'.kept n'.kept) ts ≡ map (numbered_by S N s.kept n.kept) ts =
+      let same : map (numbered_with S N s' n') ts ≡ map (numbered_with S N s n) ts =
       (λ i. map (numbered_by S N (more_s.kept i) (more_n.kept i)) ts)
-      ∙ numbered-kept s.kept n.kept (slice_get S t.src_id) (slice_get N t.name_id) ts
-      (have_places S (λ t. t.src_id) ts s.kept met.kept_sources) (have_places N (λ t. t.name_id) ts n.kept met.kept_names) in
-      map_push (numbered_by S N s'.kept n'.kept) ts t ∙ ap (λ us. us ++ numbered_by S N s'.kept n'.kept t ∷ []) same
+      ∙ numbered-kept (met_texts S s) (met_texts N n) (slice_get S t.src_id) (slice_get N t.name_id) ts
+      (have_places S (λ t. t.src_id) ts (met_texts S s) met.kept_sources) (have_places N (λ t. t.name_id) ts (met_texts N n) met.kept_names) in
+      map_push (numbered_with S N s' n') ts t ∙ ap (λ us. us ++ numbered_with S N s' n' t ∷ []) same
 
   -- a loop that numbers tokens in place
-  module _ (old now : List RawToken) (i : ℕ) (d : RawToken) (s n : Numbering) (within : i < length old)
-      (met : AreMet S N (take i old) s n) (so_far : now ≡ map (numbered_by S N s.kept n.kept) (take i old) ++ drop i old) where
+  module _ (old now : List RawToken) (i : ℕ) (d : RawToken) (s n : NewNumbers) (within : i < length old)
+      (met : AreMet S N (take i old) s n) (so_far : now ≡ map (numbered_with S N s n) (take i old) ++ drop i old) where
     front : List RawToken
-    front = map (numbered_by S N s.kept n.kept) (take i old)
+    front = map (numbered_with S N s n) (take i old)
 
     length-front : length front ≡ i
     unfolding front
-    length-front = length-map (take i old) (numbered_by S N s.kept n.kept) ∙ length-take-le i old (omega arith)
+    length-front = length-map (take i old) (numbered_with S N s n) ∙ length-take-le i old (omega arith)
 
     opened : now ≡ front ++ get_or old i d ∷ drop (i + 1) old
     unfolding front
-    opened = so_far ∙ ap (λ xs. map (numbered_by S N s.kept n.kept) (take i old) ++ xs) (drop_more old i d within)
+    opened = so_far ∙ ap (λ xs. map (numbered_with S N s n) (take i old) ++ xs) (drop_more old i d within)
 
     pub at-index : get_or now i d ≡ get_or old i d
     at-index = ap (λ xs. get_or xs i d) opened ∙ get_or_at front (get_or old i d) (drop (i + 1) old) d i length-front
 
-    module _ (s' n' : Numbering) (more_s : NumbersMore S (get_or now i d).src_id s s') (more_n : NumbersMore N (get_or now i d).name_id n n') where
+    module _ (s' n' : NewNumbers) (more_s : NumbersMore S (get_or now i d).src_id s s') (more_n : NumbersMore N (get_or now i d).name_id n n') where
       t : RawToken
       t = get_or old i d
 
@@ -97,21 +88,21 @@ module _ (S N : List (List ℕ)) where
       unfolding t
       met-more = rw (take_more old i d within) (AreMet-push (take i old) (get_or old i d) s n s' n' met more_s' more_n')
 
-      pub tokens-more : (x : RawToken) → x ≡ numbered_by S N s'.kept n'.kept (get_or now i d) → slice_set now i x ≡ map (numbered_by S N s'.kept n'.kept) (take (i + 1) old) ++ drop (i + 1) old
+      pub tokens-more : (x : RawToken) → x ≡ numbered_with S N s' n' (get_or now i d) → slice_set now i x ≡ map (numbered_with S N s' n') (take (i + 1) old) ++ drop (i + 1) old
       unfolding t front
       tokens-more x e =
-          let x' : x ≡ numbered_by S N s'.kept n'.kept (get_or old i d) = e ∙ ap (numbered_by S N s'.kept n'.kept) at-index in
-          let mapped : map (numbered_by S N s'.kept n'.kept) (take (i + 1) old) ≡ front ++ numbered_by S N s'.kept n'.kept (get_or old i d) ∷ [] =
-          ap (map (numbered_by S N s'.kept n'.kept)) (take_more old i d within) ∙ numbered-push (take i old) (get_or old i d) s n s' n' met more_s' more_n' in
+          let x' : x ≡ numbered_with S N s' n' (get_or old i d) = e ∙ ap (numbered_with S N s' n') at-index in
+          let mapped : map (numbered_with S N s' n') (take (i + 1) old) ≡ front ++ numbered_with S N s' n' (get_or old i d) ∷ [] =
+          ap (map (numbered_with S N s' n')) (take_more old i d within) ∙ numbered-push (take i old) (get_or old i d) s n s' n' met more_s' more_n' in
           ap (λ xs. slice_set xs i x) opened ∙ set_at front (get_or old i d) (drop (i + 1) old) x i length-front
           ∙ ap (λ y. front ++ y ∷ drop (i + 1) old) x'
-          ∙ sym (append_assoc front (numbered_by S N s'.kept n'.kept (get_or old i d) ∷ []) (drop (i + 1) old))
+          ∙ sym (append_assoc front (numbered_with S N s' n' (get_or old i d) ∷ []) (drop (i + 1) old))
           ∙ ap (λ xs. xs ++ drop (i + 1) old) (sym mapped)
 
-  pub met-all : (old : List RawToken) (i : ℕ) (s n : Numbering) → length old ≤ i → AreMet S N (take i old) s n → AreMet S N old s n
+  pub met-all : (old : List RawToken) (i : ℕ) (s n : NewNumbers) → length old ≤ i → AreMet S N (take i old) s n → AreMet S N old s n
   met-all old i s n past met = subst (λ ts. AreMet S N ts s n) (take_all i old past) met
 
-  pub tokens-all : (old now : List RawToken) (i : ℕ) (s n : Numbering) → length old ≤ i → now ≡ map (numbered_by S N s.kept n.kept) (take i old) ++ drop i old → now ≡ map (numbered_by S N s.kept n.kept) old
+  pub tokens-all : (old now : List RawToken) (i : ℕ) (s n : NewNumbers) → length old ≤ i → now ≡ map (numbered_with S N s n) (take i old) ++ drop i old → now ≡ map (numbered_with S N s n) old
   tokens-all old now i s n past e =
-      e ∙ ap (λ ts. map (numbered_by S N s.kept n.kept) ts ++ drop i old) (take_all i old past)
-      ∙ ap (λ ts. map (numbered_by S N s.kept n.kept) old ++ ts) (drop_all i old past) ∙ append-nil (map (numbered_by S N s.kept n.kept) old)
+      e ∙ ap (λ ts. map (numbered_with S N s n) ts ++ drop i old) (take_all i old past)
+      ∙ ap (λ ts. map (numbered_with S N s n) old ++ ts) (drop_all i old past) ∙ append-nil (map (numbered_with S N s n) old)

@@ -17,20 +17,20 @@ use Rattle.sourcemap_maps.specs.Texts.{texts_of, contents_in}
 use Rattle.sourcemap_maps.specs.Prefixes.{cut_by}
 use Rattle.sourcemap_maps.specs.Types.{MapValue, IsSound, shown, shown_sources, source_of}
 use Rattle.sourcemap_maps.specs.Rewrite.{Removal, present, kept_once, number_in, used_sources, used_names, kept_names, contents_for, cuts, renumbered, rewritten}
-use Rattle.sourcemap_maps.specs.Numbering.{first_some, IsMet, IsNumbering, AreMet, kept_of, numbered_by}
+use Rattle.sourcemap_maps.specs.Numbering.{first_some, kept_of, met_texts, IsMet, AreNumbered, AreMet, numbered_by}
 use Rattle.sourcemap_maps.specs.KeptContents.{given, given_to, IsPlaced, AreKept}
 use Rattle.sourcemap_maps.specs.Renumbering.{contents_among, contents_due, AreRewritten}
 use Rattle.sourcemap_maps.specs.declared.rewrite.RewrittenParts.{RewrittenParts}
-use Rattle.sourcemap_maps.specs.declared.numbering.Numbering.{Numbering}
+use Rattle.sourcemap_maps.specs.declared.numbering.NewNumbers.{NewNumbers}
 use Rattle.sourcemap_maps.proofs.TextLemmas.{map-shown_behind_nothing}
-use Rattle.sourcemap_maps.proofs.NumberingLemmas.{All-weaker, kept_once-few}
+use Rattle.sourcemap_maps.proofs.NumberingLemmas.{All-weaker, kept_once-few, distinct-kept_of}
 
 -- each old number that was met has a new one
-pub all_placed : (S : List (List ℕ)) (s : Numbering) → IsNumbering S s → AllByRecursion (IsPlaced s.numbers.items (length s.kept)) s.order.items
-all_placed S s is = All-weaker (IsMet S s) (IsPlaced s.numbers.items (length s.kept)) placed s.order.items is.met
+pub all_placed : (S : List (List ℕ)) (s : NewNumbers) → AreNumbered S s → AllByRecursion (IsPlaced s.numbers.items (length (met_texts S s))) s.order.items
+all_placed S s is = All-weaker (IsMet S s) (IsPlaced s.numbers.items (length (met_texts S s))) placed s.order.items is.met
   where
-    placed : (id : ℕ) → IsMet S s id → IsPlaced s.numbers.items (length s.kept) id
-    placed id met = (met.number, met.numbered, slice_get_within s.kept met.number met.text (slice_get-place_of met.text s.kept met.number met.placed))
+    placed : (id : ℕ) → IsMet S s id → IsPlaced s.numbers.items (length (met_texts S s)) id
+    placed id met = (met.number, met.numbered, slice_get_within (met_texts S s) met.number met.text (slice_get-place_of met.text (met_texts S s) met.number met.placed))
 
 -- Contents.
 
@@ -81,38 +81,38 @@ tests_agree kept distinct text other k n at placed = by_case (cases_eq n k)
 abbrev of_id : List (List ℕ) → List (Option (List ℕ)) → List ℕ → ℕ → Option (List ℕ)
 of_id S contents text id = option_and_then (λ source. cond (bytes_eq source text) (given contents id) None) (slice_get S id)
 
-pub contents-kept : (S N : List (List ℕ)) (ts : List RawToken) (s n : Numbering) (contents kept : List (Option (List ℕ)))
-    → AreMet S N ts s n → AreDistinct s.kept → AreKept s.numbers.items s.order.items contents (length s.kept) kept
-    → kept ≡ map (contents_due S contents ts) s.kept
-contents-kept S N ts s n contents kept met distinct are =
-    same_given kept (map (contents_due S contents ts) s.kept) (are.many ∙ sym (length-map s.kept (contents_due S contents ts)))
+pub contents-kept : (S N : List (List ℕ)) (ts : List RawToken) (s n : NewNumbers) (contents kept : List (Option (List ℕ)))
+    → AreMet S N ts s n → AreNumbered S s → AreKept s.numbers.items s.order.items contents (length (met_texts S s)) kept
+    → kept ≡ map (contents_due S contents ts) (met_texts S s)
+contents-kept S N ts s n contents kept met numbered are =
+    same_given kept (map (contents_due S contents ts) (met_texts S s)) (are.many ∙ sym (length-map (met_texts S s) (contents_due S contents ts)))
     (λ k below. each k (omega (arith, are.many)))
   where
     of_none : (text : List ℕ) (id : ℕ) → slice_get S id ≡ None → of_id S contents text id ≡ None
     of_none text id e = rw e refl
 
-    of_met : (k : ℕ) (text : List ℕ) → slice_get s.kept k ≡ Some text → (id : ℕ) → IsMet S s id → given_to s.numbers.items contents k id ≡ of_id S contents text id
+    of_met : (k : ℕ) (text : List ℕ) → slice_get (met_texts S s) k ≡ Some text → (id : ℕ) → IsMet S s id → given_to s.numbers.items contents k id ≡ of_id S contents text id
     of_met k text at id is =
-        rw (is.numbered, is.named) (ap (λ b. cond b (given contents id) None) (tests_agree s.kept distinct text is.text k is.number at is.placed))
+        rw (is.numbered, is.named) (ap (λ b. cond b (given contents id) None) (tests_agree (met_texts S s) (distinct-kept_of S s.order.items) text is.text k is.number at is.placed))
 
-    each : (k : ℕ) → k < length s.kept → given kept k ≡ given (map (contents_due S contents ts) s.kept) k
+    each : (k : ℕ) → k < length (met_texts S s) → given kept k ≡ given (map (contents_due S contents ts) (met_texts S s)) k
     each k below =
-        let text : List ℕ = get_or s.kept k [] in
-        let at : slice_get s.kept k ≡ Some text = slice_get-get_or s.kept k [] below in
-        let due : given (map (contents_due S contents ts) s.kept) k ≡ contents_due S contents ts text =
-        ap (option_and_then (λ o. o)) (slice_get-map (contents_due S contents ts) s.kept k ∙ ap (option_map (contents_due S contents ts)) at) in
+        let text : List ℕ = get_or (met_texts S s) k [] in
+        let at : slice_get (met_texts S s) k ≡ Some text = slice_get-get_or (met_texts S s) k [] below in
+        let due : given (map (contents_due S contents ts) (met_texts S s)) k ≡ contents_due S contents ts text =
+        ap (option_and_then (λ o. o)) (slice_get-map (contents_due S contents ts) (met_texts S s) k ∙ ap (option_map (contents_due S contents ts)) at) in
         are.each k below
-        ∙ first_some-same (IsMet S s) (given_to s.numbers.items contents k) (of_id S contents text) (of_met k text at) s.order.items met.numbered_sources.met
+        ∙ first_some-same (IsMet S s) (given_to s.numbers.items contents k) (of_id S contents text) (of_met k text at) s.order.items numbered.met
         ∙ met.first (of_id S contents text) (of_none text)
         ∙ first_some-map (of_id S contents text) (λ (t : RawToken). t.src_id) ts
         ∙ sym (first_present (contents_among S contents text) ts)
         ∙ sym due
 
-pub contents-kept_if : (b : Bool) (S N : List (List ℕ)) (ts : List RawToken) (s n : Numbering) (contents kept : List (Option (List ℕ)))
-    → AreMet S N ts s n → AreDistinct s.kept → MatchBool b (AreKept s.numbers.items s.order.items contents (length s.kept) kept) (kept ≡ [])
-    → kept ≡ cond b (map (contents_due S contents ts) s.kept) []
-contents-kept_if true S N ts s n contents kept met distinct are = contents-kept S N ts s n contents kept met distinct are
-contents-kept_if false S N ts s n contents kept met distinct none = none
+pub contents-kept_if : (b : Bool) (S N : List (List ℕ)) (ts : List RawToken) (s n : NewNumbers) (contents kept : List (Option (List ℕ)))
+    → AreMet S N ts s n → AreNumbered S s → MatchBool b (AreKept s.numbers.items s.order.items contents (length (met_texts S s)) kept) (kept ≡ [])
+    → kept ≡ cond b (map (contents_due S contents ts) (met_texts S s)) []
+contents-kept_if true S N ts s n contents kept met numbered are = contents-kept S N ts s n contents kept met numbered are
+contents-kept_if false S N ts s n contents kept met numbered none = none
 
 pub same_Ok : {X : Type 0} (x y : X) → ◌≡◌ {A = Result X Error} (Ok x) (Ok y) → x ≡ y
 same_Ok x y e = cc

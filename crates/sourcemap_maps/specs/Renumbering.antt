@@ -5,14 +5,16 @@ use Rattle.sourcemap_core.specs.declared.tokens.RawToken.{RawToken}
 use Rattle.sourcemap_maps.specs.Texts.{texts_of, contents_in}
 use Rattle.sourcemap_maps.specs.Prefixes.{cut_by}
 use Rattle.sourcemap_maps.specs.Rewrite.{Removal, all_prefixes, present}
-use Rattle.sourcemap_maps.specs.Numbering.{AreMet, kept_of, numbered_by}
+use Rattle.sourcemap_maps.specs.Numbering.{AreMet, AreNumbered, kept_of, numbered_by, numbered_with}
 use Rattle.sourcemap_maps.specs.KeptContents.{given}
 use Rattle.sourcemap_maps.specs.declared.rewrite.Renumbering.{Renumbering}
 use Rattle.sourcemap_maps.specs.declared.rewrite.RewrittenParts.{RewrittenParts}
 
 pub record IsRenumbered (sources names : List (List ℕ)) (old new : List RawToken) (r : Renumbering) : Type 0 where
   pub met : AreMet sources names old r.sources r.names
-  pub tokens : new ≡ map (numbered_by sources names r.sources.kept r.names.kept) old
+  pub tokens : new ≡ map (numbered_with sources names r.sources r.names) old
+  pub numbered_sources : AreNumbered sources r.sources
+  pub numbered_names : AreNumbered names r.names
 
 -- the contents of a token's source, if that is this text
 abbrev pub contents_among : List (List ℕ) → List (Option (List ℕ)) → List ℕ → RawToken → Option (List ℕ)

@@ -93,19 +93,28 @@ fn cut_all(alloc: Global, texts: &mut [String], prefixes: &[String]) -> Result<(
     Ok(())
 }
 
-// The texts less the prefixes of a list, in which `~` stands for what the paths have in common.
-pub(crate) fn cut_sources(
+// The prefixes to cut: those of a list, in which `~` stands for what the paths have in common.
+pub(crate) fn all_prefixes(
     alloc: Global,
-    mut texts: Vec<String>,
     prefixes: &[&str],
     paths: &[String],
 ) -> Result<Vec<String>>
     ensures { Gives texts_of result
-        (Ok (map (cut_by (all_prefixes (map (λ prefix. prefix.now) prefixes.now) (map string_bytes paths.now))) (texts_of texts))) }
+        (Ok (all_prefixes (map (λ prefix. prefix.now) prefixes.now) (map string_bytes paths.now))) }
 {
     let common = common_if_asked(alloc, prefixes, paths)?;
     let plain = plain_prefixes(alloc, prefixes)?;
-    let all = with_one_more(plain, common)?;
-    cut_all(alloc, texts.as_mut_slice(), all.as_slice())?;
+    with_one_more(plain, common)
+}
+
+// The texts less these prefixes.
+pub(crate) fn cut_sources(
+    alloc: Global,
+    mut texts: Vec<String>,
+    prefixes: &[String],
+) -> Result<Vec<String>>
+    ensures { Gives texts_of result (Ok (map (cut_by (map string_bytes prefixes.now)) (texts_of texts))) }
+{
+    cut_all(alloc, texts.as_mut_slice(), prefixes)?;
     Ok(texts)
 }

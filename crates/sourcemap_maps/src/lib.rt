@@ -11,6 +11,7 @@ mod equality;
 mod iterators;
 mod kept_contents;
 mod kept_sources;
+mod kept_texts;
 mod numbering;
 mod prefixes;
 pub mod reading;

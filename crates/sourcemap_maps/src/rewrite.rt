@@ -1,4 +1,4 @@
-ghost use Rattle.std.specs.Prelude.{◌≡◌, ◌≤◌, [], Ok, IfOk, IsOkUnless, MatchBool, cond, length, map, string_bytes, unwrap_or};
+ghost use Rattle.std.specs.Prelude.{◌≡◌, ◌≤◌, [], Ok, IfOk, IsOkUnless, MatchBool, cond, length, map, string_bytes, unwrap_or, vec_len};
 ghost use Rattle.std.specs.List.{AllByRecursion};
 ghost use Rattle.sourcemap_core.specs.Answer.{Gives};
 ghost use Rattle.sourcemap_core.specs.declared.errors.Error.TheVariants.{OutOfMemory};
@@ -10,8 +10,9 @@ ghost use Rattle.sourcemap_maps.specs.Rewrite.{IsDefault, IsFinal, no_removal, r
 ghost use Rattle.sourcemap_maps.specs.declared.rewrite.RewriteOptions.{RewriteOptions};
 
 use crate::kept_contents::kept_contents;
-use crate::kept_sources::cut_sources;
-use crate::numbering::Numbering;
+use crate::kept_sources::{all_prefixes, cut_sources};
+use crate::kept_texts::kept_texts;
+use crate::numbering::{NewNumbers, Numbering};
 use crate::types::SourceMap;
 use sourcemap_core::errors::{Error, Result};
 use sourcemap_core::tokens::RawToken;
@@ -97,15 +98,8 @@ impl SourceMap {
             ignored: _,
             debug_id,
         } = self;
-        let parts = rewritten_parts(
-            alloc,
-            tokens,
-            shown(&with_root, &sources),
-            names_if(names.as_slice(), options.with_names),
-            sources.as_slice(),
-            contents,
-            options,
-        )?;
+        let names = names_if(alloc, names, options.with_names);
+        let parts = rewritten_parts(alloc, tokens, sources, with_root, names, contents, options)?;
         Ok(SourceMap {
             file,
             source_root: None,
@@ -130,18 +124,28 @@ fn shown<'a>(rooted: &'a Option<Vec<String>>, sources: &'a Vec<String>) -> &'a [
     }
 }
 
-// The names, if they are kept.
-fn names_if(names: &[String], with_names: bool) -> &[String]
-    ensures { map string_bytes result.now ≡ cond with_names (map string_bytes names.now) [] }
+// The same, moved.
+fn into_shown(rooted: Option<Vec<String>>, sources: Vec<String>) -> Vec<String>
+    ensures { texts_of result ≡ texts_of (unwrap_or rooted sources) }
 {
-    if with_names { names } else { &[] }
+    match rooted {
+        Some(texts) => texts,
+        None => sources,
+    }
+}
+
+// The names, if they are kept.
+fn names_if(alloc: Global, names: Vec<String>, with_names: bool) -> Vec<String>
+    ensures { texts_of result ≡ cond with_names (texts_of names) [] }
+{
+    if with_names { names } else { Vec::new(alloc) }
 }
 
 // The new numbers of sources and of names.
 #[derive(Drop)]
 struct Renumbering {
-    sources: Numbering,
-    names: Numbering,
+    sources: NewNumbers,
+    names: NewNumbers,
 }
 
 // Gives tokens the new numbers of their sources and names.
@@ -163,8 +167,8 @@ fn renumber(
         token.name_id = name_numbers.number(names, token.name_id)?;
     }
     Ok(Renumbering {
-        sources: source_numbers,
-        names: name_numbers,
+        sources: source_numbers.met,
+        names: name_numbers.met,
     })
 }
 
@@ -177,59 +181,59 @@ struct RewrittenParts {
     contents: Vec<Option<String>>,
 }
 
-// The contents by the new numbers of sources, if they are kept.
+// The contents of so many sources, by new number, if they are kept.
 fn contents_if(
     alloc: Global,
     contents: Vec<Option<String>>,
-    sources: &Numbering,
+    sources: &NewNumbers,
+    count: usize,
     with_contents: bool,
 ) -> Result<Vec<Option<String>>>
-    requires { AllByRecursion (IsPlaced sources.now.numbers.items (length sources.now.kept)) sources.now.order.items }
+    requires { AllByRecursion (IsPlaced sources.now.numbers.items count) sources.now.order.items }
     ensures ok { IfOk result (λ kept. MatchBool with_contents
-        (AreKept sources.now.numbers.items sources.now.order.items (contents_in contents) (length sources.now.kept) (contents_in kept))
+        (AreKept sources.now.numbers.items sources.now.order.items (contents_in contents) count (contents_in kept))
         (contents_in kept ≡ [])) }
     ensures memory { IsOkUnless result OutOfMemory }
 {
     if !with_contents {
         return Ok(Vec::new(alloc));
     }
-    let count = sources.kept.len() as usize;
     let order = sources.order.as_slice();
     let numbers = sources.numbers.as_slice();
     let kept = kept_contents(alloc, contents, order, numbers, count)?;
     Ok(kept)
 }
 
-// The parts of a map of these tokens, sources as they are shown, and names. Paths are told by
-// sources as they stand without the root.
+// The parts of a map of these tokens, names and sources, which are shown behind a root where there
+// is one. Paths are told by sources as they stand without it.
 fn rewritten_parts(
     alloc: Global,
     mut tokens: Vec<RawToken>,
-    sources: &[String],
-    names: &[String],
-    paths: &[String],
+    sources: Vec<String>,
+    with_root: Option<Vec<String>>,
+    names: Vec<String>,
     contents: Vec<Option<String>>,
     options: &RewriteOptions<'_>,
 ) -> Result<RewrittenParts>
-    requires few_sources { length sources.now ≤ 4294967295 }
-    requires few_names { length names.now ≤ 4294967295 }
-    ensures parts { IfOk result (λ parts. AreRewritten (map string_bytes sources.now) (map string_bytes names.now)
-        (map string_bytes paths.now) (contents_in contents) (removal_of options.now) tokens.items parts) }
+    requires few_sources { vec_len (unwrap_or with_root sources) ≤ 4294967295 }
+    requires few_names { vec_len names ≤ 4294967295 }
+    ensures parts { IfOk result (λ parts. AreRewritten (texts_of (unwrap_or with_root sources)) (texts_of names)
+        (texts_of sources) (contents_in contents) (removal_of options.now) tokens.items parts) }
     ensures memory { IsOkUnless result OutOfMemory }
 {
-    let numbers = renumber(alloc, tokens.as_mut_slice(), sources, names)?;
-    let Renumbering {
-        sources: source_numbers,
-        names: name_numbers,
-    } = numbers;
-    let _ = source_numbers.kept.len();
+    let texts = shown(&with_root, &sources);
+    let numbers = renumber(alloc, tokens.as_mut_slice(), texts, names.as_slice())?;
+    let prefixes = all_prefixes(alloc, options.strip_prefixes, sources.as_slice())?;
+    let texts = into_shown(with_root, sources);
+    let texts = kept_texts(alloc, texts, &numbers.sources)?;
+    let count = texts.len();
+    let sources = cut_sources(alloc, texts, prefixes.as_slice())?;
     let with_contents = options.with_source_contents;
-    let contents = contents_if(alloc, contents, &source_numbers, with_contents)?;
-    let texts = source_numbers.kept.into_texts();
-    let sources = cut_sources(alloc, texts, options.strip_prefixes, paths)?;
+    let contents = contents_if(alloc, contents, &numbers.sources, count, with_contents)?;
+    let names = kept_texts(alloc, names, &numbers.names)?;
     Ok(RewrittenParts {
         tokens,
-        names: name_numbers.kept.into_texts(),
+        names,
         sources,
         contents,
     })

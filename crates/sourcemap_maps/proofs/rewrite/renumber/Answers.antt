@@ -2,7 +2,8 @@ use Rattle.std.proofs.Common.{◌≡◌, ℕ, false, List, length, map, get_or, 
 use Rattle.std.specs.declared.alloc.Global.{Global}
 use Rattle.std.proofs.lemmas.List.{length-map}
 use Rattle.sourcemap_core.specs.declared.tokens.RawToken.{RawToken}
-use Rattle.sourcemap_maps.specs.Numbering.{numbered_by}
+use Rattle.sourcemap_maps.specs.Numbering.{numbered_with}
+use Rattle.sourcemap_maps.proofs.NumberingLemmas.{numbering-new}
 use Rattle.sourcemap_maps.proofs.RenumberingLemmas.{AreMet-none, met-more, tokens-more, met-all, tokens-all}
 use Rattle.sourcemap_maps.proofs.rewrite.renumber.Goals as goal
 
@@ -15,9 +16,10 @@ loop-token-init c =
     let s = c.in_ok-source_numbers.ensures in
     let n = c.in_ok-name_numbers.ensures in
     record {
-      met = AreMet-none S N c.in_ok-source_numbers.source_numbers c.in_ok-name_numbers.name_numbers
-          (s.numbers ∙ ap (λ k. replicate k 4294967295) many_sources) s.order s.kept (n.numbers ∙ ap (λ k. replicate k 4294967295) many_names) n.order n.kept;
+      met = AreMet-none S N c.in_ok-source_numbers.source_numbers.met c.in_ok-name_numbers.name_numbers.met s.order n.order;
       tokens = refl;
+      sources = numbering-new S c.in_ok-source_numbers.source_numbers (s.numbers ∙ ap (λ k. replicate k 4294967295) many_sources) s.order s.ids;
+      names = numbering-new N c.in_ok-name_numbers.name_numbers (n.numbers ∙ ap (λ k. replicate k 4294967295) many_names) n.order n.ids;
     }
 
 pub loop-token-preserved : goal.loop-token-preserved
@@ -30,11 +32,13 @@ loop-token-preserved c =
     let source = c.in_ok-token.ensures in
     let name = c.in_ok-token-2.ensures in
     let t : RawToken = record (get_or now i none) { src_id = c.in_ok-token.field-0; name_id = c.in_ok-token-2.field-0 } in
-    let same : t ≡ numbered_by S N c.number.new.self.kept c.number-in-loop-token.new.self.kept (get_or now i none) =
+    let same : t ≡ numbered_with S N c.number.new.self.met c.number-in-loop-token.new.self.met (get_or now i none) =
     λ k. record (get_or now i none) { src_id = source.number k; name_id = name.number k } in
     record {
-      met = met-more S N c.args.tokens.now now i none c.loop-token.source_numbers c.loop-token.name_numbers c.loop-token-test.true c.loop-token.invariant.met c.loop-token.invariant.tokens c.number.new.self c.number-in-loop-token.new.self source.more name.more;
-      tokens = tokens-more S N c.args.tokens.now now i none c.loop-token.source_numbers c.loop-token.name_numbers c.loop-token-test.true c.loop-token.invariant.met c.loop-token.invariant.tokens c.number.new.self c.number-in-loop-token.new.self source.more name.more t same;
+      met = met-more S N c.args.tokens.now now i none c.loop-token.source_numbers.met c.loop-token.name_numbers.met c.loop-token-test.true c.loop-token.invariant.met c.loop-token.invariant.tokens c.number.new.self.met c.number-in-loop-token.new.self.met source.more name.more;
+      tokens = tokens-more S N c.args.tokens.now now i none c.loop-token.source_numbers.met c.loop-token.name_numbers.met c.loop-token-test.true c.loop-token.invariant.met c.loop-token.invariant.tokens c.number.new.self.met c.number-in-loop-token.new.self.met source.more name.more t same;
+      sources = source.numbering;
+      names = name.numbering;
     }
 
 pub returns-clause-ok : goal.returns-clause-ok
@@ -42,6 +46,8 @@ returns-clause-ok c =
     let S : List (List ℕ) = map (string_bytes {Z = Global}) c.args.sources.now in
     let N : List (List ℕ) = map (string_bytes {Z = Global}) c.args.names.now in
     record {
-      met = met-all S N c.args.tokens.now c.loop-token.token-index c.loop-token.source_numbers c.loop-token.name_numbers c.loop-token-test.false c.loop-token.invariant.met;
-      tokens = tokens-all S N c.args.tokens.now c.loop-token.tokens c.loop-token.token-index c.loop-token.source_numbers c.loop-token.name_numbers c.loop-token-test.false c.loop-token.invariant.tokens;
+      met = met-all S N c.args.tokens.now c.loop-token.token-index c.loop-token.source_numbers.met c.loop-token.name_numbers.met c.loop-token-test.false c.loop-token.invariant.met;
+      tokens = tokens-all S N c.args.tokens.now c.loop-token.tokens c.loop-token.token-index c.loop-token.source_numbers.met c.loop-token.name_numbers.met c.loop-token-test.false c.loop-token.invariant.tokens;
+      numbered_sources = c.loop-token.invariant.sources.numbered;
+      numbered_names = c.loop-token.invariant.names.numbered;
     }
