@@ -1,10 +1,12 @@
 -- What the room of a text is filled with: digits of differences, all of them ASCII.
-use Rattle.std.proofs.Common.{◌≡◌, ℕ, ◌+◌, ◌-◌, ◌*◌, ◌^◌, ◌<◌, ◌≤◌, ◌==◌, Bool, true, false, nat_lt, Some, List, [], ◌∷◌, ◌++◌, length, slice_index, refl, sym, subst, ◌∙◌, arith, inl, inr, ℤ, pos, negsuc, unsigned_abs}
+use Rattle.std.proofs.Common.{◌≡◌, ℕ, ◌+◌, ◌-◌, ◌*◌, ◌^◌, ◌<◌, ◌≤◌, ◌==◌, Bool, true, false, nat_lt, Some, List, [], ◌∷◌, ◌++◌, length, slice_index, refl, sym, subst, ◌∙◌, arith, inl, inr, ℤ, pos, negsuc, unsigned_abs, ◌/◌, ◌%◌, take, set, ap}
 use Rattle.std.specs.List.{AllByRecursion}
 use Rattle.std.specs.Str.{IsAscii}
 use Rattle.std.proofs.Math.Pow.{pow_mono}
 use Rattle.std.proofs.lemmas.Bool.{agree_below_at, eqb-true, cases_lt, lt-ltb, le-ltb}
+use Rattle.std.proofs.lemmas.Grind.{take-set_at}
 use Rattle.std.proofs.lemmas.Int.{ints}
+use Rattle.std.proofs.lemmas.List.{append_assoc, length-set, take-set-le}
 use Rattle.std.proofs.lemmas.List.Elements.{All-from_recursion}
 use Rattle.std.proofs.lemmas.Str.{IsAscii-append}
 use Rattle.std.proofs.lemmas.Str.Ascii.{IsAscii-nil, IsAscii-from_all}
@@ -13,7 +15,7 @@ use Rattle.sourcemap_core.specs.Vlq.{digit_value, glyph, raw_of, GoesOn, IsChain
 use Rattle.sourcemap_core.specs.MappingsWritten.{difference}
 use Rattle.sourcemap_core.specs.WritingSteps.{Adds, raw_difference}
 use Rattle.sourcemap_core.proofs.DigitLemmas.{digit_value-below, glyph-digit_value, glyph-ascii}
-use Rattle.sourcemap_core.proofs.VlqLemmas.{IsShortest-last, total_of, weighs}
+use Rattle.sourcemap_core.proofs.VlqLemmas.{GoesOn-glyph, IsShortest-last, raw_of-split, total_of, weighs}
 use Rattle.sourcemap_core.proofs.WritingLemmas.{Spells-one}
 
 -- Differences.
@@ -55,6 +57,56 @@ Adds-last a b old part left ha hb all low e some = record {
       (IsShortest-last part (difference a b) left all low (difference_near a b ha hb) (difference_total a b ∙ e) some);
   added = refl;
 }
+
+-- a difference of two digits, and of three
+pub Adds-two : (a b : ℕ) (old : List ℕ) → a < 2 ^ 32 → b < 2 ^ 32 → 32 ≤ raw_difference a b → raw_difference a b < 1024
+    → Adds (difference a b ∷ []) old (old ++ (glyph (raw_difference a b % 32 + 32) ∷ glyph (raw_difference a b / 32) ∷ []))
+Adds-two a b old ha hb more low =
+    let raw = raw_difference a b in
+    Adds-last a b old (glyph (raw % 32 + 32) ∷ []) (raw / 32) ha hb (GoesOn-glyph (raw % 32) (omega arith), tt) (omega arith)
+    (raw_of-split [] raw raw (omega arith)) (λ _. omega arith)
+
+pub Adds-three : (a b : ℕ) (old : List ℕ) → a < 2 ^ 32 → b < 2 ^ 32 → 1024 ≤ raw_difference a b → raw_difference a b < 32768
+    → Adds (difference a b ∷ []) old
+    (old ++ (glyph (raw_difference a b % 32 + 32) ∷ glyph (raw_difference a b / 32 % 32 + 32) ∷ glyph (raw_difference a b / 32 / 32) ∷ []))
+Adds-three a b old ha hb more low =
+    let raw = raw_difference a b in
+    let first : ℕ = glyph (raw % 32 + 32) in
+    let second : ℕ = glyph (raw / 32 % 32 + 32) in
+    Adds-last a b old (first ∷ second ∷ []) (raw / 32 / 32) ha hb
+    (GoesOn-glyph (raw % 32) (omega arith), (GoesOn-glyph (raw / 32 % 32) (omega arith), tt)) (omega arith)
+    (raw_of-split (first ∷ []) raw (raw / 32) (raw_of-split [] raw raw (omega arith))) (λ _. omega arith)
+
+-- two stores, of which one counts, or both
+pub pair-one : (room : List ℕ) (at x y n : ℕ) → n ≡ at + 1 → at + 1 < length room → take n (set (set room at x) (at + 1) y) ≡ take at room ++ x ∷ []
+pair-one room at x y n e h = take-set-le n (set room at x) (at + 1) y (omega arith) ∙ take-set_at room at n x e (omega arith)
+
+pub pair-two : (room : List ℕ) (at x y n : ℕ) → n ≡ at + 2 → at + 1 < length room → take n (set (set room at x) (at + 1) y) ≡ take at room ++ (x ∷ y ∷ [])
+pair-two room at x y n e h =
+    let long : length (set room at x) ≡ length room = length-set room at x in
+    take-set_at (set room at x) (at + 1) n y (omega arith) (omega arith)
+    ∙ ap (λ xs. xs ++ y ∷ []) (take-set_at room at (at + 1) x refl (omega arith))
+    ∙ append_assoc (take at room) (x ∷ []) (y ∷ [])
+
+-- three stores, of which one counts, or two, or all
+pub triple-one : (room : List ℕ) (at x y z n : ℕ) → n ≡ at + 1 → at + 2 < length room
+    → take n (set (set (set room at x) (at + 1) y) (at + 2) z) ≡ take at room ++ x ∷ []
+triple-one room at x y z n e h =
+    take-set-le n (set (set room at x) (at + 1) y) (at + 2) z (omega arith) ∙ pair-one room at x y n e (omega arith)
+
+pub triple-two : (room : List ℕ) (at x y z n : ℕ) → n ≡ at + 2 → at + 2 < length room
+    → take n (set (set (set room at x) (at + 1) y) (at + 2) z) ≡ take at room ++ (x ∷ y ∷ [])
+triple-two room at x y z n e h =
+    take-set-le n (set (set room at x) (at + 1) y) (at + 2) z (omega arith) ∙ pair-two room at x y n e (omega arith)
+
+pub triple-three : (room : List ℕ) (at x y z n : ℕ) → n ≡ at + 3 → at + 2 < length room
+    → take n (set (set (set room at x) (at + 1) y) (at + 2) z) ≡ take at room ++ (x ∷ y ∷ z ∷ [])
+triple-three room at x y z n e h =
+    let first : length (set room at x) ≡ length room = length-set room at x in
+    let second : length (set (set room at x) (at + 1) y) ≡ length (set room at x) = length-set (set room at x) (at + 1) y in
+    take-set_at (set (set room at x) (at + 1) y) (at + 2) n z (omega arith) (omega arith)
+    ∙ ap (λ xs. xs ++ z ∷ []) (pair-two room at x y (at + 2) refl (omega arith))
+    ∙ append_assoc (take at room) (x ∷ y ∷ []) (z ∷ [])
 
 -- a difference has at most seven digits
 pub few_before : (raw k left total : ℕ) → total < 2 ^ 34 → total ≡ raw + 2 ^ (5 * k) * left → 0 < left → k ≤ 6

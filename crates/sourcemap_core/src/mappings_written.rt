@@ -12,7 +12,7 @@ ghost use Rattle.sourcemap_core.specs.declared.errors.Error.TheVariants.{OutOfMe
 
 use crate::bits::push_bits;
 use crate::errors::Result;
-use crate::room::{SIZE, flush, put_difference};
+use crate::room::{SIZE, flush, put_near, put_three, put_two};
 use crate::tokens::RawToken;
 use std::alloc::{AllocError, Global};
 
@@ -125,20 +125,20 @@ fn put_segment(
     ensures small { HasSmallPlaces token.now }
     ensures next { against.new ≡ moved names against.old token.now }
 {
-    let mut at = put_difference(room, start, token.dst_col, against.dst_col);
+    let mut at = put_two(room, start, token.dst_col, against.dst_col);
     against.dst_line = token.dst_line;
     against.dst_col = token.dst_col;
     if !has_source(*token) {
         return at;
     }
-    at = put_difference(room, at, token.src_id, against.src_id);
+    at = put_near(room, at, token.src_id, against.src_id);
     against.src_id = token.src_id;
-    at = put_difference(room, at, token.src_line, against.src_line);
+    at = put_near(room, at, token.src_line, against.src_line);
     against.src_line = token.src_line;
-    at = put_difference(room, at, token.src_col, against.src_col);
+    at = put_two(room, at, token.src_col, against.src_col);
     against.src_col = token.src_col;
     if has_name(*token, names) {
-        at = put_difference(room, at, token.name_id, against.name_id);
+        at = put_three(room, at, token.name_id, against.name_id);
         against.name_id = token.name_id;
     }
     at

@@ -4,7 +4,7 @@ use Rattle.sourcemap_core.specs.Vlq.{glyph}
 use Rattle.sourcemap_core.specs.MappingsWritten.{difference}
 use Rattle.sourcemap_core.specs.WritingSteps.{Adds, raw_difference}
 use Rattle.sourcemap_core.proofs.RoomLemmas.{Adds-last, near-at, near-raw, near-small}
-use Rattle.sourcemap_core.proofs.room.put_difference.Goals as goal
+use Rattle.sourcemap_core.proofs.room.put_near.Goals as goal
 
 pub returns-then-near-lt31-clause-text : goal.returns-then-near-lt31-clause-text
 returns-then-near-lt31-clause-text c =
