@@ -33,6 +33,9 @@ const START: RawToken = RawToken {
 // For how many tokens room is made at first, six bytes each.
 const FIRST_TOKENS: usize = 1 << 28;
 
+// The most bytes of a token: a comma and five numbers of seven digits.
+const TOKEN_SIZE: usize = 36;
+
 #[inline]
 fn has_source(token: RawToken) -> bool
     ensures { result ≡ has_source token }
@@ -89,7 +92,7 @@ fn put_gap(
     line: u32,
     token: &RawToken,
 ) -> std::result::Result<usize, AllocError>
-    requires within { at + 64 ≤ 1024 }
+    requires within { at < 1024 }
     requires ascii { IsAscii (take at room.now) }
     ensures text { IfOk result (λ end. string_bytes text.new ++ take end room.new
         ≡ (string_bytes text.old ++ take at room.old) ++ gap (option_copied previous.entry) line token.now) }
@@ -166,10 +169,10 @@ fn make_room(
     requires within { at ≤ 1024 }
     requires ascii { IsAscii (take at room.now) }
     ensures text { IfOk result (λ end. string_bytes text.new ++ take end room.now ≡ string_bytes text.old ++ take at room.now) }
-    ensures end { IfOk result (λ end. end + 64 ≤ 1024) }
+    ensures end { IfOk result (λ end. end + 36 ≤ 1024) }
     ensures ascii { IfOk result (λ end. IsAscii (take end room.now)) }
 {
-    if at <= SIZE - 64 {
+    if at <= SIZE - TOKEN_SIZE {
         return Ok(at);
     }
     flush(text, room, at)?;
