@@ -8,6 +8,7 @@ pub mod SortLemmas
 pub mod TokensLemmas
 pub mod InternerLemmas
 pub mod PathsLemmas
+pub mod RoomLemmas
 pub mod UtilsLemmas
 pub mod WritingLemmas
 pub mod VlqLemmas

@@ -411,7 +411,7 @@ BeginsWith-shorter text rest n b =
 -- ---- the shortest digits of a number
 
 -- the raw value of a number, whose lowest bit is its sign
-pub total_of : ℤ → ℕ
+unfoldable pub total_of : ℤ → ℕ
 total_of (pos k) = 2 * k
 total_of (negsuc k) = 2 * suc k + 1
 
@@ -603,7 +603,7 @@ total_of-not_one (pos k) h = omega arith
 total_of-not_one (negsuc k) h = omega arith
 
 -- a digit that is not 0 weighs as much as its place
-weighs : (raw w left total : ℕ) → 0 < left → total ≡ raw + w * left → w ≤ total
+pub weighs : (raw w left total : ℕ) → 0 < left → total ≡ raw + w * left → w ≤ total
 weighs raw w left total h e =
     let more : w * 1 ≤ w * left = mul-le w 1 w left (omega arith) h in
     omega arith

@@ -1,5 +1,5 @@
 -- What the parts of the writers of mappings do.
-use Rattle.std.specs.Prelude.{◌≡◌, ℕ, ◌-◌, ◌^◌, ◌<◌, ◌==◌, true, ℤ, List, [], ◌∷◌, ◌++◌, replicate, Option, Bool, false, if◌then◌else◌}
+use Rattle.std.specs.Prelude.{◌≡◌, ℕ, ◌+◌, ◌-◌, ◌*◌, nat_lt, ◌^◌, ◌<◌, ◌==◌, true, ℤ, List, [], ◌∷◌, ◌++◌, replicate, Option, Bool, false, if◌then◌else◌}
 use Rattle.std.specs.Option.{option_map_or}
 use Rattle.sourcemap_core.specs.declared.tokens.RawToken.{RawToken}
 use Rattle.sourcemap_core.specs.Vlq.{Spells}
@@ -11,6 +11,10 @@ pub record Adds (numbers : List ℤ) (old new : List ℕ) : Type 0 where
   pub digits : List ℕ
   pub spelled : Spells numbers digits
   pub added : new ≡ old ++ digits
+
+-- the raw value of the digits of a difference of numbers
+abbrev pub raw_difference : ℕ → ℕ → ℕ
+raw_difference number against = if nat_lt number against then 2 * (against - number) + 1 else 2 * (number - against)
 
 -- the places of a token that are written have 32 bits
 abbrev pub HasSmallPlaces : RawToken → Type 0

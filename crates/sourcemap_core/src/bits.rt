@@ -8,7 +8,7 @@ ghost use Rattle.sourcemap_core.specs.Answer.{IsAnswer, Gives};
 ghost use Rattle.sourcemap_core.specs.Bits.{bit_of, six_of, first_foreign, IsForeign, BitAnswers, IsBitText};
 
 use crate::errors::{Error, Result};
-use crate::vlq::{digit_of, glyph_of};
+use crate::vlq::{digit_of, glyph_char};
 use std::alloc::Global;
 
 /// The bits of a text, six a digit. Answers `InvalidBase64` at the first byte that is no digit.
@@ -66,7 +66,7 @@ pub(crate) fn push_bits(text: &mut String, bits: &[bool]) -> Result<()>
     ensures memory { IfErr result (λ e. e ≡ OutOfMemory) }
 {
     for digit in 0..digit_count(bits) {
-        text.push(char::from(glyph_of(value_from(bits, 6 * digit))))?;
+        text.push(glyph_char(value_from(bits, 6 * digit)))?;
     }
     Ok(())
 }

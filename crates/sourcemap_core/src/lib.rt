@@ -8,6 +8,7 @@ pub mod interner;
 pub mod mappings;
 mod mappings_written;
 pub mod paths;
+mod room;
 pub mod tokens;
 pub mod utils;
 pub mod vlq;

@@ -1,18 +1,19 @@
 //! The texts that a list of tokens is written as.
-ghost use Rattle.std.specs.Prelude.{◌≡◌, ℕ, ◌+◌, ◌-◌, ◌<◌, ◌^◌, List, [], ◌∷◌, ◌++◌, replicate, OnOk, IfOk, IfErr, string_bytes, option_map, option_copied, Option, false};
+ghost use Rattle.std.specs.Prelude.{◌≡◌, ℕ, ◌+◌, ◌-◌, ◌<◌, ◌≤◌, ◌^◌, take, List, [], ◌∷◌, ◌++◌, replicate, OnOk, IfOk, IfErr, string_bytes, option_map, option_copied, Option, false};
 ghost use Rattle.std.specs.List.{list_any};
 ghost use Rattle.std.specs.Option.{option_map_or};
+ghost use Rattle.std.specs.Str.{IsAscii};
 ghost use Rattle.sourcemap_core.specs.Tokens.{AreInOrder, AllWithin, without_repeats, reduced};
 ghost use Rattle.sourcemap_core.specs.Mappings.{MappingsAnswer};
-ghost use Rattle.sourcemap_core.specs.MappingsWritten.{has_source, has_name, difference, numbers, LineByLine, IsRangeLine, IsWritten, IsRangeText};
+ghost use Rattle.sourcemap_core.specs.MappingsWritten.{has_source, has_name, numbers, LineByLine, IsRangeLine, IsWritten, IsRangeText};
 ghost use Rattle.sourcemap_core.specs.WritingSteps.{Adds, HasSmallPlaces, repeats, follows, gap, at_line, moved};
 ghost use Rattle.sourcemap_core.specs.declared.tokens.RawToken.{RawToken};
 ghost use Rattle.sourcemap_core.specs.declared.errors.Error.TheVariants.{OutOfMemory};
 
 use crate::bits::push_bits;
-use crate::errors::{Error, Result};
+use crate::errors::Result;
+use crate::room::{SIZE, flush, put_near, put_three, put_two};
 use crate::tokens::RawToken;
-use crate::vlq::push_number;
 use std::alloc::{AllocError, Global};
 
 // The id that names nothing.
@@ -31,6 +32,9 @@ const START: RawToken = RawToken {
 
 // For how many tokens room is made at first, six bytes each.
 const FIRST_TOKENS: usize = 1 << 28;
+
+// The most bytes of a token: a comma and five numbers of seven digits.
+const TOKEN_SIZE: usize = 36;
 
 #[inline]
 fn has_source(token: RawToken) -> bool
@@ -77,69 +81,70 @@ fn push_line_ends(text: &mut String, from: u32, to: u32) -> std::result::Result<
     Ok(())
 }
 
-// What stands between two segments, where the text has come to this line.
-#[inline]
-fn push_gap(
+// Puts what stands between two segments, where the text and the room have come to this line. The end
+// of one line, or a comma, goes into the room.
+#[inline(always)]
+fn put_gap(
     text: &mut String,
+    room: &mut [u8; SIZE],
+    at: usize,
     previous: Option<&RawToken>,
     line: u32,
     token: &RawToken,
-) -> std::result::Result<(), AllocError>
-    ensures text { OnOk result (string_bytes text.new ≡ string_bytes text.old ++ gap (option_copied previous.entry) line token.now) }
+) -> std::result::Result<usize, AllocError>
+    requires within { at < 1024 }
+    requires ascii { IsAscii (take at room.now) }
+    ensures text { IfOk result (λ end. string_bytes text.new ++ take end room.new
+        ≡ (string_bytes text.old ++ take at room.old) ++ gap (option_copied previous.entry) line token.now) }
+    ensures end { IfOk result (λ end. end ≤ at + 1) }
+    ensures ascii { IfOk result (λ end. IsAscii (take end room.new)) }
 {
     if follows_on(previous, token) {
-        text.push(',')?;
-        return Ok(());
+        room[at] = b',';
+        return Ok(at + 1);
     }
-    push_line_ends(text, line, token.dst_line)
+    if u64::from(token.dst_line) == u64::from(line) + 1 {
+        room[at] = b';';
+        return Ok(at + 1);
+    }
+    flush(text, room, at)?;
+    push_line_ends(text, line, token.dst_line)?;
+    Ok(0)
 }
 
-#[inline]
-fn push_difference(
-    text: &mut String,
-    number: u32,
-    against: u32,
-) -> std::result::Result<(), AllocError>
-    ensures text { OnOk result (Adds (difference number against ∷ []) (string_bytes text.old) (string_bytes text.new)) }
-    ensures small { number < 2 ^ 32 }
-{
-    match push_number(text, i64::from(number) - i64::from(against)) {
-        Ok(()) => Ok(()),
-        Err(Error::OutOfMemory) => Err(AllocError),
-        Err(_) => unreachable!(),
-    }
-}
-
-// The segment of a token on the line of `against`, which moves on to what the segment behind it is
-// taken against.
+// Puts the segment of a token on the line of `against`, which moves on to what the segment behind it
+// is taken against.
 #[inline(always)]
-fn push_segment(
-    text: &mut String,
+fn put_segment(
+    room: &mut [u8; SIZE],
+    start: usize,
     against: &mut RawToken,
     token: &RawToken,
     names: u32,
-) -> std::result::Result<(), AllocError>
-    ensures text { OnOk result (Adds (numbers names against.old token.now) (string_bytes text.old) (string_bytes text.new)) }
-    ensures small { OnOk result (HasSmallPlaces token.now) }
-    ensures next { OnOk result (against.new ≡ moved names against.old token.now) }
+) -> usize
+    requires { start + 35 ≤ 1024 }
+    ensures text { Adds (numbers names against.old token.now) (take start room.old) (take result room.new) }
+    ensures end { result ≤ start + 35 }
+    ensures small { HasSmallPlaces token.now }
+    ensures next { against.new ≡ moved names against.old token.now }
 {
-    push_difference(text, token.dst_col, against.dst_col)?;
+    let mut at = put_two(room, start, token.dst_col, against.dst_col);
     against.dst_line = token.dst_line;
     against.dst_col = token.dst_col;
     if !has_source(*token) {
-        return Ok(());
+        return at;
     }
-    push_difference(text, token.src_id, against.src_id)?;
+    at = put_near(room, at, token.src_id, against.src_id);
     against.src_id = token.src_id;
-    push_difference(text, token.src_line, against.src_line)?;
+    at = put_near(room, at, token.src_line, against.src_line);
     against.src_line = token.src_line;
-    push_difference(text, token.src_col, against.src_col)?;
+    at = put_two(room, at, token.src_col, against.src_col);
     against.src_col = token.src_col;
     if has_name(*token, names) {
-        push_difference(text, token.name_id, against.name_id)?;
+        at = put_three(room, at, token.name_id, against.name_id);
         against.name_id = token.name_id;
     }
-    Ok(())
+    at
 }
 
 // Turns what a segment is taken against to a line.
@@ -154,24 +159,52 @@ fn turn_to(against: &mut RawToken, line: u32)
     }
 }
 
+// Empties a room that a token may not fit into.
+#[inline(always)]
+fn make_room(
+    text: &mut String,
+    room: &[u8; SIZE],
+    at: usize,
+) -> std::result::Result<usize, AllocError>
+    requires within { at ≤ 1024 }
+    requires ascii { IsAscii (take at room.now) }
+    ensures text { IfOk result (λ end. string_bytes text.new ++ take end room.now ≡ string_bytes text.old ++ take at room.now) }
+    ensures end { IfOk result (λ end. end + 36 ≤ 1024) }
+    ensures ascii { IfOk result (λ end. IsAscii (take end room.now)) }
+{
+    if at <= SIZE - TOKEN_SIZE {
+        return Ok(at);
+    }
+    flush(text, room, at)?;
+    Ok(0)
+}
+
 // Adds the segment of a token to a text that has come to the line of `against`, which is then what the
 // segment behind it is taken against.
 #[inline(always)]
-fn push_token(
+fn put_token(
     text: &mut String,
+    room: &mut [u8; SIZE],
+    at: usize,
     against: &mut RawToken,
     previous: Option<&RawToken>,
     token: &RawToken,
     names: u32,
-) -> std::result::Result<(), AllocError>
-    ensures text { OnOk result (Adds (numbers names (at_line against.old token.now.dst_line) token.now)
-        (string_bytes text.old ++ gap (option_copied previous.entry) against.old.dst_line token.now) (string_bytes text.new)) }
+) -> std::result::Result<usize, AllocError>
+    requires within { at ≤ 1024 }
+    requires ascii { IsAscii (take at room.now) }
+    ensures text { IfOk result (λ end. Adds (numbers names (at_line against.old token.now.dst_line) token.now)
+        ((string_bytes text.old ++ take at room.old) ++ gap (option_copied previous.entry) against.old.dst_line token.now)
+        (string_bytes text.new ++ take end room.new)) }
+    ensures end { IfOk result (λ end. end ≤ 1024) }
+    ensures ascii { IfOk result (λ end. IsAscii (take end room.new)) }
     ensures small { OnOk result ((token.now.dst_line < 2 ^ 32) × HasSmallPlaces token.now) }
     ensures next { OnOk result (against.new ≡ moved names (at_line against.old token.now.dst_line) token.now) }
 {
-    push_gap(text, previous, against.dst_line, token)?;
+    let free = make_room(text, room, at)?;
+    let start = put_gap(text, room, free, previous, against.dst_line, token)?;
     turn_to(against, token.dst_line);
-    push_segment(text, against, token, names)
+    Ok(put_segment(room, start, against, token, names))
 }
 
 /// The text of mappings of some tokens in order, for a map of so many names: the lines from 0 to the
@@ -188,14 +221,25 @@ pub fn write_mappings(alloc: Global, tokens: &[RawToken], names: u32) -> Result<
         (Ok (reduced names tokens.now))) }
 {
     let mut text = String::with_capacity(alloc, tokens.len().min(FIRST_TOKENS) * 6)?;
+    let mut room = [0; SIZE];
+    let mut at = 0;
     let mut against = START;
     let mut previous = None;
     for token in tokens {
         if !is_repeat(previous, token) {
-            push_token(&mut text, &mut against, previous, token, names)?;
+            at = put_token(
+                &mut text,
+                &mut room,
+                at,
+                &mut against,
+                previous,
+                token,
+                names,
+            )?;
         }
         previous = Some(token);
     }
+    flush(&mut text, &room, at)?;
     Ok(text)
 }
 

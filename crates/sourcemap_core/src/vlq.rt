@@ -40,13 +40,22 @@ pub(crate) fn digit_of(byte: u8) -> Option<u8>
     if value < 64 { Some(value) } else { None }
 }
 
-// The digit of a value. The remainder lets the compiler see that it is an ASCII character.
+// The digit of a value.
 #[inline]
 pub(crate) fn glyph_of(value: u8) -> u8
     requires { value < 64 }
     ensures { result ≡ glyph value }
 {
-    GLYPHS[value as usize] % 128
+    GLYPHS[value as usize]
+}
+
+// The same as a character. The remainder lets the compiler see that it is an ASCII one.
+#[inline]
+pub(crate) fn glyph_char(value: u8) -> char
+    requires { value < 64 }
+    ensures { result ≡ glyph value }
+{
+    char::from(glyph_of(value) % 128)
 }
 
 // The number at the front of a text, and the text behind it; else the first fault of that number.
@@ -137,10 +146,10 @@ pub(crate) fn push_number(text: &mut String, number: i64) -> Result<()>
     }
     let mut raw = 2 * magnitude + u64::from(number < 0);
     while raw >= 32 {
-        text.push(char::from(glyph_of((raw % 32) as u8 + 32)))?;
+        text.push(glyph_char((raw % 32) as u8 + 32))?;
         raw /= 32;
     }
-    text.push(char::from(glyph_of(raw as u8)))?;
+    text.push(glyph_char(raw as u8))?;
     Ok(())
 }
 

@@ -14,7 +14,7 @@ loop-digit-preserved c =
     let len : length part ≡ c.loop-digit.digit = c.loop-digit.invariant.2 in
     let value : ℕ = c.value_from.result in
     let low : value < 64 = c.value_from.ensures.small in
-    let code : c.from.result ≡ glyph value = c.from.ensures ∙ c.glyph_of.ensures in
+    let code : c.glyph_char.result ≡ glyph value = c.glyph_char.ensures in
     let ascii : glyph value < 128 = glyph-ascii value low in
     let written : string_bytes c.push.new.self ≡ string_bytes c.args.text.now ++ (part ++ glyph value ∷ []) =
     c.in_ok-push.ensures.bytes ∙ (ap (λ xs. string_bytes c.loop-digit.text ++ xs) (c.in_ok-push.ensures.ascii (omega arith) ∙ ap (λ x. x ∷ []) code)

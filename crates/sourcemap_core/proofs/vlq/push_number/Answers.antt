@@ -14,7 +14,7 @@ loop-raw-preserved c =
     let part : List ℕ = c.loop-raw.invariant.0 in
     let left : ℕ = c.loop-raw.raw in
     let digit : ℕ = glyph (left % 32 + 32) in
-    let code : c.from-in-loop-raw.result ≡ digit = c.from-in-loop-raw.ensures ∙ c.glyph_of.ensures in
+    let code : c.glyph_char.result ≡ digit = c.glyph_char.ensures in
     let ascii : digit < 128 = glyph-ascii (left % 32 + 32) (omega arith) in
     let written : string_bytes c.push.new.self ≡ string_bytes c.args.text.now ++ (part ++ digit ∷ []) =
     c.in_ok-push.ensures.bytes ∙ (ap (λ xs. string_bytes c.loop-raw.text ++ xs) (c.in_ok-push.ensures.ascii (omega arith) ∙ ap (λ x. x ∷ []) code)
@@ -27,7 +27,7 @@ returns-clause-written c =
     let part : List ℕ = c.loop-raw.invariant.0 in
     let left : ℕ = c.loop-raw.raw in
     let digit : ℕ = glyph left in
-    let code : c.from-2.result ≡ digit = c.from-2.ensures ∙ c.glyph_of-2.ensures in
+    let code : c.glyph_char-2.result ≡ digit = c.glyph_char-2.ensures in
     let ascii : digit < 128 = glyph-ascii left (omega arith) in
     let written : string_bytes c.push-2.new.self ≡ string_bytes c.args.text.now ++ (part ++ digit ∷ []) =
     c.in_ok-push-2.ensures.bytes ∙ (ap (λ xs. string_bytes c.loop-raw.text ++ xs) (c.in_ok-push-2.ensures.ascii (omega arith) ∙ ap (λ x. x ∷ []) code)
