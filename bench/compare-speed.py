@@ -1,17 +1,18 @@
 #!/usr/bin/env python3
 """Times this library and a reference program side by side, and writes the ratios as Markdown.
 
-    bench/compare-speed.py REFERENCE MAP.. [--rounds N] [--growth N..] [--instructions]
+    bench/compare-speed.py REFERENCE [MAP..] [--rounds N] [--growth N..] [--instructions]
 
-REFERENCE       a program over the Rust crate, or the folder of its Cargo project, which is then built.
-                It knows the words `bench OPERATION N`, `stat` and `--raw lookup LINE COL`.
-MAP             maps to take, as files
+REFERENCE       a program over the Rust crate, or the folder of its Cargo project, which is then built,
+                from the public registry if it needs one. It knows the words `bench OPERATION N`, `stat`
+                and `--raw lookup LINE COL`.
+MAP             maps to take, as files; without any, those that bench/get-maps.sh gathers
 --rounds        rounds of each figure, of which the least counts (7)
 --growth        tokens of the smallest of four made maps, each with twice the tokens of the one before;
                 a table for each such number (75000 250000), and none for 0
 --instructions  counts instructions with valgrind too, which is slow
 
-The programs must be built (./sourcemap does that for one; `rt run` in crates/sourcemap_bench for the other).
+The two programs of this repository are built where they are missing.
 
 An operation's time is that of a process that repeats it often, less that of one that does it once, by the
 number of repetitions between: so process start, the reading of the map, its first decoding and the drawing
@@ -116,10 +117,25 @@ class Pair:
 def reference_program(given):
     if not os.path.isdir(given):
         return given
-    subprocess.run(['cargo', 'build', '--release', '--offline'], cwd=given, check=True, stdout=sys.stderr)
+    build = ['cargo', 'build', '--release']
+    if subprocess.run([*build, '--offline'], cwd=given, stdout=sys.stderr).returncode != 0:
+        subprocess.run(build, cwd=given, check=True, stdout=sys.stderr)
     built = [p for p in pathlib.Path(given, 'target/release').iterdir()
              if p.is_file() and os.access(p, os.X_OK) and p.suffix == '']
     return str(built[0])
+
+
+def build_missing():
+    for program in (TOOL, BENCH):
+        if not program.exists():
+            subprocess.run(['rt', 'run'], cwd=program.parent.parent, stdin=subprocess.DEVNULL, stdout=sys.stderr)
+        if not program.exists():
+            sys.exit(f'{program} could not be built')
+
+
+def gathered_maps(folder):
+    subprocess.run([HERE / 'bench/get-maps.sh', folder], check=True)
+    return sorted(map(str, pathlib.Path(folder, 'maps').iterdir()), key=os.path.getsize)
 
 
 def made_map(tokens, folder):
@@ -185,9 +201,11 @@ def main():
     words.add_argument('--growth', type=int, nargs='+', default=[75000, 250000])
     words.add_argument('--instructions', action='store_true')
     given = words.parse_args()
+    build_missing()
     programs = Pair(reference_program(given.reference))
-    for path in given.maps:
-        map_table(programs, path, given.rounds, given.instructions)
+    with tempfile.TemporaryDirectory() as folder:
+        for path in given.maps or gathered_maps(folder):
+            map_table(programs, path, given.rounds, given.instructions)
     for smallest in given.growth:
         if smallest:
             growth_table(programs, smallest, given.rounds)

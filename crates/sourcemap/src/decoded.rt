@@ -23,7 +23,7 @@ use sourcemap_maps::types::{SourceMap, Token};
 use std::alloc::Global;
 use std::io::{Read, Write};
 
-/// A map of any kind.
+/// A map of any kind. Lines and columns count from 0, columns in UTF-16 units.
 #[derive(Debug, Drop)]
 pub enum DecodedMap {
     /// A regular map.
@@ -41,10 +41,10 @@ impl DecodedMap {
         }
     }
 
-    /// The closest token to a line and a column of the generated text: the first at that place,
-    /// else the last before it, on whichever line, else none. A range token on that line adds the
-    /// columns from its own to the one asked for to its column in the source, where the sum stays at
-    /// 4294967295 at most.
+    /// The closest token to a line and a column of the generated text: of those at that place the
+    /// first, and if there are none, the last one that stands before it, on its line or on an earlier
+    /// one. On its own line a range token adds the columns between to its column in the source, which
+    /// stops at 4294967295.
     pub fn lookup_token(&self, line: u32, col: u32) -> Option<Token<'_>>
         ensures value { option_map token_value result ≡ lookup (map_value self.now) (line, col) }
         ensures meaning { option_map answers result ≡ meaning (map_value self.now) (line, col) }
@@ -88,7 +88,7 @@ impl DecodedMap {
         decode(alloc, reader)
     }
 
-    /// Writes the map's compact JSON text. A write's fault is `Io`.
+    /// Writes the map's compact JSON text. A write's fault is `Io`, else only want of memory refuses.
     pub fn to_writer<W: Write + Drop>(&self, writer: W) -> Result<()>
         ensures encoded { OnOk result ((text : List ℕ) × IsEncoded (RecordAnswer (map_value self.now)) text) }
         ensures fault { IfErr result (λ e. UnlessMemory e (IsIo e)) }

@@ -49,7 +49,7 @@ fn decode_bytes(alloc: Global, bytes: &[u8]) -> Result<DecodedMap>
 /// The map that bytes hold, behind a junk header or behind none. A faulty header is `Io` of kind
 /// `InvalidData`, bytes that are not JSON behind it are `BadJson(Parse)`. JSON that is no record is
 /// `BadJson(Shape)`, and the record of a map of another kind `IncompatibleSourceMap`. Then come the
-/// faults of `decode_regular`.
+/// faults of `decode_regular`, want of memory among them.
 pub fn decode_slice(alloc: Global, bytes: &[u8]) -> Result<DecodedMap>
     ensures answer { IsAnswer map_value (BytesDecode bytes.now) result }
     // No other answer is right.

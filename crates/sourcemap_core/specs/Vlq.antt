@@ -1,5 +1,5 @@
--- Numbers as digits of base 64: five bits of data a digit, least significant digit first. The bit
--- worth 32 says that another digit of the same number follows.
+-- Numbers in digits of base 64. A digit holds five bits of its number, the lowest first, and one
+-- more, worth 32, that is set if the number goes on.
 use Rattle.std.specs.Prelude.{◌≡◌, ◌≢◌, ℕ, ◌+◌, ◌-◌, ◌*◌, ◌/◌, ◌%◌, ◌^◌, ◌<◌, ◌≤◌, ◌==◌, ◌&&◌, nat_lt, nat_le, if◌then◌else◌, List, [], ◌∷◌, ◌++◌, length, Option, Some, None, unwrap_or, Result, Ok, Err, ℤ, pos, unsigned_abs, Any}
 use Rattle.std.specs.List.{AllByRecursion}
 use lib.IntN.{neg_ℤ}

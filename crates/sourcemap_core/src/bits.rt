@@ -11,7 +11,8 @@ use crate::errors::{Error, Result};
 use crate::vlq::{digit_of, glyph_char};
 use std::alloc::Global;
 
-/// The bits of a text, six a digit. Answers `InvalidBase64` at the first byte that is no digit.
+/// The bits of a text, six a digit. Answers `InvalidBase64` at the first byte that is no digit, else
+/// only want of memory refuses.
 pub fn decode_rmi(alloc: Global, text: &str) -> Result<Vec<bool>>
     ensures answers { IsAnswer (λ bits. bits.items) (BitAnswers text.now) result }
     ensures only { (answer : Result (List Bool) Error) → BitAnswers text.now answer → Gives (λ bits. bits.items) result answer }
@@ -27,7 +28,7 @@ pub fn decode_rmi(alloc: Global, text: &str) -> Result<Vec<bool>>
 }
 
 /// The shortest text of these bits: it ends with the digit of the last true bit, and is empty if
-/// none is true.
+/// none is true. Only want of memory refuses.
 pub fn encode_rmi(alloc: Global, bits: &[bool]) -> Result<String>
     ensures written { IfOk result (λ text. IsBitText bits.now (string_bytes text)) }
     ensures memory { IfErr result (λ e. e ≡ OutOfMemory) }

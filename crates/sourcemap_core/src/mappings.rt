@@ -420,7 +420,8 @@ fn sorted(mut tokens: Vec<RawToken>, rises: bool) -> Result<Vec<RawToken>>
 /// a map of so many sources and names; else the first fault from the left. Of a line that is not
 /// empty that is `IncompatibleSourceMap` past line 4294967295, then `InvalidBase64` in its range
 /// bits, then that of its first faulty segment: a fault of its digits, `BadSegmentSize`,
-/// `BadSourceReference` or `BadNameReference`, tested in this order.
+/// `BadSourceReference` or `BadNameReference`, tested in this order. Else only want of memory
+/// refuses.
 pub fn parse_mappings(
     alloc: Global,
     mappings: &str,

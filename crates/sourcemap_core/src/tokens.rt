@@ -71,9 +71,9 @@ pub fn sort_tokens(tokens: &mut Vec<RawToken>) -> Result<()>
     Ok(())
 }
 
-/// The token closest to a line and a column of the generated text, with its place in the list:
-/// the first token there, else the last token before it, on whichever line, else none. The tokens
-/// are in order.
+/// The token closest to a line and a column of the generated text, both from 0, with its place in
+/// the list: of the tokens at that place the first, and if there are none, the last one that stands
+/// before it. The tokens are in order.
 pub fn closest_token(tokens: &[RawToken], line: u32, col: u32) -> Option<(usize, RawToken)>
     requires { AreInOrder tokens.now }
     ensures answer { result ≡ closest_token tokens.now (line, col) }

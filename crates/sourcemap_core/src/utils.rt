@@ -5,8 +5,8 @@ ghost use Rattle.sourcemap_core.specs.Utils.{GivesKey, closest};
 pub use crate::paths::find_common_prefix;
 use std::cmp::Ordering;
 
-/// The item closest to `key`, with its own index: of a slice in order of `map` the first item
-/// that has this key, else the last item with a smaller one, else none. Of a slice in no order
+/// The item closest to `key`, with its own index. In a slice in order of `map` that is the first of
+/// those with this key; where there are none, the last of those with a smaller one, if any. Of a slice in no order
 /// some item whose key is at most `key`, or none.
 pub fn greatest_lower_bound<'a, T, K: Ord + Drop, F: Fn(&'a T) -> K>(
     slice: &'a [T],

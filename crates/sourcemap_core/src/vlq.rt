@@ -156,7 +156,7 @@ pub(crate) fn push_number(text: &mut String, number: i64) -> Result<()>
 /// The numbers of a segment. Answers `InvalidBase64` at a byte that is no digit, `VlqOverflow` at a
 /// digit that takes a number to 2^62 or more from 0 or is its fourteenth, `VlqLeftover` where the
 /// segment ends within a number, and `VlqNoValues` for the empty segment; the first of these from
-/// the left.
+/// the left. Else only want of memory refuses.
 pub fn parse_vlq_segment(alloc: Global, segment: &str) -> Result<Vec<i64>>
     ensures answers { IsAnswer (λ numbers. numbers.items) (Answers segment.now) result }
     ensures only { (answer : Result (List ℤ) Error) → Answers segment.now answer → Gives (λ numbers. numbers.items) result answer }
@@ -175,7 +175,7 @@ pub fn parse_vlq_segment(alloc: Global, segment: &str) -> Result<Vec<i64>>
 }
 
 /// The segment of these numbers, each in its shortest digits. Answers `VlqOverflow` exactly if a
-/// number is 2^62 or more from 0.
+/// number is 2^62 or more from 0, else only want of memory refuses.
 pub fn generate_vlq_segment(alloc: Global, numbers: &[i64]) -> Result<String>
     ensures written { IsAnswer string_bytes (Written numbers.now) result }
     ensures only { (answer : Result (List ℕ) Error) → Written numbers.now answer → Gives string_bytes result answer }

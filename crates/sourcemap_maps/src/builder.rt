@@ -183,8 +183,8 @@ impl SourceMapBuilder {
         }
     }
 
-    /// Puts a source's number on the list of those that a debugger passes over. Only want of
-    /// memory refuses.
+    /// Puts a number on the list of the sources that a debugger passes over; one that no source has
+    /// is taken as well. Only want of memory refuses.
     pub fn add_to_ignore_list(&mut self, id: u32) -> Result<()>
         ensures ok { OnOk result (self.new ≡ record self.old { ignored = insert_key nat_cmp self.old.ignored id }) }
         ensures err { OnErr result (self.new ≡ self.old) }

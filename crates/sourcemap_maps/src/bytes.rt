@@ -24,7 +24,8 @@ fn text_of<M: Encodable>(alloc: Global, map: &M) -> Result<Vec<u8>>
 }
 
 /// Writes the compact JSON text of the record that the map is written as, to a writer that is
-/// used again. A write's fault is `Io`; nothing is said of how much was written then.
+/// used again. The faults are those of making the record, want of memory, and `Io` for a write's;
+/// nothing is said of how much was written then.
 pub fn encode_to<M: Encodable, W: Write>(alloc: Global, map: &M, writer: &mut W) -> Result<()>
     ensures written { OnOk result ((text : List ℕ) × IsEncoded (M.encodes map.now) text
         × Appends (W.contents writer.old) (W.contents writer.new) text) }
@@ -35,8 +36,9 @@ pub fn encode_to<M: Encodable, W: Write>(alloc: Global, map: &M, writer: &mut W)
     Ok(())
 }
 
-/// Writes the compact JSON text of the record that the map is written as. A write's fault is `Io`;
-/// nothing is said of how much was written then.
+/// Writes the compact JSON text of the record that the map is written as. The faults are those of
+/// making the record, want of memory, and `Io` for a write's; nothing is said of how much was
+/// written then.
 pub fn encode<M: Encodable, W: Write + Drop>(alloc: Global, map: &M, mut writer: W) -> Result<()>
     ensures encoded { OnOk result ((text : List ℕ) × IsEncoded (M.encodes map.now) text) }
     ensures fault { IfErr result (λ e. UnlessMemory e (M.encodes map.now (Err e) ⊎ IsIo e)) }
@@ -45,7 +47,7 @@ pub fn encode<M: Encodable, W: Write + Drop>(alloc: Global, map: &M, mut writer:
 }
 
 impl SourceMap {
-    /// Writes the map's compact JSON text. A write's fault is `Io`.
+    /// Writes the map's compact JSON text. A write's fault is `Io`, else only want of memory refuses.
     pub fn to_writer<W: Write + Drop>(&self, writer: W) -> Result<()>
         ensures encoded { OnOk result ((text : List ℕ) × IsEncoded (RecordAnswer self.now) text) }
         ensures fault { IfErr result (λ e. UnlessMemory e (IsIo e)) }

@@ -172,7 +172,7 @@ fn map_with(alloc: Global, parts: Parts, tokens: Vec<RawToken>) -> Result<Source
 
 /// The map that a record stands for, read as a regular map, whatever its sections and its function
 /// names. More than 4294967295 sources, names or contents are `IncompatibleSourceMap`, then comes
-/// the first fault of the mappings.
+/// the first fault of the mappings. Else only want of memory refuses.
 pub fn decode_regular(alloc: Global, rsm: RawSourceMap) -> Result<SourceMap>
     ensures answer { IsAnswer (λ m. m) (RecordDecodes (flat (tree rsm))) result }
     // What a record is decoded to is determined.

@@ -34,8 +34,8 @@ impl<'a> Iterator for TokenIter<'a> {
 impl TokenIter<'_> {
     ghost use Rattle.sourcemap_maps.specs.Iterators.{Seeks};
 
-    /// Goes on behind the closest token to a line and a column of the generated text, as a lookup
-    /// finds it. Where there is none the answer is false, and the iterator stays as it was.
+    /// Goes on behind the closest token to a line and a column of the generated text, both from 0,
+    /// as a lookup finds it. Where there is none the answer is false, and the iterator stays as it was.
     pub fn seek(&mut self, line: u32, col: u32) -> bool
         ensures { Seeks self.old (line, col) result self.new }
     {

@@ -15,7 +15,7 @@ use sourcemap_json::jsontypes::RawSourceMap;
 use std::alloc::Global;
 use std::io::Read;
 
-/// All bytes that a reader gives. A read's fault is `Io`.
+/// All bytes that a reader gives. A read's fault is `Io`, else only want of memory refuses.
 pub fn read_all<R: Read + Drop>(alloc: Global, mut reader: R) -> Result<Vec<u8>>
     ensures { MatchResult result
         (λ bytes. IfSome (R.remaining reader) (λ known. bytes.items ≡ known))
@@ -38,7 +38,7 @@ fn read_json(alloc: Global, bytes: &[u8]) -> Result<Value>
 
 /// The record that bytes hold, behind a junk header or behind none. A faulty header is `Io` of kind
 /// `InvalidData`, bytes that are not JSON behind it are `BadJson(Parse)`, and JSON that is no record
-/// is `BadJson(Shape)`.
+/// is `BadJson(Shape)`. Else only want of memory refuses.
 pub fn read_record(alloc: Global, bytes: &[u8]) -> Result<RawSourceMap>
     ensures { MatchResult result
         (λ raw. HoldRecord bytes.now (tree raw))
@@ -75,7 +75,7 @@ impl SourceMap {
     /// `Io` of kind `InvalidData`, bytes that are not JSON behind it are `BadJson(Parse)`. JSON
     /// that is no record is `BadJson(Shape)`, and the record of a map of another kind
     /// `IncompatibleSourceMap` before anything of it is decoded. Then come the faults of
-    /// `decode_regular`.
+    /// `decode_regular`, want of memory among them.
     pub fn from_slice(alloc: Global, bytes: &[u8]) -> Result<Self>
         ensures answer { IsAnswer (λ m. m) (BytesStandFor RegularDecodes bytes.now) result }
         // No other answer is right.

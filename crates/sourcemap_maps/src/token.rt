@@ -35,7 +35,7 @@ impl<'a> Token<'a> {
         self.raw.dst_line
     }
 
-    /// The token's column in the generated text.
+    /// The token's column in the generated text, in UTF-16 units.
     pub fn get_dst_col(&self) -> u32
         ensures { result ≡ self.now.raw.dst_col }
     {
@@ -49,15 +49,16 @@ impl<'a> Token<'a> {
         (self.raw.dst_line, self.raw.dst_col)
     }
 
-    /// The line in the source, 4294967295 without a source.
+    /// The line in the source. A token of a well-formed map has 4294967295 if it has no source.
     pub fn get_src_line(&self) -> u32
         ensures { result ≡ (answers self.now).line }
     {
         self.raw.src_line
     }
 
-    /// The column in the source, 4294967295 without a source. A range token that was looked up
-    /// on its own line adds the columns from its own to the one asked for, up to 4294967295.
+    /// The column in the source, in UTF-16 units. A token of a well-formed map has 4294967295 if it
+    /// has no source. A range token that was looked up on its own line adds the columns between,
+    /// up to 4294967295.
     pub fn get_src_col(&self) -> u32
         ensures { result ≡ (answers self.now).column }
     {

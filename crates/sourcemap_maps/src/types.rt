@@ -16,7 +16,8 @@ use std::alloc::Global;
 use std::collections::BTreeSet;
 use std::marker::Model;
 
-/// A source map: tokens that tie places of a generated text to places in sources.
+/// A source map: tokens that tie places of a generated text to places in sources. Lines and columns
+/// count from 0, columns in UTF-16 units.
 #[derive(Debug, Drop)]
 pub struct SourceMap {
     pub(crate) file: Option<String>,
@@ -160,10 +161,10 @@ impl SourceMap {
         u32::try_from(self.tokens.len()).unwrap_or(u32::MAX)
     }
 
-    /// The token closest to a line and a column of the generated text: the first token there, else
-    /// the last token before it, on whichever line, else none. A range token found on its own line
-    /// adds the columns from its own to the one asked for to its column in the source, where the sum
-    /// stays at 4294967295 at most.
+    /// The token closest to a line and a column of the generated text, both from 0, the column in
+    /// UTF-16 units: of the tokens at that place the first, and if there are none, the last one that
+    /// stands before it, on its line or on an earlier one. On its own line a range token adds the
+    /// columns between to its column in the source, which stops at 4294967295.
     pub fn lookup_token(&self, line: u32, col: u32) -> Option<Token<'_>>
         ensures value { option_map token_value result ≡ lookup self.now (line, col) }
         ensures meaning { option_map answers result ≡ meaning self.now (line, col) }

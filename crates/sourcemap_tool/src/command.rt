@@ -51,8 +51,8 @@ fn placed(verb: &str, line: &str, col: &str) -> Option<Command>
     Some(Command::Lookup(number_of(line)?, number_of(col)?))
 }
 
-/// The command that the words ask for, none for other words. LINE and COL are one or more ASCII
-/// digits of a value of at most 4294967295. Only want of memory refuses.
+/// The command that the words ask for, none for other words. LINE and COL are decimal
+/// digits, at least one, of a number below 2^32. Only want of memory refuses.
 pub fn parse_words(_alloc: Global, words: &[String]) -> Result<Option<Command>>
     ensures { MatchResult result
         (λ found. MatchOption found

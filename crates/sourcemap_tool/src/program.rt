@@ -19,8 +19,8 @@ const USAGE: &str = "usage: lookup LINE COL | tokens | rewrite | flatten | compo
 const NO_MEMORY: &str = "out of memory\n";
 
 /// What a command says of a map: for `Lookup` the closest token's text or `none`, and a newline; for
-/// `Tokens` a line for each token, of its line and column in the generated text, its text, and
-/// ` range` for a range token; for `Rewrite` the compact JSON text of the map rewritten with default
+/// `Tokens` the tokens line by line, each with where it stands in the generated text, its own text,
+/// and ` range` if it is a range token; for `Rewrite` the compact JSON text of the map rewritten with default
 /// options, and a newline. No command so far takes a second map. Only want of memory refuses.
 pub fn apply<F: Files>(
     rt: &F,
