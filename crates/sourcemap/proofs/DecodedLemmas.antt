@@ -1,10 +1,10 @@
 -- From the two calls that write and read a value to the round trip.
 use Rattle.std.proofs.Common.{◌≡◌, ℕ, List, Result, Ok, Err, MatchResult, refl}
 use Rattle.serde_json.specs.Data.{Data}
-use Rattle.sourcemap_core.specs.declared.errors.Error.{Error}
-use Rattle.sourcemap_core.specs.declared.errors.Error.TheVariants.{OutOfMemory}
-use Rattle.sourcemap_core.specs.Answer.{UnlessMemory, Gives, IsAnswer}
-use Rattle.sourcemap_core.proofs.AnswerLemmas.{UnlessMemory-weaker}
+use Rattle.sourcemap_errors.specs.declared.errors.Error.{Error}
+use Rattle.sourcemap_errors.specs.declared.errors.Error.TheVariants.{OutOfMemory}
+use Rattle.sourcemap_errors.specs.Answer.{UnlessMemory, Gives, IsAnswer}
+use Rattle.sourcemap_errors.proofs.AnswerLemmas.{UnlessMemory-weaker}
 use Rattle.sourcemap_maps.specs.Types.{MapValue, MeansTheSame}
 use Rattle.sourcemap_maps.specs.Bytes.{BytesReadBack, UrlReadsBack, IsIo}
 use Rattle.sourcemap_maps.specs.Encoder.{KeepsParts}

@@ -1,10 +1,10 @@
 -- Bytes and values have one answer.
 use Rattle.std.proofs.Common.{◌≡◌, ℕ, List, Option, Result, IfSome}
 use Rattle.serde_json.specs.Data.{Data}
-use Rattle.sourcemap_core.specs.declared.errors.Error.{Error}
-use Rattle.sourcemap_core.specs.Answer.{Gives, IsAnswer}
-use Rattle.sourcemap_core.proofs.AnswerLemmas.{Gives-only}
-use Rattle.sourcemap_json.specs.Jsontypes.{Tree}
+use Rattle.sourcemap_errors.specs.declared.errors.Error.{Error}
+use Rattle.sourcemap_errors.specs.Answer.{Gives, IsAnswer}
+use Rattle.sourcemap_errors.proofs.AnswerLemmas.{Gives-only}
+use Rattle.sourcemap_records.specs.Jsontypes.{Tree}
 use Rattle.sourcemap_maps.specs.Types.{MapValue}
 use Rattle.sourcemap_maps.proofs.ReadingLemmas as reading
 use Rattle.sourcemap_maps.proofs.ReadingLemmas.{regular_decodes_once, value_once, bytes_once, url_once, answer_only}

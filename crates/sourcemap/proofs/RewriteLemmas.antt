@@ -1,8 +1,8 @@
 -- A map rewritten with default options.
 use Rattle.std.proofs.Common.{◌≡◌, map, Result, Ok, Err, MatchResult, ap}
-use Rattle.sourcemap_core.specs.Answer.{Gives}
-use Rattle.sourcemap_core.specs.declared.errors.Error.{Error}
-use Rattle.sourcemap_core.specs.declared.errors.Error.TheVariants.{OutOfMemory}
+use Rattle.sourcemap_errors.specs.Answer.{Gives}
+use Rattle.sourcemap_errors.specs.declared.errors.Error.{Error}
+use Rattle.sourcemap_errors.specs.declared.errors.Error.TheVariants.{OutOfMemory}
 use Rattle.sourcemap_maps.specs.Types.{MapValue}
 use Rattle.sourcemap_maps.specs.Rewrite.{IsDefault, no_removal, removal_of, rewrite_due, rewritten}
 use Rattle.sourcemap_maps.specs.declared.rewrite.RewriteOptions.{RewriteOptions}

@@ -2,7 +2,7 @@
 use Rattle.std.specs.Prelude.{◌≡◌, ℕ, List, Ok}
 use Rattle.serde_json.specs.Data.{Data}
 use Rattle.serde_json.specs.Written.{compact_text}
-use Rattle.sourcemap_json.specs.Jsontypes.{Tree, written}
+use Rattle.sourcemap_records.specs.Jsontypes.{Tree, written}
 use Rattle.sourcemap_maps.specs.Types.{MapValue, MeansTheSame}
 use Rattle.sourcemap_maps.specs.Encoder.{IsRecordOf, KeepsParts}
 use Rattle.sourcemap.specs.Decoder.{ValueDecodes}

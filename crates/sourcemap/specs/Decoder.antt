@@ -1,8 +1,8 @@
 -- What bytes, JSON values and data URLs stand for as a map of any kind.
 use Rattle.std.specs.Prelude.{ℕ, List, Result}
 use Rattle.serde_json.specs.Data.{Data}
-use Rattle.sourcemap_core.specs.declared.errors.Error.{Error}
-use Rattle.sourcemap_json.specs.Jsontypes.{Tree}
+use Rattle.sourcemap_errors.specs.declared.errors.Error.{Error}
+use Rattle.sourcemap_records.specs.Jsontypes.{Tree}
 use Rattle.sourcemap_maps.specs.Types.{MapValue}
 pub use Rattle.sourcemap_maps.specs.Reading.{AreSame, UnlessRead, IsAnswerRead, Reading}
 use Rattle.sourcemap_maps.specs.Reading.{ValueStandsFor, BytesStandFor, UrlStandsFor, RegularDecodes}

@@ -3,10 +3,10 @@ ghost use Rattle.std.specs.Bool.{Decides};
 ghost use Rattle.std.specs.Cmp.{partial_equiv_from_equiv, on_equiv};
 ghost use Rattle.std.specs.Ordering.{on};
 ghost use Rattle.serde_json.specs.View.{view};
-ghost use Rattle.sourcemap_core.specs.Answer.{UnlessMemory, Gives, IsAnswer};
-ghost use Rattle.sourcemap_core.specs.declared.errors.Error.{Error};
-ghost use Rattle.sourcemap_core.specs.declared.errors.Error.TheVariants.{OutOfMemory};
-ghost use Rattle.sourcemap_json.specs.Jsontypes.{tree};
+ghost use Rattle.sourcemap_errors.specs.Answer.{UnlessMemory, Gives, IsAnswer};
+ghost use Rattle.sourcemap_errors.specs.declared.errors.Error.{Error};
+ghost use Rattle.sourcemap_errors.specs.declared.errors.Error.TheVariants.{OutOfMemory};
+ghost use Rattle.sourcemap_records.specs.Jsontypes.{tree};
 ghost use Rattle.sourcemap_maps.specs.Bytes.{IsEncoded, IsIo};
 ghost use Rattle.sourcemap_maps.specs.Encoder.{RecordAnswer, KeepsParts};
 ghost use Rattle.sourcemap_maps.specs.Equality.{same_map, same_map_equiv};
@@ -17,7 +17,7 @@ ghost use Rattle.sourcemap.specs.Decoded.{map_value};
 use crate::decoder::{decode, decode_data_url, decode_slice, decode_value};
 use crate::errors::Result;
 use serde_json::Value;
-use sourcemap_json::jsontypes::{DebugId, RawSourceMap};
+use sourcemap_records::jsontypes::{DebugId, RawSourceMap};
 use sourcemap_maps::encoder::{Encodable, encode, encode_to};
 use sourcemap_maps::types::{SourceMap, Token};
 use std::alloc::Global;
@@ -147,7 +147,7 @@ impl PartialEq for DecodedMap {
 }
 
 impl Encodable for DecodedMap {
-    ghost use Rattle.sourcemap_json.specs.Jsontypes.{flat, IsFine};
+    ghost use Rattle.sourcemap_records.specs.Jsontypes.{flat, IsFine};
     ghost use Rattle.sourcemap_maps.specs.Encoder.{RecordAnswer, ReadsBack};
 
     ghost encodes = { λ m. RecordAnswer (map_value m) };

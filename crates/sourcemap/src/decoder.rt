@@ -1,9 +1,9 @@
 ghost use Rattle.std.specs.Prelude.{◌≡◌, ℕ, List, IfOk, IfSome, Result};
 ghost use Rattle.serde_json.specs.Data.{Data};
 ghost use Rattle.serde_json.specs.View.{view};
-ghost use Rattle.sourcemap_core.specs.Answer.{IsAnswer};
-ghost use Rattle.sourcemap_core.specs.declared.errors.Error.{Error};
-ghost use Rattle.sourcemap_json.specs.Jsontypes.{tree};
+ghost use Rattle.sourcemap_errors.specs.Answer.{IsAnswer};
+ghost use Rattle.sourcemap_errors.specs.declared.errors.Error.{Error};
+ghost use Rattle.sourcemap_records.specs.Jsontypes.{tree};
 ghost use Rattle.sourcemap_maps.specs.Types.{MapValue, IsWellFormed};
 ghost use Rattle.sourcemap.specs.Decoded.{map_value};
 ghost use Rattle.sourcemap.specs.Decoder.{TreeDecodes, ValueDecodes, BytesDecode, UrlDecodes, AreSame, IsAnswerRead, Reading};
@@ -11,10 +11,10 @@ ghost use Rattle.sourcemap.specs.Decoder.{TreeDecodes, ValueDecodes, BytesDecode
 use crate::decoded::DecodedMap;
 use crate::errors::Result;
 use serde_json::Value;
-use sourcemap_json::data_url::data_url_bytes;
-pub use sourcemap_json::decoder::strip_junk_header;
-use sourcemap_json::jsontypes::RawSourceMap;
-pub use sourcemap_json::strip_header::StripHeaderReader;
+use sourcemap_headers::data_url::data_url_bytes;
+pub use sourcemap_headers::header::strip_junk_header;
+use sourcemap_records::jsontypes::RawSourceMap;
+pub use sourcemap_headers::header_reader::StripHeaderReader;
 pub use sourcemap_maps::decoder::decode_regular;
 use sourcemap_maps::reading::{only_regular, read_all, read_record};
 use std::alloc::Global;

@@ -20,9 +20,9 @@ mod tests;
 pub mod types;
 
 pub use decoder::{decode, decode_data_url, decode_slice};
-pub use sourcemap_core::errors::{Error, Result};
+pub use sourcemap_errors::errors::{Error, Result};
 pub use sourcemap_core::{errors, utils, vlq};
-pub use sourcemap_json::jsontypes;
+pub use sourcemap_records::jsontypes;
 pub use sourcemap_maps::builder::SourceMapBuilder;
 pub use sourcemap_maps::{builder, encoder};
 pub use types::{

@@ -1,5 +1,5 @@
 pub use crate::decoded::DecodedMap;
-pub use sourcemap_core::tokens::RawToken;
+pub use sourcemap_lists::tokens::RawToken;
 pub use sourcemap_maps::types::{
     IgnoreListIter, NameIter, RewriteOptions, SourceContentsIter, SourceIter, SourceMap, Token,
     TokenIter,

@@ -1,12 +1,10 @@
-pub mod Answer
-pub mod Bits
-pub mod Errors
-pub mod Vlq
-pub mod Mappings
-pub mod MappingsParts
-pub mod MappingsWritten
-pub mod Interner
-pub mod Paths
-pub mod Tokens
-pub mod Utils
-pub mod WritingSteps
+pub use Rattle.sourcemap_errors.specs.Answer
+pub use Rattle.sourcemap_errors.specs.Errors
+pub use Rattle.sourcemap_digits.specs.Bits
+pub use Rattle.sourcemap_digits.specs.Vlq
+pub use Rattle.sourcemap_lists.specs.Interner
+pub use Rattle.sourcemap_lists.specs.Search
+pub use Rattle.sourcemap_lists.specs.Tokens
+pub use Rattle.sourcemap_mappings.specs.Read as Mappings
+pub use Rattle.sourcemap_mappings.specs.Write as MappingsWritten
+pub use Rattle.sourcemap_texts.specs.Paths

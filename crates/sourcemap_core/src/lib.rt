@@ -1,14 +1,11 @@
-//! The base of the source map library: faults, digits, range bits, token lists, the text of
-//! mappings, and the search for the closest token.
+//! A door: what stands below records and maps, under the module names that users know. Behind it
+//! are the crates of faults, digits, lists, mappings and texts.
 #![tactic(auto)]
 
-pub mod bits;
-pub mod errors;
-pub mod interner;
 pub mod mappings;
-mod mappings_written;
-pub mod paths;
-mod room;
-pub mod tokens;
 pub mod utils;
 pub mod vlq;
+
+pub use sourcemap_digits::bits;
+pub use sourcemap_errors::errors;
+pub use sourcemap_lists::{interner, tokens};

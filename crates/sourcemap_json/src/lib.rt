@@ -1,16 +1,8 @@
-//! Source map records: the JSON values that stand for them, and the record that a value stands for.
+//! A door: records of source maps, and what stands around their JSON text. Behind it are the crates
+//! of headers and records.
 #![tactic(auto)]
 
-mod copying;
-pub mod data_url;
-mod debug_id;
 pub mod decoder;
-mod fields;
-mod groups;
-pub mod jsontypes;
-mod parts;
-mod reading;
-pub mod strip_header;
-#[cfg(test)]
-mod tests;
-mod writing;
+
+pub use sourcemap_headers::data_url;
+pub use sourcemap_records::jsontypes;

@@ -2,8 +2,8 @@
 use Rattle.std.proofs.Common.{◌≡◌, ℕ, zero, suc, ◌+◌, ◌<◌, ◌≤◌, List, [], ◌∷◌, ◌++◌, length, take, replicate, map, Option, Some, None, unwrap_or, slice_get, slice_set, refl, ap, arith, option_and_then, is_some, cond, true, false, Result, Ok, Err, OnOk, add-one, sym, ◌∙◌}
 use Rattle.std.proofs.lemmas.List.{length-map, take_all}
 use Rattle.std.specs.Option.{option_or}
-use Rattle.sourcemap_core.specs.declared.errors.Error.{Error}
-use Rattle.sourcemap_core.specs.Interner.{place_of, with_text}
+use Rattle.sourcemap_errors.specs.declared.errors.Error.{Error}
+use Rattle.sourcemap_lists.specs.Interner.{place_of, with_text}
 use Rattle.sourcemap_maps.specs.Builder.{changed_to}
 use Rattle.sourcemap_maps.specs.Types.{fitted}
 use Rattle.sourcemap_maps.proofs.ListLemmas.{length-fitted}

@@ -8,12 +8,12 @@ use Rattle.serde_json.specs.Data.{Data, string, array, object, Members, no_membe
 use Rattle.serde_json.specs.Read.{max_depth}
 use Rattle.serde_json.specs.View.{items_of}
 use Rattle.serde_json.specs.Written.{compact_text, has_float, items_have_float, members_have_float}
-use Rattle.sourcemap_json.specs.Decoder.{behind_header}
-use Rattle.sourcemap_json.specs.DataUrl.{Holds}
-use Rattle.sourcemap_json.specs.DebugId.{debug_id_text}
-use Rattle.sourcemap_json.specs.Fields.{written_number, written_or_null, written_list, put_if, put_all}
-use Rattle.sourcemap_json.specs.Jsontypes.{Fields, Tree, plain, flat, entries, written, written_fields, IsFine}
-use Rattle.sourcemap_json.proofs.ReadBackLemmas.{record-back}
+use Rattle.sourcemap_headers.specs.Header.{behind_header}
+use Rattle.sourcemap_headers.specs.DataUrl.{Holds}
+use Rattle.sourcemap_headers.specs.DebugId.{debug_id_text}
+use Rattle.sourcemap_records.specs.Field.{written_number, written_or_null, written_list, put_if, put_all}
+use Rattle.sourcemap_records.specs.Jsontypes.{Fields, Tree, plain, flat, entries, written, written_fields, IsFine}
+use Rattle.sourcemap_records.proofs.ReadBackLemmas.{record-back}
 use Rattle.sourcemap_maps.specs.Types.{MapValue, IsWellFormed}
 use Rattle.sourcemap_maps.specs.Encoder.{IsRecordOf, RecordAnswer, ReadsBack, record_with, written_contents, written_ids}
 use Rattle.sourcemap_maps.specs.Reading.{HoldJson, RegularDecodes}

@@ -1,15 +1,15 @@
 -- A record, its parts, and the map that it is decoded to.
 use Rattle.std.proofs.Common.{◌≡◌, List, length, map, option_map, Result, Ok, Err, refl, sym, ap, subst, ◌∙◌, inl, inr, vec_len, string_bytes, IfOk}
 use Rattle.std.proofs.lemmas.List.{length-map}
-use Rattle.sourcemap_core.specs.Answer.{UnlessMemory, Gives, IsAnswer}
-use Rattle.sourcemap_core.specs.declared.errors.Error.{Error}
-use Rattle.sourcemap_core.specs.declared.errors.Error.TheVariants.{IncompatibleSourceMap}
-use Rattle.sourcemap_core.specs.declared.tokens.RawToken.{RawToken}
-use Rattle.sourcemap_core.specs.Mappings.{MappingsAnswer}
-use Rattle.sourcemap_core.specs.Tokens.{AllWithin}
-use Rattle.sourcemap_core.proofs.AnswerLemmas.{UnlessMemory-weaker}
-use Rattle.sourcemap_core.proofs.MappingsAnswers.{MappingsAnswer-same}
-use Rattle.sourcemap_json.specs.Jsontypes.{Fields}
+use Rattle.sourcemap_errors.specs.Answer.{UnlessMemory, Gives, IsAnswer}
+use Rattle.sourcemap_errors.specs.declared.errors.Error.{Error}
+use Rattle.sourcemap_errors.specs.declared.errors.Error.TheVariants.{IncompatibleSourceMap}
+use Rattle.sourcemap_lists.specs.declared.tokens.RawToken.{RawToken}
+use Rattle.sourcemap_mappings.specs.Read.{MappingsAnswer}
+use Rattle.sourcemap_lists.specs.Tokens.{AllWithin}
+use Rattle.sourcemap_errors.proofs.AnswerLemmas.{UnlessMemory-weaker}
+use Rattle.sourcemap_mappings.proofs.ReadAnswers.{MappingsAnswer-same}
+use Rattle.sourcemap_records.specs.Jsontypes.{Fields}
 use Rattle.sourcemap_maps.specs.declared.decoder.Parts.{Parts}
 use Rattle.sourcemap_maps.specs.Types.{MapValue, IsWellFormed}
 use Rattle.sourcemap_maps.specs.Decoder.{RecordDecodes, TokensAnswer, HasRoom, map_of, listed, rising, name_read, source_read, file_read}

@@ -12,13 +12,13 @@ use Rattle.std.specs.BTreeSet.{insert_key}
 use Rattle.std.proofs.lemmas.List.{length-map}
 use Rattle.std.proofs.lemmas.Option.{slice_get_past}
 use Rattle.serde_json.specs.Data.{string}
-use Rattle.sourcemap_core.specs.declared.tokens.RawToken.{RawToken}
-use Rattle.sourcemap_core.specs.Utils.{closest_item}
-use Rattle.sourcemap_core.specs.Tokens.{destination, position_cmp, closest_token, with_sound_name, reduced}
-use Rattle.sourcemap_core.specs.Mappings.{MappingsAnswer}
-use Rattle.sourcemap_core.proofs.UtilsLemmas.{item-closest}
-use Rattle.sourcemap_core.proofs.TokensLemmas.{closest_item-reduced}
-use Rattle.sourcemap_json.specs.Jsontypes.{Fields, Tree, plain, flat, text_view}
+use Rattle.sourcemap_lists.specs.declared.tokens.RawToken.{RawToken}
+use Rattle.sourcemap_lists.specs.Search.{closest_item}
+use Rattle.sourcemap_lists.specs.Tokens.{destination, position_cmp, closest_token, with_sound_name, reduced}
+use Rattle.sourcemap_mappings.specs.Read.{MappingsAnswer}
+use Rattle.sourcemap_lists.proofs.SearchLemmas.{item-closest}
+use Rattle.sourcemap_lists.proofs.TokensLemmas.{closest_item-reduced}
+use Rattle.sourcemap_records.specs.Jsontypes.{Fields, Tree, plain, flat, text_view}
 use Rattle.sourcemap_maps.specs.Types.{MapValue, IsWellFormed, Meaning, meaning, meaning_of, MeansTheSame, distance, moved, shown, fitted}
 use Rattle.sourcemap_maps.specs.Decoder.{listed, name_read, source_read, file_read, rising, HasRoom, TokensAnswer, map_of}
 use Rattle.sourcemap_maps.specs.Encoder.{KeepsParts, ReadsBack, IsRecordOf, record_with, written_ids}

@@ -4,7 +4,7 @@ use Rattle.std.specs.Bool.{Decides}
 use Rattle.std.specs.Option.{option_eq}
 use Rattle.std.specs.Cmp.{unsigned_Decides, booleans_Decides}
 use Rattle.std.specs.Cmp.Lexicographic.{pointwise, pointwise_decides}
-use Rattle.sourcemap_core.specs.declared.tokens.RawToken.{RawToken}
+use Rattle.sourcemap_lists.specs.declared.tokens.RawToken.{RawToken}
 use Rattle.sourcemap_maps.specs.Types.{MapValue}
 use Rattle.sourcemap_maps.specs.Equality.{same_text, same_raw, same_map}
 

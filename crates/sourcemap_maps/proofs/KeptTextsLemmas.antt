@@ -3,8 +3,8 @@ use Rattle.std.proofs.Common.{◌≡◌, ◌≢◌, refl, sym, ap, subst, ◌∙
 use Rattle.std.proofs.lemmas.Bool.{cases_eq}
 use Rattle.std.proofs.lemmas.List.{take_more, take-append-drop}
 use Rattle.std.proofs.lemmas.Option.{slice_get_within, get_or_from_slice_get}
-use Rattle.sourcemap_core.specs.Interner.{place_of, with_text}
-use Rattle.sourcemap_core.proofs.InternerLemmas.{place_of-last, slice_get-place_of}
+use Rattle.sourcemap_lists.specs.Interner.{place_of, with_text}
+use Rattle.sourcemap_lists.proofs.InternerLemmas.{place_of-last, slice_get-place_of}
 use Rattle.sourcemap_maps.specs.Numbering.{with_text_if, kept_of, met_texts, IsMet, AreNumbered}
 use Rattle.sourcemap_maps.specs.declared.numbering.NewNumbers.{NewNumbers}
 use Rattle.sourcemap_maps.proofs.NumberingLemmas.{All-at, kept_of-push, place_of-with_text, place_of-kept_of, slice_get-set_other}

@@ -10,7 +10,6 @@ pub mod BytesLemmas
 pub mod BuilderLemmas
 pub mod NumberingLemmas
 pub mod RenumberingLemmas
-pub mod PrefixesLemmas
 pub mod KeptContentsLemmas
 pub mod KeptTextsLemmas
 pub mod RewriteLemmas

@@ -2,7 +2,7 @@
 use Rattle.std.proofs.Common.{◌≡◌, ℕ, ◌+◌, ◌-◌, [], ◌∷◌, length, drop, Option, Some, None, option_map, slice_get, refl, sym, ap, subst, length-drop}
 use Rattle.std.proofs.lemmas.List.{length-map}
 use Rattle.std.proofs.lemmas.List.FromFn.{length-enumerate_from}
-use Rattle.sourcemap_core.specs.declared.tokens.RawToken.{RawToken}
+use Rattle.sourcemap_lists.specs.declared.tokens.RawToken.{RawToken}
 use Rattle.sourcemap_maps.specs.Types.{MapValue}
 use Rattle.sourcemap_maps.specs.Token.{TokenValue, token_at, tokens_from}
 use Rattle.sourcemap_maps.proofs.ListLemmas.{drop-from_slice_get, drop-past}

@@ -11,8 +11,8 @@ use Rattle.std.proofs.lemmas.Slice.Eq.{bytes_eq-Decides}
 use Rattle.std.proofs.lemmas.List.Sums.{fold-append}
 use Rattle.std.proofs.lemmas.List.{map_push, length_push, append-nil, length-set, length-replicate}
 use Rattle.std.proofs.lemmas.Option.{slice_get_within, slice_get_past, slice_get-map, slice_get_read}
-use Rattle.sourcemap_core.specs.Interner.{place_of, with_text, AreDistinct}
-use Rattle.sourcemap_core.proofs.InternerLemmas.{AreDistinct-append, place_of-append, place_of-last, slice_get-place_of}
+use Rattle.sourcemap_lists.specs.Interner.{place_of, with_text, AreDistinct}
+use Rattle.sourcemap_lists.proofs.InternerLemmas.{AreDistinct-append, place_of-append, place_of-last, slice_get-place_of}
 use Rattle.sourcemap_maps.specs.Rewrite.{present, kept_once, number_in}
 use Rattle.sourcemap_maps.specs.Numbering.{with_text_if, first_some, HasPlace, kept_of, met_texts, IsMet, IsMetOrNot, NumbersMore, id_of, IsIndex, IsNumbering, Meets}
 use Rattle.sourcemap_maps.specs.declared.numbering.NewNumbers.{NewNumbers}

@@ -3,15 +3,15 @@ use Rattle.std.proofs.Common.{◌≡◌, inl, inr, refl, sym, ◌∙◌, ap, ℕ
 use Rattle.std.specs.Bool.{MatchBool}
 use Rattle.serde_json.specs.Data.{Data}
 use Rattle.serde_json.specs.Read.{read}
-use Rattle.sourcemap_core.specs.declared.errors.Error.{Error}
-use Rattle.sourcemap_core.specs.declared.errors.Error.TheVariants.{Io, BadJson, IncompatibleSourceMap, OutOfMemory}
-use Rattle.sourcemap_core.specs.declared.errors.JsonFault.TheVariants.{Parse, Shape}
-use Rattle.sourcemap_core.specs.Answer.{UnlessMemory, Gives, IsAnswer}
-use Rattle.sourcemap_core.proofs.AnswerLemmas.{UnlessMemory-weaker}
-use Rattle.sourcemap_json.specs.Decoder.{behind_header}
-use Rattle.sourcemap_json.specs.Fields.{due}
-use Rattle.sourcemap_json.specs.Jsontypes.{Tree, flat, record_of}
-use Rattle.sourcemap_json.proofs.DataUrlLemmas.{one_answer}
+use Rattle.sourcemap_errors.specs.declared.errors.Error.{Error}
+use Rattle.sourcemap_errors.specs.declared.errors.Error.TheVariants.{Io, BadJson, IncompatibleSourceMap, OutOfMemory}
+use Rattle.sourcemap_errors.specs.declared.errors.JsonFault.TheVariants.{Parse, Shape}
+use Rattle.sourcemap_errors.specs.Answer.{UnlessMemory, Gives, IsAnswer}
+use Rattle.sourcemap_errors.proofs.AnswerLemmas.{UnlessMemory-weaker}
+use Rattle.sourcemap_headers.specs.Header.{behind_header}
+use Rattle.sourcemap_records.specs.Field.{due}
+use Rattle.sourcemap_records.specs.Jsontypes.{Tree, flat, record_of}
+use Rattle.sourcemap_headers.proofs.DataUrlLemmas.{one_answer}
 use Rattle.sourcemap_maps.specs.Types.{MapValue}
 use Rattle.sourcemap_maps.specs.Decoder.{RecordDecodes}
 use Rattle.sourcemap_maps.proofs.DecoderLemmas.{RecordDecodes-same}

@@ -3,7 +3,7 @@ use Rattle.std.proofs.Common.{◌≡◌, refl, sym, ap, subst, ◌∙◌, ℕ, �
 use Rattle.std.specs.List.{AllByRecursion}
 use Rattle.std.specs.Option.{option_or}
 use Rattle.std.proofs.lemmas.List.{map_push, drop_more, take_more, take_all, drop_all, set_at, get_or_at, length-map, length-take-le, append-nil}
-use Rattle.sourcemap_core.specs.declared.tokens.RawToken.{RawToken}
+use Rattle.sourcemap_lists.specs.declared.tokens.RawToken.{RawToken}
 use Rattle.sourcemap_maps.specs.Numbering.{with_text_if, first_some, HasPlace, kept_of, met_texts, NumbersMore, AreMet, numbered_by, numbered_with}
 use Rattle.sourcemap_maps.specs.declared.numbering.NewNumbers.{NewNumbers}
 use Rattle.sourcemap_maps.proofs.NumberingLemmas.{kept_of-push, used-kept, first_some-push, number_in-with_text_if}

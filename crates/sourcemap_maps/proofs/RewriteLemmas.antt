@@ -8,13 +8,13 @@ use Rattle.std.proofs.lemmas.Bool.{cases_eq}
 use Rattle.std.proofs.lemmas.List.{length-map, get_or-map}
 use Rattle.std.proofs.lemmas.Option.{slice_get-map, slice_get-get_or, slice_get_within}
 use Rattle.std.proofs.lemmas.Slice.Eq.{bytes_eq-Decides}
-use Rattle.sourcemap_core.specs.declared.errors.Error.{Error}
-use Rattle.sourcemap_core.specs.declared.tokens.RawToken.{RawToken}
-use Rattle.sourcemap_core.specs.Interner.{place_of, AreDistinct}
-use Rattle.sourcemap_core.specs.Tokens.{AreInOrder, destination, position_cmp}
-use Rattle.sourcemap_core.proofs.InternerLemmas.{slice_get-place_of}
-use Rattle.sourcemap_maps.specs.Texts.{texts_of, contents_in}
-use Rattle.sourcemap_maps.specs.Prefixes.{cut_by}
+use Rattle.sourcemap_errors.specs.declared.errors.Error.{Error}
+use Rattle.sourcemap_lists.specs.declared.tokens.RawToken.{RawToken}
+use Rattle.sourcemap_lists.specs.Interner.{place_of, AreDistinct}
+use Rattle.sourcemap_lists.specs.Tokens.{AreInOrder, destination, position_cmp}
+use Rattle.sourcemap_lists.proofs.InternerLemmas.{slice_get-place_of}
+use Rattle.sourcemap_texts.specs.Texts.{texts_of, contents_in}
+use Rattle.sourcemap_texts.specs.Prefixes.{cut_by}
 use Rattle.sourcemap_maps.specs.Types.{MapValue, IsSound, shown, shown_sources, source_of}
 use Rattle.sourcemap_maps.specs.Rewrite.{Removal, present, kept_once, number_in, used_sources, used_names, kept_names, contents_for, cuts, renumbered, rewritten}
 use Rattle.sourcemap_maps.specs.Numbering.{first_some, kept_of, met_texts, IsMet, AreNumbered, AreMet, numbered_by}

@@ -5,14 +5,14 @@ use Rattle.std.specs.Option.{option_or}
 use Rattle.std.specs.Ordering.{is_lt, is_eq}
 use Rattle.std.proofs.lemmas.List.{length-map}
 use Rattle.std.proofs.lemmas.Option.{slice_get-map, slice_get_past, slice_get_within}
-use Rattle.sourcemap_core.specs.Interner.{place_of}
-use Rattle.sourcemap_core.specs.declared.tokens.RawToken.{RawToken}
-use Rattle.sourcemap_core.specs.Utils.{closest_item, find_last}
-use Rattle.sourcemap_core.specs.Tokens.{destination, position_cmp, closest_token, IsWithin}
-use Rattle.sourcemap_core.proofs.InternerLemmas.{slice_get-place_of}
-use Rattle.sourcemap_core.proofs.UtilsLemmas.{item-closest, closest_item-change}
-use Rattle.sourcemap_core.proofs.TokensLemmas.{All-map-recursion}
-use Rattle.sourcemap_maps.specs.Prefixes.{cut_by}
+use Rattle.sourcemap_lists.specs.Interner.{place_of}
+use Rattle.sourcemap_lists.specs.declared.tokens.RawToken.{RawToken}
+use Rattle.sourcemap_lists.specs.Search.{closest_item, find_last}
+use Rattle.sourcemap_lists.specs.Tokens.{destination, position_cmp, closest_token, IsWithin}
+use Rattle.sourcemap_lists.proofs.InternerLemmas.{slice_get-place_of}
+use Rattle.sourcemap_lists.proofs.SearchLemmas.{item-closest, closest_item-change}
+use Rattle.sourcemap_lists.proofs.TokensLemmas.{All-map-recursion}
+use Rattle.sourcemap_texts.specs.Prefixes.{cut_by}
 use Rattle.sourcemap_maps.specs.Types.{MapValue, Meaning, IsWellFormed, shown, shown_sources, source_of, name_of, meaning, meaning_of, distance, moved}
 use Rattle.sourcemap_maps.specs.Numbering.{HasPlace}
 use Rattle.sourcemap_maps.specs.Rewrite.{Removal, number_in, used_sources, used_names, kept_names, cuts, renumbered, rewritten, taken_away, MeansLess, SaysLess}

@@ -5,8 +5,8 @@ use Rattle.std.specs.Option.{option_or}
 use Rattle.std.specs.Str.{bytes_eq}
 use Rattle.std.proofs.lemmas.Option.{slice_get-map}
 use Rattle.std.proofs.lemmas.Slice.Eq.{bytes_eq-Decides}
-use Rattle.sourcemap_core.specs.declared.tokens.RawToken.{RawToken}
-use Rattle.sourcemap_maps.specs.Prefixes.{cut_by}
+use Rattle.sourcemap_lists.specs.declared.tokens.RawToken.{RawToken}
+use Rattle.sourcemap_texts.specs.Prefixes.{cut_by}
 use Rattle.sourcemap_maps.specs.Types.{MapValue, source_of, name_of, contents_of}
 use Rattle.sourcemap_maps.specs.Numbering.{first_some}
 use Rattle.sourcemap_maps.specs.Rewrite.{no_removal, present, kept_once, number_in, used_sources, used_names, contents_if, contents_for, renumbered, rewritten}

@@ -3,7 +3,7 @@ use Rattle.std.proofs.Common.{◌≡◌, ℕ, zero, suc, ◌+◌, ◌≤◌, Lis
 use Rattle.std.specs.declared.alloc.Global.{Global}
 use Rattle.std.proofs.lemmas.List.{replicate-append-replicate, take-append-le, take-map, map-append, length-map, length-replicate, map-set}
 use Rattle.sourcemap_maps.specs.Types.{fitted, shown_behind}
-use Rattle.sourcemap_maps.specs.Texts.{texts_of}
+use Rattle.sourcemap_texts.specs.Texts.{texts_of}
 use Rattle.sourcemap_maps.proofs.TextLemmas.{map-shown_behind_nothing}
 
 map-replicate : (n : ℕ) → map (option_map (string_bytes {Z = Global})) (replicate n None) ≡ replicate n None

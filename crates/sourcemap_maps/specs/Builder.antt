@@ -1,9 +1,9 @@
 -- A map that is being built: texts are kept once each, and what is shown of a source may change.
 use Rattle.std.specs.Prelude.{ℕ, Bool, cond, is_some, List, [], ◌∷◌, ◌++◌, Option, Some, None, unwrap_or, Result, Ok, Err}
-use Rattle.sourcemap_core.specs.declared.errors.Error.{Error}
-use Rattle.sourcemap_core.specs.declared.tokens.RawToken.{RawToken}
-use Rattle.sourcemap_core.specs.Tokens.{in_order}
-use Rattle.sourcemap_core.specs.Interner.{place_of, with_text, number_for}
+use Rattle.sourcemap_errors.specs.declared.errors.Error.{Error}
+use Rattle.sourcemap_lists.specs.declared.tokens.RawToken.{RawToken}
+use Rattle.sourcemap_lists.specs.Tokens.{in_order}
+use Rattle.sourcemap_lists.specs.Interner.{place_of, with_text, number_for}
 use Rattle.sourcemap_maps.specs.Types.{MapValue, Meaning}
 
 -- all that a builder holds: `interned` are the texts of sources by which numbers are found,

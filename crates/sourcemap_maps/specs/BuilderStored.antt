@@ -1,6 +1,6 @@
 -- What the fields of a builder hold, as one value.
 use Rattle.std.specs.Prelude.{◌≤◌, length, option_map, string_bytes}
-use Rattle.sourcemap_maps.specs.Texts.{contents_in}
+use Rattle.sourcemap_texts.specs.Texts.{contents_in}
 use Rattle.sourcemap_maps.specs.Builder.{BuilderValue, changed_to}
 use Rattle.sourcemap_maps.specs.declared.builder.SourceMapBuilder.TheInside.{Inside}
 

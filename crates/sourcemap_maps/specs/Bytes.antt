@@ -3,9 +3,9 @@ use Rattle.std.specs.Prelude.{◌≡◌, ◌≤◌, ℕ, List, false, Result, Ok
 use Rattle.serde_json.specs.Data.{depth}
 use Rattle.serde_json.specs.Read.{max_depth}
 use Rattle.serde_json.specs.Written.{compact_text, has_float}
-use Rattle.sourcemap_core.specs.declared.errors.Error.{Error}
-use Rattle.sourcemap_core.specs.declared.errors.Error.TheVariants.{Io}
-use Rattle.sourcemap_json.specs.Jsontypes.{Tree, written}
+use Rattle.sourcemap_errors.specs.declared.errors.Error.{Error}
+use Rattle.sourcemap_errors.specs.declared.errors.Error.TheVariants.{Io}
+use Rattle.sourcemap_records.specs.Jsontypes.{Tree, written}
 use Rattle.sourcemap_maps.specs.Types.{MapValue, MeansTheSame}
 use Rattle.sourcemap_maps.specs.Encoder.{IsRecordOf, KeepsParts}
 use Rattle.sourcemap_maps.specs.Reading.{IsJson, BytesStandFor, UrlStandsFor, RegularDecodes}

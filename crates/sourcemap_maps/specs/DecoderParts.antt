@@ -1,8 +1,8 @@
 -- The parts that a record is taken to on the way to a map.
 use Rattle.std.specs.Prelude.{◌≡◌, ◌≤◌, vec_len, List, map, option_map, string_bytes}
 use Rattle.serde_json.specs.View.{view}
-use Rattle.sourcemap_core.specs.declared.tokens.RawToken.{RawToken}
-use Rattle.sourcemap_json.specs.Jsontypes.{Fields, text_view}
+use Rattle.sourcemap_lists.specs.declared.tokens.RawToken.{RawToken}
+use Rattle.sourcemap_records.specs.Jsontypes.{Fields, text_view}
 use Rattle.sourcemap_maps.specs.Types.{MapValue}
 use Rattle.sourcemap_maps.specs.Decoder.{listed, file_read, name_read, source_read, rising}
 use Rattle.sourcemap_maps.specs.declared.decoder.Parts.{Parts}

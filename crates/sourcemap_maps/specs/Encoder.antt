@@ -2,10 +2,10 @@
 use Rattle.std.specs.Prelude.{◌≡◌, ℕ, ◌<◌, List, length, map, is_some, Option, Some, None, option_map, if◌then◌else◌, ◌==◌, Result, Ok, Err}
 use Rattle.std.specs.List.{list_any}
 use Rattle.serde_json.specs.Data.{string}
-use Rattle.sourcemap_core.specs.declared.errors.Error.{Error}
-use Rattle.sourcemap_core.specs.Tokens.{reduced}
-use Rattle.sourcemap_core.specs.MappingsWritten.{IsWritten, IsRangeText}
-use Rattle.sourcemap_json.specs.Jsontypes.{Fields, Tree, plain, flat, IsFine}
+use Rattle.sourcemap_errors.specs.declared.errors.Error.{Error}
+use Rattle.sourcemap_lists.specs.Tokens.{reduced}
+use Rattle.sourcemap_mappings.specs.Write.{IsWritten, IsRangeText}
+use Rattle.sourcemap_records.specs.Jsontypes.{Fields, Tree, plain, flat, IsFine}
 use Rattle.sourcemap_maps.specs.Types.{MapValue, IsWellFormed, MeansTheSame, contents_of, fitted}
 use Rattle.sourcemap_maps.specs.Decoder.{RecordDecodes}
 

@@ -5,11 +5,11 @@ use Rattle.std.specs.List.Sorted.{IsStrictlySortedBy}
 use Rattle.std.specs.Ordering.{nat_cmp}
 use Rattle.serde_json.specs.View.{view}
 use Rattle.serde_json.specs.Data.{string}
-use Rattle.sourcemap_core.specs.declared.tokens.RawToken.{RawToken}
-use Rattle.sourcemap_core.specs.Tokens.{AllWithin, reduced}
-use Rattle.sourcemap_core.specs.Mappings.{MappingsAnswer}
-use Rattle.sourcemap_core.specs.MappingsWritten.{IsWritten, IsRangeText}
-use Rattle.sourcemap_json.specs.Jsontypes.{Fields, text_view}
+use Rattle.sourcemap_lists.specs.declared.tokens.RawToken.{RawToken}
+use Rattle.sourcemap_lists.specs.Tokens.{AllWithin, reduced}
+use Rattle.sourcemap_mappings.specs.Read.{MappingsAnswer}
+use Rattle.sourcemap_mappings.specs.Write.{IsWritten, IsRangeText}
+use Rattle.sourcemap_records.specs.Jsontypes.{Fields, text_view}
 use Rattle.sourcemap_maps.specs.Types.{MapValue, fitted}
 use Rattle.sourcemap_maps.specs.Decoder.{listed}
 use Rattle.sourcemap_maps.specs.Encoder.{written_ids}

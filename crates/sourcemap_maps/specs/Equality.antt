@@ -7,7 +7,7 @@ use Rattle.std.specs.Cmp.{IsEquivalence}
 use Rattle.std.specs.Cmp.Rules.{comparing}
 use Rattle.std.specs.Cmp.Lexicographic.{pointwise}
 use Rattle.std.proofs.Common.{rules}
-use Rattle.sourcemap_core.specs.declared.tokens.RawToken.{RawToken}
+use Rattle.sourcemap_lists.specs.declared.tokens.RawToken.{RawToken}
 use Rattle.sourcemap_maps.specs.Types.{MapValue}
 
 abbrev pub same_text : List ℕ → List ℕ → Bool

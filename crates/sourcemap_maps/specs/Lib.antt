@@ -1,5 +1,3 @@
-pub mod Texts
-pub mod Prefixes
 pub mod Types
 pub mod Stored
 pub mod Token

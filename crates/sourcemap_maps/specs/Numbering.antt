@@ -5,8 +5,8 @@ use Rattle.std.specs.HashMap.{HashMap, get_by, hash_map_len}
 use Rattle.std.specs.List.{AllByRecursion}
 use Rattle.std.specs.Str.{bytes_eq}
 use denote.Ref.{Bor}
-use Rattle.sourcemap_core.specs.Interner.{place_of, with_text}
-use Rattle.sourcemap_core.specs.declared.tokens.RawToken.{RawToken}
+use Rattle.sourcemap_lists.specs.Interner.{place_of, with_text}
+use Rattle.sourcemap_lists.specs.declared.tokens.RawToken.{RawToken}
 use Rattle.sourcemap_maps.specs.Rewrite.{present, kept_once, number_in}
 use Rattle.sourcemap_maps.specs.declared.numbering.NewNumbers.{NewNumbers}
 use Rattle.sourcemap_maps.specs.declared.numbering.Numbering.{Numbering}

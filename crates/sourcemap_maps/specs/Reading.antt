@@ -6,13 +6,13 @@ use Rattle.std.specs.declared.io.Error.{Error as IoError}
 use Rattle.std.specs.declared.io.ErrorKind.TheVariants.{InvalidData}
 use Rattle.serde_json.specs.Data.{Data}
 use Rattle.serde_json.specs.Read.{read}
-use Rattle.sourcemap_core.specs.declared.errors.Error.{Error}
-use Rattle.sourcemap_core.specs.declared.errors.Error.TheVariants.{Io, BadJson, IncompatibleSourceMap, InvalidDataUrl}
-use Rattle.sourcemap_core.specs.declared.errors.JsonFault.TheVariants.{Parse, Shape}
-use Rattle.sourcemap_core.specs.Answer.{UnlessMemory}
-use Rattle.sourcemap_json.specs.Decoder.{behind_header}
-use Rattle.sourcemap_json.specs.DataUrl.{Holds}
-use Rattle.sourcemap_json.specs.Jsontypes.{Tree, plain, indexed, flat, record_of}
+use Rattle.sourcemap_errors.specs.declared.errors.Error.{Error}
+use Rattle.sourcemap_errors.specs.declared.errors.Error.TheVariants.{Io, BadJson, IncompatibleSourceMap, InvalidDataUrl}
+use Rattle.sourcemap_errors.specs.declared.errors.JsonFault.TheVariants.{Parse, Shape}
+use Rattle.sourcemap_errors.specs.Answer.{UnlessMemory}
+use Rattle.sourcemap_headers.specs.Header.{behind_header}
+use Rattle.sourcemap_headers.specs.DataUrl.{Holds}
+use Rattle.sourcemap_records.specs.Jsontypes.{Tree, plain, indexed, flat, record_of}
 use Rattle.sourcemap_maps.specs.Types.{MapValue}
 use Rattle.sourcemap_maps.specs.Decoder.{RecordDecodes}
 

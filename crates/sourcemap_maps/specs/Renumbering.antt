@@ -1,9 +1,9 @@
 -- Tokens with new numbers of their sources and names.
 use Rattle.std.specs.Prelude.{◌≡◌, ℕ, cond, List, [], map, slice_get, Option, None, option_and_then}
 use Rattle.std.specs.Str.{bytes_eq}
-use Rattle.sourcemap_core.specs.declared.tokens.RawToken.{RawToken}
-use Rattle.sourcemap_maps.specs.Texts.{texts_of, contents_in}
-use Rattle.sourcemap_maps.specs.Prefixes.{cut_by}
+use Rattle.sourcemap_lists.specs.declared.tokens.RawToken.{RawToken}
+use Rattle.sourcemap_texts.specs.Texts.{texts_of, contents_in}
+use Rattle.sourcemap_texts.specs.Prefixes.{cut_by}
 use Rattle.sourcemap_maps.specs.Rewrite.{Removal, all_prefixes, present}
 use Rattle.sourcemap_maps.specs.Numbering.{AreMet, AreNumbered, kept_of, numbered_by, numbered_with}
 use Rattle.sourcemap_maps.specs.KeptContents.{given}

@@ -3,13 +3,13 @@
 use Rattle.std.specs.Prelude.{length, ◌≤◌, ◌≡◌, ℕ, Bool, true, false, not, cond, List, [], ◌∷◌, ◌++◌, map, fold, filter, slice_get, codes, Option, Some, None, option_map, option_and_then, unwrap_or, Result, Ok, Err, if◌then◌else◌}
 use Rattle.std.specs.List.{list_any}
 use Rattle.std.specs.Str.{bytes_eq}
-use Rattle.sourcemap_core.specs.declared.errors.Error.{Error}
-use Rattle.sourcemap_core.specs.declared.errors.Error.TheVariants.{IncompatibleSourceMap}
-use Rattle.sourcemap_core.specs.declared.tokens.RawToken.{RawToken}
-use Rattle.sourcemap_core.specs.Interner.{place_of, with_text}
-use Rattle.sourcemap_core.specs.Paths.{common_prefix}
-use Rattle.sourcemap_core.specs.Tokens.{destination}
-use Rattle.sourcemap_maps.specs.Prefixes.{cut_by}
+use Rattle.sourcemap_errors.specs.declared.errors.Error.{Error}
+use Rattle.sourcemap_errors.specs.declared.errors.Error.TheVariants.{IncompatibleSourceMap}
+use Rattle.sourcemap_lists.specs.declared.tokens.RawToken.{RawToken}
+use Rattle.sourcemap_lists.specs.Interner.{place_of, with_text}
+use Rattle.sourcemap_texts.specs.Paths.{common_prefix}
+use Rattle.sourcemap_lists.specs.Tokens.{destination}
+use Rattle.sourcemap_texts.specs.Prefixes.{cut_by}
 use Rattle.sourcemap_maps.specs.Types.{MapValue, Meaning, source_of, name_of, contents_of, meaning, meaning_of}
 use Rattle.sourcemap_maps.specs.declared.rewrite.RewriteOptions.{RewriteOptions}
 

@@ -1,6 +1,6 @@
 -- What the fields of a map hold, as one value.
 use Rattle.std.specs.Prelude.{option_map, unwrap_or, string_bytes}
-use Rattle.sourcemap_maps.specs.Texts.{texts_of, contents_in}
+use Rattle.sourcemap_texts.specs.Texts.{texts_of, contents_in}
 use Rattle.sourcemap_maps.specs.Types.{MapValue, IsSound}
 use Rattle.sourcemap_maps.specs.declared.types.SourceMap.TheInside.{Inside}
 

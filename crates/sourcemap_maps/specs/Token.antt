@@ -2,8 +2,8 @@
 use Rattle.std.specs.Prelude.{ℕ, List, [], ◌++◌, drop, map, codes, slice_get, Option, option_map, unwrap_or}
 use Rattle.std.specs.List.{enumerate_from}
 use Rattle.std.specs.Fmt.{decimal}
-use Rattle.sourcemap_core.specs.declared.tokens.RawToken.{RawToken}
-use Rattle.sourcemap_core.specs.Tokens.{closest_token}
+use Rattle.sourcemap_lists.specs.declared.tokens.RawToken.{RawToken}
+use Rattle.sourcemap_lists.specs.Tokens.{closest_token}
 use Rattle.sourcemap_maps.specs.Types.{MapValue, Meaning, meaning_of, distance}
 use Rattle.sourcemap_maps.specs.declared.token.Token.{Token}
 

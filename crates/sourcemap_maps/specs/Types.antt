@@ -2,8 +2,8 @@
 -- a place in a list of texts. Lines and columns count from 0, columns in UTF-16 units.
 use Rattle.std.specs.Prelude.{◌≡◌, ℕ, ◌+◌, ◌-◌, ◌≤◌, List, [], ◌++◌, length, map, take, replicate, min, slice_get, codes, nat_eq, Bool, ◌&&◌, ◌||◌, ◌==◌, if◌then◌else◌, Option, None, option_map, option_and_then, unwrap_or}
 use Rattle.std.specs.List.{starts_with, ends_with}
-use Rattle.sourcemap_core.specs.declared.tokens.RawToken.{RawToken}
-use Rattle.sourcemap_core.specs.Tokens.{AreInOrder, AllWithin, in_order, closest_token}
+use Rattle.sourcemap_lists.specs.declared.tokens.RawToken.{RawToken}
+use Rattle.sourcemap_lists.specs.Tokens.{AreInOrder, AllWithin, in_order, closest_token}
 
 -- all that a map holds
 pub record MapValue : Type 0 where

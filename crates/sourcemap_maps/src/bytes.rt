@@ -1,16 +1,16 @@
 ghost use Rattle.std.specs.Prelude.{◌≡◌, ◌⊎◌, ℕ, List, Err, OnOk, IfOk, IfErr, IsOkUnless, string_bytes};
 ghost use Rattle.std.specs.Io.KnownBytes.{Appends};
-ghost use Rattle.sourcemap_core.specs.Answer.{UnlessMemory};
-ghost use Rattle.sourcemap_core.specs.declared.errors.Error.TheVariants.{OutOfMemory};
-ghost use Rattle.sourcemap_json.specs.DataUrl.{data_url_of, Holds};
+ghost use Rattle.sourcemap_errors.specs.Answer.{UnlessMemory};
+ghost use Rattle.sourcemap_errors.specs.declared.errors.Error.TheVariants.{OutOfMemory};
+ghost use Rattle.sourcemap_headers.specs.DataUrl.{data_url_of, Holds};
 ghost use Rattle.sourcemap_maps.specs.Types.{MapValue, IsWellFormed};
 ghost use Rattle.sourcemap_maps.specs.Encoder.{RecordAnswer};
 ghost use Rattle.sourcemap_maps.specs.Bytes.{IsEncoded, IsCompactTextOf, BytesReadBack, UrlReadsBack, IsIo};
 
 use crate::encoder::Encodable;
 use crate::types::SourceMap;
-use sourcemap_core::errors::Result;
-use sourcemap_json::data_url::data_url;
+use sourcemap_errors::errors::Result;
+use sourcemap_headers::data_url::data_url;
 use std::alloc::Global;
 use std::io::Write;
 

@@ -1,10 +1,10 @@
 ghost use Rattle.std.specs.Prelude.{◌≡◌, Ok, map, option_map, unwrap_or, string_bytes};
-ghost use Rattle.sourcemap_core.specs.Answer.{Gives};
-ghost use Rattle.sourcemap_maps.specs.Texts.{texts_of, contents_in};
+ghost use Rattle.sourcemap_errors.specs.Answer.{Gives};
+ghost use Rattle.sourcemap_texts.specs.Texts.{texts_of, contents_in};
 
-use crate::texts::owned;
 use crate::types::SourceMap;
-use sourcemap_core::errors::Result;
+use sourcemap_errors::errors::Result;
+use sourcemap_texts::copies::owned;
 use std::alloc::Global;
 
 fn copy_texts(alloc: Global, texts: &[String]) -> Result<Vec<String>>

@@ -1,21 +1,22 @@
 ghost use Rattle.std.specs.Prelude.{◌≡◌, ◌≤◌, ◌^◌, ◌<◌, [], ◌∷◌, ◌++◌, Ok, Result, IfOk, IsTrue, ◌↔◌, length, map, option_map, unwrap_or, string_bytes, vec_len};
 ghost use Rattle.serde_json.specs.View.{view, number_view};
-ghost use Rattle.sourcemap_core.specs.Answer.{IsAnswer, Gives};
-ghost use Rattle.sourcemap_core.specs.Tokens.{AreInOrder};
-ghost use Rattle.sourcemap_core.specs.declared.errors.Error.{Error};
-ghost use Rattle.sourcemap_json.specs.Jsontypes.{tree, flat, text_view};
-ghost use Rattle.sourcemap_maps.specs.Texts.{texts_of};
+ghost use Rattle.sourcemap_errors.specs.Answer.{IsAnswer, Gives};
+ghost use Rattle.sourcemap_lists.specs.Tokens.{AreInOrder};
+ghost use Rattle.sourcemap_errors.specs.declared.errors.Error.{Error};
+ghost use Rattle.sourcemap_records.specs.Jsontypes.{tree, flat, text_view};
+ghost use Rattle.sourcemap_texts.specs.Texts.{texts_of};
 ghost use Rattle.sourcemap_maps.specs.Types.{MapValue, IsWellFormed};
 ghost use Rattle.sourcemap_maps.specs.Decoder.{RecordDecodes, rising, name_read, number_read, file_read, source_read};
 ghost use Rattle.sourcemap_maps.specs.DecoderParts.{ArePartsOf, HaveRoom, parts_map};
 
-use crate::texts::{contents_or_empty, text_or_empty};
+use crate::texts::contents_or_empty;
 use crate::types::SourceMap;
 use serde_json::{Number, Value};
-use sourcemap_core::errors::{Error, Result};
-use sourcemap_core::mappings::parse_mappings;
-use sourcemap_core::tokens::RawToken;
-use sourcemap_json::jsontypes::{DebugId, RawSourceMap};
+use sourcemap_errors::errors::{Error, Result};
+use sourcemap_lists::tokens::RawToken;
+use sourcemap_mappings::read::parse_mappings;
+use sourcemap_records::jsontypes::{DebugId, RawSourceMap};
+use sourcemap_texts::copies::text_or_empty;
 use std::alloc::Global;
 use std::collections::BTreeSet;
 

@@ -5,23 +5,23 @@ ghost use Rattle.std.specs.List.Sorted.{IsStrictlySortedBy};
 ghost use Rattle.std.specs.List.{list_any, AllByRecursion};
 ghost use Rattle.serde_json.specs.Data.{string};
 ghost use Rattle.serde_json.specs.View.{view};
-ghost use Rattle.sourcemap_core.specs.Answer.{IsAnswer, Gives};
-ghost use Rattle.sourcemap_core.specs.Tokens.{AreInOrder};
-ghost use Rattle.sourcemap_core.specs.declared.errors.Error.TheVariants.{OutOfMemory};
-ghost use Rattle.sourcemap_json.specs.DebugId.{IsId};
-ghost use Rattle.sourcemap_json.specs.Jsontypes.{tree, flat, plain, IsFine, IsSmall, text_view};
+ghost use Rattle.sourcemap_errors.specs.Answer.{IsAnswer, Gives};
+ghost use Rattle.sourcemap_lists.specs.Tokens.{AreInOrder};
+ghost use Rattle.sourcemap_errors.specs.declared.errors.Error.TheVariants.{OutOfMemory};
+ghost use Rattle.sourcemap_headers.specs.DebugId.{IsId};
+ghost use Rattle.sourcemap_records.specs.Jsontypes.{tree, flat, plain, IsFine, IsSmall, text_view};
 ghost use Rattle.sourcemap_maps.specs.Types.{fitted};
 ghost use Rattle.sourcemap_maps.specs.Encoder.{written_ids};
 ghost use Rattle.sourcemap_maps.specs.EncoderParts.{AreTextsOf, AreListsOf, IsHeadingOf, record_of_parts, some_contents};
 
 pub use crate::bytes::{encode, encode_to, written_maps_are_compact, written_maps_read_back};
-use crate::texts::owned;
 use crate::types::SourceMap;
 use serde_json::Value;
-use sourcemap_core::errors::{Error, Result};
-use sourcemap_core::mappings::{write_mappings, write_range_mappings};
-use sourcemap_core::tokens::RawToken;
-use sourcemap_json::jsontypes::{DebugId, RawSourceMap};
+use sourcemap_errors::errors::{Error, Result};
+use sourcemap_lists::tokens::RawToken;
+use sourcemap_mappings::read::{write_mappings, write_range_mappings};
+use sourcemap_records::jsontypes::{DebugId, RawSourceMap};
+use sourcemap_texts::copies::owned;
 use std::alloc::Global;
 use std::collections::BTreeSet;
 
@@ -203,8 +203,8 @@ fn as_record(
 /// A map that can be written as a record.
 pub trait Encodable {
     ghost use Rattle.std.specs.Prelude.{Result};
-    ghost use Rattle.sourcemap_core.specs.declared.errors.Error.{Error};
-    ghost use Rattle.sourcemap_json.specs.Jsontypes.{Tree};
+    ghost use Rattle.sourcemap_errors.specs.declared.errors.Error.{Error};
+    ghost use Rattle.sourcemap_records.specs.Jsontypes.{Tree};
 
     // Which records, and which faults, a value may be answered with.
     ghost encodes: { Self → Result Tree Error → Type 0 };

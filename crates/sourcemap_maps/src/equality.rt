@@ -3,11 +3,11 @@ ghost use Rattle.std.specs.Bool.{Decides};
 ghost use Rattle.std.specs.Option.{option_eq};
 ghost use Rattle.std.specs.Cmp.{partial_equiv_from_equiv};
 ghost use Rattle.std.specs.Cmp.Lexicographic.{pointwise};
-ghost use Rattle.sourcemap_maps.specs.Texts.{texts_of, contents_in};
+ghost use Rattle.sourcemap_texts.specs.Texts.{texts_of, contents_in};
 ghost use Rattle.sourcemap_maps.specs.Equality.{same_text, same_raw, same_map, same_map_equiv};
 
 use crate::types::SourceMap;
-use sourcemap_core::tokens::RawToken;
+use sourcemap_lists::tokens::RawToken;
 
 fn same_maybe(a: &Option<String>, b: &Option<String>) -> bool
     ensures { result ≡ option_eq same_text (option_map string_bytes a.now) (option_map string_bytes b.now) }

@@ -1,11 +1,11 @@
 ghost use Rattle.std.specs.Prelude.{◌≡◌, ◌<◌, None, IfOk, IsOkUnless, cond, is_some, map, option_map, slice_set, string_bytes, vec_len};
 ghost use Rattle.std.specs.List.{AllByRecursion};
-ghost use Rattle.sourcemap_core.specs.declared.errors.Error.TheVariants.{OutOfMemory};
-ghost use Rattle.sourcemap_maps.specs.Texts.{contents_in};
+ghost use Rattle.sourcemap_errors.specs.declared.errors.Error.TheVariants.{OutOfMemory};
+ghost use Rattle.sourcemap_texts.specs.Texts.{contents_in};
 ghost use Rattle.sourcemap_maps.specs.KeptContents.{AreKept, IsPlaced, given};
 
 use crate::texts::fill;
-use sourcemap_core::errors::Result;
+use sourcemap_errors::errors::Result;
 use std::alloc::Global;
 
 // The contents at a place, which are taken away from there.

@@ -1,16 +1,16 @@
 ghost use Rattle.std.specs.Prelude.{◌≡◌, ◌∷◌, [], ◌++◌, None, Ok, OnOk, IsOkUnless, codes, cond, filter, map, not, option_map, string_bytes};
 ghost use Rattle.std.specs.List.{list_any};
 ghost use Rattle.std.specs.Str.{bytes_eq};
-ghost use Rattle.sourcemap_core.specs.Answer.{Gives};
-ghost use Rattle.sourcemap_core.specs.Paths.{common_prefix};
-ghost use Rattle.sourcemap_core.specs.declared.errors.Error.TheVariants.{OutOfMemory};
-ghost use Rattle.sourcemap_maps.specs.Texts.{texts_of};
-ghost use Rattle.sourcemap_maps.specs.Prefixes.{cut_by};
+ghost use Rattle.sourcemap_errors.specs.Answer.{Gives};
+ghost use Rattle.sourcemap_texts.specs.Paths.{common_prefix};
+ghost use Rattle.sourcemap_errors.specs.declared.errors.Error.TheVariants.{OutOfMemory};
+ghost use Rattle.sourcemap_texts.specs.Texts.{texts_of};
+ghost use Rattle.sourcemap_texts.specs.Prefixes.{cut_by};
 ghost use Rattle.sourcemap_maps.specs.Rewrite.{all_prefixes, common_if, present};
 
-use crate::prefixes::cut_text;
-use sourcemap_core::errors::Result;
-use sourcemap_core::utils::find_common_prefix;
+use sourcemap_errors::errors::Result;
+use sourcemap_lists::search::find_common_prefix;
+use sourcemap_texts::prefixes::cut_text;
 use std::alloc::Global;
 
 // What stands in a list of prefixes for what paths have in common.

@@ -1,10 +1,10 @@
 ghost use Rattle.std.specs.Prelude.{◌≡◌, ◌<◌, [], IfOk, IsOkUnless, slice_get, slice_set, Some, string_bytes, vec_len};
-ghost use Rattle.sourcemap_core.specs.declared.errors.Error.TheVariants.{OutOfMemory};
-ghost use Rattle.sourcemap_maps.specs.Texts.{texts_of};
+ghost use Rattle.sourcemap_errors.specs.declared.errors.Error.TheVariants.{OutOfMemory};
+ghost use Rattle.sourcemap_texts.specs.Texts.{texts_of};
 ghost use Rattle.sourcemap_maps.specs.Numbering.{AreNumbered, met_texts};
 
 use crate::numbering::NewNumbers;
-use sourcemap_core::errors::Result;
+use sourcemap_errors::errors::Result;
 use std::alloc::Global;
 use std::mem;
 

@@ -13,7 +13,6 @@ mod kept_contents;
 mod kept_sources;
 mod kept_texts;
 mod numbering;
-mod prefixes;
 pub mod reading;
 mod rewrite;
 mod setters;

@@ -1,11 +1,11 @@
 ghost use Rattle.std.specs.Prelude.{◌≡◌, ◌<◌, ◌≤◌, ℕ, List, None, Some, [], length, map, slice_get, string_bytes, vec_len, replicate, IfOk, OnOk, IsOkUnless};
 ghost use Rattle.std.specs.HashMap.{IsEmpty, hash_map_len};
-ghost use Rattle.sourcemap_core.specs.Interner.{place_of, with_text};
-ghost use Rattle.sourcemap_core.specs.declared.errors.Error.TheVariants.{OutOfMemory};
+ghost use Rattle.sourcemap_lists.specs.Interner.{place_of, with_text};
+ghost use Rattle.sourcemap_errors.specs.declared.errors.Error.TheVariants.{OutOfMemory};
 ghost use Rattle.sourcemap_maps.specs.Rewrite.{number_in};
 ghost use Rattle.sourcemap_maps.specs.Numbering.{IsIndex, IsNumbering, NumbersMore, Meets, id_of, met_texts};
 
-use sourcemap_core::errors::Result;
+use sourcemap_errors::errors::Result;
 use std::alloc::Global;
 use std::collections::HashMap;
 

@@ -1,17 +1,17 @@
 ghost use Rattle.std.specs.Prelude.{◌≡◌, IfOk, IfSome, MatchResult, Result};
 ghost use Rattle.serde_json.specs.View.{view};
-ghost use Rattle.sourcemap_core.specs.Answer.{IsAnswer, UnlessMemory};
-ghost use Rattle.sourcemap_core.specs.declared.errors.Error.{Error};
-ghost use Rattle.sourcemap_json.specs.Jsontypes.{tree};
+ghost use Rattle.sourcemap_errors.specs.Answer.{IsAnswer, UnlessMemory};
+ghost use Rattle.sourcemap_errors.specs.declared.errors.Error.{Error};
+ghost use Rattle.sourcemap_records.specs.Jsontypes.{tree};
 ghost use Rattle.sourcemap_maps.specs.Types.{MapValue, IsWellFormed};
 ghost use Rattle.sourcemap_maps.specs.Reading.{HoldJson, HoldNoJson, HoldRecord, HoldNoRecord, BytesStandFor, RegularDecodes, AreSame, UnlessRead, IsAnswerRead, Reading};
 
 use crate::decoder::decode_regular;
 use crate::types::SourceMap;
 use serde_json::Value;
-use sourcemap_core::errors::{Error, Result};
-use sourcemap_json::decoder::strip_junk_header;
-use sourcemap_json::jsontypes::RawSourceMap;
+use sourcemap_errors::errors::{Error, Result};
+use sourcemap_headers::header::strip_junk_header;
+use sourcemap_records::jsontypes::RawSourceMap;
 use std::alloc::Global;
 use std::io::Read;
 

@@ -1,15 +1,16 @@
 ghost use Rattle.std.specs.Prelude.{◌≡◌, ◌<◌, ◌≤◌, ℕ, [], ◌∷◌, length, slice_set, Some, None, OnOk, OnErr, IsOkUnless, option_map, string_bytes, vec_len, map, unwrap_or, Vec, String};
 ghost use Rattle.std.specs.Option.{option_copied, ForSome};
 ghost use Rattle.std.specs.declared.alloc.Global.{Global};
-ghost use Rattle.sourcemap_maps.specs.Texts.{contents_in, texts_of};
+ghost use Rattle.sourcemap_texts.specs.Texts.{contents_in, texts_of};
 ghost use Rattle.sourcemap_maps.specs.Types.{fitted, shown_behind};
-ghost use Rattle.sourcemap_core.specs.declared.errors.Error.TheVariants.{OutOfMemory};
+ghost use Rattle.sourcemap_errors.specs.declared.errors.Error.TheVariants.{OutOfMemory};
 
 use crate::iterators::IgnoreListIter;
-use crate::texts::{all_shown, owned, put, shown, text_or_empty};
+use crate::texts::{all_shown, put, shown};
 use crate::types::SourceMap;
-use sourcemap_core::errors::Result;
-use sourcemap_json::jsontypes::DebugId;
+use sourcemap_errors::errors::Result;
+use sourcemap_records::jsontypes::DebugId;
+use sourcemap_texts::copies::{owned, text_or_empty};
 use std::alloc::Global;
 
 // Changes of a map. A refused one, which only want of memory is, leaves the map as it was.

@@ -1,32 +1,12 @@
 ghost use Rattle.std.specs.Prelude.{◌≡◌, ◌≤◌, ◌<◌, ℕ, vec_len, Ok, [], map, slice_set, option_map, unwrap_or, string_bytes, OnOk, OnErr, IsOkUnless};
 ghost use Rattle.std.specs.Option.{option_copied, ForSome};
-ghost use Rattle.sourcemap_core.specs.Answer.{Gives};
-ghost use Rattle.sourcemap_core.specs.declared.errors.Error.TheVariants.{OutOfMemory};
+ghost use Rattle.sourcemap_errors.specs.Answer.{Gives};
+ghost use Rattle.sourcemap_errors.specs.declared.errors.Error.TheVariants.{OutOfMemory};
 ghost use Rattle.sourcemap_maps.specs.Types.{fitted, is_placed, shown_behind, without_slash};
-ghost use Rattle.sourcemap_maps.specs.Texts.{texts_of, contents_in};
+ghost use Rattle.sourcemap_texts.specs.Texts.{texts_of, contents_in};
 
-use sourcemap_core::errors::{Error, Result};
+use sourcemap_errors::errors::{Error, Result};
 use std::alloc::Global;
-
-// The text as a string of its own.
-pub(crate) fn owned(alloc: Global, text: Option<&str>) -> Result<Option<String>>
-    ensures { Gives (option_map string_bytes) result (Ok (option_copied text.entry)) }
-{
-    match text {
-        None => Ok(None),
-        Some(text) => Ok(Some(String::from_str(alloc, text)?)),
-    }
-}
-
-// The text, empty where there is none.
-pub(crate) fn text_or_empty(text: &Option<String>) -> &str
-    ensures { result.now ≡ unwrap_or (option_map string_bytes text.now) [] }
-{
-    match text {
-        None => "",
-        Some(text) => text.as_str(),
-    }
-}
 
 // The contents, none where there is no list.
 pub(crate) fn contents_or_empty(

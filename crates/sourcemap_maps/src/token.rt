@@ -1,7 +1,7 @@
 ghost use Rattle.std.specs.Prelude.{◌≡◌, ℕ, ◌+◌, ◌<◌, ◌^◌, Some, slice_get};
 
 use crate::types::SourceMap;
-use sourcemap_core::tokens::RawToken;
+use sourcemap_lists::tokens::RawToken;
 use std::fmt;
 
 /// A token of a map, with the map: it answers by texts what the raw token says by numbers.

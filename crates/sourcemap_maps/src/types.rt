@@ -1,17 +1,18 @@
 ghost use Rattle.std.specs.Prelude.{◌≡◌, ◌==◌, not, ℕ, ◌≤◌, ◌<◌, ◌^◌, [], Ok, length, map, min, slice_get, option_map, unwrap_or, string_bytes, vec_len, OnOk, IfErr};
 ghost use Rattle.std.specs.Option.{option_copied, ForSome};
-ghost use Rattle.sourcemap_core.specs.Answer.{Gives};
-ghost use Rattle.sourcemap_core.specs.declared.errors.Error.TheVariants.{OutOfMemory};
-ghost use Rattle.sourcemap_maps.specs.Texts.{texts_of, contents_in};
+ghost use Rattle.sourcemap_errors.specs.Answer.{Gives};
+ghost use Rattle.sourcemap_errors.specs.declared.errors.Error.TheVariants.{OutOfMemory};
+ghost use Rattle.sourcemap_texts.specs.Texts.{texts_of, contents_in};
 ghost use Rattle.sourcemap_maps.specs.Types.{distance};
 
 pub use crate::iterators::{IgnoreListIter, NameIter, SourceContentsIter, SourceIter, TokenIter};
 pub use crate::rewrite::RewriteOptions;
-use crate::texts::{contents_or_empty, owned, text_or_empty, with_root};
+use crate::texts::{contents_or_empty, with_root};
 pub use crate::token::Token;
-use sourcemap_core::errors::Result;
-use sourcemap_core::tokens::{RawToken, closest_token, sort_tokens};
-use sourcemap_json::jsontypes::DebugId;
+use sourcemap_errors::errors::Result;
+use sourcemap_lists::tokens::{RawToken, closest_token, sort_tokens};
+use sourcemap_records::jsontypes::DebugId;
+use sourcemap_texts::copies::{owned, text_or_empty};
 use std::alloc::Global;
 use std::collections::BTreeSet;
 use std::marker::Model;

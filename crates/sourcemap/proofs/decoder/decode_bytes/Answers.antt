@@ -1,6 +1,6 @@
 -- The record that bytes hold answers for them.
 use Rattle.std.proofs.lemmas.Result.{err_from_is_err_and}
-use Rattle.sourcemap_json.specs.Jsontypes.{tree}
+use Rattle.sourcemap_records.specs.Jsontypes.{tree}
 use Rattle.sourcemap_maps.proofs.ReadingLemmas.{answer_of_bytes, fault_of_bytes}
 use Rattle.sourcemap.specs.Decoded.{map_value}
 use Rattle.sourcemap.specs.Decoder.{TreeDecodes}

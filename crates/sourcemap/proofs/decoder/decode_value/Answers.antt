@@ -1,6 +1,6 @@
 -- The record that was read answers for its value.
 use Rattle.serde_json.specs.View.{view}
-use Rattle.sourcemap_json.specs.Jsontypes.{tree}
+use Rattle.sourcemap_records.specs.Jsontypes.{tree}
 use Rattle.sourcemap_maps.proofs.ReadingLemmas.{answer_of_record}
 use Rattle.sourcemap.specs.Decoded.{map_value}
 use Rattle.sourcemap.specs.Decoder.{TreeDecodes}

@@ -1,6 +1,6 @@
 use Rattle.std.proofs.Common.{arith, ◌∙◌, ap, string_bytes}
 use Rattle.std.proofs.lemmas.List.{map-set, length-map}
-use Rattle.sourcemap_maps.specs.Texts.{texts_of}
+use Rattle.sourcemap_texts.specs.Texts.{texts_of}
 use Rattle.sourcemap_maps.specs.Builder.{changed_to}
 use Rattle.sourcemap_maps.proofs.BuilderLemmas.{changed_to-last, changed_to-kept}
 use Rattle.sourcemap_maps.proofs.builder.change.Goals as goal

@@ -1,6 +1,6 @@
 use Rattle.std.proofs.Common.{◌≡◌, ◌∙◌, sym, arith, rules, length, vec_len}
 use Rattle.std.proofs.lemmas.List.{length-map}
-use Rattle.sourcemap_maps.specs.Texts.{contents_in, texts_of}
+use Rattle.sourcemap_texts.specs.Texts.{contents_in, texts_of}
 use Rattle.sourcemap_maps.proofs.BuilderLemmas.{nothing-changed}
 use Rattle.sourcemap_maps.proofs.builder.changed_texts.Goals as goal
 

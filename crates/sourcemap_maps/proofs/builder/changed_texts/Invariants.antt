@@ -1,5 +1,5 @@
 use Rattle.std.proofs.Common.{◌≡◌, ◌≤◌, vec_len}
-use Rattle.sourcemap_maps.specs.Texts.{contents_in, texts_of}
+use Rattle.sourcemap_texts.specs.Texts.{contents_in, texts_of}
 use Rattle.sourcemap_maps.specs.Builder.{changed_to}
 use Rattle.sourcemap_maps.proofs.builder.changed_texts.Given as goal
 

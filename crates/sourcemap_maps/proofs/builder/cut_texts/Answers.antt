@@ -2,8 +2,8 @@
 use Rattle.std.proofs.Common.{◌≡◌, ◌∙◌, Ok, Some, ap, arith, map, option_map, string_bytes, slice_get, unwrap_or, sym}
 use Rattle.std.specs.Option.{option_copied}
 use Rattle.std.proofs.lemmas.List.{map-append, length-map}
-use Rattle.sourcemap_maps.specs.Texts.{contents_in}
-use Rattle.sourcemap_maps.specs.Prefixes.{cut_by}
+use Rattle.sourcemap_texts.specs.Texts.{contents_in}
+use Rattle.sourcemap_texts.specs.Prefixes.{cut_by}
 use Rattle.sourcemap_maps.proofs.BuilderLemmas.{changed_to-further, changed_to-through}
 use Rattle.sourcemap_maps.proofs.builder.cut_texts.Goals as goal
 

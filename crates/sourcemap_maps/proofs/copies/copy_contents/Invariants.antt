@@ -1,5 +1,5 @@
 use Rattle.std.proofs.Common.{◌≡◌, map, take, option_map, string_bytes}
-use Rattle.sourcemap_maps.specs.Texts.{contents_in}
+use Rattle.sourcemap_texts.specs.Texts.{contents_in}
 use Rattle.sourcemap_maps.proofs.copies.copy_contents.Given as goal
 
 abbrev pub invariant-loop-text : goal.invariant-loop-text

@@ -1,5 +1,5 @@
 use Rattle.std.proofs.Common.{◌≡◌, map, take, string_bytes}
-use Rattle.sourcemap_maps.specs.Texts.{texts_of}
+use Rattle.sourcemap_texts.specs.Texts.{texts_of}
 use Rattle.sourcemap_maps.proofs.copies.copy_texts.Given as goal
 
 abbrev pub invariant-loop-text : goal.invariant-loop-text

@@ -1,6 +1,6 @@
 use Rattle.std.proofs.Common.{◌≡◌, map}
-use Rattle.sourcemap_json.specs.Jsontypes.{text_view}
-use Rattle.sourcemap_maps.specs.Texts.{texts_of}
+use Rattle.sourcemap_records.specs.Jsontypes.{text_view}
+use Rattle.sourcemap_texts.specs.Texts.{texts_of}
 use Rattle.sourcemap_maps.specs.Decoder.{source_read}
 use Rattle.sourcemap_maps.proofs.decoder.all_sources.Given as goal
 

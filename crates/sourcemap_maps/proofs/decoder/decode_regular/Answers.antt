@@ -1,6 +1,6 @@
 use Rattle.std.proofs.Common.{Err}
-use Rattle.sourcemap_core.proofs.AnswerLemmas.{Gives-only}
-use Rattle.sourcemap_json.specs.Jsontypes.{flat, tree}
+use Rattle.sourcemap_errors.proofs.AnswerLemmas.{Gives-only}
+use Rattle.sourcemap_records.specs.Jsontypes.{flat, tree}
 use Rattle.sourcemap_maps.specs.Types.{MapValue}
 use Rattle.sourcemap_maps.specs.Decoder.{RecordDecodes}
 use Rattle.sourcemap_maps.proofs.DecoderLemmas.{RecordDecodes-same, refused-tokens, decoded, decoded-well}

@@ -1,8 +1,8 @@
 use Rattle.std.proofs.Common.{◌≡◌, [], map, refl, sym, arith}
 use Rattle.std.proofs.lemmas.List.{length-map}
 use Rattle.serde_json.specs.View.{view}
-use Rattle.sourcemap_json.specs.Jsontypes.{text_view}
-use Rattle.sourcemap_maps.specs.Texts.{texts_of}
+use Rattle.sourcemap_records.specs.Jsontypes.{text_view}
+use Rattle.sourcemap_texts.specs.Texts.{texts_of}
 use Rattle.sourcemap_maps.specs.Decoder.{name_read, source_read}
 use Rattle.sourcemap_maps.proofs.TextLemmas.{map-shown_behind_nothing}
 use Rattle.sourcemap_maps.proofs.decoder.map_with.Goals as goal

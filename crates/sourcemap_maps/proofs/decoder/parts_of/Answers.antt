@@ -1,4 +1,4 @@
-use Rattle.sourcemap_json.proofs.JsontypesLemmas.{flat-tree}
+use Rattle.sourcemap_records.proofs.JsontypesLemmas.{flat-tree}
 use Rattle.std.proofs.Common.{rules}
 use Rattle.sourcemap_maps.proofs.decoder.parts_of.Goals as goal
 

@@ -1,6 +1,6 @@
 use Rattle.std.proofs.Common.{◌≡◌, length, arith, ◌<◌}
 use Rattle.std.proofs.lemmas.List.{map-append}
-use Rattle.sourcemap_json.specs.Jsontypes.{text_view}
+use Rattle.sourcemap_records.specs.Jsontypes.{text_view}
 use Rattle.sourcemap_maps.specs.Types.{contents_of}
 use Rattle.sourcemap_maps.proofs.ListLemmas.{take-fitted}
 use Rattle.sourcemap_maps.proofs.encoder.content_texts.Goals as goal

@@ -1,5 +1,5 @@
 use Rattle.std.proofs.Common.{◌≡◌, map, take, length}
-use Rattle.sourcemap_json.specs.Jsontypes.{text_view}
+use Rattle.sourcemap_records.specs.Jsontypes.{text_view}
 use Rattle.sourcemap_maps.specs.Types.{fitted}
 use Rattle.sourcemap_maps.proofs.encoder.content_texts.Given as goal
 

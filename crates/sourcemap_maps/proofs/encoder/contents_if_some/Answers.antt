@@ -1,6 +1,6 @@
 use Rattle.std.proofs.Common.{◌≡◌, true, false, is_some, map, sym, ◌∙◌}
 use Rattle.std.specs.List.{list_any}
-use Rattle.sourcemap_json.specs.Jsontypes.{text_view}
+use Rattle.sourcemap_records.specs.Jsontypes.{text_view}
 use Rattle.sourcemap_maps.proofs.EncoderLemmas.{list_any-text_view}
 use Rattle.sourcemap_maps.proofs.encoder.contents_if_some.Goals as goal
 

@@ -1,5 +1,5 @@
 use Rattle.std.proofs.Common.{◌≡◌, map, take, string_bytes, Some}
-use Rattle.sourcemap_json.specs.Jsontypes.{text_view}
+use Rattle.sourcemap_records.specs.Jsontypes.{text_view}
 use Rattle.sourcemap_maps.proofs.encoder.source_texts.Given as goal
 
 abbrev pub invariant-loop-source : goal.invariant-loop-source

@@ -1,8 +1,8 @@
 use Rattle.std.proofs.Common.{subst, List, ℕ, Ok}
-use Rattle.sourcemap_core.specs.Mappings.{MappingsAnswer}
-use Rattle.sourcemap_core.specs.Tokens.{reduced}
+use Rattle.sourcemap_mappings.specs.Read.{MappingsAnswer}
+use Rattle.sourcemap_lists.specs.Tokens.{reduced}
 use Rattle.std.proofs.Common.{string_bytes}
-use Rattle.sourcemap_json.specs.Jsontypes.{text_view}
+use Rattle.sourcemap_records.specs.Jsontypes.{text_view}
 use Rattle.sourcemap_maps.proofs.EncoderLemmas.{same_listed}
 use Rattle.sourcemap_maps.proofs.encoder.token_texts.Goals as goal
 

@@ -1,6 +1,6 @@
 use Rattle.std.proofs.Common.{◌≡◌, true, false, is_some, option_map, string_bytes, slice_set, refl, ap, ◌∙◌, arith}
 use Rattle.std.proofs.lemmas.List.{map-set}
-use Rattle.sourcemap_maps.specs.Texts.{contents_in}
+use Rattle.sourcemap_texts.specs.Texts.{contents_in}
 use Rattle.sourcemap_maps.specs.KeptContents.{given}
 use Rattle.sourcemap_maps.proofs.KeptContentsLemmas.{given-at}
 use Rattle.sourcemap_maps.proofs.kept_contents.give.Goals as goal

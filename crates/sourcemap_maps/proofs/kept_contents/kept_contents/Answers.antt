@@ -1,7 +1,7 @@
 use Rattle.std.proofs.Common.{◌≡◌, ◌<◌, ℕ, Some, take, get_or, slice_get, sym, ap, subst, ◌∙◌}
 use Rattle.std.proofs.lemmas.List.{take_more}
 use Rattle.std.proofs.lemmas.Option.{slice_get-get_or, get_or_from_slice_get}
-use Rattle.sourcemap_maps.specs.Texts.{contents_in}
+use Rattle.sourcemap_texts.specs.Texts.{contents_in}
 use Rattle.sourcemap_maps.specs.KeptContents.{AreKept, IsPlaced}
 use Rattle.sourcemap_maps.proofs.NumberingLemmas.{All-at}
 use Rattle.sourcemap_maps.proofs.KeptContentsLemmas.{kept-more, left-more}

@@ -1,5 +1,5 @@
 use Rattle.std.proofs.Common.{take}
-use Rattle.sourcemap_maps.specs.Texts.{contents_in}
+use Rattle.sourcemap_texts.specs.Texts.{contents_in}
 use Rattle.sourcemap_maps.specs.KeptContents.{AreKept}
 use Rattle.sourcemap_maps.proofs.KeptContentsLemmas.{AreLeft}
 use Rattle.sourcemap_maps.proofs.kept_contents.kept_contents.Given as goal

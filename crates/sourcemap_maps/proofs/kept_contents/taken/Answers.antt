@@ -2,7 +2,7 @@ use Rattle.std.proofs.Common.{◌≡◌, option_map, option_and_then, string_byt
 use Rattle.std.specs.declared.alloc.Global.{Global}
 use Rattle.std.proofs.lemmas.List.{map-set, length-map}
 use Rattle.std.proofs.lemmas.Option.{slice_get_past}
-use Rattle.sourcemap_maps.specs.Texts.{contents_in}
+use Rattle.sourcemap_texts.specs.Texts.{contents_in}
 use Rattle.sourcemap_maps.proofs.kept_contents.taken.Goals as goal
 
 pub returns-then-id-len-clause-left : goal.returns-then-id-len-clause-left

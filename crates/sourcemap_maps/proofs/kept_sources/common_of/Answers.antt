@@ -2,8 +2,8 @@ use Rattle.std.proofs.Common.{◌≡◌, List, Option, Ok, true, map, option_map
 use Rattle.std.specs.Iterator.{DrainsIf}
 use Rattle.std.specs.Iterator.Runs.{Run, YieldsRun}
 use Rattle.std.proofs.lemmas.Iterator.{YieldsList, YieldsList-from_slice, YieldsList-from_map_by, items_from_drains}
-use Rattle.sourcemap_core.specs.Answer.{Gives}
-use Rattle.sourcemap_core.specs.Paths.{common_prefix}
+use Rattle.sourcemap_errors.specs.Answer.{Gives}
+use Rattle.sourcemap_texts.specs.Paths.{common_prefix}
 use Rattle.sourcemap_maps.proofs.kept_sources.common_of.Goals as goal
 
 -- the items of a whole run are the list that the iterator yields

@@ -1,5 +1,5 @@
 use Rattle.std.proofs.Common.{◌≡◌, ◌++◌, map, take, drop, string_bytes}
-use Rattle.sourcemap_maps.specs.Prefixes.{cut_by}
+use Rattle.sourcemap_texts.specs.Prefixes.{cut_by}
 use Rattle.sourcemap_maps.proofs.kept_sources.cut_all.Given as goal
 
 abbrev pub invariant-loop-text : goal.invariant-loop-text

@@ -1,7 +1,7 @@
 use Rattle.std.proofs.Common.{◌≡◌, codes, map, take}
 use Rattle.std.specs.Prelude.{filter, not}
 use Rattle.std.specs.Str.{bytes_eq}
-use Rattle.sourcemap_maps.specs.Texts.{texts_of}
+use Rattle.sourcemap_texts.specs.Texts.{texts_of}
 use Rattle.sourcemap_maps.proofs.kept_sources.plain_prefixes.Given as goal
 
 abbrev pub invariant-loop-prefix : goal.invariant-loop-prefix

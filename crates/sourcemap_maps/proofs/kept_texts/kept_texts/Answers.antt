@@ -2,7 +2,7 @@ use Rattle.std.proofs.Common.{◌≡◌, ◌≢◌, ◌+◌, ◌++◌, ◌∷◌
 use Rattle.std.specs.declared.alloc.Global.{Global}
 use Rattle.std.proofs.lemmas.List.{length-map, length-set, map_push}
 use Rattle.std.proofs.lemmas.Option.{slice_get-get_or, slice_get_read, slice_get_within}
-use Rattle.sourcemap_maps.specs.Texts.{texts_of}
+use Rattle.sourcemap_texts.specs.Texts.{texts_of}
 use Rattle.sourcemap_maps.specs.Numbering.{kept_of, IsMet}
 use Rattle.sourcemap_maps.proofs.NumberingLemmas.{All-at}
 use Rattle.sourcemap_maps.proofs.KeptTextsLemmas.{AreThere, moved-more, there-more, moved-same, there-same}

@@ -1,5 +1,5 @@
 use Rattle.std.proofs.Common.{◌≡◌, length, take}
-use Rattle.sourcemap_maps.specs.Texts.{texts_of}
+use Rattle.sourcemap_texts.specs.Texts.{texts_of}
 use Rattle.sourcemap_maps.specs.Numbering.{kept_of}
 use Rattle.sourcemap_maps.proofs.KeptTextsLemmas.{AreThere}
 use Rattle.sourcemap_maps.proofs.kept_texts.kept_texts.Given as goal

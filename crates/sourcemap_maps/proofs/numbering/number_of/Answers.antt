@@ -2,8 +2,8 @@ use Rattle.std.proofs.Common.{◌≡◌, None, is_some, if◌then◌else◌, ◌
 use Rattle.std.proofs.lemmas.List.{length_push}
 use Rattle.std.proofs.lemmas.Map.Text.{hash_map_updates_str}
 use Rattle.std.specs.HashMap.{hash_map_len}
-use Rattle.sourcemap_core.specs.Interner.{place_of}
-use Rattle.sourcemap_core.proofs.InternerLemmas.{places-append, place_of-last}
+use Rattle.sourcemap_lists.specs.Interner.{place_of}
+use Rattle.sourcemap_lists.proofs.InternerLemmas.{places-append, place_of-last}
 use Rattle.sourcemap_maps.specs.Numbering.{id_of}
 use Rattle.sourcemap_maps.proofs.numbering.number_of.Goals as goal
 

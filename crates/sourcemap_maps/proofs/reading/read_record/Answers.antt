@@ -1,7 +1,7 @@
 -- The record of the value that was read is that of the bytes.
 use Rattle.std.proofs.lemmas.Result.{err_from_is_err_and}
 use Rattle.serde_json.specs.View.{view}
-use Rattle.sourcemap_json.specs.Jsontypes.{tree}
+use Rattle.sourcemap_records.specs.Jsontypes.{tree}
 use Rattle.sourcemap_maps.proofs.ReadingLemmas.{record_of_json, no_json}
 use Rattle.sourcemap_maps.proofs.reading.read_record.Goals as goal
 

@@ -1,7 +1,7 @@
 use Rattle.std.proofs.Common.{◌≡◌, ℕ, false, List, length, map, get_or, replicate, string_bytes, refl, ap, sym, ◌∙◌}
 use Rattle.std.specs.declared.alloc.Global.{Global}
 use Rattle.std.proofs.lemmas.List.{length-map}
-use Rattle.sourcemap_core.specs.declared.tokens.RawToken.{RawToken}
+use Rattle.sourcemap_lists.specs.declared.tokens.RawToken.{RawToken}
 use Rattle.sourcemap_maps.specs.Numbering.{numbered_with}
 use Rattle.sourcemap_maps.proofs.NumberingLemmas.{numbering-new}
 use Rattle.sourcemap_maps.proofs.RenumberingLemmas.{AreMet-none, met-more, tokens-more, met-all, tokens-all}

@@ -2,8 +2,8 @@ use Rattle.std.proofs.Common.{◌≡◌, ℕ, List, length, map, string_bytes, u
 use Rattle.std.specs.List.{AllByRecursion}
 use Rattle.std.specs.declared.alloc.Global.{Global}
 use Rattle.std.proofs.lemmas.List.{with_items_is, length-map}
-use Rattle.sourcemap_maps.specs.Texts.{texts_of, contents_in}
-use Rattle.sourcemap_maps.specs.Prefixes.{cut_by}
+use Rattle.sourcemap_texts.specs.Texts.{texts_of, contents_in}
+use Rattle.sourcemap_texts.specs.Prefixes.{cut_by}
 use Rattle.sourcemap_maps.specs.Rewrite.{removal_of, all_prefixes}
 use Rattle.sourcemap_maps.specs.Numbering.{met_texts, AreNumbered, numbered_by, numbered_with}
 use Rattle.sourcemap_maps.specs.KeptContents.{IsPlaced, AreKept}

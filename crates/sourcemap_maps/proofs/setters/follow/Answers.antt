@@ -1,6 +1,6 @@
 use Rattle.std.proofs.Common.{◌≡◌, map, length, string_bytes, ap, arith}
 use Rattle.std.proofs.lemmas.List.{length-map}
-use Rattle.sourcemap_maps.specs.Texts.{texts_of}
+use Rattle.sourcemap_texts.specs.Texts.{texts_of}
 use Rattle.sourcemap_maps.specs.Types.{shown_behind}
 use Rattle.sourcemap_maps.proofs.SettersLemmas.{not_apart, followed}
 use Rattle.sourcemap_maps.proofs.setters.follow.Goals as goal

@@ -1,5 +1,5 @@
 use Rattle.std.proofs.Common.{Ok, ap, sym, ◌∙◌}
-use Rattle.sourcemap_maps.specs.Texts.{texts_of}
+use Rattle.sourcemap_texts.specs.Texts.{texts_of}
 use Rattle.sourcemap_maps.proofs.TextLemmas.{map-shown_behind_nothing}
 use Rattle.sourcemap_maps.proofs.texts.with_root.Goals as goal
 

@@ -1,5 +1,5 @@
-use Rattle.sourcemap_core.specs.Interner.{with_text}
-use Rattle.sourcemap_maps.specs.Texts.{contents_in}
+use Rattle.sourcemap_lists.specs.Interner.{with_text}
+use Rattle.sourcemap_texts.specs.Texts.{contents_in}
 use Rattle.sourcemap_maps.specs.BuilderStored.{built_of}
 use Rattle.std.proofs.Common.{ap, ◌∙◌}
 use Rattle.sourcemap_maps.specs.Builder.{changed_to}

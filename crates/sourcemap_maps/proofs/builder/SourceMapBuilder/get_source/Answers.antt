@@ -1,5 +1,5 @@
 use Rattle.std.proofs.Common.{rules}
-use Rattle.sourcemap_maps.specs.Texts.{contents_in}
+use Rattle.sourcemap_texts.specs.Texts.{contents_in}
 use Rattle.sourcemap_maps.proofs.BuilderLemmas.{slice_get-changed_to}
 use Rattle.sourcemap_maps.proofs.builder.SourceMapBuilder.get_source.Goals as goal
 

@@ -1,5 +1,5 @@
 use Rattle.std.proofs.Common.{◌<◌, length, ap, sym, subst, string_bytes}
-use Rattle.sourcemap_maps.specs.Texts.{contents_in}
+use Rattle.sourcemap_texts.specs.Texts.{contents_in}
 use Rattle.sourcemap_maps.specs.BuilderStored.{built_of}
 use Rattle.sourcemap_maps.proofs.BuilderLemmas.{on_ok, shown-put, here-too, length-changed_to}
 use Rattle.sourcemap_maps.proofs.builder.SourceMapBuilder.set_source.Goals as goal

@@ -1,6 +1,6 @@
 use Rattle.std.proofs.Common.{◌<◌, ◌∙◌, length, ap, sym, subst, string_bytes, option_map}
 use Rattle.std.specs.Option.{option_copied}
-use Rattle.sourcemap_maps.specs.Texts.{contents_in}
+use Rattle.sourcemap_texts.specs.Texts.{contents_in}
 use Rattle.sourcemap_maps.specs.Builder.{changed_to}
 use Rattle.sourcemap_maps.specs.BuilderStored.{built_of}
 use Rattle.sourcemap_maps.proofs.BuilderLemmas.{on_ok, contents-put, here-too, length-changed_to}

@@ -1,6 +1,6 @@
 use Rattle.std.proofs.Common.{◌≡◌, ◌≤◌, ℕ, List, length, subst, ap, ◌∙◌}
-use Rattle.sourcemap_core.specs.declared.tokens.RawToken.{RawToken}
-use Rattle.sourcemap_json.specs.Jsontypes.{tree, flat}
+use Rattle.sourcemap_lists.specs.declared.tokens.RawToken.{RawToken}
+use Rattle.sourcemap_records.specs.Jsontypes.{tree, flat}
 use Rattle.sourcemap_maps.specs.Types.{MapValue, IsWellFormed}
 use Rattle.sourcemap_maps.specs.Encoder.{ReadsBack}
 use Rattle.sourcemap_maps.specs.EncoderParts.{AreTextsOf}

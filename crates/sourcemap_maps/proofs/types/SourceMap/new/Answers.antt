@@ -1,7 +1,7 @@
 use Rattle.std.proofs.Common.{[], refl, sym, arith}
 use Rattle.std.proofs.lemmas.List.{length-map}
-use Rattle.sourcemap_core.proofs.TokensLemmas.{AreInOrder-in_order}
-use Rattle.sourcemap_maps.specs.Texts.{texts_of}
+use Rattle.sourcemap_lists.proofs.TokensLemmas.{AreInOrder-in_order}
+use Rattle.sourcemap_texts.specs.Texts.{texts_of}
 use Rattle.sourcemap_maps.proofs.TextLemmas.{map-shown_behind_nothing}
 use Rattle.sourcemap_maps.proofs.types.SourceMap.new.Goals as goal
 

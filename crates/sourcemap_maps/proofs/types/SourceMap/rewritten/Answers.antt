@@ -1,6 +1,6 @@
 use Rattle.std.proofs.Common.{◌≡◌, ℕ, List, [], None, Ok, cond, unwrap_or, refl, sym, ap, ◌∙◌}
 use Rattle.sourcemap_maps.specs.Stored.{value_of}
-use Rattle.sourcemap_maps.specs.Texts.{texts_of}
+use Rattle.sourcemap_texts.specs.Texts.{texts_of}
 use Rattle.sourcemap_maps.specs.Types.{MapValue, shown_sources}
 use Rattle.sourcemap_maps.specs.Rewrite.{removal_of, rewritten}
 use Rattle.sourcemap_maps.proofs.RewriteLemmas.{tokens-rewritten, names-rewritten, sources-rewritten, contents-rewritten, sound-rewritten}

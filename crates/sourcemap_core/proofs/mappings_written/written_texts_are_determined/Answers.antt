@@ -1,5 +1,0 @@
-use Rattle.sourcemap_core.proofs.WrittenLaws.{IsWritten-same, IsRangeText-same}
-use Rattle.sourcemap_core.proofs.mappings_written.written_texts_are_determined.Goals as goal
-
-pub returns : goal.returns
-returns c = record { one_text = IsWritten-same; one_range_text = IsRangeText-same }

@@ -1,0 +1,7 @@
+use Rattle.std.proofs.Common.{◌≡◌, ℕ, List, ◌++◌, length, string_bytes}
+use Rattle.sourcemap_digits.proofs.BitLemmas.{Begins}
+use Rattle.sourcemap_digits.proofs.bits.push_bits.Given as goal
+
+abbrev pub invariant-loop-digit : goal.invariant-loop-digit
+invariant-loop-digit l = (part : List ℕ) × (string_bytes l.text ≡ string_bytes l.initial.text ++ part)
+    × (length part ≡ l.digit) × Begins l.bits part

@@ -1,0 +1,132 @@
+-- Numbers in digits of base 64. A digit holds five bits of its number, the lowest first, and one
+-- more, worth 32, that is set if the number goes on.
+use Rattle.std.specs.Prelude.{◌≡◌, ◌≢◌, ℕ, ◌+◌, ◌-◌, ◌*◌, ◌/◌, ◌%◌, ◌^◌, ◌<◌, ◌≤◌, ◌==◌, ◌&&◌, nat_lt, nat_le, if◌then◌else◌, List, [], ◌∷◌, ◌++◌, length, Option, Some, None, unwrap_or, Result, Ok, Err, ℤ, pos, unsigned_abs, Any}
+use Rattle.std.specs.List.{AllByRecursion}
+use lib.IntN.{neg_ℤ}
+use Rattle.sourcemap_errors.specs.declared.errors.Error.{Error}
+use Rattle.sourcemap_errors.specs.declared.errors.Error.TheVariants.{VlqLeftover, VlqNoValues, VlqOverflow, InvalidBase64}
+
+-- the value of a digit: `A` to `Z`, `a` to `z`, `0` to `9`, `+` and `/`; any other byte is none
+unfoldable pub digit_value : ℕ → Option ℕ
+digit_value c =
+    if nat_le 65 c && nat_le c 90 then Some (c - 65)
+    else if nat_le 97 c && nat_le c 122 then Some (c - 71)
+    else if nat_le 48 c && nat_le c 57 then Some (c + 4)
+    else if c == 43 then Some 62
+    else if c == 47 then Some 63
+    else None
+
+-- the digit of a value below 64
+unfoldable pub glyph : ℕ → ℕ
+glyph v =
+    if nat_lt v 26 then v + 65
+    else if nat_lt v 52 then v + 71
+    else if nat_lt v 62 then v - 4
+    else if v == 62 then 43
+    else 47
+
+-- another digit of the same number follows this one
+abbrev pub GoesOn : ℕ → Type 0
+GoesOn c = (v : ℕ) × (digit_value c ≡ Some v) × (32 ≤ v)
+
+-- the number ends with this digit
+abbrev pub IsLast : ℕ → Type 0
+IsLast c = (v : ℕ) × (digit_value c ≡ Some v) × (v < 32)
+
+-- the five bits of data of a digit
+abbrev pub data_of : ℕ → ℕ
+data_of c = unwrap_or (digit_value c) 0 % 32
+
+-- the data of all digits as one number, the first digit the least significant
+abbrev pub raw_of : List ℕ → ℕ
+raw_of [] = 0
+raw_of (c ∷ cs) = data_of c + 32 * raw_of cs
+
+-- half of a raw value, negated if it is odd
+abbrev pub number_of : ℕ → ℤ
+number_of raw = if raw % 2 == 0 then pos (raw / 2) else neg_ℤ (pos (raw / 2))
+
+-- each digit but the last goes on
+abbrev pub IsChain : List ℕ → Type 0
+IsChain [] = ⊥
+IsChain (c ∷ []) = IsLast c
+IsChain (c ∷ d ∷ cs) = GoesOn c × IsChain (d ∷ cs)
+
+-- at most thirteen digits, whose raw value is below 2 ^ 63
+pub record IsSmall (digits : List ℕ) : Type 0 where
+  pub few : length digits ≤ 13
+  pub small : raw_of digits < 2 ^ 63
+
+-- the digits of one number
+pub record IsGroup (digits : List ℕ) (number : ℤ) : Type 0 where
+  pub chain : IsChain digits
+  pub few : length digits ≤ 13
+  pub small : raw_of digits < 2 ^ 63
+  pub value : number ≡ number_of (raw_of digits)
+
+-- a text is a group for each number, put end to end
+abbrev pub Reads : List ℕ → List ℤ → Type 0
+Reads text [] = text ≡ []
+Reads text (n ∷ ns) = (group rest : List ℕ) × IsGroup group n × (text ≡ group ++ rest) × Reads rest ns
+
+-- digits of a number that is not at its end and not yet too great
+pub record IsUnfinished (part : List ℕ) : Type 0 where
+  pub goes_on : AllByRecursion GoesOn part
+  pub fits : IsSmall part
+
+-- a text begins with the digits `part` of an unfinished number, and the byte c comes next
+pub record GoesTo (text part : List ℕ) (c : ℕ) : Type 0 where
+  pub more : List ℕ
+  pub split : text ≡ part ++ c ∷ more
+  pub unfinished : IsUnfinished part
+
+-- the first number of a text has this fault
+abbrev pub NumberFault : List ℕ → Error → Type 0
+NumberFault text (InvalidBase64 c) = (part : List ℕ) × GoesTo text part c × (digit_value c ≡ None)
+NumberFault text VlqOverflow = (part : List ℕ) × (c : ℕ) × GoesTo text part c × (digit_value c ≢ None) × ¬ IsSmall (part ++ c ∷ [])
+NumberFault text VlqLeftover = IsUnfinished text
+NumberFault text _ = ⊥
+
+-- a text begins with this number, and this is what comes behind it
+pub record BeginsWith (text : List ℕ) (number : ℤ) (rest : List ℕ) : Type 0 where
+  pub group : List ℕ
+  pub is_group : IsGroup group number
+  pub split : text ≡ group ++ rest
+
+-- numbers without a fault, and then these bytes
+pub record IsSound (text rest : List ℕ) : Type 0 where
+  pub front : List ℕ
+  pub numbers : List ℤ
+  pub reads : Reads front numbers
+  pub split : text ≡ front ++ rest
+
+-- the first fault of a text
+abbrev pub HasFault : List ℕ → Error → Type 0
+HasFault text VlqNoValues = text ≡ []
+HasFault text e = (rest : List ℕ) × IsSound text rest × (rest ≢ []) × NumberFault rest e
+
+-- what a text stands for: at least one number, or its first fault
+abbrev pub Answers : List ℕ → Result (List ℤ) Error → Type 0
+Answers text (Ok numbers) = Reads text numbers × (numbers ≢ [])
+Answers text (Err e) = HasFault text e
+
+-- the shortest digits of a number, of which 0 has no sign
+pub record IsShortest (digits : List ℕ) (number : ℤ) : Type 0 where
+  pub is_group : IsGroup digits number
+  pub shortest : (other : List ℕ) → IsGroup other number → length digits ≤ length other
+  pub unsigned_zero : raw_of digits ≢ 1
+
+-- a text is the shortest digits of each number, put end to end
+abbrev pub Spells : List ℤ → List ℕ → Type 0
+Spells [] text = text ≡ []
+Spells (n ∷ ns) text = (group rest : List ℕ) × IsShortest group n × (text ≡ group ++ rest) × Spells ns rest
+
+-- no group holds this number
+abbrev pub IsTooFar : ℤ → Type 0
+IsTooFar n = 2 ^ 62 ≤ unsigned_abs n
+
+-- what is written for numbers: their digits, or a refusal if one is too far
+abbrev pub Written : List ℤ → Result (List ℕ) Error → Type 0
+Written numbers (Ok text) = Spells numbers text
+Written numbers (Err VlqOverflow) = Any IsTooFar numbers
+Written numbers (Err _) = ⊥

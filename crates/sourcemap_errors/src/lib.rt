@@ -1,0 +1,4 @@
+//! Faults of source maps, and what a call may answer.
+#![tactic(auto)]
+
+pub mod errors;

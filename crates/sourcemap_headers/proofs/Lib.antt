@@ -1,0 +1,3 @@
+pub mod DataUrlLemmas
+pub mod DebugIdLemmas
+pub mod HeaderReaderLemmas

@@ -1,0 +1,4 @@
+pub mod DataUrl
+pub mod DebugId
+pub mod Header
+pub mod HeaderReader

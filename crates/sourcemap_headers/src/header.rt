@@ -1,0 +1,47 @@
+ghost use Rattle.std.specs.Prelude.{◌≡◌, Some, None, IfOk, IfErr};
+ghost use Rattle.std.specs.IoError.{error_kind};
+ghost use Rattle.std.specs.declared.io.ErrorKind.TheVariants.{InvalidData};
+ghost use Rattle.sourcemap_headers.specs.Header.{begins_junk, goes_on_in_line, behind_header};
+
+use std::io;
+
+fn begins_junk_header(bytes: &[u8]) -> bool
+    ensures { result ≡ begins_junk bytes.now }
+{
+    match bytes {
+        [] => false,
+        [first, ..] => *first == b')' || *first == b']' || *first == b'}' || *first == b'\'',
+    }
+}
+
+fn goes_on(bytes: &[u8]) -> bool
+    ensures { result ≡ goes_on_in_line bytes.now }
+{
+    match bytes {
+        [] => false,
+        [first, ..] => *first != b'\n',
+    }
+}
+
+/// The bytes behind a junk header, from the newline that ends it on; all bytes where there is no
+/// header, and none where it never ends. A carriage return in the header with another byte than a
+/// newline behind it is a fault of kind `InvalidData`.
+pub fn strip_junk_header(bytes: &[u8]) -> io::Result<&[u8]>
+    ensures bytes { IfOk result (λ rest. behind_header bytes.now ≡ Some rest.now) }
+    ensures fault { IfErr result (λ e. (behind_header bytes.now ≡ None) × (error_kind e ≡ InvalidData)) }
+{
+    if !begins_junk_header(bytes) {
+        return Ok(bytes);
+    }
+    let mut rest = bytes;
+    while let [first, later @ ..] = rest {
+        if *first == b'\n' {
+            return Ok(rest);
+        }
+        if *first == b'\r' && goes_on(later) {
+            return Err(io::Error::from(io::ErrorKind::InvalidData));
+        }
+        rest = later;
+    }
+    Ok(rest)
+}

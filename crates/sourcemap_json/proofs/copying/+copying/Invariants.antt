@@ -1,6 +1,0 @@
-use Rattle.std.proofs.Common.{◌≡◌, map, take}
-use Rattle.sourcemap_json.specs.Jsontypes.{section}
-use Rattle.sourcemap_json.proofs.copying.+copying.Given as goal
-
-abbrev pub invariant-copy_list-loop-part : goal.invariant-copy_list-loop-part
-invariant-copy_list-loop-part l = map section l.copies.items ≡ map section (take l.part-index l.sections.items)

@@ -1,5 +1,0 @@
-use Rattle.sourcemap_json.proofs.DataUrlLemmas.{one_answer}
-use Rattle.sourcemap_json.proofs.data_url.data_urls_have_one_answer.Goals as goal
-
-pub returns : goal.returns
-returns c = one_answer

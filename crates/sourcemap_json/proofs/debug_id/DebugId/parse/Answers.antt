@@ -1,6 +1,0 @@
-use Rattle.std.proofs.Common.{true≢false, sym}
-use Rattle.sourcemap_json.proofs.DebugIdLemmas.{not_parsed}
-use Rattle.sourcemap_json.proofs.debug_id.DebugId.parse.Goals as goal
-
-pub returns-in-Err : goal.returns-in-Err
-returns-in-Err c = not_parsed c.args.text.now (λ h. true≢false (sym (c.in-Err.ensures.ok.1 h)))

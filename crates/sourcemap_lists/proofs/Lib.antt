@@ -1,0 +1,4 @@
+pub mod InternerLemmas
+pub mod SearchLemmas
+pub mod SortLemmas
+pub mod TokensLemmas

@@ -1,0 +1,3 @@
+pub mod Interner
+pub mod Search
+pub mod Tokens

@@ -1,0 +1,6 @@
+//! Lists of tokens and of texts: their order, the item closest to a place, numbers for texts.
+#![tactic(auto)]
+
+pub mod interner;
+pub mod search;
+pub mod tokens;

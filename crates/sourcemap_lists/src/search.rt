@@ -1,0 +1,65 @@
+ghost use Rattle.std.specs.Prelude.{◌≡◌, ℕ, Some, IsTrue, IfSome, IsSortedByKey, option_map, slice_get};
+ghost use Rattle.std.specs.Ordering.{is_le};
+ghost use Rattle.sourcemap_lists.specs.Search.{GivesKey, closest};
+
+use std::cmp::Ordering;
+
+/// The item closest to `key`, with its own index. In a slice in order of `map` that is the first of
+/// those with this key; where there are none, the last of those with a smaller one, if any. Of a slice in no order
+/// some item whose key is at most `key`, or none.
+pub fn greatest_lower_bound<'a, T, K: Ord + Drop, F: Fn(&'a T) -> K>(
+    slice: &'a [T],
+    key: &K,
+    map: F,
+) -> Option<(usize, &'a T)>
+    requires { F.IsAlwaysCallable map }
+    // the index is the item's own
+    ensures own_index { IfSome result (λ found. slice_get slice.now found.0 ≡ Some found.1.now) }
+    ensures closest { (key_of : T → K) → GivesKey (F.post map) key_of → IsSortedByKey key_of K.cmp slice.now
+        → option_map (λ found. (found.0, found.1.now)) result ≡ closest key_of K.cmp slice.now key.now }
+    ensures at_most { (key_of : T → K) → GivesKey (F.post map) key_of
+        → IfSome result (λ found. IsTrue (is_le (K.cmp (key_of found.1.now) key.now))) }
+{
+    let mut low = 0;
+    let mut high = slice.len();
+    while low < high {
+        let middle = low + (high - low) / 2;
+        if map(&slice[middle]).cmp(key) == Ordering::Less {
+            low = middle + 1;
+        } else {
+            high = middle;
+        }
+    }
+    if low < slice.len() {
+        let item = &slice[low];
+        if map(item).cmp(key) == Ordering::Equal {
+            return Some((low, item));
+        }
+    }
+    if low == 0 {
+        return None;
+    }
+    Some((low - 1, &slice[low - 1]))
+}
+
+#[cfg(test)]
+mod tests {
+    use super::*;
+    use std::test::Fail;
+
+    #[test]
+    fn finds_first_at_and_last_before(rt: HostRuntime) -> Result<(), Fail> {
+        let pairs = [(1, 10), (1, 11), (1, 12), (1, 13), (1, 14)];
+        for (n, last) in [(1, 10), (2, 11), (3, 12), (4, 13), (5, 14)] {
+            for (key, want) in [(1, Some((0, 10))), (2, Some((n - 1, last))), (0, None)] {
+                let found = greatest_lower_bound(&pairs[..n], &key, |pair| pair.0);
+                assert_eq!(rt;
+                    found.map(|(at, pair)| (at, pair.1)),
+                    want,
+                    "key {key} of {n}"
+                );
+            }
+        }
+        Ok(())
+    }
+}

@@ -1,0 +1,14 @@
+pub mod BufferLemmas
+pub mod ReadAnswers
+pub mod ReadLemmas
+pub mod ReadOrder
+pub mod WriteLemmas
+pub mod WrittenBytes
+pub mod WrittenLaws
+pub mod WrittenLines
+pub mod WrittenRanges
+pub mod WrittenReadBack
+pub mod WrittenSegments
+pub mod WrittenSums
+pub mod WrittenTokens
+pub mod WrittenWalk

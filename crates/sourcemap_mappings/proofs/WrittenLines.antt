@@ -1,0 +1,154 @@
+-- A text of lines as it grows at the end.
+use Rattle.std.proofs.Common.{◌≡◌, ℕ, ◌+◌, ◌-◌, ◌<◌, ◌≤◌, suc, zero, List, [], ◌∷◌, ◌++◌, length, replicate, refl, sym, ap, subst, ◌∙◌, ⊎_elim, append_assoc, append-nil, length-append, arith}
+use Rattle.std.specs.List.{join_with_byte}
+use Rattle.std.proofs.lemmas.Bool.{cases_lt}
+use Rattle.std.proofs.lemmas.List.{nil_from_length}
+use Rattle.sourcemap_lists.specs.declared.tokens.RawToken.{RawToken}
+use Rattle.sourcemap_mappings.specs.Write.{EachLine, LineByLine, line_count}
+
+pub EachLine-push : (P : ℕ → List ℕ → Type 0) (n : ℕ) (parts : List (List ℕ)) (part : List ℕ)
+    → EachLine P n parts → P (n + length parts) part → EachLine P n (parts ++ part ∷ [])
+EachLine-push P n [] part each p = (subst (λ (m : ℕ). P m part) (omega arith) p, tt)
+EachLine-push P n (q ∷ qs) part each p =
+    (each.0, EachLine-push P (n + 1) qs part each.1 (subst (λ (m : ℕ). P m part) (omega arith) p))
+
+pub EachLine-map : (P Q : ℕ → List ℕ → Type 0) (top n : ℕ) (parts : List (List ℕ))
+    → ((m : ℕ) (part : List ℕ) → m < top → P m part → Q m part) → n + length parts ≤ top → EachLine P n parts → EachLine Q n parts
+EachLine-map P Q top n [] f h each = tt
+EachLine-map P Q top n (p ∷ ps) f h each =
+    (f n p (omega arith) each.0, EachLine-map P Q top (n + 1) ps f (omega arith) each.1)
+
+-- each part with the end of its line
+ended : List (List ℕ) → List ℕ
+ended [] = []
+ended (part ∷ parts) = part ++ 59 ∷ ended parts
+
+ended_push : (parts : List (List ℕ)) (part : List ℕ) → ended (parts ++ part ∷ []) ≡ ended parts ++ (part ++ 59 ∷ [])
+unfolding ended
+ended_push [] part = refl
+ended_push (p ∷ ps) part = ap (λ t. p ++ 59 ∷ t) (ended_push ps part) ∙ sym (append_assoc p (59 ∷ ended ps) (part ++ 59 ∷ []))
+
+join_ended : (parts : List (List ℕ)) (last : List ℕ) → join_with_byte 59 (parts ++ last ∷ []) ≡ ended parts ++ last
+unfolding ended
+join_ended [] last = refl
+join_ended (p ∷ []) last = sym (append_assoc p (59 ∷ []) last)
+join_ended (p ∷ q ∷ ps) last = ap (λ t. p ++ 59 ∷ t) (join_ended (q ∷ ps) last) ∙ sym (append_assoc p (59 ∷ ended (q ∷ ps)) last)
+
+-- the text of the lines above this one, each with its end
+pub record Ended (P : ℕ → List ℕ → Type 0) (line : ℕ) (text : List ℕ) : Type 0 where
+  parts : List (List ℕ)
+  count : length parts ≡ line
+  each : EachLine P 0 parts
+  is : text ≡ ended parts
+
+pub Ended-none : (P : ℕ → List ℕ → Type 0) → Ended P 0 []
+unfolding ended
+Ended-none P = record { parts = []; count = refl; each = tt; is = refl }
+
+pub Ended-map : (P Q : ℕ → List ℕ → Type 0) (line : ℕ) (text : List ℕ)
+    → ((m : ℕ) (part : List ℕ) → m < line → P m part → Q m part) → Ended P line text → Ended Q line text
+Ended-map P Q line text f e = record {
+  parts = e.parts;
+  count = e.count;
+  each = (let count : length e.parts ≡ line = e.count in EachLine-map P Q line 0 e.parts f (omega arith) e.each);
+  is = e.is;
+}
+
+Ended-more : (P : ℕ → List ℕ → Type 0) (line : ℕ) (text part : List ℕ) → Ended P line text → P line part
+    → Ended P (line + 1) (text ++ (part ++ 59 ∷ []))
+Ended-more P line text part e p =
+    let count : length e.parts ≡ line = e.count in
+    record {
+      parts = e.parts ++ part ∷ [];
+      count = length-append e.parts (part ∷ []) ∙ ap (λ n. n + 1) count;
+      each = EachLine-push P 0 e.parts part e.each (subst (λ (m : ℕ). P m part) (omega arith) p);
+      is = ap (λ t. t ++ (part ++ 59 ∷ [])) e.is ∙ sym (ended_push e.parts part);
+    }
+
+Ended-blank : (P : ℕ → List ℕ → Type 0) (line k : ℕ) (text : List ℕ) → ((m : ℕ) → line ≤ m → P m []) → Ended P line text
+    → Ended P (line + k) (text ++ replicate k 59)
+Ended-blank P line zero text blank e =
+    subst (λ (t : List ℕ). Ended P (line + 0) t) (sym (append-nil text)) (subst (λ (m : ℕ). Ended P m text) (omega arith) e)
+Ended-blank P line (suc k) text blank e =
+    let more = Ended-more P line text [] e (blank line (omega arith)) in
+    let rest = Ended-blank P (line + 1) k (text ++ 59 ∷ []) (λ m h. blank m (omega arith)) more in
+    subst (λ (t : List ℕ). Ended P (line + suc k) t) (append_assoc text (59 ∷ []) (replicate k 59))
+    (subst (λ (m : ℕ). Ended P m ((text ++ 59 ∷ []) ++ replicate k 59)) (omega arith) rest)
+
+-- past the part of this line, and then k blank lines
+Ended-turn_by : (P : ℕ → List ℕ → Type 0) (line k : ℕ) (text part : List ℕ) → ((m : ℕ) → line < m → P m [])
+    → Ended P line text → P line part → Ended P (line + 1 + k) ((text ++ part) ++ replicate (suc k) 59)
+Ended-turn_by P line k text part blank e p =
+    let rest = Ended-blank P (line + 1) k (text ++ (part ++ 59 ∷ [])) (λ m h. blank m (omega arith)) (Ended-more P line text part e p) in
+    subst (λ (t : List ℕ). Ended P (line + 1 + k) t)
+    (ap (λ t. t ++ replicate k 59) (sym (append_assoc text part (59 ∷ []))) ∙ append_assoc (text ++ part) (59 ∷ []) (replicate k 59))
+    rest
+
+-- past the part of this line to a later line
+pub Ended-turn : (P : ℕ → List ℕ → Type 0) (line n : ℕ) (text part : List ℕ) → line < n → ((m : ℕ) → line < m → P m [])
+    → Ended P line text → P line part → Ended P n ((text ++ part) ++ replicate (n - line) 59)
+Ended-turn P line n text part h blank e p =
+    let at : line + 1 + (n - line - 1) ≡ n = omega arith in
+    let lines : suc (n - line - 1) ≡ n - line = omega arith in
+    subst (λ (k : ℕ). Ended P n ((text ++ part) ++ replicate k 59)) lines
+    (subst (λ (m : ℕ). Ended P m ((text ++ part) ++ replicate (suc (n - line - 1)) 59)) at
+    (Ended-turn_by P line (n - line - 1) text part blank e p))
+
+-- with the part of the last line the text is whole
+pub Ended-last : (P : ℕ → List ℕ → Type 0) (line : ℕ) (text part : List ℕ) (tokens : List RawToken)
+    → line + 1 ≡ line_count tokens → Ended P line text → P line part → LineByLine P tokens (text ++ part)
+Ended-last P line text part tokens at e p =
+    let count : length e.parts ≡ line = e.count in (
+      e.parts ++ part ∷ [],
+      length-append e.parts (part ∷ []) ∙ ap (λ n. n + 1) count ∙ at,
+      EachLine-push P 0 e.parts part e.each (subst (λ (m : ℕ). P m part) (omega arith) p),
+      ap (λ t. t ++ part) e.is ∙ sym (join_ended e.parts part),
+    )
+
+-- A text that has come to a line.
+
+pub record Reached (P : ℕ → List ℕ → Type 0) (line : ℕ) (text : List ℕ) : Type 0 where
+  pub above : List ℕ
+  pub here : List ℕ
+  pub ends : Ended P line above
+  pub on : P line here
+  pub is : text ≡ above ++ here
+
+pub Reached-turn : (P : ℕ → List ℕ → Type 0) (line n : ℕ) (text : List ℕ) → line ≤ n → ((m : ℕ) → line < m → P m [])
+    → Reached P line text → Reached P n (text ++ replicate (n - line) 59)
+Reached-turn P line n text h blank r = ⊎_elim
+    (λ (past : line < n). record {
+      above = text ++ replicate (n - line) 59;
+      here = [];
+      ends = subst (λ (t : List ℕ). Ended P n (t ++ replicate (n - line) 59)) (sym r.is)
+          (Ended-turn P line n r.above r.here past blank r.ends r.on);
+      on = blank n past;
+      is = sym (append-nil (text ++ replicate (n - line) 59));
+    })
+    (λ (not_past : n ≤ line).
+    let same : line ≡ n = omega arith in
+    let no_line : n - line ≡ 0 = omega arith in
+    let none : replicate (n - line) 59 ≡ [] = ap (λ (k : ℕ). replicate k 59) no_line in
+    let text_is : text ≡ text ++ replicate (n - line) 59 = sym (append-nil text) ∙ ap (λ t. text ++ t) (sym none) in
+    subst (λ (t : List ℕ). Reached P n t) text_is (subst (λ (m : ℕ). Reached P m text) same r))
+    (cases_lt line n)
+
+pub Reached-more : (P Q : ℕ → List ℕ → Type 0) (line : ℕ) (text added : List ℕ)
+    → ((m : ℕ) (part : List ℕ) → m < line → P m part → Q m part) → ((part : List ℕ) → P line part → Q line (part ++ added))
+    → Reached P line text → Reached Q line (text ++ added)
+Reached-more P Q line text added f g r = record {
+  above = r.above;
+  here = r.here ++ added;
+  ends = Ended-map P Q line r.above f r.ends;
+  on = g r.here r.on;
+  is = ap (λ t. t ++ added) r.is ∙ append_assoc r.above r.here added;
+}
+
+pub Reached-last : (P : ℕ → List ℕ → Type 0) (line : ℕ) (text : List ℕ) (tokens : List RawToken)
+    → line + 1 ≡ line_count tokens → Reached P line text → LineByLine P tokens text
+Reached-last P line text tokens at r =
+    subst (λ (t : List ℕ). LineByLine P tokens t) (sym r.is) (Ended-last P line r.above r.here tokens at r.ends r.on)
+
+pub Ended-zero : (P : ℕ → List ℕ → Type 0) (line : ℕ) (text : List ℕ) → line ≡ 0 → Ended P line text → text ≡ []
+unfolding ended
+Ended-zero P line text at e = e.is ∙ ap ended (nil_from_length e.parts (e.count ∙ at))

@@ -1,0 +1,18 @@
+use Rattle.std.proofs.Common.{length, ◌+◌, ◌≤◌, ◌==◌}
+use Rattle.std.specs.List.{slice_split}
+use Rattle.sourcemap_mappings.specs.Read.{Segment}
+use Rattle.sourcemap_mappings.specs.ReadSteps.{AreTextSums, AreInOrderTo, counts_of}
+use Rattle.sourcemap_mappings.proofs.ReadLemmas.{PartsSoFar}
+use Rattle.std.proofs.Common.{List}
+use Rattle.sourcemap_mappings.proofs.read.add_parts.Given as goal
+
+abbrev pub invariant-loop-read : goal.invariant-loop-read
+invariant-loop-read l = record {
+  places : l.place + length l.rest ≤ length l.text;
+  so_far : (before : List Segment) → AreTextSums before l.fn.sums
+      → PartsSoFar (counts_of l.limits) l.line l.bits before (slice_split (λ b. b == 44) l.text) l.place (slice_split (λ b. b == 44) l.rest) l.initial.tokens.items l.tokens.items l.sums;
+  order : AreInOrderTo l.line (record l.fn.sums { column = 0 }) l.initial.tokens.items → AreInOrderTo l.line l.sums l.tokens.items;
+}
+
+abbrev pub decreases-loop-read : goal.decreases-loop-read
+decreases-loop-read l = length l.rest

@@ -1,0 +1,11 @@
+use Rattle.std.proofs.Common.{length}
+use Rattle.sourcemap_mappings.specs.ReadSteps.{AreSteps}
+use Rattle.sourcemap_digits.specs.Vlq.{IsSound}
+use Rattle.sourcemap_mappings.proofs.ReadLemmas.{Lacks}
+use Rattle.sourcemap_mappings.proofs.read.any_part.Given as goal
+
+abbrev pub invariant-loop-first : goal.invariant-loop-first
+invariant-loop-first l = (sound : IsSound l.line l.rest) × Lacks sound.front × AreSteps sound.numbers l.read
+
+abbrev pub decreases-loop-first : goal.decreases-loop-first
+decreases-loop-first l = length l.rest

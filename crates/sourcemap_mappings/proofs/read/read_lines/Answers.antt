@@ -1,0 +1,24 @@
+use Rattle.std.proofs.Common.{arith}
+use Rattle.sourcemap_mappings.proofs.ReadLemmas.{PageSoFar-none, PageSoFar-more, PageSoFar-all}
+use Rattle.sourcemap_mappings.proofs.ReadOrder.{order_none}
+use Rattle.sourcemap_mappings.proofs.read.read_lines.Goals as goal
+
+pub loop-lines-init : goal.loop-lines-init
+loop-lines-init c = record {
+  numbers = omega arith;
+  so_far = rw c.in_ok-tokens.ensures.items (PageSoFar-none _ _);
+  order = rw c.in_ok-tokens.ensures.items (λ rises. order_none (0, 0));
+}
+
+pub loop-lines-preserved : goal.loop-lines-preserved
+loop-lines-preserved c = record {
+  numbers = let left = rw c.in-Some.is at c.loop-lines.invariant.numbers in omega (arith, c.cut.ensures.shorter);
+  so_far =
+      let so_far = rw (c.in-Some.is, c.cut.ensures.split, c.next_bits.ensures) at c.loop-lines.invariant.so_far in
+      PageSoFar-more _ _ _ (c.cut.result.0.now, c.next_bits.result.0.now) _ _ _ _ _ so_far
+      (rw (c.as_bytes.ensures.value, c.as_bytes-in-Some.ensures.value) at (c.in_ok-sums.ensures.added so_far.before so_far.sums_after));
+  order = c.in_ok-sums.ensures.order c.loop-lines.invariant.order;
+}
+
+pub returns-clause-read : goal.returns-clause-read
+returns-clause-read c = PageSoFar-all _ _ _ _ _ (rw c.in_default.is at c.loop-lines.invariant.so_far)

@@ -1,0 +1,16 @@
+use Rattle.std.proofs.Common.{length, ◌+◌, ◌≤◌}
+use Rattle.std.specs.Option.{option_map_or}
+use Rattle.sourcemap_mappings.specs.Read.{beside, line_texts}
+use Rattle.sourcemap_mappings.specs.ReadSteps.{AreInOrderTo, counts_of, lines_left}
+use Rattle.sourcemap_mappings.proofs.ReadLemmas.{PageSoFar}
+use Rattle.sourcemap_mappings.proofs.read.read_lines.Given as goal
+
+abbrev pub invariant-loop-lines : goal.invariant-loop-lines
+invariant-loop-lines l = record {
+  numbers : l.number + option_map_or (λ text. length text.now + 1) l.lines 0 ≤ length l.mappings + 1;
+  so_far : PageSoFar (counts_of l.limits) (line_texts l.fn.mappings l.fn.ranges) l.number (beside (lines_left l.lines) (lines_left l.ranges)) l.tokens.items l.sums;
+  order : AreInOrderTo l.number (record l.sums { column = 0 }) l.tokens.items;
+}
+
+abbrev pub decreases-loop-lines : goal.decreases-loop-lines
+decreases-loop-lines l = option_map_or (λ text. length text.now + 1) l.lines 0

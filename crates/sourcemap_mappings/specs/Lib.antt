@@ -1,0 +1,4 @@
+pub mod Read
+pub mod ReadSteps
+pub mod Write
+pub mod WriteSteps

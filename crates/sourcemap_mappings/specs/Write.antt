@@ -1,0 +1,102 @@
+-- The texts that a list of tokens is written as. Lines are joined by `;` (59), the segments of a
+-- line by `,` (44). A token equal in all fields to the one before it is not written.
+use Rattle.std.specs.Prelude.{◌≡◌, ℕ, ◌+◌, ◌==◌, nat_lt, not, ◌&&◌, Bool, true, false, if◌then◌else◌, ℤ, pos, ◌-ℤ◌, List, [], ◌∷◌, ◌++◌, length, filter, map, Option, Some, None}
+use Rattle.std.specs.List.{join_with_byte, last_or, list_any}
+use Rattle.std.specs.Option.{option_map_or}
+use Rattle.sourcemap_lists.specs.declared.tokens.RawToken.{RawToken}
+use Rattle.sourcemap_digits.specs.Vlq.{Spells}
+use Rattle.sourcemap_digits.specs.Bits.{IsBitText}
+use Rattle.sourcemap_lists.specs.Tokens.{without_repeats}
+
+-- Lines.
+
+abbrev pub is_on : ℕ → RawToken → Bool
+is_on n t = t.dst_line == n
+
+abbrev pub is_above : ℕ → RawToken → Bool
+is_above n t = nat_lt t.dst_line n
+
+-- how many lines the tokens take: those from 0 to the last token's
+abbrev pub line_count : List RawToken → ℕ
+line_count tokens = option_map_or (λ t. t.dst_line + 1) (last_or None tokens) 0
+
+-- the parts from line n on are each that of their line
+abbrev pub EachLine : (ℕ → List ℕ → Type 0) → ℕ → List (List ℕ) → Type 0
+EachLine IsPart n [] = Unit {0}
+EachLine IsPart n (part ∷ parts) = IsPart n part × EachLine IsPart (n + 1) parts
+
+-- a text is a part for each line of the tokens
+abbrev pub LineByLine : (ℕ → List ℕ → Type 0) → List RawToken → List ℕ → Type 0
+LineByLine IsPart tokens text =
+    (parts : List (List ℕ)) × (length parts ≡ line_count tokens) × EachLine IsPart 0 parts × (text ≡ join_with_byte 59 parts)
+
+-- Segments.
+
+abbrev pub has_source : RawToken → Bool
+has_source t = not (t.src_id == 4294967295)
+
+-- the token has a source, and its name id is below `names`
+abbrev pub has_name : ℕ → RawToken → Bool
+has_name names t = has_source t && nat_lt t.name_id names
+
+-- a field of the last of some tokens that passes a test, 0 if none does
+abbrev pub last_field : (RawToken → Bool) → (RawToken → ℕ) → List RawToken → ℕ
+last_field passes field tokens = option_map_or field (last_or None (filter passes tokens)) 0
+
+-- what the next token on line n is written against, behind the tokens `before`: the column of the last one on its
+-- line, the source of the last one with a source, the name of the last one with a name
+abbrev pub base : ℕ → ℕ → List RawToken → RawToken
+base names n before = record {
+  dst_line = n;
+  dst_col = last_field (is_on n) (λ t. t.dst_col) before;
+  src_line = last_field has_source (λ t. t.src_line) before;
+  src_col = last_field has_source (λ t. t.src_col) before;
+  src_id = last_field has_source (λ t. t.src_id) before;
+  name_id = last_field (has_name names) (λ t. t.name_id) before;
+  is_range = false;
+}
+
+-- a plain difference of whole numbers
+abbrev pub difference : ℕ → ℕ → ℤ
+difference a b = pos a -ℤ pos b
+
+-- the numbers of a token's segment: the differences of its column, then, if it has one, of its source, then of its name
+abbrev pub numbers : ℕ → RawToken → RawToken → List ℤ
+numbers names against t =
+    difference t.dst_col against.dst_col
+    ∷ (if has_source t then
+    difference t.src_id against.src_id
+    ∷ difference t.src_line against.src_line
+    ∷ difference t.src_col against.src_col
+    ∷ (if has_name names t then difference t.name_id against.name_id ∷ [] else [])
+    else [])
+
+-- the texts of some tokens' segments, behind the tokens `before`
+abbrev pub AreSegments : ℕ → List RawToken → List RawToken → List (List ℕ) → Type 0
+AreSegments names before [] segments = segments ≡ []
+AreSegments names before (t ∷ ts) [] = ⊥
+AreSegments names before (t ∷ ts) (segment ∷ segments) =
+    Spells (numbers names (base names t.dst_line before) t) segment × AreSegments names (before ++ t ∷ []) ts segments
+
+-- the text of line n of the tokens
+abbrev pub IsLine : ℕ → List RawToken → ℕ → List ℕ → Type 0
+IsLine names tokens n line =
+    (segments : List (List ℕ))
+    × AreSegments names (filter (is_above n) tokens) (filter (is_on n) tokens) segments
+    × (line ≡ join_with_byte 44 segments)
+
+-- the text of mappings of some tokens in order
+abbrev pub IsWritten : ℕ → List RawToken → List ℕ → Type 0
+IsWritten names tokens text = LineByLine (IsLine names (without_repeats tokens)) tokens text
+
+-- Range bits.
+
+-- the text of the range flags of the tokens on line n
+abbrev pub IsRangeLine : List RawToken → ℕ → List ℕ → Type 0
+IsRangeLine tokens n bits = IsBitText (map (λ t. t.is_range) (filter (is_on n) tokens)) bits
+
+-- the text of range bits of some tokens in order, none without a range token
+abbrev pub IsRangeText : List RawToken → Option (List ℕ) → Type 0
+IsRangeText tokens None = list_any (λ t. t.is_range) tokens ≡ false
+IsRangeText tokens (Some text) =
+    (list_any (λ t. t.is_range) tokens ≡ true) × LineByLine (IsRangeLine (without_repeats tokens)) tokens text

@@ -1,0 +1,6 @@
+//! The text of mappings, read and written.
+#![tactic(auto)]
+
+pub mod buffer;
+pub mod read;
+pub mod write;

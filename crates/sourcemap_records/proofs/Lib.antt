@@ -1,0 +1,6 @@
+pub mod DepthLemmas
+pub mod FieldLemmas
+pub mod FromJsonLemmas
+pub mod JsontypesLemmas
+pub mod KeysLemmas
+pub mod ReadBackLemmas

@@ -1,0 +1,365 @@
+-- Which JSON values stand for which record of a source map, and the value that a record is written as.
+use Rattle.std.specs.Prelude.{Bool, true, false, ◌≢◌, ℕ, ◌<◌, ◌^◌, List, [], ◌∷◌, map, codes, Option, Some, None, option_map, string_bytes, String, Vec, IfSome}
+use Rattle.std.specs.List.{AllByRecursion}
+use Rattle.std.specs.Option.{option_or}
+use Rattle.std.specs.Ordering.{nat_cmp, match_ordering}
+use Rattle.std.specs.Cmp.Lexicographic.{slice_cmp}
+use Rattle.std.specs.declared.alloc.Global.{Global}
+use Rattle.serde_json.specs.Data.{Data, null, boolean, number, string, array, object, Items, no_items, item, Members, no_members, member}
+use Rattle.serde_json.specs.Find.{as_object, get}
+use Rattle.serde_json.specs.View.{view}
+use Rattle.sourcemap_headers.specs.DebugId.{IsId, debug_id_of, debug_id_text}
+use Rattle.sourcemap_records.specs.Field.{with, found, any, text, small_number, or_null, or_null_of, list, at, needed, written_number, written_or_null, written_list, put_all, put_if}
+use Rattle.sourcemap_records.specs.declared.jsontypes.FacebookScopeMapping.{FacebookScopeMapping}
+use Rattle.sourcemap_records.specs.declared.jsontypes.MinimalRawSourceMap.{MinimalRawSourceMap}
+use Rattle.sourcemap_records.specs.declared.jsontypes.RawSectionOffset.{RawSectionOffset}
+use Rattle.sourcemap_records.specs.declared.jsontypes.RawSection.{RawSection, RawSection-F, fold-RawSection}
+use Rattle.sourcemap_records.specs.declared.jsontypes.RawSourceMap.{RawSourceMap, RawSourceMap-F, fold-RawSourceMap}
+
+-- ---- what a record says
+
+-- the scopes of a source: names of functions, and digits
+pub record Scopes : Type 0 where
+  pub names : List (List ℕ)
+  pub mappings : List ℕ
+
+-- all keys but the sections
+pub record Fields : Type 0 where
+  pub version : Option ℕ
+  pub file : Option Data
+  pub sources : Option (List (Option (List ℕ)))
+  pub source_root : Option (List ℕ)
+  pub sources_content : Option (List (Option (List ℕ)))
+  pub names : Option (List Data)
+  pub range_mappings : Option (List ℕ)
+  pub mappings : Option (List ℕ)
+  pub ignore_list : Option (List ℕ)
+  pub x_facebook_offsets : Option (List (Option ℕ))
+  pub x_metro_module_paths : Option (List (List ℕ))
+  pub x_facebook_sources : Option (List (Option (List Scopes)))
+  pub debug_id : Option (List ℕ)
+
+-- a section but for its map
+pub record Place : Type 0 where
+  pub line : ℕ
+  pub column : ℕ
+  pub url : Option (List ℕ)
+
+-- a record, without sections or with them
+mutual
+  pub data Tree : Type 0 where
+    plain : Fields → Tree
+    indexed : Fields → Sections → Tree
+
+  pub data Sections : Type 0 where
+    no_more : Sections
+    bare : Place → Sections → Sections
+    mapped : Place → Tree → Sections → Sections
+
+-- one section alone
+pub record Section : Type 0 where
+  pub place : Place
+  pub map : Option Tree
+
+abbrev pub section_at : Place → Option Tree → Section
+section_at place t = record { place = place; map = t }
+
+abbrev pub tree_with : Fields → Option Sections → Tree
+tree_with fields None = plain fields
+tree_with fields (Some sections) = indexed fields sections
+
+abbrev pub section_with : Place → Option Tree → Sections → Sections
+section_with place None rest = bare place rest
+section_with place (Some t) rest = mapped place t rest
+
+-- the keys of a record but for its sections
+abbrev pub flat : Tree → Fields
+flat (plain fields) = fields
+flat (indexed fields _) = fields
+
+-- ---- reading
+
+abbrev pub debug_id : Data → Option (List ℕ)
+debug_id d = with (text d) debug_id_of
+
+-- of two spellings the first wins; a fault in either is one
+abbrev pub debug_id_in : Members → Option (Option (List ℕ))
+debug_id_in ms =
+    with (at (codes "debugId") debug_id ms) (λ new.
+    with (at (codes "debug_id") debug_id ms) (λ old.
+    Some (option_or new old)))
+
+abbrev pub scopes_in : Members → Option Scopes
+scopes_in ms =
+    with (needed (codes "names") (list text) ms) (λ names.
+    with (needed (codes "mappings") text ms) (λ mappings.
+    Some (record { names = names; mappings = mappings })))
+
+abbrev pub scopes : Data → Option Scopes
+scopes null = None
+scopes (boolean _) = None
+scopes (number _) = None
+scopes (string _) = None
+scopes (array _) = None
+scopes (object ms) = scopes_in ms
+
+abbrev pub fields_in : Members → Option Fields
+fields_in ms =
+    with (debug_id_in ms) (λ debug_id.
+    with (at (codes "version") small_number ms) (λ version.
+    with (at (codes "file") any ms) (λ file.
+    with (at (codes "sources") (list (or_null text)) ms) (λ sources.
+    with (at (codes "sourceRoot") text ms) (λ source_root.
+    with (at (codes "sourcesContent") (list (or_null text)) ms) (λ sources_content.
+    with (at (codes "names") (list any) ms) (λ names.
+    with (at (codes "rangeMappings") text ms) (λ range_mappings.
+    with (at (codes "mappings") text ms) (λ mappings.
+    with (at (codes "ignoreList") (list small_number) ms) (λ ignore_list.
+    with (at (codes "x_facebook_offsets") (list (or_null small_number)) ms) (λ x_facebook_offsets.
+    with (at (codes "x_metro_module_paths") (list text) ms) (λ x_metro_module_paths.
+    with (at (codes "x_facebook_sources") (list (or_null (list scopes))) ms) (λ x_facebook_sources.
+    Some (record {
+      version = version;
+      file = file;
+      sources = sources;
+      source_root = source_root;
+      sources_content = sources_content;
+      names = names;
+      range_mappings = range_mappings;
+      mappings = mappings;
+      ignore_list = ignore_list;
+      x_facebook_offsets = x_facebook_offsets;
+      x_metro_module_paths = x_metro_module_paths;
+      x_facebook_sources = x_facebook_sources;
+      debug_id = debug_id;
+    }))))))))))))))
+
+abbrev pub offset_in : Members → Option RawSectionOffset
+offset_in ms =
+    with (needed (codes "line") small_number ms) (λ line.
+    with (needed (codes "column") small_number ms) (λ column.
+    Some (record { line = line; column = column })))
+
+abbrev pub offset : Data → Option RawSectionOffset
+offset null = None
+offset (boolean _) = None
+offset (number _) = None
+offset (string _) = None
+offset (array _) = None
+offset (object ms) = offset_in ms
+
+abbrev pub place_in : Members → Option Place
+place_in ms =
+    with (needed (codes "offset") offset ms) (λ offset.
+    with (at (codes "url") text ms) (λ url.
+    Some (record { line = offset.line; column = offset.column; url = url })))
+
+-- the record that a value stands for; what its sections hold, and the map of each, are read in turn
+abbrev mutual
+  pub record_of : Data → Option Tree
+  record_of null = None
+  record_of (boolean _) = None
+  record_of (number _) = None
+  record_of (string _) = None
+  record_of (array _) = None
+  record_of (object ms) = with (sections_in ms) (λ sections. with (fields_in ms) (λ fields. Some (tree_with fields sections)))
+
+  pub sections_of : Data → Option Sections
+  sections_of null = None
+  sections_of (boolean _) = None
+  sections_of (number _) = None
+  sections_of (string _) = None
+  sections_of (array ds) = sections_read ds
+  sections_of (object _) = None
+
+  pub sections_read : Items → Option Sections
+  sections_read no_items = Some no_more
+  sections_read (item d ds) = with (section_of d) (λ section. with (sections_read ds) (λ rest. Some (section_with section.place section.map rest)))
+
+  pub section_of : Data → Option Section
+  section_of null = None
+  section_of (boolean _) = None
+  section_of (number _) = None
+  section_of (string _) = None
+  section_of (array _) = None
+  section_of (object ms) = with (map_in ms) (λ t. with (place_in ms) (λ place. Some (section_at place t)))
+
+  -- the member `sections`, or null, or none
+  pub sections_in : Members → Option (Option Sections)
+  sections_in no_members = Some None
+  sections_in (member key d ms) = match_ordering (slice_cmp nat_cmp (codes "sections") key) (sections_in ms) (or_null_of d (sections_of d)) (sections_in ms)
+
+  -- the member `map`, or null, or none
+  pub map_in : Members → Option (Option Tree)
+  map_in no_members = Some None
+  map_in (member key d ms) = match_ordering (slice_cmp nat_cmp (codes "map") key) (map_in ms) (or_null_of d (record_of d)) (map_in ms)
+
+-- ---- what tells a record from other values
+
+-- there, and not null
+abbrev pub is_there : Option Data → Bool
+is_there None = false
+is_there (Some null) = false
+is_there (Some (boolean _)) = true
+is_there (Some (number _)) = true
+is_there (Some (string _)) = true
+is_there (Some (array _)) = true
+is_there (Some (object _)) = true
+
+abbrev pub minimal_of : Data → Option MinimalRawSourceMap
+minimal_of d =
+    with (as_object d) (λ _.
+    with (found small_number (get (codes "version") d)) (λ version.
+    Some (record {
+      version = version;
+      file = is_there (get (codes "file") d);
+      sources = is_there (get (codes "sources") d);
+      source_root = is_there (get (codes "sourceRoot") d);
+      sources_content = is_there (get (codes "sourcesContent") d);
+      sections = is_there (get (codes "sections") d);
+      names = is_there (get (codes "names") d);
+      mappings = is_there (get (codes "mappings") d);
+    })))
+
+-- ---- writing
+
+abbrev pub written_scopes : Scopes → Data
+written_scopes s = object (put_all (
+    (codes "names", Some (written_list string s.names)) ∷
+    (codes "mappings", Some (string s.mappings)) ∷ []) no_members)
+
+abbrev pub entries : Fields → List (List ℕ × Option Data)
+entries fields =
+    (codes "version", Some (written_or_null written_number fields.version)) ∷
+    (codes "file", fields.file) ∷
+    (codes "sources", Some (written_or_null (written_list (written_or_null string)) fields.sources)) ∷
+    (codes "sourceRoot", option_map string fields.source_root) ∷
+    (codes "sourcesContent", option_map (written_list (written_or_null string)) fields.sources_content) ∷
+    (codes "names", option_map (written_list (λ d. d)) fields.names) ∷
+    (codes "rangeMappings", option_map string fields.range_mappings) ∷
+    (codes "mappings", option_map string fields.mappings) ∷
+    (codes "ignoreList", option_map (written_list written_number) fields.ignore_list) ∷
+    (codes "x_facebook_offsets", option_map (written_list (written_or_null written_number)) fields.x_facebook_offsets) ∷
+    (codes "x_metro_module_paths", option_map (written_list string) fields.x_metro_module_paths) ∷
+    (codes "x_facebook_sources", option_map (written_list (written_or_null (written_list written_scopes))) fields.x_facebook_sources) ∷
+    (codes "debugId", option_map (λ id. string (debug_id_text id)) fields.debug_id) ∷ []
+
+abbrev pub written_fields : Fields → Members
+written_fields fields = put_all (entries fields) no_members
+
+abbrev pub written_offset : RawSectionOffset → Data
+written_offset offset = object (put_all (
+    (codes "line", Some (written_number offset.line)) ∷
+    (codes "column", Some (written_number offset.column)) ∷ []) no_members)
+
+abbrev pub written_section : Place → Data → Data
+written_section place t = object (put_all (
+    (codes "map", Some t) ∷
+    (codes "offset", Some (written_offset (record { line = place.line; column = place.column }))) ∷
+    (codes "url", Some (written_or_null string place.url)) ∷ []) no_members)
+
+-- null for a missing version, sources, url or map; any other missing key is left out
+abbrev mutual
+  pub written : Tree → Data
+  written (plain fields) = object (written_fields fields)
+  written (indexed fields sections) = object (put_if (codes "sections") (Some (array (written_sections sections))) (written_fields fields))
+
+  pub written_sections : Sections → Items
+  written_sections no_more = no_items
+  written_sections (bare place rest) = item (written_section place null) (written_sections rest)
+  written_sections (mapped place t rest) = item (written_section place (written t)) (written_sections rest)
+
+-- one section alone
+abbrev pub written_one : Section → Data
+written_one s = written_section s.place (written_or_null written s.map)
+
+-- ---- what is read back as it was written
+
+abbrev pub IsSmall : ℕ → Type 0
+IsSmall n = n < 2 ^ 32
+
+pub record AreInRange (fields : Fields) : Type 0 where
+  pub version : IfSome fields.version IsSmall
+  pub ignore_list : IfSome fields.ignore_list (AllByRecursion IsSmall)
+  pub x_facebook_offsets : IfSome fields.x_facebook_offsets (AllByRecursion (λ n. IfSome n IsSmall))
+  pub debug_id : IfSome fields.debug_id IsId
+
+abbrev pub IsPlaceInRange : Place → Type 0
+IsPlaceInRange place = IsSmall place.line × IsSmall place.column
+
+-- numbers are below 2^32 and a debug id is 16 bytes, as in every record that there is
+abbrev mutual
+  pub IsInRange : Tree → Type 0
+  IsInRange (plain fields) = AreInRange fields
+  IsInRange (indexed fields sections) = AreInRange fields × AreSectionsInRange sections
+
+  pub AreSectionsInRange : Sections → Type 0
+  AreSectionsInRange no_more = Unit {0}
+  AreSectionsInRange (bare place rest) = IsPlaceInRange place × AreSectionsInRange rest
+  AreSectionsInRange (mapped place t rest) = IsPlaceInRange place × IsInRange t × AreSectionsInRange rest
+
+-- one section alone
+abbrev pub IsSectionInRange : Section → Type 0
+IsSectionInRange s = IsPlaceInRange s.place × IfSome s.map IsInRange
+
+-- no file is a JSON null, which is read as none; in the maps of sections neither
+abbrev mutual
+  pub HasNoNullFile : Tree → Type 0
+  HasNoNullFile (plain fields) = fields.file ≢ Some null
+  HasNoNullFile (indexed fields sections) = (fields.file ≢ Some null) × HaveNoNullFile sections
+
+  pub HaveNoNullFile : Sections → Type 0
+  HaveNoNullFile no_more = Unit {0}
+  HaveNoNullFile (bare place rest) = HaveNoNullFile rest
+  HaveNoNullFile (mapped place t rest) = HasNoNullFile t × HaveNoNullFile rest
+
+-- a tree that is read back as it was written
+abbrev pub IsFine : Tree → Type 0
+IsFine t = IsInRange t × HasNoNullFile t
+
+-- ---- what a clause sees of a record
+
+abbrev pub text_view : Option (String Global) → Option (List ℕ)
+text_view s = option_map string_bytes s
+
+abbrev pub texts_view : Option (Vec (Option (String Global)) Global) → Option (List (Option (List ℕ)))
+texts_view v = option_map (λ v. map text_view v.items) v
+
+abbrev pub scopes_view : FacebookScopeMapping → Scopes
+scopes_view s = record { names = map string_bytes s.names.items; mappings = string_bytes s.mappings }
+
+abbrev pub fields_view : {X Y : Type 0} → RawSourceMap-F X Y → Fields
+fields_view r = record {
+  version = r.version;
+  file = option_map view r.file;
+  sources = texts_view r.sources;
+  source_root = text_view r.source_root;
+  sources_content = texts_view r.sources_content;
+  names = option_map (λ v. map view v.items) r.names;
+  range_mappings = text_view r.range_mappings;
+  mappings = text_view r.mappings;
+  ignore_list = option_map (λ v. v.items) r.ignore_list;
+  x_facebook_offsets = option_map (λ v. v.items) r.x_facebook_offsets;
+  x_metro_module_paths = option_map (λ v. map string_bytes v.items) r.x_metro_module_paths;
+  x_facebook_sources = option_map (λ v. map (option_map (λ s. map scopes_view s.items)) v.items) r.x_facebook_sources;
+  debug_id = r.debug_id;
+}
+
+abbrev pub place_view : {X Y : Type 0} → RawSection-F X Y → Place
+place_view s = record { line = s.offset.line; column = s.offset.column; url = text_view s.url }
+
+abbrev pub section_step : RawSection-F Section Tree → Section
+section_step s = record { place = place_view s; map = option_map (λ b. b.value) s.map }
+
+abbrev pub sections_from : List Section → Sections
+sections_from [] = no_more
+sections_from (s ∷ ss) = section_with s.place s.map (sections_from ss)
+
+abbrev pub tree_step : RawSourceMap-F Section Tree → Tree
+tree_step r = tree_with (fields_view r) (option_map (λ v. sections_from v.items) r.sections)
+
+abbrev pub section : RawSection → Section
+section = fold-RawSection Section Tree section_step tree_step
+
+abbrev pub tree : RawSourceMap → Tree
+tree = fold-RawSourceMap Section Tree section_step tree_step

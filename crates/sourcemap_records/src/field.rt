@@ -1,0 +1,294 @@
+// How the fields of a record are read from JSON and written as JSON.
+ghost use Rattle.std.specs.Prelude.{◌≡◌, ℕ, List, Option, Some, Ok, map, option_map, string_bytes, IfOk, IfErr, IfSome, OnOk};
+ghost use Rattle.std.specs.List.{AllByRecursion};
+ghost use Rattle.serde_json.specs.Data.{Data, string};
+ghost use Rattle.serde_json.specs.Find.{get, get_member};
+ghost use Rattle.serde_json.specs.View.{view, items_view, members_view};
+ghost use Rattle.sourcemap_errors.specs.declared.errors.Error.TheVariants.{OutOfMemory};
+ghost use Rattle.sourcemap_records.specs.Jsontypes.{IsSmall, is_there};
+ghost use Rattle.sourcemap_records.specs.Field.{Any, due, Reads, Makes, put_if, written_number, written_or_null, written_list, KeepsOthers, any, text, small_number, or_null, items_read, found, list, at, needed};
+
+use serde_json::{Map, Value, put};
+use sourcemap_errors::errors::{Error, JsonFault, Result};
+use std::alloc::Global;
+
+// What a field of a record may be.
+pub(crate) trait Field: Drop {
+    // What a clause sees of it, and how that is read and written.
+    ghost Seen: { Type 0 };
+
+    ghost see: { Self → Seen };
+
+    ghost reading: { Data → Option Seen };
+
+    ghost writing: { Seen → Data };
+
+    // What each value of the type meets.
+    ghost in_range: { Seen → Type 0 };
+
+    // Takes its texts out of the value.
+    fn take(alloc: Global, value: Value) -> Result<Self>
+        ensures { Reads see result (reading (view value)) };
+
+    // Leaves its texts to the value.
+    fn give(self, alloc: Global) -> Result<Value>
+        ensures value { Makes view result (writing (see self)) }
+        ensures in_range { OnOk result (in_range (see self)) };
+
+    // The same, on its own.
+    fn duplicate(&self, alloc: Global) -> Result<Self>
+        ensures { Makes see result (see self.now) };
+}
+
+impl Field for Value {
+    ghost Seen = { Data };
+
+    ghost see = { view };
+
+    ghost reading = { any };
+
+    ghost writing = { λ d. d };
+
+    ghost in_range = { Any };
+
+    fn take(_alloc: Global, value: Value) -> Result<Value> {
+        Ok(value)
+    }
+
+    fn give(self, _alloc: Global) -> Result<Value> {
+        Ok(self)
+    }
+
+    fn duplicate(&self, _alloc: Global) -> Result<Value> {
+        Ok(self.clone()?)
+    }
+}
+
+impl Field for String {
+    ghost Seen = { List ℕ };
+
+    ghost see = { string_bytes };
+
+    ghost reading = { text };
+
+    ghost writing = { string };
+
+    ghost in_range = { Any };
+
+    fn take(_alloc: Global, value: Value) -> Result<String> {
+        match value {
+            Value::String(text) => Ok(text),
+            _ => Err(Error::BadJson(JsonFault::Shape)),
+        }
+    }
+
+    fn give(self, _alloc: Global) -> Result<Value> {
+        Ok(Value::String(self))
+    }
+
+    fn duplicate(&self, alloc: Global) -> Result<String> {
+        Ok(String::from_str(alloc, self.as_str())?)
+    }
+}
+
+impl Field for u32 {
+    ghost Seen = { ℕ };
+
+    ghost see = { λ n. n };
+
+    ghost reading = { small_number };
+
+    ghost writing = { written_number };
+
+    ghost in_range = { IsSmall };
+
+    fn take(_alloc: Global, value: Value) -> Result<u32> {
+        read_number(&value)
+    }
+
+    fn give(self, _alloc: Global) -> Result<Value> {
+        Ok(Value::from(self))
+    }
+
+    fn duplicate(&self, _alloc: Global) -> Result<u32> {
+        Ok(*self)
+    }
+}
+
+// A whole number below 2^32.
+fn read_number(value: &Value) -> Result<u32>
+    ensures { result ≡ due (small_number (view value.now)) }
+{
+    match value.as_u64() {
+        Some(n) if n < 1 << 32 => Ok(n as u32),
+        _ => Err(Error::BadJson(JsonFault::Shape)),
+    }
+}
+
+impl<T: Field> Field for Option<T> {
+    ghost Seen = { Option T.Seen };
+
+    ghost see = { option_map T.see };
+
+    ghost reading = { or_null T.reading };
+
+    ghost writing = { written_or_null T.writing };
+
+    ghost in_range = { λ o. IfSome o T.in_range };
+
+    fn take(alloc: Global, value: Value) -> Result<Option<T>> {
+        if let Value::Null = value {
+            return Ok(None);
+        }
+        Ok(Some(T::take(alloc, value)?))
+    }
+
+    fn give(self, alloc: Global) -> Result<Value> {
+        match self {
+            Some(field) => field.give(alloc),
+            None => Ok(Value::Null),
+        }
+    }
+
+    fn duplicate(&self, alloc: Global) -> Result<Option<T>> {
+        match self {
+            Some(field) => Ok(Some(field.duplicate(alloc)?)),
+            None => Ok(None),
+        }
+    }
+}
+
+impl<T: Field> Field for Vec<T> {
+    ghost Seen = { List T.Seen };
+
+    ghost see = { λ v. map T.see v.items };
+
+    ghost reading = { list T.reading };
+
+    ghost writing = { written_list T.writing };
+
+    ghost in_range = { AllByRecursion T.in_range };
+
+    fn take(alloc: Global, value: Value) -> Result<Vec<T>> {
+        match value {
+            Value::Array(items) => take_items(alloc, items),
+            _ => Err(Error::BadJson(JsonFault::Shape)),
+        }
+    }
+
+    fn give(self, alloc: Global) -> Result<Value> {
+        Ok(Value::Array(give_items(alloc, self)?))
+    }
+
+    fn duplicate(&self, alloc: Global) -> Result<Vec<T>> {
+        let mut copies = Vec::with_capacity(alloc, self.len())?;
+        for field in self {
+            copies.push(field.duplicate(alloc)?)?;
+        }
+        Ok(copies)
+    }
+}
+
+fn take_items<T: Field>(alloc: Global, items: Vec<Value>) -> Result<Vec<T>>
+    ensures { Reads (λ v. map T.see v.items) result (items_read T.reading (items_view items.items)) }
+{
+    let mut fields = Vec::with_capacity(alloc, items.len())?;
+    for item in items {
+        fields.push(T::take(alloc, item)?)?;
+    }
+    Ok(fields)
+}
+
+fn give_items<T: Field>(alloc: Global, fields: Vec<T>) -> Result<Vec<Value>>
+    ensures ok { IfOk result (λ v. map view v.items ≡ map T.writing (map T.see fields.items)) }
+    ensures in_range { OnOk result (AllByRecursion T.in_range (map T.see fields.items)) }
+    ensures err { IfErr result (λ e. e ≡ OutOfMemory) }
+{
+    let mut items = Vec::with_capacity(alloc, fields.len())?;
+    for field in fields {
+        items.push(field.give(alloc)?)?;
+    }
+    Ok(items)
+}
+
+// The value of a key, taken out; the other keys keep theirs.
+pub(crate) fn take_value(members: &mut Map<String, Value>, key: &str) -> Option<Value>
+    ensures value { option_map view result
+        ≡ get_member key.now (members_view members.old.entries) }
+    ensures others { KeepsOthers key.now (members_view members.old.entries)
+        (members_view members.new.entries) }
+{
+    members.remove(key)
+}
+
+// The field of a key that may be missing.
+pub(crate) fn take_optional<F: Field>(
+    alloc: Global,
+    members: &mut Map<String, Value>,
+    key: &str,
+) -> Result<Option<F>>
+    ensures value { Reads (option_map F.see) result
+        (at key.now F.reading (members_view members.old.entries)) }
+    ensures others { KeepsOthers key.now (members_view members.old.entries)
+        (members_view members.new.entries) }
+{
+    match take_value(members, key) {
+        Some(value) => Field::take(alloc, value),
+        None => Ok(None),
+    }
+}
+
+// The field of a key that must be there.
+pub(crate) fn take_needed<F: Field>(
+    alloc: Global,
+    members: &mut Map<String, Value>,
+    key: &str,
+) -> Result<F>
+    ensures value { Reads F.see result
+        (needed key.now F.reading (members_view members.old.entries)) }
+    ensures others { KeepsOthers key.now (members_view members.old.entries)
+        (members_view members.new.entries) }
+{
+    match take_value(members, key) {
+        Some(value) => F::take(alloc, value),
+        None => Err(Error::BadJson(JsonFault::Shape)),
+    }
+}
+
+// Puts a field under its key, if there is one.
+pub(crate) fn put_field<F: Field>(
+    alloc: Global,
+    members: &mut Map<String, Value>,
+    key: &str,
+    field: Option<F>,
+) -> Result<()>
+    ensures ok { OnOk result (members_view members.new.entries
+        ≡ put_if key.now (option_map F.writing (option_map F.see field)) (members_view members.old.entries)) }
+    ensures in_range { OnOk result (IfSome (option_map F.see field) F.in_range) }
+    ensures err { IfErr result (λ e. e ≡ OutOfMemory) }
+{
+    if let Some(field) = field {
+        put(members, alloc, key, field.give(alloc)?)?;
+    }
+    Ok(())
+}
+
+// The number of a key that may be missing.
+pub(crate) fn number_at(value: &Value, key: &str) -> Result<Option<u32>>
+    ensures { result ≡ due (found small_number (get key.now (view value.now))) }
+{
+    match value.get(key) {
+        None | Some(Value::Null) => Ok(None),
+        Some(number) => Ok(Some(read_number(number)?)),
+    }
+}
+
+// Whether a key is there with a value other than null.
+pub(crate) fn has(value: &Value, key: &str) -> bool
+    ensures { result ≡ is_there (get key.now (view value.now)) }
+{
+    match value.get(key) {
+        None | Some(Value::Null) => false,
+        Some(_) => true,
+    }
+}

@@ -1,0 +1,2 @@
+pub mod PathsLemmas
+pub mod PrefixesLemmas
