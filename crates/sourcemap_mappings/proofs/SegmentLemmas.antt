@@ -1,5 +1,5 @@
 -- What the steps of the reader of segments come to.
-use Rattle.std.proofs.Common.{◌≡◌, ◌≢◌, ℕ, zero, suc, slice_index, ◌+◌, ◌^◌, ◌==◌, true, false, List, [], ◌∷◌, ◌++◌, length, Option, Some, None, sym, ap, ◌∙◌, refl, subst, inl, inr, append_assoc, append-nil, length-append, ℤ, arith, eqb-true}
+use Rattle.std.proofs.Common.{◌≡◌, ◌≢◌, ℕ, zero, suc, slice_index, ◌^◌, ◌==◌, true, false, List, [], ◌∷◌, ◌++◌, length, Option, Some, None, sym, ap, ◌∙◌, refl, subst, inl, inr, append_assoc, append-nil, length-append, ℤ, arith, eqb-true}
 use Rattle.std.specs.List.{slice_split, onto_first, AllByRecursion}
 use Rattle.std.proofs.lemmas.Bool.{cases_Bool, cond-true, cond-false}
 use Rattle.std.specs.Borrow.{Bor}
@@ -11,7 +11,7 @@ use Rattle.std.specs.Int.{int_rem_euclid}
 use Rattle.std.specs.Prelude.{unsigned_abs, pos}
 use Rattle.sourcemap_mappings.specs.Segment.{step}
 use Rattle.sourcemap_mappings.specs.SegmentSteps.{AreSteps, HasFirstPart, HasPartFault, fault_in_part, EndsPart, BeginsWithStep}
-use Rattle.sourcemap_digits.specs.Vlq.{digit_value, GoesOn, IsChain, IsUnfinished, GoesTo, NumberFault, BeginsWith, Reads, HasFault, IsSound}
+use Rattle.sourcemap_digits.specs.Vlq.{digit_value, GoesOn, IsChain, IsUnfinished, GoesTo, NumberFault, BeginsWith, Reads, IsSound}
 use Rattle.sourcemap_digits.proofs.VlqLemmas.{HasFault-later, IsSound-more}
 
 -- Numbers.

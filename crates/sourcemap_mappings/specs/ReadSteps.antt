@@ -1,5 +1,5 @@
 -- What the steps of the reader of mappings add: a part to a line, a line to a page.
-use Rattle.std.specs.Prelude.{◌≡◌, ℕ, ◌+◌, List, [], ◌++◌, Option, IsTrue, false, ◌-◌}
+use Rattle.std.specs.Prelude.{◌≡◌, ℕ, List, [], ◌++◌, Option, IsTrue, false}
 use Rattle.std.specs.Option.{option_map_or}
 use Rattle.std.specs.List.{AllByRecursion}
 use Rattle.sourcemap_lists.specs.declared.tokens.RawToken.{RawToken}

@@ -1,6 +1,6 @@
 -- One part of a line of mappings as a segment: its numbers, the token that it stands for, and its
 -- first fault. A part that is not empty is a segment and stands for one token.
-use Rattle.std.specs.Prelude.{ℕ, ◌%◌, ◌^◌, ℤ, pos, unsigned_abs, List, length, slice_get, sum_by, Option, Some, None, Bool, not, ◌&&◌, ◌||◌, ◌==◌, nat_lt, nat_le, min, if◌then◌else◌, map, ◌-◌}
+use Rattle.std.specs.Prelude.{ℕ, ◌%◌, ◌^◌, ℤ, pos, unsigned_abs, List, length, slice_get, sum_by, Option, Some, None, Bool, not, ◌&&◌, ◌||◌, ◌==◌, nat_lt, nat_le, min, if◌then◌else◌}
 use Rattle.std.specs.Option.{option_map_or}
 use Rattle.std.specs.List.{slice_split}
 use Rattle.std.specs.Int.{int_rem_euclid}

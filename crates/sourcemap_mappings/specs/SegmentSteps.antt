@@ -1,5 +1,5 @@
 -- What the steps of the reader of segments say: the numbers of a part, and the sums up to it.
-use Rattle.std.specs.Prelude.{◌≡◌, ℕ, ◌+◌, ◌^◌, ◌<◌, ℤ, pos, unsigned_abs, List, [], ◌∷◌, ◌++◌, length, Option, Some, None, ◌==◌, min, if◌then◌else◌, ◌≢◌, IfSome, slice_index, ◌-◌}
+use Rattle.std.specs.Prelude.{◌≡◌, ℕ, ◌^◌, ◌<◌, ℤ, pos, unsigned_abs, List, [], ◌∷◌, ◌++◌, length, Option, Some, None, ◌==◌, min, if◌then◌else◌, ◌≢◌, IfSome, slice_index}
 use Rattle.std.specs.Option.{option_map_or}
 use Rattle.std.specs.Int.{int_rem_euclid}
 use Rattle.sourcemap_errors.specs.declared.errors.Error.{Error}

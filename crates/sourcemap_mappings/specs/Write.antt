@@ -1,6 +1,6 @@
 -- The texts that a list of tokens is written as. Lines are joined by `;`, the segments of a line by
 -- `,`. A token equal in all fields to the one before it is not written.
-use Rattle.std.specs.Prelude.{◌≡◌, ℕ, ◌+◌, ℤ, pos, List, [], ◌∷◌, ◌++◌, length, Option, Some, None, Bool, not, ◌&&◌, ◌==◌, nat_lt, if◌then◌else◌, false, true, ◌-ℤ◌, filter, map, ◌-◌}
+use Rattle.std.specs.Prelude.{◌≡◌, ℕ, ◌+◌, ℤ, pos, List, [], ◌∷◌, ◌++◌, length, Option, Some, None, Bool, not, ◌&&◌, ◌==◌, nat_lt, if◌then◌else◌, false, true, ◌-ℤ◌, filter, map}
 use Rattle.std.specs.Option.{option_map_or}
 use Rattle.std.specs.List.{join_with_byte, last_or, list_any}
 use Rattle.sourcemap_lists.specs.declared.tokens.RawToken.{RawToken}

@@ -18,7 +18,12 @@ static NEAR: [u8; 31] = [
 
 // Puts the digits of a difference into the buffer, and says where they end. This is fast for one digit.
 #[inline(always)]
-pub(crate) fn put_near(buffer: &mut [u8; BUFFER_SIZE], at: usize, number: u32, against: u32) -> usize
+pub(crate) fn put_near(
+    buffer: &mut [u8; BUFFER_SIZE],
+    at: usize,
+    number: u32,
+    against: u32,
+) -> usize
     requires { at + 7 ≤ 1024 }
     ensures text { Adds (difference number against ∷ []) (take at buffer.old) (take result buffer.new) }
     ensures start { at ≤ result }
@@ -55,7 +60,12 @@ pub(crate) fn put_two(buffer: &mut [u8; BUFFER_SIZE], at: usize, number: u32, ag
 
 // The same for up to three digits.
 #[inline(always)]
-pub(crate) fn put_three(buffer: &mut [u8; BUFFER_SIZE], at: usize, number: u32, against: u32) -> usize
+pub(crate) fn put_three(
+    buffer: &mut [u8; BUFFER_SIZE],
+    at: usize,
+    number: u32,
+    against: u32,
+) -> usize
     requires { at + 7 ≤ 1024 }
     ensures text { Adds (difference number against ∷ []) (take at buffer.old) (take result buffer.new) }
     ensures start { at ≤ result }
@@ -113,7 +123,11 @@ fn put_far(buffer: &mut [u8; BUFFER_SIZE], at: usize, number: u32, against: u32)
 }
 
 // Moves what was gathered to the end of a text.
-pub(crate) fn flush(text: &mut String, buffer: &[u8; BUFFER_SIZE], at: usize) -> Result<(), AllocError>
+pub(crate) fn flush(
+    text: &mut String,
+    buffer: &[u8; BUFFER_SIZE],
+    at: usize,
+) -> Result<(), AllocError>
     requires within { at ≤ 1024 }
     requires ascii { IsAscii (take at buffer.now) }
     ensures text { OnOk result (string_bytes text.new ≡ string_bytes text.old ++ take at buffer.now) }
