@@ -1,0 +1,7 @@
+pub mod TextListsLemmas
+pub mod FittingLemmas
+pub mod ContentsLemmas
+pub mod SourcesLemmas
+pub mod EqualityLemmas
+pub mod FromRecordLemmas
+pub mod ToRecordLemmas

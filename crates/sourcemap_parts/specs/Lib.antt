@@ -1,0 +1,10 @@
+pub mod TextLists
+pub mod Contents
+pub mod Sources
+pub mod SourcesStored
+pub mod Heading
+pub mod Parts
+pub mod FromRecord
+pub mod FromRecordSteps
+pub mod ToRecord
+pub mod ToRecordSteps
