@@ -2,8 +2,10 @@
 use Rattle.std.proofs.Common.{◌≡◌, refl, sym, ap, subst, ◌∙◌, ℕ, ◌+◌, ◌<◌, ◌≤◌, List, [], ◌∷◌, ◌++◌, length, map, take, drop, get_or, Option, arith, slice_get, slice_set, append_assoc}
 use Rattle.std.specs.List.{AllByRecursion}
 use Rattle.std.specs.Option.{option_or}
-use Rattle.std.proofs.lemmas.List.{map_push, drop_more, take_more, take_all, drop_all, set_at, get_or_at, length-map, length-take-le, append-nil}
+use Rattle.std.specs.Ordering.{is_lt}
+use Rattle.std.proofs.lemmas.List.{get_or-map, map_push, drop_more, take_more, take_all, drop_all, set_at, get_or_at, length-map, length-take-le, append-nil}
 use Rattle.sourcemap_lists.specs.declared.tokens.RawToken.{RawToken}
+use Rattle.sourcemap_lists.specs.Tokens.{AreInOrder, destination, position_cmp}
 use Rattle.sourcemap_rewriting.specs.Numbering.{with_text_if, first_some, HasPlace, kept_of, met_texts, NumbersMore, AreMet, numbered_by, numbered_with}
 use Rattle.sourcemap_rewriting.specs.declared.numbering.NewNumbers.{NewNumbers}
 use Rattle.sourcemap_rewriting.proofs.NumberingLemmas.{kept_of-push, used-kept, first_some-push, number_in-with_text_if}
@@ -106,3 +108,13 @@ module _ (S N : List (List ℕ)) where
   tokens-all old now i s n past e =
       e ∙ ap (λ ts. map (numbered_with S N s n) ts ++ drop i old) (take_all i old past)
       ∙ ap (λ ts. map (numbered_with S N s n) old ++ ts) (drop_all i old past) ∙ append-nil (map (numbered_with S N s n) old)
+
+-- Order.
+
+pub AreInOrder-map : (g : RawToken → RawToken) → ((t : RawToken) → destination (g t) ≡ destination t) → (ts : List RawToken) → AreInOrder ts → AreInOrder (map g ts)
+AreInOrder-map g same ts up k d at below =
+    let many : length (map g ts) ≡ length ts = length-map ts g in
+    let here : get_or (map g ts) k d ≡ g (get_or ts k d) = get_or-map g ts k d d (omega arith) in
+    let next : get_or (map g ts) (k + 1) d ≡ g (get_or ts (k + 1) d) = get_or-map g ts (k + 1) d d (omega arith) in
+    (λ i. is_lt (position_cmp ((ap destination next ∙ same (get_or ts (k + 1) d)) i) ((ap destination here ∙ same (get_or ts k d)) i)))
+    ∙ up k d at (omega arith)

@@ -1,27 +1,24 @@
 -- The parts of a map that is rewritten.
-use Rattle.std.proofs.Common.{◌≡◌, ◌≢◌, refl, sym, ap, subst, ◌∙◌, ℕ, suc, ◌+◌, ◌<◌, ◌≤◌, ◌==◌, List, [], ◌∷◌, length, map, get_or, Bool, true, false, cond, Some, None, Option, arith, inl, inr, ◌⊎◌, slice_get, eqb-true, eq-eqb, option_map, option_and_then, MatchBool, Result, Ok, string_bytes, String}
+use Rattle.std.proofs.Common.{◌≡◌, ◌≢◌, refl, sym, ap, ◌∙◌, ℕ, suc, ◌<◌, ◌≤◌, ◌==◌, List, [], ◌∷◌, length, map, get_or, Bool, true, false, cond, Some, None, Option, arith, inl, inr, ◌⊎◌, slice_get, eqb-true, eq-eqb, option_map, option_and_then, MatchBool, Result, Ok, string_bytes}
 use Rattle.std.specs.List.{AllByRecursion}
 use Rattle.std.specs.Option.{option_or}
 use Rattle.std.specs.Str.{bytes_eq}
-use Rattle.std.specs.Ordering.{is_lt}
-use Rattle.std.specs.declared.alloc.Global.{Global}
 use Rattle.std.proofs.lemmas.Bool.{cases_eq}
-use Rattle.std.proofs.lemmas.List.{length-map, get_or-map}
+use Rattle.std.proofs.lemmas.List.{length-map}
 use Rattle.std.proofs.lemmas.Option.{slice_get-map, slice_get-get_or, slice_get_within}
 use Rattle.std.proofs.lemmas.Slice.Eq.{bytes_eq-Decides}
 use Rattle.sourcemap_errors.specs.declared.errors.Error.{Error}
 use Rattle.sourcemap_lists.specs.declared.tokens.RawToken.{RawToken}
 use Rattle.sourcemap_lists.specs.Interner.{place_of, AreDistinct}
-use Rattle.sourcemap_lists.specs.Tokens.{AreInOrder, destination, position_cmp}
 use Rattle.sourcemap_lists.proofs.InternerLemmas.{slice_get-place_of}
 use Rattle.sourcemap_texts.specs.Texts.{texts_of, contents_in}
 use Rattle.sourcemap_texts.specs.Prefixes.{cut_by}
 use Rattle.sourcemap_rewriting.specs.CutSources.{all_prefixes}
 use Rattle.sourcemap_rewriting.specs.Options.{Removal}
 use Rattle.sourcemap_rewriting.specs.Kept.{present}
-use Rattle.sourcemap_rewriting.specs.Numbering.{first_some, met_texts, IsMet, AreNumbered, AreMet, numbered_by}
+use Rattle.sourcemap_rewriting.specs.Numbering.{first_some, met_texts, IsMet, AreNumbered, AreMet}
 use Rattle.sourcemap_rewriting.specs.KeptContents.{given, given_to, IsPlaced, AreKept}
-use Rattle.sourcemap_rewriting.specs.Rewritten.{contents_among, contents_due, sources_used, names_used, AreRewritten, AreSound}
+use Rattle.sourcemap_rewriting.specs.Rewritten.{contents_among, contents_due, sources_used, names_used, AreFew, AreRewritten}
 use Rattle.sourcemap_rewriting.specs.declared.rewritten.RewrittenParts.{RewrittenParts}
 use Rattle.sourcemap_rewriting.specs.declared.numbering.NewNumbers.{NewNumbers}
 use Rattle.sourcemap_rewriting.proofs.NumberingLemmas.{All-weaker, kept_once-few, distinct-kept_of}
@@ -118,25 +115,15 @@ contents-kept_if false S N ts s n contents kept met numbered none = none
 pub same_Ok : {X : Type 0} (x y : X) → ◌≡◌ {A = Result X Error} (Ok x) (Ok y) → x ≡ y
 same_Ok x y e = cc
 
--- Order.
-
-pub AreInOrder-map : (g : RawToken → RawToken) → ((t : RawToken) → destination (g t) ≡ destination t) → (ts : List RawToken) → AreInOrder ts → AreInOrder (map g ts)
-AreInOrder-map g same ts up k d at below =
-    let many : length (map g ts) ≡ length ts = length-map ts g in
-    let here : get_or (map g ts) k d ≡ g (get_or ts k d) = get_or-map g ts k d d (omega arith) in
-    let next : get_or (map g ts) (k + 1) d ≡ g (get_or ts (k + 1) d) = get_or-map g ts (k + 1) d d (omega arith) in
-    (λ i. is_lt (position_cmp ((ap destination next ∙ same (get_or ts (k + 1) d)) i) ((ap destination here ∙ same (get_or ts k d)) i)))
-    ∙ up k d at (omega arith)
-
 -- Bounds.
 
 few_contents_if : (w : Bool) (contents : List (Option (List ℕ))) → length contents ≤ 4294967295 → length (cond w contents []) ≤ 4294967295
 few_contents_if true contents few = few
 few_contents_if false contents few = omega arith
 
-pub sound-rewritten : (S N paths : List (List ℕ)) (contents : List (Option (List ℕ))) (removal : Removal) (tokens : List RawToken) (p : RewrittenParts)
-    → length S ≤ 4294967295 → length N ≤ 4294967295 → AreInOrder tokens → AreRewritten S N paths contents removal tokens p → AreSound p
-sound-rewritten S N paths contents removal tokens p few_s few_n up are =
+pub few-rewritten : (S N paths : List (List ℕ)) (contents : List (Option (List ℕ))) (removal : Removal) (tokens : List RawToken) (p : RewrittenParts)
+    → length S ≤ 4294967295 → length N ≤ 4294967295 → AreRewritten S N paths contents removal tokens p → AreFew p
+few-rewritten S N paths contents removal tokens p few_s few_n are =
     let some_sources : length (sources_used S tokens) ≤ length S = kept_once-few S (map (λ t. t.src_id) tokens) in
     let some_names : length (names_used N tokens) ≤ length N = kept_once-few N (map (λ t. t.name_id) tokens) in
     let names : length (texts_of p.names) ≡ length p.names.items = length-map p.names.items string_bytes in
@@ -150,8 +137,7 @@ sound-rewritten S N paths contents removal tokens p few_s few_n up are =
     let few : length (cond removal.with_contents due []) ≤ 4294967295 = few_contents_if removal.with_contents due (omega (arith, many, some_sources, few_s)) in
     let kept_due : length (contents_in p.contents) ≡ length (cond removal.with_contents due []) = ap length are.contents_kept in
     record {
-      ordered = subst AreInOrder (sym are.tokens_due) (AreInOrder-map (numbered_by S N (sources_used S tokens) (names_used N tokens)) (λ t. refl) tokens up);
-      few_names = omega (arith, p.names.ok.0, names, names_due, some_names, few_n);
-      few_sources = omega (arith, p.sources.ok.0, sources, sources_due, some_sources, few_s);
-      few_contents = omega (arith, p.contents.ok.0, kept, kept_due, few);
+      names = omega (arith, p.names.ok.0, names, names_due, some_names, few_n);
+      sources = omega (arith, p.sources.ok.0, sources, sources_due, some_sources, few_s);
+      contents = omega (arith, p.contents.ok.0, kept, kept_due, few);
     }

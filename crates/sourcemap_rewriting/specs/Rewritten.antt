@@ -1,7 +1,6 @@
 -- The parts of a map that a rewriting changes, as they are due.
 use Rattle.std.specs.Prelude.{◌≡◌, ◌≤◌, ℕ, cond, List, [], map, slice_get, Option, None, option_and_then, vec_len}
 use Rattle.std.specs.Str.{bytes_eq}
-use Rattle.sourcemap_lists.specs.Tokens.{AreInOrder}
 use Rattle.sourcemap_lists.specs.declared.tokens.RawToken.{RawToken}
 use Rattle.sourcemap_texts.specs.Texts.{texts_of, contents_in}
 use Rattle.sourcemap_texts.specs.Prefixes.{cut_by}
@@ -31,7 +30,7 @@ names_used names tokens = kept_of names (map (λ t. t.name_id) tokens)
 
 pub record AreRewritten (sources names paths : List (List ℕ)) (contents : List (Option (List ℕ)))
     (removal : Removal) (tokens : List RawToken) (p : RewrittenParts) : Type 0 where
-  pub tokens_due : p.tokens.items
+  pub tokens_due : p.tokens
       ≡ map (numbered_by sources names (sources_used sources tokens) (names_used names tokens)) tokens
   pub names_due : texts_of p.names ≡ names_used names tokens
   pub sources_due : texts_of p.sources
@@ -39,9 +38,8 @@ pub record AreRewritten (sources names paths : List (List ℕ)) (contents : List
   pub contents_kept : contents_in p.contents
       ≡ cond removal.with_contents (map (contents_due sources contents tokens) (sources_used sources tokens)) []
 
--- the tokens are in order, and each name, source and item of contents has a number
-pub record AreSound (p : RewrittenParts) : Type 0 where
-  pub ordered : AreInOrder p.tokens.items
-  pub few_names : vec_len p.names ≤ 4294967295
-  pub few_sources : vec_len p.sources ≤ 4294967295
-  pub few_contents : vec_len p.contents ≤ 4294967295
+-- each name, source and item of contents has a number
+pub record AreFew (p : RewrittenParts) : Type 0 where
+  pub names : vec_len p.names ≤ 4294967295
+  pub sources : vec_len p.sources ≤ 4294967295
+  pub contents : vec_len p.contents ≤ 4294967295

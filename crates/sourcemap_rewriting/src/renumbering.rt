@@ -5,6 +5,7 @@ ghost use Rattle.sourcemap_rewriting.specs.Renumbering.{IsRenumbered};
 
 use crate::numbering::{NewNumbers, Numbering};
 use sourcemap_errors::errors::Result;
+use sourcemap_lists::token_list::TokenList;
 use sourcemap_lists::tokens::RawToken;
 use std::alloc::Global;
 
@@ -15,8 +16,8 @@ pub(crate) struct Renumbering {
     pub(crate) names: NewNumbers,
 }
 
-// Gives tokens the new numbers of their sources and names.
-pub(crate) fn renumber(
+// Gives each of some tokens the new numbers of its source and its name.
+fn renumber_each(
     alloc: Global,
     tokens: &mut [RawToken],
     sources: &[String],
@@ -38,4 +39,22 @@ pub(crate) fn renumber(
         sources: source_numbers.met,
         names: name_numbers.met,
     })
+}
+
+// The tokens with new numbers of their sources and names, and these numbers.
+pub(crate) fn renumber(
+    alloc: Global,
+    tokens: TokenList,
+    sources: &[String],
+    names: &[String],
+) -> Result<(TokenList, Renumbering)>
+    requires few_sources { length sources.now ≤ 4294967295 }
+    requires few_names { length names.now ≤ 4294967295 }
+    ensures ok { IfOk result
+        (λ new. IsRenumbered (map string_bytes sources.now) (map string_bytes names.now) tokens new.0 new.1) }
+    ensures memory { IsOkUnless result OutOfMemory }
+{
+    let mut tokens = tokens.into_vec();
+    let numbers = renumber_each(alloc, tokens.as_mut_slice(), sources, names)?;
+    Ok((TokenList::of_ordered(tokens), numbers))
 }

@@ -2,10 +2,9 @@
 ghost use Rattle.std.specs.Prelude.{◌≡◌, ◌≤◌, [], IfOk, IsOkUnless, MatchBool, cond, map, string_bytes, unwrap_or, vec_len};
 ghost use Rattle.std.specs.List.{AllByRecursion};
 ghost use Rattle.sourcemap_errors.specs.declared.errors.Error.TheVariants.{OutOfMemory};
-ghost use Rattle.sourcemap_lists.specs.Tokens.{AreInOrder};
 ghost use Rattle.sourcemap_texts.specs.Texts.{texts_of, contents_in};
 ghost use Rattle.sourcemap_rewriting.specs.Options.{removal_of};
-ghost use Rattle.sourcemap_rewriting.specs.Rewritten.{AreRewritten, AreSound};
+ghost use Rattle.sourcemap_rewriting.specs.Rewritten.{AreFew, AreRewritten};
 ghost use Rattle.sourcemap_rewriting.specs.KeptContents.{AreKept, IsPlaced};
 
 use crate::cut_sources::{all_prefixes, cut_sources};
@@ -15,7 +14,7 @@ use crate::numbering::NewNumbers;
 use crate::options::RewriteOptions;
 use crate::renumbering::renumber;
 use sourcemap_errors::errors::Result;
-use sourcemap_lists::tokens::RawToken;
+use sourcemap_lists::token_list::TokenList;
 use std::alloc::Global;
 
 // The sources as they are shown.
@@ -72,7 +71,7 @@ fn contents_if(
 #[derive(Drop)]
 pub struct RewrittenParts {
     /// Its tokens, in their old order.
-    pub tokens: Vec<RawToken>,
+    pub tokens: TokenList,
     /// The names that tokens use.
     pub names: Vec<String>,
     /// The sources that tokens use.
@@ -85,23 +84,22 @@ pub struct RewrittenParts {
 /// is one. Paths are told by sources as they stand without it. Only want of memory refuses.
 pub fn rewritten_parts(
     alloc: Global,
-    mut tokens: Vec<RawToken>,
+    tokens: TokenList,
     sources: Vec<String>,
     with_root: Option<Vec<String>>,
     names: Vec<String>,
     contents: Vec<Option<String>>,
     options: &RewriteOptions<'_>,
 ) -> Result<RewrittenParts>
-    requires ordered { AreInOrder tokens.items }
     requires few_sources { vec_len (unwrap_or with_root sources) ≤ 4294967295 }
     requires few_names { vec_len names ≤ 4294967295 }
     ensures parts { IfOk result (λ parts. AreRewritten (texts_of (unwrap_or with_root sources)) (texts_of names)
-        (texts_of sources) (contents_in contents) (removal_of options.now) tokens.items parts) }
-    ensures sound { IfOk result AreSound }
+        (texts_of sources) (contents_in contents) (removal_of options.now) tokens parts) }
+    ensures few { IfOk result AreFew }
     ensures memory { IsOkUnless result OutOfMemory }
 {
     let texts = shown(&with_root, &sources);
-    let numbers = renumber(alloc, tokens.as_mut_slice(), texts, names.as_slice())?;
+    let (tokens, numbers) = renumber(alloc, tokens, texts, names.as_slice())?;
     let prefixes = all_prefixes(alloc, options.strip_prefixes, sources.as_slice())?;
     let texts = into_shown(with_root, sources);
     let texts = kept_texts(alloc, texts, &numbers.sources)?;

@@ -1,4 +1,4 @@
-use Rattle.std.proofs.Common.{◌≡◌, None, replicate, vec_len}
+use Rattle.std.proofs.Common.{◌≡◌, None, replicate}
 use Rattle.sourcemap_texts.specs.Texts.{contents_in}
 use Rattle.sourcemap_rewriting.proofs.kept_contents.without_contents.Given as goal
 

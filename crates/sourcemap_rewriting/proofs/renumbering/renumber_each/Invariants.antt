@@ -1,6 +1,6 @@
 use Rattle.std.proofs.Common.{◌≡◌, ◌++◌, map, take, drop, string_bytes}
 use Rattle.sourcemap_rewriting.specs.Numbering.{IsNumbering, AreMet, numbered_with}
-use Rattle.sourcemap_rewriting.proofs.renumbering.renumber.Given as goal
+use Rattle.sourcemap_rewriting.proofs.renumbering.renumber_each.Given as goal
 
 abbrev pub invariant-loop-token : goal.invariant-loop-token
 invariant-loop-token l = record {
