@@ -1,4 +1,5 @@
 pub mod InternerLemmas
 pub mod SearchLemmas
 pub mod SortLemmas
+pub mod TokenListLemmas
 pub mod TokensLemmas

@@ -1,3 +1,4 @@
 pub mod Interner
 pub mod Search
+pub mod TokenList
 pub mod Tokens

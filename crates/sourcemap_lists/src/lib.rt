@@ -3,4 +3,5 @@
 
 pub mod interner;
 pub mod search;
+pub mod token_list;
 pub mod tokens;

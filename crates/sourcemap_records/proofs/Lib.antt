@@ -1,3 +1,4 @@
+pub mod BytesLemmas
 pub mod DepthLemmas
 pub mod FieldLemmas
 pub mod FromJsonLemmas

@@ -1,0 +1,27 @@
+-- Equality of lists of tokens: of all fields of all tokens.
+use Rattle.std.specs.Prelude.{List, Bool, nat_eq}
+use Rattle.std.specs.Bool.{beq}
+use Rattle.std.specs.Ordering.{on, eq_of_both}
+use Rattle.std.specs.Cmp.{IsEquivalence}
+use Rattle.std.specs.Cmp.Rules.{comparing}
+use Rattle.std.specs.Cmp.Lexicographic.{pointwise}
+use Rattle.std.proofs.Common.{rules}
+use Rattle.sourcemap_lists.specs.declared.tokens.RawToken.{RawToken}
+
+-- tokens of the same numbers and flag
+abbrev pub same_raw : RawToken → RawToken → Bool
+same_raw =
+    eq_of_both (on (λ t. t.dst_line) nat_eq)
+    (eq_of_both (on (λ t. t.dst_col) nat_eq)
+    (eq_of_both (on (λ t. t.src_line) nat_eq)
+    (eq_of_both (on (λ t. t.src_col) nat_eq)
+    (eq_of_both (on (λ t. t.src_id) nat_eq)
+    (eq_of_both (on (λ t. t.name_id) nat_eq)
+    (on (λ t. t.is_range) beq))))))
+
+-- lists of the same tokens
+abbrev pub same_tokens : List RawToken → List RawToken → Bool
+same_tokens = pointwise same_raw
+
+pub same_tokens_equiv : IsEquivalence same_tokens
+same_tokens_equiv = search (comparing, rules) depth 16

@@ -1,0 +1,14 @@
+-- The record of the value that was read is that of the bytes.
+use Rattle.std.proofs.lemmas.Result.{err_from_is_err_and}
+use Rattle.serde_json.specs.View.{view}
+use Rattle.sourcemap_records.specs.Jsontypes.{tree}
+use Rattle.sourcemap_records.proofs.BytesLemmas.{record_of_json, no_json}
+use Rattle.sourcemap_records.proofs.bytes.read_record.Goals as goal
+
+pub returns : goal.returns
+returns c = record_of_json c.args.bytes.now (view c.in_ok-value.value) c.in_ok-value.ensures tree c.from_owned.result c.from_owned.ensures
+
+pub returns-in_err-value : goal.returns-in_err-value
+returns-in_err-value c =
+    let p = err_from_is_err_and c.from_residual.result c.from_residual.ensures.1 in
+    rw (p.1, p.2) (no_json c.args.bytes.now _ c.in_err-value.ensures)
