@@ -213,7 +213,7 @@ fn read_back(map: &DecodedMap) -> Result<DecodedMap>
 fn read_back_bytes(map: &DecodedMap) -> Result<DecodedMap>
     ensures { IsWellFormed (map_value map.now) → MatchResult result
         (λ back. MeansTheSame (map_value back) (map_value map.now)
-            × KeepsParts (map_value back) (map_value map.now))
+        × KeepsParts (map_value back) (map_value map.now))
         (λ e. UnlessMemory e (IsIo e)) }
 {
     let alloc = map.allocator();

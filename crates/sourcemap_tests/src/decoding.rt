@@ -1,7 +1,7 @@
 // Bytes, values and data URLs that are read, and records and sections that are compared.
+use serde_json::Value;
 use sourcemap::jsontypes::{DebugId, RawSection, RawSourceMap};
 use sourcemap::{DecodedMap, Error, SourceMap, decode_data_url, decode_slice};
-use serde_json::Value;
 use std::alloc::Global;
 use std::process::Abort;
 use std::test::Fail;

@@ -1,11 +1,11 @@
 // Maps that are written, and what a builder or a changed map is written as; a writer that fails.
+use serde_json::Value;
 use sourcemap::builder::SourceMapBuilder;
 use sourcemap::decoder::decode_regular;
 use sourcemap::encoder::{encode, encode_to};
 use sourcemap::jsontypes::{DebugId, RawSourceMap};
 use sourcemap::types::{RewriteOptions, SourceMap};
 use sourcemap::{Error, Result};
-use serde_json::Value;
 use std::alloc::Global;
 use std::io;
 use std::io::Write;

@@ -1,10 +1,10 @@
 // Maps that are rewritten.
+use serde_json::Value;
 use sourcemap::decoder::decode_regular;
 use sourcemap::encoder::Encodable;
 use sourcemap::errors::{Error, Result};
 use sourcemap::jsontypes::RawSourceMap;
 use sourcemap::types::{RewriteOptions, SourceMap};
-use serde_json::Value;
 use std::alloc::Global;
 use std::process::Abort;
 use std::rt::Files;
