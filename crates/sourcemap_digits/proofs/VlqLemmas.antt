@@ -11,7 +11,7 @@ use Rattle.std.proofs.lemmas.Bool.{and_parts, and_from, or_cases, or_parts, and_
 use Rattle.std.proofs.lemmas.List.Elements.{All-from_recursion}
 use Rattle.sourcemap_errors.specs.declared.errors.Error.{Error}
 use Rattle.sourcemap_errors.specs.declared.errors.Error.TheVariants.{VlqLeftover, VlqNoValues, VlqOverflow, InvalidBase64}
-use Rattle.sourcemap_digits.specs.Vlq.{digit_value, glyph, GoesOn, IsLast, data_of, raw_of, number_of, IsChain, IsSmall, IsGroup, Reads, IsUnfinished, GoesTo, NumberFault, BeginsWith, IsSound, HasFault, Answers, IsShortest, Spells, IsTooFar, Written}
+use Rattle.sourcemap_digits.specs.Vlq.{digit_value, glyph, GoesOn, IsLast, data_of, raw_of, number_of, IsChain, FitsOneNumber, IsGroup, Reads, IsUnfinished, GoesTo, NumberFault, BeginsWith, IsSound, HasFault, SegmentAnswers, IsShortest, Spells, IsTooFar, SpellingAnswers}
 use Rattle.sourcemap_errors.specs.Answer.{UnlessMemory}
 use Rattle.sourcemap_errors.proofs.AnswerLemmas.{UnlessMemory-weaker}
 use Rattle.sourcemap_digits.proofs.DigitLemmas.{digit_value-below, glyph-digit_value, digit_value-glyph}
@@ -58,7 +58,7 @@ IsChain-push (x ∷ y ∷ xs) c all last = (all.0, IsChain-push (y ∷ xs) c all
 
 -- the test for room before a digit is read
 pub has_room-small : (part : List ℕ) (c n : ℕ) → IsUnfinished part → n ≡ length part
-    → (nat_lt n 12 || ((n == 12) && nat_lt (data_of c) 8)) ≡ true → IsSmall (part ++ c ∷ [])
+    → (nat_lt n 12 || ((n == 12) && nat_lt (data_of c) 8)) ≡ true → FitsOneNumber (part ++ c ∷ [])
 has_room-small part c n unfinished e room =
     let below : raw_of part < 2 ^ (5 * length part) = raw_of-below part in
     let len : length (part ++ c ∷ []) ≡ length part + 1 = length_push part c in
@@ -79,7 +79,7 @@ has_room-small part c n unfinished e room =
     ]
 
 pub has_room-great : (part : List ℕ) (c n : ℕ) → n ≡ length part
-    → (nat_lt n 12 || ((n == 12) && nat_lt (data_of c) 8)) ≡ false → IsSmall (part ++ c ∷ []) → ⊥
+    → (nat_lt n 12 || ((n == 12) && nat_lt (data_of c) 8)) ≡ false → FitsOneNumber (part ++ c ∷ []) → ⊥
 has_room-great part c n e room small =
     let len : length (part ++ c ∷ []) ≡ length part + 1 = length_push part c in
     let raw : raw_of (part ++ c ∷ []) ≡ raw_of part + 2 ^ (5 * length part) * data_of c = raw_of-push part c in
@@ -147,11 +147,11 @@ BeginsWith-last text n v h unfinished e last room =
     let len : n ≡ length (take n text) = sym (length-take-le n text (omega arith)) in
     let bits : data_of c ≡ v % 32 = data_of-digit c v e in
     let room' : (nat_lt n 12 || ((n == 12) && nat_lt (data_of c) 8)) ≡ true = rw bits room in
-    let fits : IsSmall (take n text ++ c ∷ []) = has_room-small (take n text) c n unfinished len room' in
+    let fits : FitsOneNumber (take n text ++ c ∷ []) = has_room-small (take n text) c n unfinished len room' in
     let is_last : IsLast c = (v, e, last) in
     let chain : IsChain (take n text ++ c ∷ []) = IsChain-push (take n text) c unfinished.goes_on is_last in
     let more : take (n + 1) text ≡ take n text ++ c ∷ [] = take_more text n 0 h in
-    let fits' : IsSmall (take (n + 1) text) = rw more fits in
+    let fits' : FitsOneNumber (take (n + 1) text) = rw more fits in
     record {
       group = take (n + 1) text;
       is_group = record { chain = rw more chain; few = fits'.few; small = fits'.small; value = refl };
@@ -175,10 +175,10 @@ NumberFault-great text n v h unfinished e room =
 pub NumberFault-leftover : (text : List ℕ) (n : ℕ) → length text ≤ n → IsUnfinished (take n text) → NumberFault text VlqLeftover
 NumberFault-leftover text n h unfinished = rw (← take_all n text h) unfinished
 
-pub IsSmall-more : (text : List ℕ) (n v : ℕ) → n < length text → IsUnfinished (take n text)
+pub FitsOneNumber-more : (text : List ℕ) (n v : ℕ) → n < length text → IsUnfinished (take n text)
     → digit_value (get_or text n 0) ≡ Some v
-    → (nat_lt n 12 || ((n == 12) && nat_lt (v % 32) 8)) ≡ true → IsSmall (take (n + 1) text)
-IsSmall-more text n v h unfinished e room =
+    → (nat_lt n 12 || ((n == 12) && nat_lt (v % 32) 8)) ≡ true → FitsOneNumber (take (n + 1) text)
+FitsOneNumber-more text n v h unfinished e room =
     let c : ℕ = get_or text n 0 in
     let len : n ≡ length (take n text) = sym (length-take-le n text (omega arith)) in
     let bits : data_of c ≡ v % 32 = data_of-digit c v e in
@@ -193,7 +193,7 @@ pub sum_of-more : (text : List ℕ) (n v raw bits : ℕ) → n < length text →
     → (raw + bits * 2 ^ (5 * n) % 2 ^ 64 ≡ raw_of (take (n + 1) text)) × (raw_of (take (n + 1) text) < 2 ^ 63)
 sum_of-more text n v raw bits h unfinished e room is_raw is_bits =
     let more : raw_of (take (n + 1) text) ≡ raw_of (take n text) + v % 32 * 2 ^ (5 * n) = raw_of-more text n v h e in
-    let fits : IsSmall (take (n + 1) text) = IsSmall-more text n v h unfinished e room in
+    let fits : FitsOneNumber (take (n + 1) text) = FitsOneNumber-more text n v h unfinished e room in
     let product : bits * 2 ^ (5 * n) ≡ v % 32 * 2 ^ (5 * n) = ap (λ k. k * 2 ^ (5 * n)) is_bits in
     let small : raw_of (take (n + 1) text) < 2 ^ 63 = fits.small in
     let low : bits * 2 ^ (5 * n) < 2 ^ 64 = omega arith in
@@ -224,13 +224,13 @@ IsSound-more text rest behind front numbers n reads split b = (
 is_small : List ℕ → Bool
 is_small digits = nat_le (length digits) 13 && nat_lt (raw_of digits) (2 ^ 63)
 
-is_small-true : (digits : List ℕ) → IsSmall digits → is_small digits ≡ true
+is_small-true : (digits : List ℕ) → FitsOneNumber digits → is_small digits ≡ true
 unfolding is_small
 is_small-true digits h = and_from _ _ (le-leb (length digits) 13 h.few) (lt-ltb (raw_of digits) (2 ^ 63) h.small)
 
-is_small-IsSmall : (digits : List ℕ) → is_small digits ≡ true → IsSmall digits
+is_small-FitsOneNumber : (digits : List ℕ) → is_small digits ≡ true → FitsOneNumber digits
 unfolding is_small
-is_small-IsSmall digits h =
+is_small-FitsOneNumber digits h =
     let parts = and_parts (nat_le (length digits) 13) (nat_lt (raw_of digits) (2 ^ 63)) h in
     record { few = leb-true (length digits) 13 parts.0; small = ltb-true (raw_of digits) (2 ^ 63) parts.1 }
 
@@ -265,14 +265,14 @@ answer_of : List ℕ → Result (List ℤ) Error
 answer_of text = not_none (scan_from [] text)
 
 -- one byte that goes on
-scan-goes_on : (part cs : List ℕ) (c : ℕ) → GoesOn c → IsSmall (part ++ c ∷ []) → scan_from part (c ∷ cs) ≡ scan_from (part ++ c ∷ []) cs
+scan-goes_on : (part cs : List ℕ) (c : ℕ) → GoesOn c → FitsOneNumber (part ++ c ∷ []) → scan_from part (c ∷ cs) ≡ scan_from (part ++ c ∷ []) cs
 unfolding scan_from after_digit
 scan-goes_on part cs c (v, e, goes) small =
     let fits : is_small (part ++ c ∷ []) ≡ true = is_small-true (part ++ c ∷ []) small in
     let test : nat_lt v 32 ≡ false = le-ltb v 32 goes in
     rw (e, fits, test) refl
 
-scan-last : (part cs : List ℕ) (c : ℕ) → IsLast c → IsSmall (part ++ c ∷ []) → scan_from part (c ∷ cs) ≡ with_number (number_of (raw_of (part ++ c ∷ []))) (scan_from [] cs)
+scan-last : (part cs : List ℕ) (c : ℕ) → IsLast c → FitsOneNumber (part ++ c ∷ []) → scan_from part (c ∷ cs) ≡ with_number (number_of (raw_of (part ++ c ∷ []))) (scan_from [] cs)
 unfolding scan_from after_digit
 scan-last part cs c (v, e, last) small =
     let fits : is_small (part ++ c ∷ []) ≡ true = is_small-true (part ++ c ∷ []) small in
@@ -280,8 +280,8 @@ scan-last part cs c (v, e, last) small =
     rw (e, fits, test) refl
 
 -- digits in front of small digits are small
-IsSmall-front : (xs ys : List ℕ) → IsSmall (xs ++ ys) → IsSmall xs
-IsSmall-front xs ys small =
+FitsOneNumber-front : (xs ys : List ℕ) → FitsOneNumber (xs ++ ys) → FitsOneNumber xs
+FitsOneNumber-front xs ys small =
     let raw : raw_of (xs ++ ys) ≡ raw_of xs + 2 ^ (5 * length xs) * raw_of ys = raw_of-append xs ys in
     let len : length (xs ++ ys) ≡ length xs + length ys = length-append xs ys in
     let few : length (xs ++ ys) ≤ 13 = small.few in
@@ -291,31 +291,31 @@ IsSmall-front xs ys small =
 one_by_one : (part cs : List ℕ) (c : ℕ) → part ++ c ∷ cs ≡ (part ++ c ∷ []) ++ cs
 one_by_one part cs c = sym (append_assoc part (c ∷ []) cs)
 
-IsSmall-first : (part cs : List ℕ) (c : ℕ) → IsSmall (part ++ c ∷ cs) → IsSmall (part ++ c ∷ [])
-IsSmall-first part cs c small = let P : List ℕ → Type 0 = IsSmall in IsSmall-front (part ++ c ∷ []) cs (subst P (one_by_one part cs c) small)
+FitsOneNumber-first : (part cs : List ℕ) (c : ℕ) → FitsOneNumber (part ++ c ∷ cs) → FitsOneNumber (part ++ c ∷ [])
+FitsOneNumber-first part cs c small = let P : List ℕ → Type 0 = FitsOneNumber in FitsOneNumber-front (part ++ c ∷ []) cs (subst P (one_by_one part cs c) small)
 
-scan-unfinished : (part xs rest : List ℕ) → AllByRecursion GoesOn xs → IsSmall (part ++ xs) → scan_from part (xs ++ rest) ≡ scan_from (part ++ xs) rest
+scan-unfinished : (part xs rest : List ℕ) → AllByRecursion GoesOn xs → FitsOneNumber (part ++ xs) → scan_from part (xs ++ rest) ≡ scan_from (part ++ xs) rest
 scan-unfinished part [] rest all small = ap (λ p. scan_from p rest) (sym (append-nil part))
 scan-unfinished part (c ∷ cs) rest all small =
-    let P : List ℕ → Type 0 = IsSmall in
+    let P : List ℕ → Type 0 = FitsOneNumber in
     let e : part ++ c ∷ cs ≡ (part ++ c ∷ []) ++ cs = one_by_one part cs c in
-    scan-goes_on part (cs ++ rest) c all.0 (IsSmall-first part cs c small)
+    scan-goes_on part (cs ++ rest) c all.0 (FitsOneNumber-first part cs c small)
     ∙ (scan-unfinished (part ++ c ∷ []) cs rest all.1 (subst P e small) ∙ ap (λ p. scan_from p rest) (sym e))
 
-scan-chain : (part xs rest : List ℕ) → IsChain xs → IsSmall (part ++ xs)
+scan-chain : (part xs rest : List ℕ) → IsChain xs → FitsOneNumber (part ++ xs)
     → scan_from part (xs ++ rest) ≡ with_number (number_of (raw_of (part ++ xs))) (scan_from [] rest)
 scan-chain part [] rest chain small = absurd chain
 scan-chain part (c ∷ []) rest chain small = scan-last part rest c chain small
 scan-chain part (c ∷ d ∷ cs) rest chain small =
-    let P : List ℕ → Type 0 = IsSmall in
+    let P : List ℕ → Type 0 = FitsOneNumber in
     let e : part ++ c ∷ d ∷ cs ≡ (part ++ c ∷ []) ++ (d ∷ cs) = one_by_one part (d ∷ cs) c in
-    scan-goes_on part ((d ∷ cs) ++ rest) c chain.0 (IsSmall-first part (d ∷ cs) c small)
+    scan-goes_on part ((d ∷ cs) ++ rest) c chain.0 (FitsOneNumber-first part (d ∷ cs) c small)
     ∙ (scan-chain (part ++ c ∷ []) (d ∷ cs) rest chain.1 (subst P e small)
     ∙ ap (λ p. with_number (number_of (raw_of p)) (scan_from [] rest)) (sym e))
 
 scan-group : (group rest : List ℕ) (n : ℤ) → IsGroup group n → scan_from [] (group ++ rest) ≡ with_number n (scan_from [] rest)
 scan-group group rest n g =
-    let small : IsSmall group = record { few = g.few; small = g.small } in
+    let small : FitsOneNumber group = record { few = g.few; small = g.small } in
     scan-chain [] group rest g.chain small ∙ ap (λ m. with_number m (scan_from [] rest)) (sym g.value)
 
 scan-reads : (front rest : List ℕ) (numbers : List ℤ) → Reads front numbers → scan_from [] (front ++ rest) ≡ with_numbers numbers (scan_from [] rest)
@@ -334,10 +334,10 @@ scan-foreign : (part cs : List ℕ) (c : ℕ) → digit_value c ≡ None → sca
 unfolding scan_from after_digit
 scan-foreign part cs c e = rw e refl
 
-scan-great : (part cs : List ℕ) (c : ℕ) → digit_value c ≢ None → ¬ IsSmall (part ++ c ∷ []) → scan_from part (c ∷ cs) ≡ Err VlqOverflow
+scan-great : (part cs : List ℕ) (c : ℕ) → digit_value c ≢ None → ¬ FitsOneNumber (part ++ c ∷ []) → scan_from part (c ∷ cs) ≡ Err VlqOverflow
 unfolding scan_from after_digit
 scan-great part cs c ne great =
-    let no : is_small (part ++ c ∷ []) ≡ false = false_from_ne_true _ (λ t. great (is_small-IsSmall (part ++ c ∷ []) t)) in
+    let no : is_small (part ++ c ∷ []) ≡ false = false_from_ne_true _ (λ t. great (is_small-FitsOneNumber (part ++ c ∷ []) t)) in
     elim (digit_value_cases c) [
       | inl none ↦ absurd (ne none)
       | inr (v, e) ↦ rw (e, no) refl
@@ -383,15 +383,15 @@ same-fault text rest e sound ne fault =
     ∙ (ap (λ r. with_numbers sound.numbers r) (scan-fault rest e fault ne) ∙ with_numbers-err sound.numbers e)) in
     sym (ap not_none scanned)
 
-answer-same : (text : List ℕ) (answer : Result (List ℤ) Error) → Answers text answer → answer ≡ answer_of text
+answer-same : (text : List ℕ) (answer : Result (List ℤ) Error) → SegmentAnswers text answer → answer ≡ answer_of text
 unfolding answer_of not_none scan_from at_end
 answer-same text (Ok numbers) due = same-numbers text numbers due.0 due.1
 answer-same text (Err VlqNoValues) due = sym (ap answer_of due)
 answer-same text (Err e) due = same-fault text due.0 e due.1 due.2 due.3
 
 -- a text has one answer
-pub Answers-same : (text : List ℕ) (a b : Result (List ℤ) Error) → Answers text a → Answers text b → a ≡ b
-Answers-same text a b of_a of_b = answer-same text a of_a ∙ sym (answer-same text b of_b)
+pub SegmentAnswers-same : (text : List ℕ) (a b : Result (List ℤ) Error) → SegmentAnswers text a → SegmentAnswers text b → a ≡ b
+SegmentAnswers-same text a b of_a of_b = answer-same text a of_a ∙ sym (answer-same text b of_b)
 
 pub HasFault-later : (text rest : List ℕ) → IsSound text rest → rest ≢ [] → (e : Error) → NumberFault rest e → HasFault text e
 HasFault-later text rest sound ne VlqNoValues fault = absurd fault
@@ -555,14 +555,14 @@ Spells-not_far numbers text spells (k, n, lt, at, far) =
     omega arith
 
 -- what is written for numbers is one text or one refusal
-pub Written-same : (numbers : List ℤ) (a b : Result (List ℕ) Error) → Written numbers a → Written numbers b → a ≡ b
-Written-same numbers (Ok a) (Ok b) of_a of_b = ap Ok (Spells-same numbers a b of_a of_b)
-Written-same numbers (Ok a) (Err VlqOverflow) of_a of_b = absurd (Spells-not_far numbers a of_a of_b)
-Written-same numbers (Ok a) (Err _) of_a of_b = absurd of_b
-Written-same numbers (Err VlqOverflow) (Ok b) of_a of_b = absurd (Spells-not_far numbers b of_b of_a)
-Written-same numbers (Err VlqOverflow) (Err VlqOverflow) of_a of_b = refl
-Written-same numbers (Err VlqOverflow) (Err _) of_a of_b = absurd of_b
-Written-same numbers (Err _) b of_a of_b = absurd of_a
+pub SpellingAnswers-same : (numbers : List ℤ) (a b : Result (List ℕ) Error) → SpellingAnswers numbers a → SpellingAnswers numbers b → a ≡ b
+SpellingAnswers-same numbers (Ok a) (Ok b) of_a of_b = ap Ok (Spells-same numbers a b of_a of_b)
+SpellingAnswers-same numbers (Ok a) (Err VlqOverflow) of_a of_b = absurd (Spells-not_far numbers a of_a of_b)
+SpellingAnswers-same numbers (Ok a) (Err _) of_a of_b = absurd of_b
+SpellingAnswers-same numbers (Err VlqOverflow) (Ok b) of_a of_b = absurd (Spells-not_far numbers b of_b of_a)
+SpellingAnswers-same numbers (Err VlqOverflow) (Err VlqOverflow) of_a of_b = refl
+SpellingAnswers-same numbers (Err VlqOverflow) (Err _) of_a of_b = absurd of_b
+SpellingAnswers-same numbers (Err _) b of_a of_b = absurd of_a
 
 -- ---- digits written from the left
 
@@ -666,12 +666,12 @@ IsShortest-last part n left all low near e some =
     }
 
 -- a refusal of one of the numbers
-pub Written-refused : (numbers : List ℤ) (k : ℕ) (e : Error) → k < length numbers
-    → UnlessMemory e ((e ≡ VlqOverflow) × IsTooFar (get_or numbers k (pos 0))) → UnlessMemory e (Written numbers (Err e))
-Written-refused numbers k e lt refused =
+pub SpellingAnswers-refused : (numbers : List ℤ) (k : ℕ) (e : Error) → k < length numbers
+    → UnlessMemory e ((e ≡ VlqOverflow) × IsTooFar (get_or numbers k (pos 0))) → UnlessMemory e (SpellingAnswers numbers (Err e))
+SpellingAnswers-refused numbers k e lt refused =
     let n : ℤ = get_or numbers k (pos 0) in
     UnlessMemory-weaker e (λ (w : (e ≡ VlqOverflow) × IsTooFar n).
-    let P : Error → Type 0 = λ x. Written numbers (Err x) in
+    let P : Error → Type 0 = λ x. SpellingAnswers numbers (Err x) in
     subst P (sym w.0) (k, n, lt, get_or_default numbers k n (pos 0) lt, w.1)) refused
 
 -- a number of one digit

@@ -53,7 +53,7 @@ IsChain (c ∷ []) = IsLast c
 IsChain (c ∷ d ∷ cs) = GoesOn c × IsChain (d ∷ cs)
 
 -- at most thirteen digits, whose raw value is below 2 ^ 63
-pub record IsSmall (digits : List ℕ) : Type 0 where
+pub record FitsOneNumber (digits : List ℕ) : Type 0 where
   pub few : length digits ≤ 13
   pub small : raw_of digits < 2 ^ 63
 
@@ -72,7 +72,7 @@ Reads text (n ∷ ns) = (group rest : List ℕ) × IsGroup group n × (text ≡ 
 -- digits of a number that is not at its end and not yet too great
 pub record IsUnfinished (part : List ℕ) : Type 0 where
   pub goes_on : AllByRecursion GoesOn part
-  pub fits : IsSmall part
+  pub fits : FitsOneNumber part
 
 -- a text begins with the digits `part` of an unfinished number, and the byte c comes next
 pub record GoesTo (text part : List ℕ) (c : ℕ) : Type 0 where
@@ -83,7 +83,7 @@ pub record GoesTo (text part : List ℕ) (c : ℕ) : Type 0 where
 -- the first number of a text has this fault
 abbrev pub NumberFault : List ℕ → Error → Type 0
 NumberFault text (InvalidBase64 c) = (part : List ℕ) × GoesTo text part c × (digit_value c ≡ None)
-NumberFault text VlqOverflow = (part : List ℕ) × (c : ℕ) × GoesTo text part c × (digit_value c ≢ None) × ¬ IsSmall (part ++ c ∷ [])
+NumberFault text VlqOverflow = (part : List ℕ) × (c : ℕ) × GoesTo text part c × (digit_value c ≢ None) × ¬ FitsOneNumber (part ++ c ∷ [])
 NumberFault text VlqLeftover = IsUnfinished text
 NumberFault text _ = ⊥
 
@@ -105,10 +105,10 @@ abbrev pub HasFault : List ℕ → Error → Type 0
 HasFault text VlqNoValues = text ≡ []
 HasFault text e = (rest : List ℕ) × IsSound text rest × (rest ≢ []) × NumberFault rest e
 
--- what a text stands for: at least one number, or its first fault
-abbrev pub Answers : List ℕ → Result (List ℤ) Error → Type 0
-Answers text (Ok numbers) = Reads text numbers × (numbers ≢ [])
-Answers text (Err e) = HasFault text e
+-- what the text of a segment stands for: at least one number, or its first fault
+abbrev pub SegmentAnswers : List ℕ → Result (List ℤ) Error → Type 0
+SegmentAnswers text (Ok numbers) = Reads text numbers × (numbers ≢ [])
+SegmentAnswers text (Err e) = HasFault text e
 
 -- the shortest digits of a number, of which 0 has no sign
 pub record IsShortest (digits : List ℕ) (number : ℤ) : Type 0 where
@@ -126,7 +126,7 @@ abbrev pub IsTooFar : ℤ → Type 0
 IsTooFar n = 2 ^ 62 ≤ unsigned_abs n
 
 -- what is written for numbers: their digits, or a refusal if one is too far
-abbrev pub Written : List ℤ → Result (List ℕ) Error → Type 0
-Written numbers (Ok text) = Spells numbers text
-Written numbers (Err VlqOverflow) = Any IsTooFar numbers
-Written numbers (Err _) = ⊥
+abbrev pub SpellingAnswers : List ℤ → Result (List ℕ) Error → Type 0
+SpellingAnswers numbers (Ok text) = Spells numbers text
+SpellingAnswers numbers (Err VlqOverflow) = Any IsTooFar numbers
+SpellingAnswers numbers (Err _) = ⊥

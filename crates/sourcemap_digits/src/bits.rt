@@ -38,7 +38,7 @@ pub fn encode_rmi(alloc: Global, bits: &[bool]) -> Result<String>
     Ok(text)
 }
 
-// Refuses a text by its first byte that is no digit.
+/// Answers `InvalidBase64` at the first byte of a text that is no digit.
 pub fn test_digits(text: &[u8]) -> Result<()>
     ensures { MatchResult result (λ _. first_foreign text.now ≡ None) (λ e. IsForeign text.now e) }
 {
@@ -50,7 +50,8 @@ pub fn test_digits(text: &[u8]) -> Result<()>
     Ok(())
 }
 
-// The bit at a place of a text, false past its end.
+/// The bit at a place of a text, counted from 0, six a byte. It is false past the end of the text
+/// and in a byte that is no digit.
 pub fn has_bit(text: &[u8], place: usize) -> bool
     ensures { result ≡ bit_of text.now place }
 {
@@ -61,7 +62,7 @@ pub fn has_bit(text: &[u8], place: usize) -> bool
     (value >> (place % 6)) % 2 == 1
 }
 
-// Writes the shortest text of bits behind a text.
+/// Writes the shortest text of bits behind a text. Only want of memory refuses.
 pub fn push_bits(text: &mut String, bits: &[bool]) -> Result<()>
     ensures written { OnOk result ((part : List ℕ) × IsBitText bits.now part × (string_bytes text.new ≡ string_bytes text.old ++ part)) }
     ensures memory { IfErr result (λ e. e ≡ OutOfMemory) }

@@ -3,7 +3,7 @@ ghost use Rattle.std.specs.Prelude.{◌≡◌, ◌≢◌, [], ℕ, ◌^◌, ◌<
 ghost use Rattle.sourcemap_errors.specs.declared.errors.Error.{Error};
 ghost use Rattle.sourcemap_errors.specs.declared.errors.Error.TheVariants.{VlqOverflow};
 ghost use Rattle.sourcemap_errors.specs.Answer.{UnlessMemory, IsAnswer, Gives};
-ghost use Rattle.sourcemap_digits.specs.Vlq.{digit_value, glyph, number_of, BeginsWith, NumberFault, IsShortest, IsTooFar, Reads, Answers, Spells, Written};
+ghost use Rattle.sourcemap_digits.specs.Vlq.{digit_value, glyph, number_of, BeginsWith, NumberFault, IsShortest, IsTooFar, Reads, SegmentAnswers, Spells, SpellingAnswers};
 
 use sourcemap_errors::errors::{Error, Result};
 use std::alloc::Global;
@@ -31,7 +31,7 @@ static GLYPHS: [u8; 64] = [
     b'w', b'x', b'y', b'z', b'0', b'1', b'2', b'3', b'4', b'5', b'6', b'7', b'8', b'9', b'+', b'/',
 ];
 
-// The value of a digit, none for any other byte.
+/// The value of a digit, below 64; none for any other byte.
 #[inline]
 pub fn digit_of(byte: u8) -> Option<u8>
     ensures { result ≡ digit_value byte }
@@ -40,7 +40,7 @@ pub fn digit_of(byte: u8) -> Option<u8>
     if value < 64 { Some(value) } else { None }
 }
 
-// The digit of a value.
+/// The digit of a value below 64.
 #[inline]
 pub fn glyph_of(value: u8) -> u8
     requires { value < 64 }
@@ -49,7 +49,8 @@ pub fn glyph_of(value: u8) -> u8
     GLYPHS[value as usize]
 }
 
-// The same as a character. The remainder lets the compiler see that it is an ASCII one.
+/// The digit of a value below 64, as a character.
+// The remainder lets the compiler see that it is an ASCII one.
 #[inline]
 pub fn glyph_char(value: u8) -> char
     requires { value < 64 }
@@ -58,7 +59,9 @@ pub fn glyph_char(value: u8) -> char
     char::from(glyph_of(value) % 128)
 }
 
-// The number at the front of a text, and the text behind it; else the first fault of that number.
+/// The number at the front of a text, and the text behind it; else the first fault of that number:
+/// `InvalidBase64` at a byte that is no digit, `VlqOverflow` at a digit that takes it to 2^62 or more
+/// from 0 or is its fourteenth, `VlqLeftover` where the text ends within it.
 // Most numbers have one digit, or two.
 #[inline(always)]
 pub fn next_number(text: &[u8]) -> Result<(i64, &[u8])>
@@ -135,7 +138,8 @@ fn number_from(raw: u64) -> i64
     if raw % 2 == 0 { magnitude } else { -magnitude }
 }
 
-// Writes the shortest digits of a number behind a text.
+/// Writes the shortest digits of a number behind a text. Answers `VlqOverflow` for a number that is
+/// 2^62 or more from 0, and writes nothing then; else only want of memory refuses.
 pub fn push_number(text: &mut String, number: i64) -> Result<()>
     ensures written { OnOk result ((digits : List ℕ) × IsShortest digits number × (string_bytes text.new ≡ string_bytes text.old ++ digits)) }
     ensures refused { IfErr result (λ e. UnlessMemory e ((e ≡ VlqOverflow) × IsTooFar number)) }
@@ -158,8 +162,8 @@ pub fn push_number(text: &mut String, number: i64) -> Result<()>
 /// segment ends within a number, and `VlqNoValues` for the empty segment; the first of these from
 /// the left. Else only want of memory refuses.
 pub fn parse_vlq_segment(alloc: Global, segment: &str) -> Result<Vec<i64>>
-    ensures answers { IsAnswer (λ numbers. numbers.items) (Answers segment.now) result }
-    ensures only { (answer : Result (List ℤ) Error) → Answers segment.now answer → Gives (λ numbers. numbers.items) result answer }
+    ensures answers { IsAnswer (λ numbers. numbers.items) (SegmentAnswers segment.now) result }
+    ensures only { (answer : Result (List ℤ) Error) → SegmentAnswers segment.now answer → Gives (λ numbers. numbers.items) result answer }
 {
     let mut numbers = Vec::new(alloc);
     let mut rest = segment.as_bytes();
@@ -177,8 +181,8 @@ pub fn parse_vlq_segment(alloc: Global, segment: &str) -> Result<Vec<i64>>
 /// The segment of these numbers, each in its shortest digits. Answers `VlqOverflow` exactly if a
 /// number is 2^62 or more from 0, else only want of memory refuses.
 pub fn generate_vlq_segment(alloc: Global, numbers: &[i64]) -> Result<String>
-    ensures written { IsAnswer string_bytes (Written numbers.now) result }
-    ensures only { (answer : Result (List ℕ) Error) → Written numbers.now answer → Gives string_bytes result answer }
+    ensures written { IsAnswer string_bytes (SpellingAnswers numbers.now) result }
+    ensures only { (answer : Result (List ℕ) Error) → SpellingAnswers numbers.now answer → Gives string_bytes result answer }
     ensures reads_back { IfOk result (λ text. Reads (string_bytes text) numbers.now) }
 {
     let mut text = String::new(alloc);
@@ -191,9 +195,9 @@ pub fn generate_vlq_segment(alloc: Global, numbers: &[i64]) -> Result<String>
 // A segment stands for one list of numbers or one fault, and numbers have one shortest text, which
 // stands for them.
 fn segments_are_determined()
-    ensures one_answer { (text : List ℕ) (a b : Result (List ℤ) Error) → Answers text a → Answers text b → a ≡ b }
+    ensures one_answer { (text : List ℕ) (a b : Result (List ℤ) Error) → SegmentAnswers text a → SegmentAnswers text b → a ≡ b }
     ensures one_text { (numbers : List ℤ) (a b : List ℕ) → Spells numbers a → Spells numbers b → a ≡ b }
-    ensures round_trip { (numbers : List ℤ) (text : List ℕ) → Spells numbers text → numbers ≢ [] → Answers text (Ok numbers) }
+    ensures round_trip { (numbers : List ℤ) (text : List ℕ) → Spells numbers text → numbers ≢ [] → SegmentAnswers text (Ok numbers) }
 {}
 
 #[cfg(test)]

@@ -1,3 +1,4 @@
+-- What each fault prints, and what the faults of other libraries become.
 use Rattle.std.specs.Prelude.{◌≡◌, ◌≢◌, ℕ, List, ◌++◌, codes, Option, Some, None, encode_utf8, string_bytes}
 use Rattle.std.specs.Fmt.{decimal}
 use Rattle.std.specs.IoError.{error_kind}

@@ -1,3 +1,4 @@
+//! The faults that calls of this library answer, and what each prints.
 ghost use Rattle.std.specs.Prelude.{◌≡◌};
 ghost use Rattle.sourcemap_errors.specs.declared.errors.Error.TheVariants.{BadJson, InvalidRangeMappingIndex, OutOfMemory, Scroll, Utf8};
 

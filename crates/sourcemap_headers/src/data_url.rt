@@ -1,3 +1,4 @@
+//! Data URLs of source maps, read and written.
 ghost use Rattle.std.specs.Prelude.{◌≡◌, ℕ, List, Result as Answer, codes, IfOk, IsOkUnless, option_map, string_bytes};
 ghost use Rattle.sourcemap_errors.specs.declared.errors.Error.{Error as Fault};
 ghost use Rattle.sourcemap_errors.specs.Answer.{IsAnswer};

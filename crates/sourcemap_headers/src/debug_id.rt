@@ -1,3 +1,4 @@
+//! Debug ids: the identifiers that tie maps to files.
 ghost use Rattle.std.specs.Prelude.{◌≡◌};
 
 use std::fmt;

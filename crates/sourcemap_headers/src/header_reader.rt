@@ -1,3 +1,4 @@
+//! A reader that drops a junk header, however the bytes come.
 ghost use Rattle.std.specs.Prelude.{◌≡◌, ◌≢◌, ℕ, List, [], ◌++◌, IsTrue, IfOk, OnOk, ◌≤◌, ◌<◌, length, Some, None, false, IsErr, IfErr, IfSome, IsSome, option_and_then};
 ghost use Rattle.sourcemap_headers.specs.HeaderReader.{left_at, left_after, read_behind_header, given, IsWithin, IsInHeader};
 ghost use Rattle.std.specs.declared.io.ErrorKind.TheVariants.{InvalidData};

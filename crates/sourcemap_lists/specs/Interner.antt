@@ -1,11 +1,11 @@
--- Texts that are kept once each, by number.
+-- Texts that are kept once each, by id.
 use Rattle.std.specs.Prelude.{◌≡◌, ℕ, cond, List, [], ◌∷◌, ◌++◌, length, Option, Some, None, is_some, Result, Ok, Err, slice_get, nat_lt}
 use Rattle.std.specs.List.{position_from}
 use Rattle.std.specs.Str.{bytes_eq}
 use Rattle.sourcemap_errors.specs.declared.errors.Error.{Error}
 use Rattle.sourcemap_errors.specs.declared.errors.Error.TheVariants.{IncompatibleSourceMap}
 
--- the number of a text: its place among the texts
+-- the id of a text: its place among the texts
 abbrev pub place_of : List ℕ → List (List ℕ) → Option ℕ
 place_of text texts = position_from (bytes_eq text) 0 texts
 
@@ -17,9 +17,9 @@ AreDistinct texts = (text : List ℕ) (id : ℕ) → slice_get texts id ≡ Some
 abbrev pub with_text : List (List ℕ) → List ℕ → List (List ℕ)
 with_text texts text = cond (is_some (place_of text texts)) texts (texts ++ text ∷ [])
 
--- the number that a text has or gets; a new one gets none beside 4294967295 others
-abbrev pub number_for : List (List ℕ) → List ℕ → Result ℕ Error
-number_for texts text = known_or_next (place_of text texts) (length texts) where
+-- the id that a text has or gets; a new one gets none beside 4294967295 others
+abbrev pub id_for : List (List ℕ) → List ℕ → Result ℕ Error
+id_for texts text = known_or_next (place_of text texts) (length texts) where
   known_or_next : Option ℕ → ℕ → Result ℕ Error
   known_or_next (Some id) count = Ok id
   known_or_next None count = cond (nat_lt count 4294967295) (Ok count) (Err IncompatibleSourceMap)

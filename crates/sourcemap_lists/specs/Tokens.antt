@@ -7,6 +7,10 @@ use mathlib.Core.Bool.{beq}
 use Rattle.sourcemap_lists.specs.declared.tokens.RawToken.{RawToken}
 use Rattle.sourcemap_lists.specs.Search.{closest}
 
+-- the id that names no source and no name; it also stands for the line and column in a source that is not there
+abbrev pub no_id : ℕ
+no_id = 4294967295
+
 -- the order of positions, which are a line and a column: line first
 abbrev pub position_cmp : ℕ × ℕ → ℕ × ℕ → Ordering
 position_cmp p q = ordering_then (nat_cmp p.0 q.0) (nat_cmp p.1 q.1)
@@ -41,7 +45,7 @@ closest_token tokens p = closest destination position_cmp tokens p
 abbrev pub IsWithin : (sources names : ℕ) → RawToken → Type 0
 IsWithin sources names token =
     sources ≤ token.src_id
-    → (token.src_id ≡ 4294967295) × (token.src_line ≡ 4294967295) × (token.src_col ≡ 4294967295)
+    → (token.src_id ≡ no_id) × (token.src_line ≡ no_id) × (token.src_col ≡ no_id)
     × (names ≤ token.name_id)
 
 abbrev pub AllWithin : (sources names : ℕ) → List RawToken → Type 0
@@ -68,9 +72,9 @@ abbrev pub without_repeats : List RawToken → List RawToken
 without_repeats [] = []
 without_repeats (token ∷ rest) = token ∷ changes_after token rest
 
--- the token with a name id that names none of the `names` put to 4294967295
+-- the token with a name id that names none of the `names` put to `no_id`
 abbrev pub with_sound_name : (names : ℕ) → RawToken → RawToken
-with_sound_name names token = record token { name_id = (if nat_lt token.name_id names then token.name_id else 4294967295) }
+with_sound_name names token = record token { name_id = (if nat_lt token.name_id names then token.name_id else no_id) }
 
 -- what is left of a list that is written and read back: no repeats, and no name id that names nothing
 abbrev pub reduced : (names : ℕ) → List RawToken → List RawToken

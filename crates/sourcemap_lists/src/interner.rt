@@ -1,8 +1,9 @@
+//! Texts that are kept once each, and found by their ids.
 ghost use Rattle.std.specs.Prelude.{◌≡◌, ℕ, List, [], ◌∷◌, ◌++◌, Some, Err, cond, is_ok, if◌then◌else◌, ◌==◌, map, length, IsOk, IsSome, IfOk, IfErr, OnOk, OnErr, IfSome, option_map, slice_get, string_bytes};
 ghost use Rattle.std.specs.HashMap.{get_by_text};
 ghost use Rattle.std.specs.Str.{bytes_eq};
 ghost use Rattle.sourcemap_errors.specs.Answer.{Gives};
-ghost use Rattle.sourcemap_lists.specs.Interner.{place_of, AreDistinct, with_text, number_for};
+ghost use Rattle.sourcemap_lists.specs.Interner.{place_of, AreDistinct, with_text, id_for};
 ghost use Rattle.sourcemap_errors.specs.declared.errors.Error.TheVariants.{IncompatibleSourceMap, OutOfMemory};
 
 use sourcemap_errors::errors::{Error, Result};
@@ -13,11 +14,11 @@ use std::marker::Model;
 /// How many texts an interner holds at most.
 const MOST: usize = 4294967295;
 
-/// Texts that are kept once each, numbered from 0 in the order in which they first came.
+/// Texts that are kept once each. Their ids count from 0, in the order in which they first came.
 #[derive(Drop)]
 pub struct Interner {
     texts: Vec<String>,
-    // the number of each text
+    // the id of each text
     ids: HashMap<String, u32>,
 }
 
@@ -46,19 +47,19 @@ impl Interner {
         }
     }
 
-    /// The number of `text`: the one that it has, which takes no memory, or the next one.
+    /// The id of `text`: the one that it has, which takes no memory, or the next one.
     /// `IncompatibleSourceMap` for a new text beside 4294967295 others, else only `OutOfMemory`,
     /// and then nothing changes.
     pub fn add(&mut self, text: &str) -> Result<u32>
-        ensures number { Gives (λ id. id) result (number_for self.old text.now) }
+        ensures id { Gives (λ id. id) result (id_for self.old text.now) }
         ensures texts { OnOk result (self.new ≡ with_text self.old text.now) }
         ensures unchanged { OnErr result (self.new ≡ self.old) }
-        // equal texts have equal numbers, and a number leads back to its text
+        // equal texts have equal ids, and an id leads back to its text
         ensures place { IfOk result (λ id. place_of text.now self.new ≡ Some id) }
         ensures text { IfOk result (λ id. slice_get self.new id ≡ Some text.now) }
         // only a new text for which there is room takes memory
         ensures known { IsSome (place_of text.now self.old) → IsOk result }
-        ensures full { number_for self.old text.now ≡ Err IncompatibleSourceMap → result ≡ Err IncompatibleSourceMap }
+        ensures full { id_for self.old text.now ≡ Err IncompatibleSourceMap → result ≡ Err IncompatibleSourceMap }
     {
         if let Some(id) = self.ids.get(text) {
             return Ok(*id);
@@ -72,7 +73,7 @@ impl Interner {
         Ok(id)
     }
 
-    /// The text of a number, none for a number that no text has.
+    /// The text of an id, none for an id that no text has.
     pub fn get(&self, id: u32) -> Option<&str>
         ensures text { option_map (λ text. text.now) result ≡ slice_get self.now id }
     {
@@ -97,7 +98,7 @@ impl Interner {
         self.texts.is_empty()
     }
 
-    /// The texts by number, moved and not copied.
+    /// The texts in order of their ids, moved and not copied.
     pub fn into_texts(self) -> Vec<String>
         ensures texts { map string_bytes result.items ≡ self }
         ensures distinct { AreDistinct self }
@@ -107,7 +108,7 @@ impl Interner {
     }
 }
 
-// Puts a text at the end of `texts`, and its number into `ids`. Where memory runs out, neither changes.
+// Puts a text at the end of `texts`, and its id into `ids`. Where memory runs out, neither changes.
 fn put(texts: &mut Vec<String>, ids: &mut HashMap<String, u32>, text: &str, id: u32) -> Result<()>
     ensures texts { map string_bytes texts.new.items
         ≡ (if is_ok result then map string_bytes texts.old.items ++ text.now ∷ [] else map string_bytes texts.old.items) }

@@ -1,3 +1,4 @@
+//! The item of a slice in order that is closest to a key.
 ghost use Rattle.std.specs.Prelude.{◌≡◌, ℕ, Some, IsTrue, IfSome, IsSortedByKey, option_map, slice_get};
 ghost use Rattle.std.specs.Ordering.{is_le};
 ghost use Rattle.sourcemap_lists.specs.Search.{GivesKey, closest};

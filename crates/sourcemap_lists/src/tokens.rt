@@ -1,3 +1,4 @@
+//! Tokens by numbers: their order, and the one closest to a place.
 ghost use Rattle.std.specs.Prelude.{◌≡◌, ℕ, IsOk, IsTrue, ◌↔◌, OnOk, OnErr, IfErr, IfSome, Some, option_map, slice_get};
 ghost use Rattle.std.specs.Ordering.{is_eq, is_lt};
 ghost use Rattle.std.specs.List.Sorted.{IsStableByKey};
@@ -7,33 +8,39 @@ ghost use Rattle.sourcemap_errors.specs.declared.errors.Error.TheVariants.{OutOf
 
 use sourcemap_errors::errors::Result;
 
+/// The id that names no source and no name. It also stands in place of the line and the column in a
+/// source that a token does not have.
+pub const NO_ID: u32 = 4294967295;
+
 /// One token of a map by numbers: a place in the generated text (`dst`) and the place in a source
 /// (`src`) that it comes from. Lines and columns count from 0, columns in UTF-16 units.
-/// The id 4294967295 names nothing.
+/// The id [`NO_ID`] names nothing.
 #[derive(Clone, Copy, Debug, PartialEq, Eq)]
 pub struct RawToken {
     /// Line in the generated text.
     pub dst_line: u32,
     /// Column in the generated text.
     pub dst_col: u32,
-    /// Line in the source, 4294967295 without a source.
+    /// Line in the source, [`NO_ID`] without a source.
     pub src_line: u32,
-    /// Column in the source, 4294967295 without a source.
+    /// Column in the source, [`NO_ID`] without a source.
     pub src_col: u32,
-    /// Number of the source, 4294967295 for none.
+    /// Id of the source, [`NO_ID`] for none.
     pub src_id: u32,
-    /// Number of the name, 4294967295 for none.
+    /// Id of the name, [`NO_ID`] for none.
     pub name_id: u32,
     /// Whether the token stands for all columns up to the next token.
     pub is_range: bool,
 }
 
+// Whether the token stands before this place of the generated text.
 fn stands_before(token: &RawToken, line: u32, col: u32) -> bool
     ensures { result ≡ is_lt (position_cmp (destination token.now) (line, col)) }
 {
     token.dst_line < line || (token.dst_line == line && token.dst_col < col)
 }
 
+// Whether the token stands at this place of the generated text.
 fn stands_at(token: &RawToken, line: u32, col: u32) -> bool
     ensures { result ≡ is_eq (position_cmp (destination token.now) (line, col)) }
 {
@@ -109,7 +116,7 @@ pub fn one_stable_order(tokens: &[RawToken], sorted: &[RawToken])
 {}
 
 /// A law: without repeats, and with each name id that names none of the `names` put to
-/// 4294967295, a list has the same closest tokens, up to such a name id.
+/// [`NO_ID`], a list has the same closest tokens, up to such a name id.
 pub fn reduced_answers_alike(tokens: &[RawToken], names: u32, line: u32, col: u32)
     ensures { closest_item destination position_cmp (reduced names tokens.now) (line, col)
         ≡ option_map (with_sound_name names) (closest_item destination position_cmp tokens.now (line, col)) }

@@ -7,10 +7,10 @@ use Rattle.sourcemap_errors.specs.declared.errors.Error.{Error}
 use Rattle.sourcemap_errors.specs.declared.errors.Error.TheVariants.{OutOfMemory}
 use Rattle.sourcemap_errors.specs.Answer.{IsAnswer, UnlessMemory}
 use Rattle.sourcemap_digits.specs.Bits.{first_foreign}
-use Rattle.sourcemap_digits.specs.Vlq.{Reads, HasFault, Answers}
+use Rattle.sourcemap_digits.specs.Vlq.{Reads, HasFault, SegmentAnswers}
 use Rattle.sourcemap_lists.specs.Tokens.{in_order, IsWithin, AllWithin}
 use Rattle.sourcemap_mappings.specs.Read.{Counts, Segment, Line, LineText, field, token_of, line_tokens, page_tokens, segment_fault, PartRead, PartFault, PartsRead, PartsFault, LineRead, LineFault, LinesRead, LinesFault, line_texts, MappingsAnswer}
-use Rattle.sourcemap_digits.proofs.VlqLemmas.{Answers-same}
+use Rattle.sourcemap_digits.proofs.VlqLemmas.{SegmentAnswers-same}
 use Rattle.sourcemap_lists.proofs.TokensLemmas.{AllWithin-in_order}
 
 -- of the readings and the faults of one text there is one at most
@@ -57,18 +57,18 @@ module _ {A : Type 0} (P : A → Type 0) (F : Error → Type 0) (Q : A → List 
 
 -- Parts.
 
-Reads-some : (c : ℕ) (cs : List ℕ) (ns : List ℤ) → Reads (c ∷ cs) ns → Answers (c ∷ cs) (Ok ns)
+Reads-some : (c : ℕ) (cs : List ℕ) (ns : List ℤ) → Reads (c ∷ cs) ns → SegmentAnswers (c ∷ cs) (Ok ns)
 Reads-some c cs [] h = absurd (let e : suc (length cs) ≡ 0 = ap length h in omega arith)
 Reads-some c cs (n ∷ ns) h = (h, λ e. absurd (let k : suc (length ns) ≡ 0 = ap length e in omega arith))
 
 Reads-same : (c : ℕ) (cs : List ℕ) (ns ms : List ℤ) → Reads (c ∷ cs) ns → Reads (c ∷ cs) ms → ns ≡ ms
-Reads-same c cs ns ms h k = let e = Answers-same (c ∷ cs) (Ok ns) (Ok ms) (Reads-some c cs ns h) (Reads-some c cs ms k) in cc
+Reads-same c cs ns ms h k = let e = SegmentAnswers-same (c ∷ cs) (Ok ns) (Ok ms) (Reads-some c cs ns h) (Reads-some c cs ms k) in cc
 
 Reads-sound : (c : ℕ) (cs : List ℕ) (ns : List ℤ) (e : Error) → Reads (c ∷ cs) ns → HasFault (c ∷ cs) e → ⊥
-Reads-sound c cs ns e h k = let mixed = Answers-same (c ∷ cs) (Ok ns) (Err e) (Reads-some c cs ns h) k in cc
+Reads-sound c cs ns e h k = let mixed = SegmentAnswers-same (c ∷ cs) (Ok ns) (Err e) (Reads-some c cs ns h) k in cc
 
 HasFault-same : (c : ℕ) (cs : List ℕ) (d e : Error) → HasFault (c ∷ cs) d → HasFault (c ∷ cs) e → d ≡ e
-HasFault-same c cs d e h k = let same = Answers-same (c ∷ cs) (Err d) (Err e) h k in cc
+HasFault-same c cs d e h k = let same = SegmentAnswers-same (c ∷ cs) (Err d) (Err e) h k in cc
 
 -- segments of one place and one text are the same
 Segment-same : (c : ℕ) (cs : List ℕ) (s t : Segment) → s.place ≡ t.place → Reads (c ∷ cs) s.numbers → Reads (c ∷ cs) t.numbers → s ≡ t

@@ -3,7 +3,7 @@ use Rattle.std.specs.Prelude.{ℕ, Bool, cond, is_some, List, [], ◌∷◌, ◌
 use Rattle.sourcemap_errors.specs.declared.errors.Error.{Error}
 use Rattle.sourcemap_lists.specs.declared.tokens.RawToken.{RawToken}
 use Rattle.sourcemap_lists.specs.Tokens.{in_order}
-use Rattle.sourcemap_lists.specs.Interner.{place_of, with_text, number_for}
+use Rattle.sourcemap_lists.specs.Interner.{place_of, with_text, id_for}
 use Rattle.sourcemap_maps.specs.Types.{MapValue, Meaning}
 
 -- all that a builder holds: `interned` are the texts of sources by which numbers are found,
@@ -61,7 +61,7 @@ with_name_if b (Some text) = with_name b text
 -- the number that a text has or gets, 4294967295 for no text
 abbrev pub number_if : List (List ℕ) → Option (List ℕ) → Result ℕ Error
 number_if texts None = Ok 4294967295
-number_if texts (Some text) = number_for texts text
+number_if texts (Some text) = id_for texts text
 
 -- the token at a place, with the numbers that its texts have or get
 abbrev pub token_due : RawToken → Result ℕ Error → Result ℕ Error → Result RawToken Error

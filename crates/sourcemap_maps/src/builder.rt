@@ -1,7 +1,7 @@
 ghost use Rattle.std.specs.Prelude.{◌≡◌, ◌≤◌, ◌<◌, ◌⊎◌, ℕ, [], ◌∷◌, ◌++◌, Some, None, Ok, Err, length, slice_get, slice_set, map, List, Option, option_map, option_and_then, string_bytes, unwrap_or, vec_len, IfOk, OnOk, OnErr, IsOkUnless, is_some};
 ghost use Rattle.std.specs.Option.{option_copied};
 ghost use Rattle.sourcemap_errors.specs.Answer.{Gives};
-ghost use Rattle.sourcemap_lists.specs.Interner.{number_for, with_text};
+ghost use Rattle.sourcemap_lists.specs.Interner.{id_for, with_text};
 ghost use Rattle.sourcemap_errors.specs.declared.errors.Error.TheVariants.{OutOfMemory};
 ghost use Rattle.sourcemap_texts.specs.Texts.{contents_in, texts_of};
 ghost use Rattle.sourcemap_maps.specs.Types.{contents_of, fitted};
@@ -126,7 +126,7 @@ impl SourceMapBuilder {
     /// next one. `IncompatibleSourceMap` for a new source beside 4294967295 others, else only
     /// `OutOfMemory`.
     pub fn add_source(&mut self, source: &str) -> Result<u32>
-        ensures number { Gives (λ id. id) result (number_for self.old.interned source.now) }
+        ensures number { Gives (λ id. id) result (id_for self.old.interned source.now) }
         ensures ok { OnOk result (self.new ≡ with_source self.old source.now) }
         ensures err { OnErr result (self.new ≡ self.old) }
     {
@@ -136,7 +136,7 @@ impl SourceMapBuilder {
     /// The number of a name: the one that it has, or the next one. `IncompatibleSourceMap` for a
     /// new name beside 4294967295 others, else only `OutOfMemory`.
     pub fn add_name(&mut self, name: &str) -> Result<u32>
-        ensures number { Gives (λ id. id) result (number_for self.old.names name.now) }
+        ensures number { Gives (λ id. id) result (id_for self.old.names name.now) }
         ensures ok { OnOk result (self.new ≡ with_name self.old name.now) }
         ensures err { OnErr result (self.new ≡ self.old) }
     {

@@ -9,7 +9,7 @@ ghost use Rattle.sourcemap_errors.specs.Answer.{IsAnswer, Gives};
 ghost use Rattle.sourcemap_lists.specs.Tokens.{AreInOrder};
 ghost use Rattle.sourcemap_errors.specs.declared.errors.Error.TheVariants.{OutOfMemory};
 ghost use Rattle.sourcemap_headers.specs.DebugId.{IsId};
-ghost use Rattle.sourcemap_records.specs.Jsontypes.{tree, flat, plain, IsFine, IsSmall, text_view};
+ghost use Rattle.sourcemap_records.specs.Jsontypes.{tree, flat, plain, IsFine, FitsU32, text_view};
 ghost use Rattle.sourcemap_maps.specs.Types.{fitted};
 ghost use Rattle.sourcemap_maps.specs.Encoder.{written_ids};
 ghost use Rattle.sourcemap_maps.specs.EncoderParts.{AreTextsOf, AreListsOf, IsHeadingOf, record_of_parts, some_contents};
@@ -149,7 +149,7 @@ fn contents_if_some(contents: Vec<Option<String>>) -> Option<Vec<Option<String>>
 
 fn ids_if_some(ids: Vec<u32>) -> Option<Vec<u32>>
     ensures value { option_map (λ v. v.items) result ≡ written_ids ids.items }
-    ensures small { IfSome result (λ v. AllByRecursion IsSmall v.items) }
+    ensures small { IfSome result (λ v. AllByRecursion FitsU32 v.items) }
 {
     if ids.is_empty() { None } else { Some(ids) }
 }

@@ -16,7 +16,7 @@ use Rattle.uuid.proofs.TextLemmas.{by_index_length}
 use Rattle.uuid.proofs.RoundTrips.{parses_hyphenated}
 use Rattle.sourcemap_headers.specs.DebugId.{IsId, debug_id_of, debug_id_text}
 use Rattle.sourcemap_records.specs.Field.{Makes, KeepsOthers, found, at, any, text, small, small_number, or_null, or_null_of, list, items_read, written_number, written_or_null, written_list, put_if, put_all}
-use Rattle.sourcemap_records.specs.Jsontypes.{IsSmall, Fields, Scopes, Tree, plain, indexed, Sections, no_more, bare, mapped, AreInRange, IsInRange, AreSectionsInRange, HasNoNullFile, HaveNoNullFile, scopes, debug_id, debug_id_in, fields_in, sections_read, record_of, written, written_fields, written_scopes, written_sections, entries}
+use Rattle.sourcemap_records.specs.Jsontypes.{FitsU32, Fields, Scopes, Tree, plain, indexed, Sections, no_more, bare, mapped, AreInRange, IsInRange, AreSectionsInRange, HasNoNullFile, HaveNoNullFile, scopes, debug_id, debug_id_in, fields_in, sections_read, record_of, written, written_fields, written_scopes, written_sections, entries}
 use Rattle.sourcemap_records.proofs.FromJsonLemmas.{sections_in-at, fields_kept}
 
 -- ---- what a key gives after entries were put
@@ -81,7 +81,7 @@ some_then : {X : Type 0} (P Q : X → Type 0) → ((x : X) → P x → Q x) → 
 some_then P Q h None p = tt
 some_then P Q h (Some x) p = h x p
 
-number-back : (n : ℕ) → IsSmall n → or_null small_number (written_number n) ≡ Some (Some n)
+number-back : (n : ℕ) → FitsU32 n → or_null small_number (written_number n) ≡ Some (Some n)
 number-back n h = ap (option_map Some) (small-back n h)
 
 texts-back : (xs : List (Option (List ℕ))) → or_null (list (or_null text)) (written_list (written_or_null string) xs) ≡ Some (Some xs)
@@ -93,13 +93,13 @@ plain_texts xs = list-back text string xs (every _ (λ x. refl) xs)
 values-back : (xs : List Data) → or_null (list any) (written_list (λ d. d) xs) ≡ Some (Some xs)
 values-back xs = ap (option_map Some) (list-back any (λ d. d) xs (every _ (λ x. refl) xs))
 
-numbers-back : (xs : List ℕ) → AllByRecursion IsSmall xs → or_null (list small_number) (written_list written_number xs) ≡ Some (Some xs)
-numbers-back xs h = ap (option_map Some) (list-back small_number written_number xs (each IsSmall _ small-back xs h))
+numbers-back : (xs : List ℕ) → AllByRecursion FitsU32 xs → or_null (list small_number) (written_list written_number xs) ≡ Some (Some xs)
+numbers-back xs h = ap (option_map Some) (list-back small_number written_number xs (each FitsU32 _ small-back xs h))
 
-offsets-back : (xs : List (Option ℕ)) → AllByRecursion (λ n. IfSome n IsSmall) xs → or_null (list (or_null small_number)) (written_list (written_or_null written_number) xs) ≡ Some (Some xs)
+offsets-back : (xs : List (Option ℕ)) → AllByRecursion (λ n. IfSome n FitsU32) xs → or_null (list (or_null small_number)) (written_list (written_or_null written_number) xs) ≡ Some (Some xs)
 offsets-back xs h =
     ap (option_map Some) (list-back (or_null small_number) (written_or_null written_number) xs
-    (each (λ n. IfSome n IsSmall) _ (λ x p. back_null small_number written_number x (some_then IsSmall _ number-back x p)) xs h))
+    (each (λ n. IfSome n FitsU32) _ (λ x p. back_null small_number written_number x (some_then FitsU32 _ number-back x p)) xs h))
 
 scopes-back : (s : Scopes) → scopes (written_scopes s) ≡ Some s
 scopes-back s = rw (plain_texts s.names) refl
@@ -151,7 +151,7 @@ fields-back f fine no_null =
     ) (or_none f.debug_id) in
     rw (
       id,
-      at_key small_number (codes "version") f f.version (back_null small_number written_number f.version (some_then IsSmall _ number-back f.version fine.version)),
+      at_key small_number (codes "version") f f.version (back_null small_number written_number f.version (some_then FitsU32 _ number-back f.version fine.version)),
       at_key any (codes "file") f f.file (file-back f.file no_null),
       at_key (list (or_null text)) (codes "sources") f f.sources (back_null (list (or_null text)) (written_list (written_or_null string)) f.sources (for_some _ texts-back f.sources)),
       at_key text (codes "sourceRoot") f f.source_root (back text string f.source_root (for_some _ (λ s. refl) f.source_root)),
@@ -159,8 +159,8 @@ fields-back f fine no_null =
       at_key (list any) (codes "names") f f.names (back (list any) (written_list (λ d. d)) f.names (for_some _ values-back f.names)),
       at_key text (codes "rangeMappings") f f.range_mappings (back text string f.range_mappings (for_some _ (λ s. refl) f.range_mappings)),
       at_key text (codes "mappings") f f.mappings (back text string f.mappings (for_some _ (λ s. refl) f.mappings)),
-      at_key (list small_number) (codes "ignoreList") f f.ignore_list (back (list small_number) (written_list written_number) f.ignore_list (some_then (AllByRecursion IsSmall) _ numbers-back f.ignore_list fine.ignore_list)),
-      at_key (list (or_null small_number)) (codes "x_facebook_offsets") f f.x_facebook_offsets (back (list (or_null small_number)) (written_list (written_or_null written_number)) f.x_facebook_offsets (some_then (AllByRecursion (λ n. IfSome n IsSmall)) _ offsets-back f.x_facebook_offsets fine.x_facebook_offsets)),
+      at_key (list small_number) (codes "ignoreList") f f.ignore_list (back (list small_number) (written_list written_number) f.ignore_list (some_then (AllByRecursion FitsU32) _ numbers-back f.ignore_list fine.ignore_list)),
+      at_key (list (or_null small_number)) (codes "x_facebook_offsets") f f.x_facebook_offsets (back (list (or_null small_number)) (written_list (written_or_null written_number)) f.x_facebook_offsets (some_then (AllByRecursion (λ n. IfSome n FitsU32)) _ offsets-back f.x_facebook_offsets fine.x_facebook_offsets)),
       at_key (list text) (codes "x_metro_module_paths") f f.x_metro_module_paths (back (list text) (written_list string) f.x_metro_module_paths (for_some _ (λ xs. ap (option_map Some) (plain_texts xs)) f.x_metro_module_paths)),
       at_key (list (or_null (list scopes))) (codes "x_facebook_sources") f f.x_facebook_sources (back (list (or_null (list scopes))) (written_list (written_or_null (written_list written_scopes))) f.x_facebook_sources (for_some _ all_scopes f.x_facebook_sources)),
     )

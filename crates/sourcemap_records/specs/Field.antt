@@ -2,7 +2,7 @@
 -- that is not of its kind.
 use Rattle.std.specs.Prelude.{◌≡◌, ℕ, ◌^◌, option_and_then, List, [], ◌∷◌, map, Option, Some, None, option_map, nat_lt, if◌then◌else◌, false, Result, Ok, Err}
 use Rattle.std.specs.Str.{bytes_eq}
-use Rattle.serde_json.specs.Data.{Data, null, boolean, number, string, array, object, unsigned, Items, no_items, item, Members, put}
+use Rattle.serde_json.specs.Data.{Data, null, number, array, unsigned, Items, no_items, item, Members, put}
 use Rattle.serde_json.specs.Find.{as_number, as_str, as_array, as_u64, get_member}
 use Rattle.serde_json.specs.View.{items_of}
 use Rattle.sourcemap_errors.specs.declared.errors.Error.{Error}
@@ -37,8 +37,8 @@ Makes see (Ok x) seen = see x ≡ seen
 Makes see (Err e) _ = e ≡ OutOfMemory
 
 -- a bound that every value meets
-abbrev pub Any : {X : Type 0} → X → Type 0
-Any _ = Unit {0}
+abbrev pub IsUnbounded : {X : Type 0} → X → Type 0
+IsUnbounded _ = Unit {0}
 
 -- ---- reading
 
@@ -58,11 +58,7 @@ small_number d = with (as_number d) (λ n. with (as_u64 n) small)
 -- null, or what was read of it
 abbrev pub or_null_of : {X : Type 0} → Data → Option X → Option (Option X)
 or_null_of null _ = Some None
-or_null_of (boolean _) x = option_map Some x
-or_null_of (number _) x = option_map Some x
-or_null_of (string _) x = option_map Some x
-or_null_of (array _) x = option_map Some x
-or_null_of (object _) x = option_map Some x
+or_null_of _ x = option_map Some x
 
 abbrev pub or_null : {X : Type 0} → (Data → Option X) → Data → Option (Option X)
 or_null read d = or_null_of d (read d)

@@ -5,7 +5,7 @@ use Rattle.std.specs.Option.{option_or}
 use Rattle.std.specs.Ordering.{nat_cmp, match_ordering}
 use Rattle.std.specs.Cmp.Lexicographic.{slice_cmp}
 use Rattle.std.specs.declared.alloc.Global.{Global}
-use Rattle.serde_json.specs.Data.{Data, null, boolean, number, string, array, object, Items, no_items, item, Members, no_members, member}
+use Rattle.serde_json.specs.Data.{Data, null, string, array, object, Items, no_items, item, Members, no_members, member}
 use Rattle.serde_json.specs.Find.{as_object, get}
 use Rattle.serde_json.specs.View.{view}
 use Rattle.sourcemap_headers.specs.DebugId.{IsId, debug_id_of, debug_id_text}
@@ -96,12 +96,7 @@ scopes_in ms =
     Some (record { names = names; mappings = mappings })))
 
 abbrev pub scopes : Data → Option Scopes
-scopes null = None
-scopes (boolean _) = None
-scopes (number _) = None
-scopes (string _) = None
-scopes (array _) = None
-scopes (object ms) = scopes_in ms
+scopes d = with (as_object d) scopes_in
 
 abbrev pub fields_in : Members → Option Fields
 fields_in ms =
@@ -141,12 +136,7 @@ offset_in ms =
     Some (record { line = line; column = column })))
 
 abbrev pub offset : Data → Option RawSectionOffset
-offset null = None
-offset (boolean _) = None
-offset (number _) = None
-offset (string _) = None
-offset (array _) = None
-offset (object ms) = offset_in ms
+offset d = with (as_object d) offset_in
 
 abbrev pub place_in : Members → Option Place
 place_in ms =
@@ -157,32 +147,20 @@ place_in ms =
 -- the record that a value stands for; what its sections hold, and the map of each, are read in turn
 abbrev mutual
   pub record_of : Data → Option Tree
-  record_of null = None
-  record_of (boolean _) = None
-  record_of (number _) = None
-  record_of (string _) = None
-  record_of (array _) = None
   record_of (object ms) = with (sections_in ms) (λ sections. with (fields_in ms) (λ fields. Some (tree_with fields sections)))
+  record_of _ = None
 
   pub sections_of : Data → Option Sections
-  sections_of null = None
-  sections_of (boolean _) = None
-  sections_of (number _) = None
-  sections_of (string _) = None
   sections_of (array ds) = sections_read ds
-  sections_of (object _) = None
+  sections_of _ = None
 
   pub sections_read : Items → Option Sections
   sections_read no_items = Some no_more
   sections_read (item d ds) = with (section_of d) (λ section. with (sections_read ds) (λ rest. Some (section_with section.place section.map rest)))
 
   pub section_of : Data → Option Section
-  section_of null = None
-  section_of (boolean _) = None
-  section_of (number _) = None
-  section_of (string _) = None
-  section_of (array _) = None
   section_of (object ms) = with (map_in ms) (λ t. with (place_in ms) (λ place. Some (section_at place t)))
+  section_of _ = None
 
   -- the member `sections`, or null, or none
   pub sections_in : Members → Option (Option Sections)
@@ -200,11 +178,7 @@ abbrev mutual
 abbrev pub is_there : Option Data → Bool
 is_there None = false
 is_there (Some null) = false
-is_there (Some (boolean _)) = true
-is_there (Some (number _)) = true
-is_there (Some (string _)) = true
-is_there (Some (array _)) = true
-is_there (Some (object _)) = true
+is_there (Some _) = true
 
 abbrev pub minimal_of : Data → Option MinimalRawSourceMap
 minimal_of d =
@@ -275,17 +249,18 @@ written_one s = written_section s.place (written_or_null written s.map)
 
 -- ---- what is read back as it was written
 
-abbrev pub IsSmall : ℕ → Type 0
-IsSmall n = n < 2 ^ 32
+-- a number of a record is below 2^32
+abbrev pub FitsU32 : ℕ → Type 0
+FitsU32 n = n < 2 ^ 32
 
 pub record AreInRange (fields : Fields) : Type 0 where
-  pub version : IfSome fields.version IsSmall
-  pub ignore_list : IfSome fields.ignore_list (AllByRecursion IsSmall)
-  pub x_facebook_offsets : IfSome fields.x_facebook_offsets (AllByRecursion (λ n. IfSome n IsSmall))
+  pub version : IfSome fields.version FitsU32
+  pub ignore_list : IfSome fields.ignore_list (AllByRecursion FitsU32)
+  pub x_facebook_offsets : IfSome fields.x_facebook_offsets (AllByRecursion (λ n. IfSome n FitsU32))
   pub debug_id : IfSome fields.debug_id IsId
 
 abbrev pub IsPlaceInRange : Place → Type 0
-IsPlaceInRange place = IsSmall place.line × IsSmall place.column
+IsPlaceInRange place = FitsU32 place.line × FitsU32 place.column
 
 -- numbers are below 2^32 and a debug id is 16 bytes, as in every record that there is
 abbrev mutual

@@ -7,11 +7,11 @@ use Rattle.serde_json.specs.Data.{Data, string, Members}
 use Rattle.serde_json.specs.Find.{get_member}
 use Rattle.serde_json.specs.View.{view}
 use Rattle.sourcemap_records.specs.Field.{with, any, text, small_number, or_null, list, at, written_number, written_or_null, written_list}
-use Rattle.sourcemap_records.specs.Jsontypes.{IsSmall, Fields, Scopes, scopes, scopes_view, text_view, texts_view, written_scopes}
-use Rattle.sourcemap_records.specs.declared.keys.Heading.{Heading}
-use Rattle.sourcemap_records.specs.declared.keys.Content.{Content}
-use Rattle.sourcemap_records.specs.declared.keys.Extras.{Extras}
-use Rattle.sourcemap_records.specs.declared.keys.Groups.{Groups}
+use Rattle.sourcemap_records.specs.Jsontypes.{FitsU32, Fields, Scopes, scopes, scopes_view, text_view, texts_view, written_scopes}
+use Rattle.sourcemap_records.specs.declared.keys.RawHeading.{RawHeading}
+use Rattle.sourcemap_records.specs.declared.keys.RawContent.{RawContent}
+use Rattle.sourcemap_records.specs.declared.keys.RawExtras.{RawExtras}
+use Rattle.sourcemap_records.specs.declared.keys.RawGroups.{RawGroups}
 
 pub record HeadingKeys : Type 0 where
   pub version : Option ℕ
@@ -64,7 +64,7 @@ fields_from heading content extras debug_id = record {
 
 -- ---- what a clause sees of a group
 
-abbrev pub heading_view : Heading → HeadingKeys
+abbrev pub heading_view : RawHeading → HeadingKeys
 heading_view h = record {
   version = h.version;
   file = option_map view h.file;
@@ -72,7 +72,7 @@ heading_view h = record {
   source_root = text_view h.source_root;
 }
 
-abbrev pub content_view : Content → ContentKeys
+abbrev pub content_view : RawContent → ContentKeys
 content_view c = record {
   sources_content = texts_view c.sources_content;
   names = option_map (λ v. map view v.items) c.names;
@@ -80,7 +80,7 @@ content_view c = record {
   mappings = text_view c.mappings;
 }
 
-abbrev pub extras_view : Extras → ExtraKeys
+abbrev pub extras_view : RawExtras → ExtraKeys
 extras_view x = record {
   ignore_list = option_map (λ v. v.items) x.ignore_list;
   x_facebook_offsets = option_map (λ v. v.items) x.x_facebook_offsets;
@@ -88,16 +88,16 @@ extras_view x = record {
   x_facebook_sources = option_map (λ v. map (option_map (λ s. map scopes_view s.items)) v.items) x.x_facebook_sources;
 }
 
-abbrev pub groups_view : Groups → Fields
+abbrev pub groups_view : RawGroups → Fields
 groups_view g = fields_from (heading_view g.heading) (content_view g.content) (extras_view g.extras) g.debug_id
 
 -- ---- which values a group may have
 
 abbrev pub IsHeadingInRange : HeadingKeys → Type 0
-IsHeadingInRange h = IfSome h.version IsSmall
+IsHeadingInRange h = IfSome h.version FitsU32
 
 abbrev pub AreExtrasInRange : ExtraKeys → Type 0
-AreExtrasInRange x = IfSome x.ignore_list (AllByRecursion IsSmall) × IfSome x.x_facebook_offsets (AllByRecursion (λ n. IfSome n IsSmall))
+AreExtrasInRange x = IfSome x.ignore_list (AllByRecursion FitsU32) × IfSome x.x_facebook_offsets (AllByRecursion (λ n. IfSome n FitsU32))
 
 -- ---- reading
 

@@ -6,11 +6,11 @@ ghost use Rattle.sourcemap_records.specs.Jsontypes.{flat, section, sections_from
 
 use crate::field::Field;
 use crate::jsontypes::{RawSection, RawSourceMap};
-use crate::keys::{Content, Extras, Groups, Heading, joined};
+use crate::keys::{RawContent, RawExtras, RawGroups, RawHeading, joined};
 use sourcemap_errors::errors::Result;
 use std::alloc::Global;
 
-#[cycle(copying)]
+#[cycle(copy)]
 pub(crate) fn copy_map(whole: &RawSourceMap, alloc: Global) -> Result<RawSourceMap>
     ensures { Makes tree result (tree whole.now) }
 {
@@ -21,13 +21,13 @@ pub(crate) fn copy_map(whole: &RawSourceMap, alloc: Global) -> Result<RawSourceM
     copy_fields(whole, sections, alloc)
 }
 
-fn copy_heading(whole: &RawSourceMap, alloc: Global) -> Result<Heading>
+fn copy_heading(whole: &RawSourceMap, alloc: Global) -> Result<RawHeading>
     ensures { Makes heading_view result (heading_of (flat (tree whole.now))) }
 {
     let file = whole.file.duplicate(alloc)?;
     let sources = whole.sources.duplicate(alloc)?;
     let source_root = whole.source_root.duplicate(alloc)?;
-    Ok(Heading {
+    Ok(RawHeading {
         version: whole.version,
         file,
         sources,
@@ -35,14 +35,14 @@ fn copy_heading(whole: &RawSourceMap, alloc: Global) -> Result<Heading>
     })
 }
 
-fn copy_content(whole: &RawSourceMap, alloc: Global) -> Result<Content>
+fn copy_content(whole: &RawSourceMap, alloc: Global) -> Result<RawContent>
     ensures { Makes content_view result (content_of (flat (tree whole.now))) }
 {
     let sources_content = whole.sources_content.duplicate(alloc)?;
     let names = whole.names.duplicate(alloc)?;
     let range_mappings = whole.range_mappings.duplicate(alloc)?;
     let mappings = whole.mappings.duplicate(alloc)?;
-    Ok(Content {
+    Ok(RawContent {
         sources_content,
         names,
         range_mappings,
@@ -50,14 +50,14 @@ fn copy_content(whole: &RawSourceMap, alloc: Global) -> Result<Content>
     })
 }
 
-fn copy_extras(whole: &RawSourceMap, alloc: Global) -> Result<Extras>
+fn copy_extras(whole: &RawSourceMap, alloc: Global) -> Result<RawExtras>
     ensures { Makes extras_view result (extras_of (flat (tree whole.now))) }
 {
     let ignore_list = whole.ignore_list.duplicate(alloc)?;
     let x_facebook_offsets = whole.x_facebook_offsets.duplicate(alloc)?;
     let x_metro_module_paths = whole.x_metro_module_paths.duplicate(alloc)?;
     let x_facebook_sources = whole.x_facebook_sources.duplicate(alloc)?;
-    Ok(Extras {
+    Ok(RawExtras {
         ignore_list,
         x_facebook_offsets,
         x_metro_module_paths,
@@ -65,13 +65,13 @@ fn copy_extras(whole: &RawSourceMap, alloc: Global) -> Result<Extras>
     })
 }
 
-fn copy_groups(whole: &RawSourceMap, alloc: Global) -> Result<Groups>
+fn copy_groups(whole: &RawSourceMap, alloc: Global) -> Result<RawGroups>
     ensures { Makes groups_view result (flat (tree whole.now)) }
 {
     let heading = copy_heading(whole, alloc)?;
     let content = copy_content(whole, alloc)?;
     let extras = copy_extras(whole, alloc)?;
-    Ok(Groups {
+    Ok(RawGroups {
         heading,
         content,
         extras,
@@ -90,7 +90,7 @@ fn copy_fields(
     Ok(joined(groups, sections))
 }
 
-#[cycle(copying)]
+#[cycle(copy)]
 fn copy_list(sections: &Vec<RawSection>, alloc: Global) -> Result<Vec<RawSection>>
     ensures { Makes (λ v. map section v.items) result (map section sections.now.items) }
 {
@@ -101,7 +101,7 @@ fn copy_list(sections: &Vec<RawSection>, alloc: Global) -> Result<Vec<RawSection
     Ok(copies)
 }
 
-#[cycle(copying)]
+#[cycle(copy)]
 fn copy_section(part: &RawSection, alloc: Global) -> Result<RawSection>
     ensures { Makes section result (section part.now) }
 {

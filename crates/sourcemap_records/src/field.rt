@@ -5,8 +5,8 @@ ghost use Rattle.serde_json.specs.Data.{Data, string};
 ghost use Rattle.serde_json.specs.Find.{get, get_member};
 ghost use Rattle.serde_json.specs.View.{view, items_view, members_view};
 ghost use Rattle.sourcemap_errors.specs.declared.errors.Error.TheVariants.{OutOfMemory};
-ghost use Rattle.sourcemap_records.specs.Jsontypes.{IsSmall, is_there};
-ghost use Rattle.sourcemap_records.specs.Field.{Any, due, Reads, Makes, put_if, written_number, written_or_null, written_list, KeepsOthers, any, text, small_number, or_null, items_read, found, list, at, needed};
+ghost use Rattle.sourcemap_records.specs.Jsontypes.{FitsU32, is_there};
+ghost use Rattle.sourcemap_records.specs.Field.{IsUnbounded, due, Reads, Makes, put_if, written_number, written_or_null, written_list, KeepsOthers, any, text, small_number, or_null, items_read, found, list, at, needed};
 
 use serde_json::{Map, Value, put};
 use sourcemap_errors::errors::{Error, JsonFault, Result};
@@ -49,7 +49,7 @@ impl Field for Value {
 
     ghost writing = { λ d. d };
 
-    ghost in_range = { Any };
+    ghost in_range = { IsUnbounded };
 
     fn take(_alloc: Global, value: Value) -> Result<Value> {
         Ok(value)
@@ -73,7 +73,7 @@ impl Field for String {
 
     ghost writing = { string };
 
-    ghost in_range = { Any };
+    ghost in_range = { IsUnbounded };
 
     fn take(_alloc: Global, value: Value) -> Result<String> {
         match value {
@@ -100,7 +100,7 @@ impl Field for u32 {
 
     ghost writing = { written_number };
 
-    ghost in_range = { IsSmall };
+    ghost in_range = { FitsU32 };
 
     fn take(_alloc: Global, value: Value) -> Result<u32> {
         read_number(&value)

@@ -3,8 +3,8 @@ ghost use Rattle.std.specs.Prelude.{◌≡◌, ℕ, List, string_bytes};
 ghost use Rattle.serde_json.specs.Data.{string};
 ghost use Rattle.serde_json.specs.View.{members_view};
 ghost use Rattle.sourcemap_headers.specs.DebugId.{IsId, debug_id_of, debug_id_text};
-ghost use Rattle.sourcemap_records.specs.Field.{Any, Reads};
-ghost use Rattle.sourcemap_records.specs.Jsontypes.{IsSmall, Scopes, scopes, scopes_in, scopes_view, written_scopes, offset, offset_in, written_offset, debug_id};
+ghost use Rattle.sourcemap_records.specs.Field.{IsUnbounded, Reads};
+ghost use Rattle.sourcemap_records.specs.Jsontypes.{FitsU32, Scopes, scopes, scopes_in, scopes_view, written_scopes, offset, offset_in, written_offset, debug_id};
 
 use crate::field::{Field, put_field, take_needed};
 use crate::jsontypes::{FacebookScopeMapping, RawSectionOffset};
@@ -58,7 +58,7 @@ impl Field for RawSectionOffset {
 
     ghost writing = { written_offset };
 
-    ghost in_range = { λ offset. IsSmall offset.line × IsSmall offset.column };
+    ghost in_range = { λ offset. FitsU32 offset.line × FitsU32 offset.column };
 
     fn take(alloc: Global, value: Value) -> Result<RawSectionOffset> {
         match value {
@@ -96,7 +96,7 @@ impl Field for FacebookScopeMapping {
 
     ghost writing = { written_scopes };
 
-    ghost in_range = { Any };
+    ghost in_range = { IsUnbounded };
 
     fn take(alloc: Global, value: Value) -> Result<FacebookScopeMapping> {
         match value {

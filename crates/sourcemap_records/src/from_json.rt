@@ -9,7 +9,7 @@ ghost use Rattle.sourcemap_records.specs.Jsontypes.{debug_id_in, fields_in, plac
 
 use crate::field::{take_needed, take_optional, take_value};
 use crate::jsontypes::{RawSection, RawSourceMap};
-use crate::keys::{Content, Extras, Groups, Heading, joined};
+use crate::keys::{RawContent, RawExtras, RawGroups, RawHeading, joined};
 use serde_json::{Map, Value};
 use sourcemap_errors::errors::{Error, JsonFault, Result};
 use sourcemap_headers::debug_id::DebugId;
@@ -28,7 +28,7 @@ fn take_debug_id(alloc: Global, members: &mut Map<String, Value>) -> Result<Opti
     Ok(new.or(old))
 }
 
-fn take_heading(alloc: Global, members: &mut Map<String, Value>) -> Result<Heading>
+fn take_heading(alloc: Global, members: &mut Map<String, Value>) -> Result<RawHeading>
     ensures value { Reads heading_view result (heading_in (members_view members.old.entries)) }
     ensures others { OnOk result (KeepsBut heading_names
         (members_view members.old.entries) (members_view members.new.entries)) }
@@ -37,7 +37,7 @@ fn take_heading(alloc: Global, members: &mut Map<String, Value>) -> Result<Headi
     let file = take_optional(alloc, members, "file")?;
     let sources = take_optional(alloc, members, "sources")?;
     let source_root = take_optional(alloc, members, "sourceRoot")?;
-    Ok(Heading {
+    Ok(RawHeading {
         version,
         file,
         sources,
@@ -45,7 +45,7 @@ fn take_heading(alloc: Global, members: &mut Map<String, Value>) -> Result<Headi
     })
 }
 
-fn take_content(alloc: Global, members: &mut Map<String, Value>) -> Result<Content>
+fn take_content(alloc: Global, members: &mut Map<String, Value>) -> Result<RawContent>
     ensures value { Reads content_view result (content_in (members_view members.old.entries)) }
     ensures others { OnOk result (KeepsBut content_names
         (members_view members.old.entries) (members_view members.new.entries)) }
@@ -54,7 +54,7 @@ fn take_content(alloc: Global, members: &mut Map<String, Value>) -> Result<Conte
     let names = take_optional(alloc, members, "names")?;
     let range_mappings = take_optional(alloc, members, "rangeMappings")?;
     let mappings = take_optional(alloc, members, "mappings")?;
-    Ok(Content {
+    Ok(RawContent {
         sources_content,
         names,
         range_mappings,
@@ -62,14 +62,14 @@ fn take_content(alloc: Global, members: &mut Map<String, Value>) -> Result<Conte
     })
 }
 
-fn take_extras(alloc: Global, members: &mut Map<String, Value>) -> Result<Extras>
+fn take_extras(alloc: Global, members: &mut Map<String, Value>) -> Result<RawExtras>
     ensures { Reads extras_view result (extras_in (members_view members.old.entries)) }
 {
     let ignore_list = take_optional(alloc, members, "ignoreList")?;
     let x_facebook_offsets = take_optional(alloc, members, "x_facebook_offsets")?;
     let x_metro_module_paths = take_optional(alloc, members, "x_metro_module_paths")?;
     let x_facebook_sources = take_optional(alloc, members, "x_facebook_sources")?;
-    Ok(Extras {
+    Ok(RawExtras {
         ignore_list,
         x_facebook_offsets,
         x_metro_module_paths,
@@ -77,14 +77,14 @@ fn take_extras(alloc: Global, members: &mut Map<String, Value>) -> Result<Extras
     })
 }
 
-fn take_groups(alloc: Global, mut members: Map<String, Value>) -> Result<Groups>
+fn take_groups(alloc: Global, mut members: Map<String, Value>) -> Result<RawGroups>
     ensures { Reads groups_view result (fields_in (members_view members.entries)) }
 {
     let debug_id = take_debug_id(alloc, &mut members)?;
     let heading = take_heading(alloc, &mut members)?;
     let content = take_content(alloc, &mut members)?;
     let extras = take_extras(alloc, &mut members)?;
-    Ok(Groups {
+    Ok(RawGroups {
         heading,
         content,
         extras,
@@ -118,7 +118,7 @@ fn take_place(
 }
 
 /// The record that a value stands for.
-#[cycle(reading)]
+#[cycle(from_json)]
 pub(crate) fn take_map(alloc: Global, value: Value) -> Result<RawSourceMap>
     ensures { Reads tree result (record_of (view value)) }
 {
@@ -132,7 +132,7 @@ pub(crate) fn take_map(alloc: Global, value: Value) -> Result<RawSourceMap>
     }
 }
 
-#[cycle(reading)]
+#[cycle(from_json)]
 fn take_sections(alloc: Global, value: Option<Value>) -> Result<Option<Vec<RawSection>>>
     ensures { Reads (option_map (λ v. sections_from (map section v.items))) result
         (found sections_of (option_map view value)) }
@@ -144,7 +144,7 @@ fn take_sections(alloc: Global, value: Option<Value>) -> Result<Option<Vec<RawSe
     }
 }
 
-#[cycle(reading)]
+#[cycle(from_json)]
 fn take_list(alloc: Global, items: Vec<Value>) -> Result<Vec<RawSection>>
     ensures { Reads (λ v. sections_from (map section v.items)) result
         (sections_read (items_view items.items)) }
@@ -156,7 +156,7 @@ fn take_list(alloc: Global, items: Vec<Value>) -> Result<Vec<RawSection>>
     Ok(sections)
 }
 
-#[cycle(reading)]
+#[cycle(from_json)]
 fn take_section(alloc: Global, value: Value) -> Result<RawSection>
     ensures { Reads section result (section_of (view value)) }
 {
@@ -170,7 +170,7 @@ fn take_section(alloc: Global, value: Value) -> Result<RawSection>
     }
 }
 
-#[cycle(reading)]
+#[cycle(from_json)]
 fn take_inner(alloc: Global, value: Option<Value>) -> Result<Option<Box<RawSourceMap>>>
     ensures { Reads (option_map (λ b. tree b.value)) result
         (found record_of (option_map view value)) }

@@ -1,3 +1,4 @@
+//! Records as they stand in JSON, key by key: read from a JSON value, and written as one.
 use crate::copy::copy_map;
 use crate::field::{Field, has, number_at};
 use crate::from_json::take_map;

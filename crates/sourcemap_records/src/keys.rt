@@ -9,7 +9,7 @@ use serde_json::Value;
 
 // What the map is of.
 #[derive(Drop)]
-pub(crate) struct Heading {
+pub(crate) struct RawHeading {
     pub(crate) version: Option<u32>,
     pub(crate) file: Option<Value>,
     pub(crate) sources: Option<Vec<Option<String>>>,
@@ -18,7 +18,7 @@ pub(crate) struct Heading {
 
 // What its tokens are, and the texts behind them.
 #[derive(Drop)]
-pub(crate) struct Content {
+pub(crate) struct RawContent {
     pub(crate) sources_content: Option<Vec<Option<String>>>,
     pub(crate) names: Option<Vec<Value>>,
     pub(crate) range_mappings: Option<String>,
@@ -27,7 +27,7 @@ pub(crate) struct Content {
 
 // What tools add.
 #[derive(Drop)]
-pub(crate) struct Extras {
+pub(crate) struct RawExtras {
     pub(crate) ignore_list: Option<Vec<u32>>,
     pub(crate) x_facebook_offsets: Option<Vec<Option<u32>>>,
     pub(crate) x_metro_module_paths: Option<Vec<String>>,
@@ -36,36 +36,36 @@ pub(crate) struct Extras {
 
 // All keys but the sections.
 #[derive(Drop)]
-pub(crate) struct Groups {
-    pub(crate) heading: Heading,
-    pub(crate) content: Content,
-    pub(crate) extras: Extras,
+pub(crate) struct RawGroups {
+    pub(crate) heading: RawHeading,
+    pub(crate) content: RawContent,
+    pub(crate) extras: RawExtras,
     pub(crate) debug_id: Option<DebugId>,
 }
 
 // The groups of a record, whose sections are dropped.
-pub(crate) fn split(map: RawSourceMap) -> Groups
+pub(crate) fn split(map: RawSourceMap) -> RawGroups
     ensures { groups_view result ≡ flat (tree map) }
 {
-    let heading = Heading {
+    let heading = RawHeading {
         version: map.version,
         file: map.file,
         sources: map.sources,
         source_root: map.source_root,
     };
-    let content = Content {
+    let content = RawContent {
         sources_content: map.sources_content,
         names: map.names,
         range_mappings: map.range_mappings,
         mappings: map.mappings,
     };
-    let extras = Extras {
+    let extras = RawExtras {
         ignore_list: map.ignore_list,
         x_facebook_offsets: map.x_facebook_offsets,
         x_metro_module_paths: map.x_metro_module_paths,
         x_facebook_sources: map.x_facebook_sources,
     };
-    Groups {
+    RawGroups {
         heading,
         content,
         extras,
@@ -74,11 +74,11 @@ pub(crate) fn split(map: RawSourceMap) -> Groups
 }
 
 // The record of these groups and sections.
-pub(crate) fn joined(groups: Groups, sections: Option<Vec<RawSection>>) -> RawSourceMap
+pub(crate) fn joined(groups: RawGroups, sections: Option<Vec<RawSection>>) -> RawSourceMap
     ensures { tree result ≡ tree_with (groups_view groups)
         (option_map (λ v. sections_from (map section v.items)) sections) }
 {
-    let Groups {
+    let RawGroups {
         heading,
         content,
         extras,

@@ -11,18 +11,18 @@ ghost use Rattle.sourcemap_records.specs.Jsontypes.{AreInRange, IsInRange, IsSec
 
 use crate::field::put_field;
 use crate::jsontypes::{RawSection, RawSourceMap};
-use crate::keys::{Content, Extras, Groups, Heading, split};
+use crate::keys::{RawContent, RawExtras, RawGroups, RawHeading, split};
 use serde_json::{Map, Value};
 use sourcemap_errors::errors::Result;
 use std::alloc::Global;
 
-fn put_heading(alloc: Global, members: &mut Map<String, Value>, heading: Heading) -> Result<()>
+fn put_heading(alloc: Global, members: &mut Map<String, Value>, heading: RawHeading) -> Result<()>
     ensures ok { OnOk result (members_view members.new.entries
         ≡ put_all (heading_entries (heading_view heading)) (members_view members.old.entries)) }
     ensures in_range { OnOk result (IsHeadingInRange (heading_view heading)) }
     ensures err { IfErr result (λ e. e ≡ OutOfMemory) }
 {
-    let Heading {
+    let RawHeading {
         version,
         file,
         sources,
@@ -34,12 +34,12 @@ fn put_heading(alloc: Global, members: &mut Map<String, Value>, heading: Heading
     put_field(alloc, members, "sourceRoot", source_root)
 }
 
-fn put_content(alloc: Global, members: &mut Map<String, Value>, content: Content) -> Result<()>
+fn put_content(alloc: Global, members: &mut Map<String, Value>, content: RawContent) -> Result<()>
     ensures ok { OnOk result (members_view members.new.entries
         ≡ put_all (content_entries (content_view content)) (members_view members.old.entries)) }
     ensures err { IfErr result (λ e. e ≡ OutOfMemory) }
 {
-    let Content {
+    let RawContent {
         sources_content,
         names,
         range_mappings,
@@ -51,13 +51,13 @@ fn put_content(alloc: Global, members: &mut Map<String, Value>, content: Content
     put_field(alloc, members, "mappings", mappings)
 }
 
-fn put_extras(alloc: Global, members: &mut Map<String, Value>, extras: Extras) -> Result<()>
+fn put_extras(alloc: Global, members: &mut Map<String, Value>, extras: RawExtras) -> Result<()>
     ensures ok { OnOk result (members_view members.new.entries
         ≡ put_all (extra_entries (extras_view extras)) (members_view members.old.entries)) }
     ensures in_range { OnOk result (AreExtrasInRange (extras_view extras)) }
     ensures err { IfErr result (λ e. e ≡ OutOfMemory) }
 {
-    let Extras {
+    let RawExtras {
         ignore_list,
         x_facebook_offsets,
         x_metro_module_paths,
@@ -69,12 +69,12 @@ fn put_extras(alloc: Global, members: &mut Map<String, Value>, extras: Extras) -
     put_field(alloc, members, "x_facebook_sources", x_facebook_sources)
 }
 
-fn give_groups(alloc: Global, groups: Groups) -> Result<Map<String, Value>>
+fn give_groups(alloc: Global, groups: RawGroups) -> Result<Map<String, Value>>
     ensures ok { IfOk result (λ m. members_view m.entries ≡ written_fields (groups_view groups)) }
     ensures in_range { OnOk result (AreInRange (groups_view groups)) }
     ensures err { IfErr result (λ e. e ≡ OutOfMemory) }
 {
-    let Groups {
+    let RawGroups {
         heading,
         content,
         extras,
@@ -97,7 +97,7 @@ fn give_fields(alloc: Global, map: RawSourceMap) -> Result<Map<String, Value>>
     give_groups(alloc, split(map))
 }
 
-#[cycle(writing)]
+#[cycle(to_json)]
 pub(crate) fn give_map(alloc: Global, mut map: RawSourceMap) -> Result<Value>
     ensures value { Makes view result (written (tree map)) }
     ensures in_range { OnOk result (IsInRange (tree map)) }
@@ -111,7 +111,7 @@ pub(crate) fn give_map(alloc: Global, mut map: RawSourceMap) -> Result<Value>
     Ok(Value::Object(members))
 }
 
-#[cycle(writing)]
+#[cycle(to_json)]
 fn give_list(alloc: Global, sections: Vec<RawSection>) -> Result<Vec<Value>>
     ensures ok { IfOk result (λ v. map view v.items ≡ map written_one (map section sections.items)) }
     ensures in_range { OnOk result (AllByRecursion IsSectionInRange (map section sections.items)) }
@@ -124,7 +124,7 @@ fn give_list(alloc: Global, sections: Vec<RawSection>) -> Result<Vec<Value>>
     Ok(items)
 }
 
-#[cycle(writing)]
+#[cycle(to_json)]
 fn give_section(alloc: Global, part: RawSection) -> Result<Value>
     ensures value { Makes view result (written_one (section part)) }
     ensures in_range { OnOk result (IsSectionInRange (section part)) }
@@ -138,7 +138,7 @@ fn give_section(alloc: Global, part: RawSection) -> Result<Value>
     Ok(Value::Object(members))
 }
 
-#[cycle(writing)]
+#[cycle(to_json)]
 fn give_inner(alloc: Global, map: Option<Box<RawSourceMap>>) -> Result<Value>
     ensures value { Makes view result (written_or_null written (option_map (λ b. tree b.value) map)) }
     ensures in_range { OnOk result (IfSome (option_map (λ b. tree b.value) map) IsInRange) }

@@ -6,7 +6,7 @@ ghost use Rattle.sourcemap_errors.specs.Answer.{Gives};
 use sourcemap_errors::errors::Result;
 use std::alloc::Global;
 
-// The text as a string of its own.
+/// The text as a string of its own. Only want of memory refuses.
 pub fn owned(alloc: Global, text: Option<&str>) -> Result<Option<String>>
     ensures { Gives (option_map string_bytes) result (Ok (option_copied text.entry)) }
 {
@@ -16,7 +16,7 @@ pub fn owned(alloc: Global, text: Option<&str>) -> Result<Option<String>>
     }
 }
 
-// The text, empty where there is none.
+/// The text, empty where there is none.
 pub fn text_or_empty(text: &Option<String>) -> &str
     ensures { result.now ≡ unwrap_or (option_map string_bytes text.now) [] }
 {

@@ -1,3 +1,4 @@
+//! What absolute paths have in common.
 ghost use Rattle.std.specs.Prelude.{◌≡◌, ◌≢◌, ◌<◌, ◌≤◌, Ok, map, option_map, string_bytes, slice_index, length, take, nat_le, ◌||◌, true};
 ghost use Rattle.std.specs.Bool.{OnTrue, OnFalse};
 ghost use Rattle.std.specs.Iterator.{IsFinite};

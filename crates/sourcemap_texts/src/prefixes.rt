@@ -1,3 +1,4 @@
+//! Prefixes that are cut from texts.
 ghost use Rattle.std.specs.Prelude.{◌≡◌, Some, None, Ok, if◌then◌else◌, length, drop, map, nat_eq, option_map, unwrap_or, string_bytes};
 ghost use Rattle.std.specs.List.{starts_with};
 ghost use Rattle.std.specs.Option.{option_copied};
@@ -33,8 +34,9 @@ fn behind_first<'a, S: AsStr>(text: &'a str, prefixes: &[S]) -> Option<&'a str>
     None
 }
 
-// What to show in place of a text, once prefixes are cut from what is shown of it now: none where
-// that is the text itself.
+/// What to show in place of a text, once the first prefix that it starts with is cut from what is
+/// shown of it now: none where that is the text itself. A prefix takes along the slash behind it.
+/// Only want of memory refuses.
 pub fn cut_text<S: AsStr>(
     alloc: Global,
     text: &str,

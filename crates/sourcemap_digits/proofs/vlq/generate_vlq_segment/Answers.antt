@@ -2,9 +2,9 @@ use Rattle.std.proofs.Common.{ℕ, List, [], ◌∷◌, ◌++◌, take, string_b
 use Rattle.std.proofs.lemmas.Int.{to_z-of_z}
 use Rattle.std.proofs.lemmas.Result.{err_from_is_err_and}
 use Rattle.std.proofs.lemmas.List.{take_all, take_more}
-use Rattle.sourcemap_digits.specs.Vlq.{Spells, Written}
+use Rattle.sourcemap_digits.specs.Vlq.{Spells, SpellingAnswers}
 use Rattle.sourcemap_errors.proofs.AnswerLemmas.{Gives-only}
-use Rattle.sourcemap_digits.proofs.VlqLemmas.{Written-same, Written-refused, Spells-push, Spells-Reads}
+use Rattle.sourcemap_digits.proofs.VlqLemmas.{SpellingAnswers-same, SpellingAnswers-refused, Spells-push, Spells-Reads}
 use Rattle.sourcemap_digits.proofs.vlq.generate_vlq_segment.Goals as goal
 
 pub returns-in_err-push_number-clause-written : goal.returns-in_err-push_number-clause-written
@@ -13,11 +13,11 @@ returns-in_err-push_number-clause-written c =
     let n : ℤ = get_or c.args.numbers.now c.loop-number.number-index (pos 0) in
     let fits : FitsSigned w64 n = search rules in
     let refused = simp to_z-of_z at c.in_err-push_number.ensures.refused in
-    rw (p.1, p.2) (Written-refused c.args.numbers.now c.loop-number.number-index c.in_err-push_number.field-0.0 c.loop-number-test.true refused)
+    rw (p.1, p.2) (SpellingAnswers-refused c.args.numbers.now c.loop-number.number-index c.in_err-push_number.field-0.0 c.loop-number-test.true refused)
 
 pub returns-in_err-push_number-clause-only : goal.returns-in_err-push_number-clause-only
 returns-in_err-push_number-clause-only c =
-    Gives-only string_bytes (Written c.args.numbers.now) (Written-same c.args.numbers.now) c.from_residual.result (returns-in_err-push_number-clause-written c)
+    Gives-only string_bytes (SpellingAnswers c.args.numbers.now) (SpellingAnswers-same c.args.numbers.now) c.from_residual.result (returns-in_err-push_number-clause-written c)
 
 pub loop-number-preserved : goal.loop-number-preserved
 loop-number-preserved c =
@@ -33,7 +33,7 @@ loop-number-preserved c =
 pub returns-clause-only : goal.returns-clause-only
 returns-clause-only c answer due =
     let spells : Spells c.args.numbers.now (string_bytes c.loop-number.text) = rw (← take_all c.loop-number.number-index c.args.numbers.now (omega arith)) c.loop-number.invariant in
-    Written-same c.args.numbers.now answer (Ok (string_bytes c.loop-number.text)) due spells
+    SpellingAnswers-same c.args.numbers.now answer (Ok (string_bytes c.loop-number.text)) due spells
 
 pub returns-clause-reads_back : goal.returns-clause-reads_back
 returns-clause-reads_back c =

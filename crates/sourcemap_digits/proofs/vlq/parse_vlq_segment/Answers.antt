@@ -7,7 +7,7 @@ use Rattle.std.specs.Prelude.{vec_len}
 use Rattle.sourcemap_digits.specs.Vlq.{Reads, HasFault, IsSound}
 use Rattle.sourcemap_errors.specs.declared.errors.Error.TheVariants.{VlqNoValues}
 use Rattle.sourcemap_errors.proofs.AnswerLemmas.{UnlessMemory-from}
-use Rattle.sourcemap_digits.proofs.VlqLemmas.{Answers-same, IsSound-more, HasFault-later}
+use Rattle.sourcemap_digits.proofs.VlqLemmas.{SegmentAnswers-same, IsSound-more, HasFault-later}
 use Rattle.sourcemap_digits.proofs.vlq.parse_vlq_segment.Goals as goal
 
 pub returns-in_err-number-clause-only : goal.returns-in_err-number-clause-only
@@ -19,7 +19,7 @@ returns-in_err-number-clause-only c answer due =
     let test : (length rest == 0) ≡ false = sym c.is_empty.ensures ∙ c.loop-rest-test.true in
     let ne : rest ≢ [] = λ e. eqb-false (length rest) 0 test (ap length e) in
     let fault : HasFault text c.in_err-number.field-0.0 = HasFault-later text rest sound ne c.in_err-number.field-0.0 c.in_err-number.ensures.fault in
-    let same : answer ≡ Err c.in_err-number.field-0.0 = Answers-same text answer (Err c.in_err-number.field-0.0) due fault in
+    let same : answer ≡ Err c.in_err-number.field-0.0 = SegmentAnswers-same text answer (Err c.in_err-number.field-0.0) due fault in
     rw (p.1, p.2) (UnlessMemory-from c.in_err-number.field-0.0 same)
 
 pub loop-rest-preserved : goal.loop-rest-preserved
@@ -35,7 +35,7 @@ returns-then-is_empty-clause-only c answer due =
     let P : List ℤ → Type 0 = Reads c.loop-rest.invariant.0 in
     let none_read : c.loop-rest.invariant.0 ≡ [] = subst P none c.loop-rest.invariant.1 in
     let nothing : c.args.segment.now ≡ [] = cc (left, none_read, c.loop-rest.invariant.2) in
-    Answers-same c.args.segment.now answer (Err VlqNoValues) due nothing
+    SegmentAnswers-same c.args.segment.now answer (Err VlqNoValues) due nothing
 
 pub returns-clause-only : goal.returns-clause-only
 returns-clause-only c answer due =
@@ -43,4 +43,4 @@ returns-clause-only c answer due =
     let left : c.loop-rest.rest.now ≡ [] = nil_from_length c.loop-rest.rest.now (eqb-true _ _ (sym c.is_empty.ensures ∙ c.loop-rest-test.false)) in
     let whole : c.args.segment.now ≡ c.loop-rest.invariant.0 = c.loop-rest.invariant.2 ∙ (ap (λ xs. c.loop-rest.invariant.0 ++ xs) left ∙ append-nil c.loop-rest.invariant.0) in
     let reads : Reads c.args.segment.now c.loop-rest.numbers.items = rw whole c.loop-rest.invariant.1 in
-    Answers-same c.args.segment.now answer (Ok c.loop-rest.numbers.items) due (reads, some)
+    SegmentAnswers-same c.args.segment.now answer (Ok c.loop-rest.numbers.items) due (reads, some)

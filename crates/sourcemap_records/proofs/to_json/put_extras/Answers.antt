@@ -2,7 +2,7 @@ use Rattle.std.proofs.Common.{refl, option_map, subst, IfSome, OnOk, Ok, Err}
 use Rattle.std.specs.List.{AllByRecursion}
 use Rattle.std.proofs.lemmas.Iterator.Adapters.{option_map_id}
 use Rattle.sourcemap_records.specs.Keys.{AreExtrasInRange, extras_view}
-use Rattle.sourcemap_records.specs.Jsontypes.{IsSmall}
+use Rattle.sourcemap_records.specs.Jsontypes.{FitsU32}
 use Rattle.sourcemap_records.proofs.JsontypesLemmas.{same_items}
 use Rattle.sourcemap_records.proofs.to_json.put_extras.Goals as goal
 
@@ -18,6 +18,6 @@ returns-clause-ok c =
 
 pub returns-clause-in_range : goal.returns-clause-in_range
 returns-clause-in_range c =
-    let ids = subst (λ v. IfSome v (AllByRecursion IsSmall)) (same_items (λ n. n) (λ n. refl) c.args.extras.ignore_list) c.in_ok-put_field.ensures.in_range in
-    let offsets = subst (λ v. IfSome v (AllByRecursion (λ n. IfSome n IsSmall))) (same_items (option_map (λ n. n)) option_map_id c.args.extras.x_facebook_offsets) c.in_ok-put_field-2.ensures.in_range in
+    let ids = subst (λ v. IfSome v (AllByRecursion FitsU32)) (same_items (λ n. n) (λ n. refl) c.args.extras.ignore_list) c.in_ok-put_field.ensures.in_range in
+    let offsets = subst (λ v. IfSome v (AllByRecursion (λ n. IfSome n FitsU32))) (same_items (option_map (λ n. n)) option_map_id c.args.extras.x_facebook_offsets) c.in_ok-put_field-2.ensures.in_range in
     elim c.put_field-4.result as (λ r. OnOk r (AreExtrasInRange (extras_view c.args.extras))) [ Ok _ ↦ (ids, offsets) | Err _ ↦ tt ]

@@ -6,7 +6,7 @@ use Rattle.sourcemap_records.specs.Field.{with}
 use Rattle.sourcemap_records.specs.Jsontypes.{sections_read, section}
 use Rattle.serde_json.specs.View.{view, members_view, items_view}
 use Rattle.sourcemap_records.proofs.FromJsonLemmas.{before, before-none, one_more, map_split, section_split, depth_split}
-use Rattle.sourcemap_records.proofs.from_json.+reading.Goals as goal
+use Rattle.sourcemap_records.proofs.from_json.+from_json.Goals as goal
 
 pub take_list-take_section-requires : goal.take_list-take_section-requires
 take_list-take_section-requires t c =

@@ -9,8 +9,8 @@ use Rattle.sourcemap_records.specs.Jsontypes.{AreInRange, IsSectionInRange, writ
 use Rattle.sourcemap_records.proofs.JsontypesLemmas.{flat-roll, in_range-tree, written-tree}
 use Rattle.sourcemap_records.specs.declared.jsontypes.RawSection.{RawSection}
 use Rattle.sourcemap_records.specs.declared.jsontypes.RawSourceMap.{out-RawSourceMap}
-use Rattle.sourcemap_records.proofs.to_json.+writing.Goals as goal
-use Rattle.sourcemap_records.proofs.to_json.+writing.Goals.{give_map-in-Some+in_ok-give_list-in-Some, give_map-in-None}
+use Rattle.sourcemap_records.proofs.to_json.+to_json.Goals as goal
+use Rattle.sourcemap_records.proofs.to_json.+to_json.Goals.{give_map-in-Some+in_ok-give_list-in-Some, give_map-in-None}
 
 pub give_map-returns-clause-value : goal.give_map-returns-clause-value
 give_map-returns-clause-value t c =

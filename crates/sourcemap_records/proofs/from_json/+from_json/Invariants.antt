@@ -6,7 +6,7 @@ use Rattle.sourcemap_records.specs.Field.{with}
 use Rattle.sourcemap_records.specs.Jsontypes.{sections_read, section}
 use Rattle.sourcemap_records.proofs.FromJsonLemmas.{before}
 use Rattle.sourcemap_records.proofs.DepthLemmas.{depth_in}
-use Rattle.sourcemap_records.proofs.from_json.+reading.Given as goal
+use Rattle.sourcemap_records.proofs.from_json.+from_json.Given as goal
 
 abbrev pub decreases-take_map : goal.decreases-take_map
 decreases-take_map l = 2 * depth (view l.value)

@@ -3,7 +3,7 @@ use Rattle.std.specs.Vec.Iter.{into_iter_items}
 use Rattle.std.specs.List.{AllByRecursion}
 use Rattle.serde_json.specs.View.{view}
 use Rattle.sourcemap_records.specs.Jsontypes.{IsSectionInRange, written_one, section}
-use Rattle.sourcemap_records.proofs.to_json.+writing.Given as goal
+use Rattle.sourcemap_records.proofs.to_json.+to_json.Given as goal
 
 -- what was written, in front of what is left; all are in range where what is left is
 abbrev pub invariant-give_list-loop-section : goal.invariant-give_list-loop-section
