@@ -4,7 +4,9 @@ pub use Rattle.sourcemap_digits.specs.Bits
 pub use Rattle.sourcemap_digits.specs.Vlq
 pub use Rattle.sourcemap_lists.specs.Interner
 pub use Rattle.sourcemap_lists.specs.Search
+pub use Rattle.sourcemap_lists.specs.TokenList
 pub use Rattle.sourcemap_lists.specs.Tokens
+pub use Rattle.sourcemap_mappings.specs.Segment
 pub use Rattle.sourcemap_mappings.specs.Read as Mappings
 pub use Rattle.sourcemap_mappings.specs.Write as MappingsWritten
 pub use Rattle.sourcemap_texts.specs.Paths

@@ -125,39 +125,3 @@ fn put(texts: &mut Vec<String>, ids: &mut HashMap<String, u32>, text: &str, id: 
     texts.push(kept)?;
     Ok(())
 }
-
-#[cfg(test)]
-mod tests {
-    use super::*;
-    use std::test::Fail;
-
-    #[test]
-    fn equal_texts_have_one_number(rt: HostRuntime) -> std::result::Result<(), Fail> {
-        let mut interner = Interner::new(rt.alloc());
-        assert!(rt; interner.is_empty());
-        let rows = [
-            ("b", 0),
-            ("a", 1),
-            ("b", 0),
-            ("", 2),
-            ("a", 1),
-            ("B", 3),
-            ("", 2),
-        ];
-        for (text, id) in rows {
-            assert_eq!(rt; interner.add(text)?, id);
-        }
-        assert_eq!(rt; interner.len(), 4);
-        assert_eq!(rt; interner.get(0), Some("b"));
-        assert_eq!(rt; interner.get(2), Some(""));
-        assert_eq!(rt; interner.get(4), None);
-        assert_eq!(rt; interner.get(4294967295), None);
-        let texts = interner.into_texts();
-        let kept = ["b", "a", "", "B"];
-        assert_eq!(rt; texts.len(), 4);
-        for (text, want) in texts.iter().zip(kept) {
-            assert_eq!(rt; text.as_str(), want);
-        }
-        Ok(())
-    }
-}

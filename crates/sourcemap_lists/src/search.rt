@@ -42,25 +42,3 @@ pub fn greatest_lower_bound<'a, T, K: Ord + Drop, F: Fn(&'a T) -> K>(
     }
     Some((low - 1, &slice[low - 1]))
 }
-
-#[cfg(test)]
-mod tests {
-    use super::*;
-    use std::test::Fail;
-
-    #[test]
-    fn finds_first_at_and_last_before(rt: HostRuntime) -> Result<(), Fail> {
-        let pairs = [(1, 10), (1, 11), (1, 12), (1, 13), (1, 14)];
-        for (n, last) in [(1, 10), (2, 11), (3, 12), (4, 13), (5, 14)] {
-            for (key, want) in [(1, Some((0, 10))), (2, Some((n - 1, last))), (0, None)] {
-                let found = greatest_lower_bound(&pairs[..n], &key, |pair| pair.0);
-                assert_eq!(rt;
-                    found.map(|(at, pair)| (at, pair.1)),
-                    want,
-                    "key {key} of {n}"
-                );
-            }
-        }
-        Ok(())
-    }
-}

@@ -1,4 +1,4 @@
--- What the room of a text is filled with: digits of differences, all of them ASCII.
+-- What the buffer of a text is filled with: digits of differences, all of them ASCII.
 use Rattle.std.proofs.Common.{◌≡◌, ℕ, ◌+◌, ◌-◌, ◌*◌, ◌^◌, ◌<◌, ◌≤◌, ◌==◌, Bool, true, false, nat_lt, Some, List, [], ◌∷◌, ◌++◌, length, slice_index, refl, sym, subst, ◌∙◌, arith, inl, inr, ℤ, pos, negsuc, unsigned_abs, ◌/◌, ◌%◌, take, set, ap}
 use Rattle.std.specs.List.{AllByRecursion}
 use Rattle.std.specs.Str.{IsAscii}
@@ -13,7 +13,7 @@ use Rattle.std.proofs.lemmas.Str.Ascii.{IsAscii-nil, IsAscii-from_all}
 use Rattle.sourcemap_mappings.specs.declared.buffer.TheConstants.{NEAR}
 use Rattle.sourcemap_digits.specs.Vlq.{digit_value, glyph, raw_of, GoesOn, IsChain, Spells}
 use Rattle.sourcemap_mappings.specs.Write.{difference}
-use Rattle.sourcemap_mappings.specs.WriteSteps.{Adds, raw_difference}
+use Rattle.sourcemap_mappings.specs.Buffer.{Adds, raw_difference}
 use Rattle.sourcemap_digits.proofs.DigitLemmas.{digit_value-below, glyph-digit_value, glyph-ascii}
 use Rattle.sourcemap_digits.proofs.VlqLemmas.{GoesOn-glyph, IsShortest-last, raw_of-split, total_of, weighs}
 use Rattle.sourcemap_mappings.proofs.WriteLemmas.{Spells-one}
@@ -78,35 +78,35 @@ Adds-three a b old ha hb more low =
     (raw_of-split (first ∷ []) raw (raw / 32) (raw_of-split [] raw raw (omega arith))) (λ _. omega arith)
 
 -- two stores, of which one counts, or both
-pub pair-one : (room : List ℕ) (at x y n : ℕ) → n ≡ at + 1 → at + 1 < length room → take n (set (set room at x) (at + 1) y) ≡ take at room ++ x ∷ []
-pair-one room at x y n e h = take-set-le n (set room at x) (at + 1) y (omega arith) ∙ take-set_at room at n x e (omega arith)
+pub pair-one : (buffer : List ℕ) (at x y n : ℕ) → n ≡ at + 1 → at + 1 < length buffer → take n (set (set buffer at x) (at + 1) y) ≡ take at buffer ++ x ∷ []
+pair-one buffer at x y n e h = take-set-le n (set buffer at x) (at + 1) y (omega arith) ∙ take-set_at buffer at n x e (omega arith)
 
-pub pair-two : (room : List ℕ) (at x y n : ℕ) → n ≡ at + 2 → at + 1 < length room → take n (set (set room at x) (at + 1) y) ≡ take at room ++ (x ∷ y ∷ [])
-pair-two room at x y n e h =
-    let long : length (set room at x) ≡ length room = length-set room at x in
-    take-set_at (set room at x) (at + 1) n y (omega arith) (omega arith)
-    ∙ ap (λ xs. xs ++ y ∷ []) (take-set_at room at (at + 1) x refl (omega arith))
-    ∙ append_assoc (take at room) (x ∷ []) (y ∷ [])
+pub pair-two : (buffer : List ℕ) (at x y n : ℕ) → n ≡ at + 2 → at + 1 < length buffer → take n (set (set buffer at x) (at + 1) y) ≡ take at buffer ++ (x ∷ y ∷ [])
+pair-two buffer at x y n e h =
+    let long : length (set buffer at x) ≡ length buffer = length-set buffer at x in
+    take-set_at (set buffer at x) (at + 1) n y (omega arith) (omega arith)
+    ∙ ap (λ xs. xs ++ y ∷ []) (take-set_at buffer at (at + 1) x refl (omega arith))
+    ∙ append_assoc (take at buffer) (x ∷ []) (y ∷ [])
 
 -- three stores, of which one counts, or two, or all
-pub triple-one : (room : List ℕ) (at x y z n : ℕ) → n ≡ at + 1 → at + 2 < length room
-    → take n (set (set (set room at x) (at + 1) y) (at + 2) z) ≡ take at room ++ x ∷ []
-triple-one room at x y z n e h =
-    take-set-le n (set (set room at x) (at + 1) y) (at + 2) z (omega arith) ∙ pair-one room at x y n e (omega arith)
+pub triple-one : (buffer : List ℕ) (at x y z n : ℕ) → n ≡ at + 1 → at + 2 < length buffer
+    → take n (set (set (set buffer at x) (at + 1) y) (at + 2) z) ≡ take at buffer ++ x ∷ []
+triple-one buffer at x y z n e h =
+    take-set-le n (set (set buffer at x) (at + 1) y) (at + 2) z (omega arith) ∙ pair-one buffer at x y n e (omega arith)
 
-pub triple-two : (room : List ℕ) (at x y z n : ℕ) → n ≡ at + 2 → at + 2 < length room
-    → take n (set (set (set room at x) (at + 1) y) (at + 2) z) ≡ take at room ++ (x ∷ y ∷ [])
-triple-two room at x y z n e h =
-    take-set-le n (set (set room at x) (at + 1) y) (at + 2) z (omega arith) ∙ pair-two room at x y n e (omega arith)
+pub triple-two : (buffer : List ℕ) (at x y z n : ℕ) → n ≡ at + 2 → at + 2 < length buffer
+    → take n (set (set (set buffer at x) (at + 1) y) (at + 2) z) ≡ take at buffer ++ (x ∷ y ∷ [])
+triple-two buffer at x y z n e h =
+    take-set-le n (set (set buffer at x) (at + 1) y) (at + 2) z (omega arith) ∙ pair-two buffer at x y n e (omega arith)
 
-pub triple-three : (room : List ℕ) (at x y z n : ℕ) → n ≡ at + 3 → at + 2 < length room
-    → take n (set (set (set room at x) (at + 1) y) (at + 2) z) ≡ take at room ++ (x ∷ y ∷ z ∷ [])
-triple-three room at x y z n e h =
-    let first : length (set room at x) ≡ length room = length-set room at x in
-    let second : length (set (set room at x) (at + 1) y) ≡ length (set room at x) = length-set (set room at x) (at + 1) y in
-    take-set_at (set (set room at x) (at + 1) y) (at + 2) n z (omega arith) (omega arith)
-    ∙ ap (λ xs. xs ++ z ∷ []) (pair-two room at x y (at + 2) refl (omega arith))
-    ∙ append_assoc (take at room) (x ∷ y ∷ []) (z ∷ [])
+pub triple-three : (buffer : List ℕ) (at x y z n : ℕ) → n ≡ at + 3 → at + 2 < length buffer
+    → take n (set (set (set buffer at x) (at + 1) y) (at + 2) z) ≡ take at buffer ++ (x ∷ y ∷ z ∷ [])
+triple-three buffer at x y z n e h =
+    let first : length (set buffer at x) ≡ length buffer = length-set buffer at x in
+    let second : length (set (set buffer at x) (at + 1) y) ≡ length (set buffer at x) = length-set (set buffer at x) (at + 1) y in
+    take-set_at (set (set buffer at x) (at + 1) y) (at + 2) n z (omega arith) (omega arith)
+    ∙ ap (λ xs. xs ++ z ∷ []) (pair-two buffer at x y (at + 2) refl (omega arith))
+    ∙ append_assoc (take at buffer) (x ∷ y ∷ []) (z ∷ [])
 
 -- a difference has at most seven digits
 pub few_before : (raw k left total : ℕ) → total < 2 ^ 34 → total ≡ raw + 2 ^ (5 * k) * left → 0 < left → k ≤ 6

@@ -9,7 +9,8 @@ use Rattle.sourcemap_errors.specs.Answer.{IsAnswer, UnlessMemory}
 use Rattle.sourcemap_digits.specs.Bits.{first_foreign}
 use Rattle.sourcemap_digits.specs.Vlq.{Reads, HasFault, SegmentAnswers}
 use Rattle.sourcemap_lists.specs.Tokens.{in_order, IsWithin, AllWithin}
-use Rattle.sourcemap_mappings.specs.Read.{Counts, Segment, Line, LineText, field, token_of, line_tokens, page_tokens, segment_fault, PartRead, PartFault, PartsRead, PartsFault, LineRead, LineFault, LinesRead, LinesFault, line_texts, MappingsAnswer}
+use Rattle.sourcemap_mappings.specs.Segment.{Counts, Segment, field, token_of, segment_fault}
+use Rattle.sourcemap_mappings.specs.Read.{Line, LineText, line_tokens, page_tokens, PartRead, PartFault, PartsRead, PartsFault, LineRead, LineFault, LinesRead, LinesFault, line_texts, MappingsAnswer}
 use Rattle.sourcemap_digits.proofs.VlqLemmas.{SegmentAnswers-same}
 use Rattle.sourcemap_lists.proofs.TokensLemmas.{AllWithin-in_order}
 

@@ -3,7 +3,7 @@ use Rattle.std.proofs.Common.{◌≡◌, ℕ, List, [], ◌∷◌, ◌++◌, ℤ
 use Rattle.sourcemap_digits.specs.Vlq.{Spells, IsShortest}
 use Rattle.sourcemap_lists.specs.declared.tokens.RawToken.{RawToken}
 use Rattle.sourcemap_mappings.specs.Write.{has_source, has_name, difference, numbers}
-use Rattle.sourcemap_mappings.specs.WriteSteps.{Adds}
+use Rattle.sourcemap_mappings.specs.Buffer.{Adds}
 
 pub Spells-append : (ms ns : List ℤ) (a b : List ℕ) → Spells ms a → Spells ns b → Spells (ms ++ ns) (a ++ b)
 Spells-append [] ns a b sa sb = let P : List ℕ → Type 0 = λ t. Spells ns (t ++ b) in subst P (sym sa) sb

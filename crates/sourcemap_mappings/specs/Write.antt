@@ -1,12 +1,13 @@
--- The texts that a list of tokens is written as. Lines are joined by `;` (59), the segments of a
--- line by `,` (44). A token equal in all fields to the one before it is not written.
-use Rattle.std.specs.Prelude.{◌≡◌, ℕ, ◌+◌, ◌==◌, nat_lt, not, ◌&&◌, Bool, true, false, if◌then◌else◌, ℤ, pos, ◌-ℤ◌, List, [], ◌∷◌, ◌++◌, length, filter, map, Option, Some, None}
-use Rattle.std.specs.List.{join_with_byte, last_or, list_any}
+-- The texts that a list of tokens is written as. Lines are joined by `;`, the segments of a line by
+-- `,`. A token equal in all fields to the one before it is not written.
+use Rattle.std.specs.Prelude.{◌≡◌, ℕ, ◌+◌, ℤ, pos, List, [], ◌∷◌, ◌++◌, length, Option, Some, None, Bool, not, ◌&&◌, ◌==◌, nat_lt, if◌then◌else◌, false, true, ◌-ℤ◌, filter, map}
 use Rattle.std.specs.Option.{option_map_or}
+use Rattle.std.specs.List.{join_with_byte, last_or, list_any}
 use Rattle.sourcemap_lists.specs.declared.tokens.RawToken.{RawToken}
 use Rattle.sourcemap_digits.specs.Vlq.{Spells}
 use Rattle.sourcemap_digits.specs.Bits.{IsBitText}
-use Rattle.sourcemap_lists.specs.Tokens.{without_repeats}
+use Rattle.sourcemap_lists.specs.Tokens.{without_repeats, no_id}
+use Rattle.sourcemap_mappings.specs.Segment.{comma, semicolon}
 
 -- Lines.
 
@@ -28,12 +29,12 @@ EachLine IsPart n (part ∷ parts) = IsPart n part × EachLine IsPart (n + 1) pa
 -- a text is a part for each line of the tokens
 abbrev pub LineByLine : (ℕ → List ℕ → Type 0) → List RawToken → List ℕ → Type 0
 LineByLine IsPart tokens text =
-    (parts : List (List ℕ)) × (length parts ≡ line_count tokens) × EachLine IsPart 0 parts × (text ≡ join_with_byte 59 parts)
+    (parts : List (List ℕ)) × (length parts ≡ line_count tokens) × EachLine IsPart 0 parts × (text ≡ join_with_byte semicolon parts)
 
 -- Segments.
 
 abbrev pub has_source : RawToken → Bool
-has_source t = not (t.src_id == 4294967295)
+has_source t = not (t.src_id == no_id)
 
 -- the token has a source, and its name id is below `names`
 abbrev pub has_name : ℕ → RawToken → Bool
@@ -83,7 +84,7 @@ abbrev pub IsLine : ℕ → List RawToken → ℕ → List ℕ → Type 0
 IsLine names tokens n line =
     (segments : List (List ℕ))
     × AreSegments names (filter (is_above n) tokens) (filter (is_on n) tokens) segments
-    × (line ≡ join_with_byte 44 segments)
+    × (line ≡ join_with_byte comma segments)
 
 -- the text of mappings of some tokens in order
 abbrev pub IsWritten : ℕ → List RawToken → List ℕ → Type 0

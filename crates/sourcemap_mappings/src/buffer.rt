@@ -1,14 +1,14 @@
-//! Room in which a part of a text is gathered, so that most numbers cost one store.
+//! A buffer in which a part of a text is gathered, so that most numbers cost one store.
 ghost use Rattle.std.specs.Prelude.{◌≡◌, ℕ, ◌+◌, ◌<◌, ◌≤◌, ◌^◌, [], ◌∷◌, ◌++◌, take, OnOk, string_bytes};
 ghost use Rattle.std.specs.Str.{IsAscii};
 ghost use Rattle.sourcemap_mappings.specs.Write.{difference};
-ghost use Rattle.sourcemap_mappings.specs.WriteSteps.{Adds, raw_difference};
+ghost use Rattle.sourcemap_mappings.specs.Buffer.{Adds, raw_difference};
 
 use sourcemap_digits::vlq::glyph_of;
 use std::alloc::AllocError;
 
-// How many bytes there is room for.
-pub(crate) const SIZE: usize = 1024;
+// How many bytes a buffer holds.
+pub(crate) const BUFFER_SIZE: usize = 1024;
 
 // The digits of -15 to 15, which are one each.
 static NEAR: [u8; 31] = [
@@ -16,61 +16,71 @@ static NEAR: [u8; 31] = [
     b'C', b'E', b'G', b'I', b'K', b'M', b'O', b'Q', b'S', b'U', b'W', b'Y', b'a', b'c', b'e',
 ];
 
-// Puts the digits of a difference into the room, and says where they end. This is fast for one digit.
+// Puts the digits of a difference into the buffer, and says where they end. This is fast for one digit.
 #[inline(always)]
-pub(crate) fn put_near(room: &mut [u8; SIZE], at: usize, number: u32, against: u32) -> usize
+pub(crate) fn put_near(
+    buffer: &mut [u8; BUFFER_SIZE],
+    at: usize,
+    number: u32,
+    against: u32,
+) -> usize
     requires { at + 7 ≤ 1024 }
-    ensures text { Adds (difference number against ∷ []) (take at room.old) (take result room.new) }
+    ensures text { Adds (difference number against ∷ []) (take at buffer.old) (take result buffer.new) }
     ensures start { at ≤ result }
     ensures end { result ≤ at + 7 }
     ensures small { number < 2 ^ 32 }
 {
     let near = (u64::from(number) + 15).wrapping_sub(u64::from(against));
     if near < 31 {
-        room[at] = NEAR[near as usize];
+        buffer[at] = NEAR[near as usize];
         return at + 1;
     }
-    put_far(room, at, number, against)
+    put_far(buffer, at, number, against)
 }
 
 // The same, fast for one digit or two: both are stored, and what comes next overwrites the second if it
 // is not the number's. So the processor has no length to guess.
 #[inline(always)]
-pub(crate) fn put_two(room: &mut [u8; SIZE], at: usize, number: u32, against: u32) -> usize
+pub(crate) fn put_two(buffer: &mut [u8; BUFFER_SIZE], at: usize, number: u32, against: u32) -> usize
     requires { at + 7 ≤ 1024 }
-    ensures text { Adds (difference number against ∷ []) (take at room.old) (take result room.new) }
+    ensures text { Adds (difference number against ∷ []) (take at buffer.old) (take result buffer.new) }
     ensures start { at ≤ result }
     ensures end { result ≤ at + 7 }
     ensures small { number < 2 ^ 32 }
 {
     let raw = raw_difference(number, against);
     if raw >= 1024 {
-        return put_far(room, at, number, against);
+        return put_far(buffer, at, number, against);
     }
     let second = goes_on(raw, 32);
-    room[at] = glyph_of((raw % 32 + 32 * second) as u8);
-    room[at + 1] = glyph_of((raw / 32) as u8);
+    buffer[at] = glyph_of((raw % 32 + 32 * second) as u8);
+    buffer[at + 1] = glyph_of((raw / 32) as u8);
     at + 1 + second as usize
 }
 
 // The same for up to three digits.
 #[inline(always)]
-pub(crate) fn put_three(room: &mut [u8; SIZE], at: usize, number: u32, against: u32) -> usize
+pub(crate) fn put_three(
+    buffer: &mut [u8; BUFFER_SIZE],
+    at: usize,
+    number: u32,
+    against: u32,
+) -> usize
     requires { at + 7 ≤ 1024 }
-    ensures text { Adds (difference number against ∷ []) (take at room.old) (take result room.new) }
+    ensures text { Adds (difference number against ∷ []) (take at buffer.old) (take result buffer.new) }
     ensures start { at ≤ result }
     ensures end { result ≤ at + 7 }
     ensures small { number < 2 ^ 32 }
 {
     let raw = raw_difference(number, against);
     if raw >= 32768 {
-        return put_far(room, at, number, against);
+        return put_far(buffer, at, number, against);
     }
     let second = goes_on(raw, 32);
     let third = goes_on(raw, 1024);
-    room[at] = glyph_of((raw % 32 + 32 * second) as u8);
-    room[at + 1] = glyph_of((raw / 32 % 32 + 32 * third) as u8);
-    room[at + 2] = glyph_of((raw / 32 / 32) as u8);
+    buffer[at] = glyph_of((raw % 32 + 32 * second) as u8);
+    buffer[at + 1] = glyph_of((raw / 32 % 32 + 32 * third) as u8);
+    buffer[at + 2] = glyph_of((raw / 32 / 32) as u8);
     at + 1 + second as usize + third as usize
 }
 
@@ -94,9 +104,9 @@ fn raw_difference(number: u32, against: u32) -> u64
 }
 
 // Puts any number of digits.
-fn put_far(room: &mut [u8; SIZE], at: usize, number: u32, against: u32) -> usize
+fn put_far(buffer: &mut [u8; BUFFER_SIZE], at: usize, number: u32, against: u32) -> usize
     requires { at + 7 ≤ 1024 }
-    ensures text { Adds (difference number against ∷ []) (take at room.old) (take result room.new) }
+    ensures text { Adds (difference number against ∷ []) (take at buffer.old) (take result buffer.new) }
     ensures start { at ≤ result }
     ensures end { result ≤ at + 7 }
     ensures small { number < 2 ^ 32 }
@@ -104,21 +114,25 @@ fn put_far(room: &mut [u8; SIZE], at: usize, number: u32, against: u32) -> usize
     let mut left = raw_difference(number, against);
     let mut end = at;
     while left >= 32 {
-        room[end] = glyph_of((left % 32) as u8 + 32);
+        buffer[end] = glyph_of((left % 32) as u8 + 32);
         end += 1;
         left /= 32;
     }
-    room[end] = glyph_of(left as u8);
+    buffer[end] = glyph_of(left as u8);
     end + 1
 }
 
 // Moves what was gathered to the end of a text.
-pub(crate) fn flush(text: &mut String, room: &[u8; SIZE], at: usize) -> Result<(), AllocError>
+pub(crate) fn flush(
+    text: &mut String,
+    buffer: &[u8; BUFFER_SIZE],
+    at: usize,
+) -> Result<(), AllocError>
     requires within { at ≤ 1024 }
-    requires ascii { IsAscii (take at room.now) }
-    ensures text { OnOk result (string_bytes text.new ≡ string_bytes text.old ++ take at room.now) }
+    requires ascii { IsAscii (take at buffer.now) }
+    ensures text { OnOk result (string_bytes text.new ≡ string_bytes text.old ++ take at buffer.now) }
 {
-    match str::from_utf8(&room[..at]) {
+    match str::from_utf8(&buffer[..at]) {
         Ok(gathered) => text.push_str(gathered),
         Err(_) => unreachable!(),
     }

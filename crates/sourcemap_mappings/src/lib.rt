@@ -3,4 +3,5 @@
 
 pub mod buffer;
 pub mod read;
+pub mod segment;
 pub mod write;

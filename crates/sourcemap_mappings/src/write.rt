@@ -6,18 +6,17 @@ ghost use Rattle.std.specs.Str.{IsAscii};
 ghost use Rattle.sourcemap_lists.specs.Tokens.{AreInOrder, AllWithin, without_repeats, reduced};
 ghost use Rattle.sourcemap_mappings.specs.Read.{MappingsAnswer};
 ghost use Rattle.sourcemap_mappings.specs.Write.{has_source, has_name, numbers, LineByLine, IsRangeLine, IsWritten, IsRangeText};
-ghost use Rattle.sourcemap_mappings.specs.WriteSteps.{Adds, HasSmallPlaces, repeats, follows, gap, at_line, moved};
+ghost use Rattle.sourcemap_mappings.specs.Buffer.{Adds};
+ghost use Rattle.sourcemap_mappings.specs.WriteSteps.{HasSmallPlaces, repeats, follows, gap, at_line, next_base};
+ghost use Rattle.sourcemap_mappings.specs.Segment.{semicolon};
 ghost use Rattle.sourcemap_lists.specs.declared.tokens.RawToken.{RawToken};
 ghost use Rattle.sourcemap_errors.specs.declared.errors.Error.TheVariants.{OutOfMemory};
 
-use crate::buffer::{SIZE, flush, put_near, put_three, put_two};
+use crate::buffer::{BUFFER_SIZE, flush, put_near, put_three, put_two};
 use sourcemap_digits::bits::push_bits;
 use sourcemap_errors::errors::Result;
-use sourcemap_lists::tokens::RawToken;
+use sourcemap_lists::tokens::{NO_ID, RawToken};
 use std::alloc::{AllocError, Global};
-
-// The id that names nothing.
-const NOTHING: u32 = 4294967295;
 
 // What the first segment is taken against.
 const START: RawToken = RawToken {
@@ -40,14 +39,14 @@ const TOKEN_SIZE: usize = 36;
 fn has_source(token: RawToken) -> bool
     ensures { result ≡ has_source token }
 {
-    token.src_id != NOTHING
+    token.src_id != NO_ID
 }
 
 #[inline]
 fn has_name(token: RawToken, names: u32) -> bool
     ensures { result ≡ has_name names token }
 {
-    token.src_id != NOTHING && token.name_id < names
+    token.src_id != NO_ID && token.name_id < names
 }
 
 // The column alone tells most tokens apart.
@@ -73,7 +72,7 @@ fn follows_on(previous: Option<&RawToken>, token: &RawToken) -> bool
 
 // Ends the lines from `from` up to `to`.
 fn push_line_ends(text: &mut String, from: u32, to: u32) -> std::result::Result<(), AllocError>
-    ensures text { OnOk result (string_bytes text.new ≡ string_bytes text.old ++ replicate (to - from) 59) }
+    ensures text { OnOk result (string_bytes text.new ≡ string_bytes text.old ++ replicate (to - from) semicolon) }
 {
     for _line in from..to {
         text.push(';')?;
@@ -81,33 +80,33 @@ fn push_line_ends(text: &mut String, from: u32, to: u32) -> std::result::Result<
     Ok(())
 }
 
-// Puts what stands between two segments, where the text and the room have come to this line. The end
-// of one line, or a comma, goes into the room.
+// Puts what stands between two segments, where the text and the buffer have come to this line. The end
+// of one line, or a comma, goes into the buffer.
 #[inline(always)]
 fn put_gap(
     text: &mut String,
-    room: &mut [u8; SIZE],
+    buffer: &mut [u8; BUFFER_SIZE],
     at: usize,
     previous: Option<&RawToken>,
     line: u32,
     token: &RawToken,
 ) -> std::result::Result<usize, AllocError>
     requires within { at < 1024 }
-    requires ascii { IsAscii (take at room.now) }
-    ensures text { IfOk result (λ end. string_bytes text.new ++ take end room.new
-        ≡ (string_bytes text.old ++ take at room.old) ++ gap (option_copied previous.entry) line token.now) }
+    requires ascii { IsAscii (take at buffer.now) }
+    ensures text { IfOk result (λ end. string_bytes text.new ++ take end buffer.new
+        ≡ (string_bytes text.old ++ take at buffer.old) ++ gap (option_copied previous.entry) line token.now) }
     ensures end { IfOk result (λ end. end ≤ at + 1) }
-    ensures ascii { IfOk result (λ end. IsAscii (take end room.new)) }
+    ensures ascii { IfOk result (λ end. IsAscii (take end buffer.new)) }
 {
     if follows_on(previous, token) {
-        room[at] = b',';
+        buffer[at] = b',';
         return Ok(at + 1);
     }
     if u64::from(token.dst_line) == u64::from(line) + 1 {
-        room[at] = b';';
+        buffer[at] = b';';
         return Ok(at + 1);
     }
-    flush(text, room, at)?;
+    flush(text, buffer, at)?;
     push_line_ends(text, line, token.dst_line)?;
     Ok(0)
 }
@@ -116,32 +115,32 @@ fn put_gap(
 // is taken against.
 #[inline(always)]
 fn put_segment(
-    room: &mut [u8; SIZE],
+    buffer: &mut [u8; BUFFER_SIZE],
     start: usize,
     against: &mut RawToken,
     token: &RawToken,
     names: u32,
 ) -> usize
     requires { start + 35 ≤ 1024 }
-    ensures text { Adds (numbers names against.old token.now) (take start room.old) (take result room.new) }
+    ensures text { Adds (numbers names against.old token.now) (take start buffer.old) (take result buffer.new) }
     ensures end { result ≤ start + 35 }
     ensures small { HasSmallPlaces token.now }
-    ensures next { against.new ≡ moved names against.old token.now }
+    ensures next { against.new ≡ next_base names against.old token.now }
 {
-    let mut at = put_two(room, start, token.dst_col, against.dst_col);
+    let mut at = put_two(buffer, start, token.dst_col, against.dst_col);
     against.dst_line = token.dst_line;
     against.dst_col = token.dst_col;
     if !has_source(*token) {
         return at;
     }
-    at = put_near(room, at, token.src_id, against.src_id);
+    at = put_near(buffer, at, token.src_id, against.src_id);
     against.src_id = token.src_id;
-    at = put_near(room, at, token.src_line, against.src_line);
+    at = put_near(buffer, at, token.src_line, against.src_line);
     against.src_line = token.src_line;
-    at = put_two(room, at, token.src_col, against.src_col);
+    at = put_two(buffer, at, token.src_col, against.src_col);
     against.src_col = token.src_col;
     if has_name(*token, names) {
-        at = put_three(room, at, token.name_id, against.name_id);
+        at = put_three(buffer, at, token.name_id, against.name_id);
         against.name_id = token.name_id;
     }
     at
@@ -159,23 +158,23 @@ fn turn_to(against: &mut RawToken, line: u32)
     }
 }
 
-// Empties a room that a token may not fit into.
+// Empties a buffer that a token may not fit into.
 #[inline(always)]
-fn make_room(
+fn make_space(
     text: &mut String,
-    room: &[u8; SIZE],
+    buffer: &[u8; BUFFER_SIZE],
     at: usize,
 ) -> std::result::Result<usize, AllocError>
     requires within { at ≤ 1024 }
-    requires ascii { IsAscii (take at room.now) }
-    ensures text { IfOk result (λ end. string_bytes text.new ++ take end room.now ≡ string_bytes text.old ++ take at room.now) }
+    requires ascii { IsAscii (take at buffer.now) }
+    ensures text { IfOk result (λ end. string_bytes text.new ++ take end buffer.now ≡ string_bytes text.old ++ take at buffer.now) }
     ensures end { IfOk result (λ end. end + 36 ≤ 1024) }
-    ensures ascii { IfOk result (λ end. IsAscii (take end room.now)) }
+    ensures ascii { IfOk result (λ end. IsAscii (take end buffer.now)) }
 {
-    if at <= SIZE - TOKEN_SIZE {
+    if at <= BUFFER_SIZE - TOKEN_SIZE {
         return Ok(at);
     }
-    flush(text, room, at)?;
+    flush(text, buffer, at)?;
     Ok(0)
 }
 
@@ -184,7 +183,7 @@ fn make_room(
 #[inline(always)]
 fn put_token(
     text: &mut String,
-    room: &mut [u8; SIZE],
+    buffer: &mut [u8; BUFFER_SIZE],
     at: usize,
     against: &mut RawToken,
     previous: Option<&RawToken>,
@@ -192,19 +191,19 @@ fn put_token(
     names: u32,
 ) -> std::result::Result<usize, AllocError>
     requires within { at ≤ 1024 }
-    requires ascii { IsAscii (take at room.now) }
+    requires ascii { IsAscii (take at buffer.now) }
     ensures text { IfOk result (λ end. Adds (numbers names (at_line against.old token.now.dst_line) token.now)
-        ((string_bytes text.old ++ take at room.old) ++ gap (option_copied previous.entry) against.old.dst_line token.now)
-        (string_bytes text.new ++ take end room.new)) }
+        ((string_bytes text.old ++ take at buffer.old) ++ gap (option_copied previous.entry) against.old.dst_line token.now)
+        (string_bytes text.new ++ take end buffer.new)) }
     ensures end { IfOk result (λ end. end ≤ 1024) }
-    ensures ascii { IfOk result (λ end. IsAscii (take end room.new)) }
+    ensures ascii { IfOk result (λ end. IsAscii (take end buffer.new)) }
     ensures small { OnOk result ((token.now.dst_line < 2 ^ 32) × HasSmallPlaces token.now) }
-    ensures next { OnOk result (against.new ≡ moved names (at_line against.old token.now.dst_line) token.now) }
+    ensures next { OnOk result (against.new ≡ next_base names (at_line against.old token.now.dst_line) token.now) }
 {
-    let free = make_room(text, room, at)?;
-    let start = put_gap(text, room, free, previous, against.dst_line, token)?;
+    let free = make_space(text, buffer, at)?;
+    let start = put_gap(text, buffer, free, previous, against.dst_line, token)?;
     turn_to(against, token.dst_line);
-    Ok(put_segment(room, start, against, token, names))
+    Ok(put_segment(buffer, start, against, token, names))
 }
 
 /// The text of mappings of some tokens in order, for a map of so many names: the lines from 0 to the
@@ -221,7 +220,7 @@ pub fn write_mappings(alloc: Global, tokens: &[RawToken], names: u32) -> Result<
         (Ok (reduced names tokens.now))) }
 {
     let mut text = String::with_capacity(alloc, tokens.len().min(FIRST_TOKENS) * 6)?;
-    let mut room = [0; SIZE];
+    let mut buffer = [0; BUFFER_SIZE];
     let mut at = 0;
     let mut against = START;
     let mut previous = None;
@@ -229,7 +228,7 @@ pub fn write_mappings(alloc: Global, tokens: &[RawToken], names: u32) -> Result<
         if !is_repeat(previous, token) {
             at = put_token(
                 &mut text,
-                &mut room,
+                &mut buffer,
                 at,
                 &mut against,
                 previous,
@@ -239,7 +238,7 @@ pub fn write_mappings(alloc: Global, tokens: &[RawToken], names: u32) -> Result<
         }
         previous = Some(token);
     }
-    flush(&mut text, &room, at)?;
+    flush(&mut text, &buffer, at)?;
     Ok(text)
 }
 
@@ -295,98 +294,3 @@ pub fn written_texts_are_determined()
     ensures one_text { (names : ℕ) (tokens : List RawToken) (a b : List ℕ) → IsWritten names tokens a → IsWritten names tokens b → a ≡ b }
     ensures one_range_text { (tokens : List RawToken) (a b : Option (List ℕ)) → IsRangeText tokens a → IsRangeText tokens b → a ≡ b }
 {}
-
-#[cfg(test)]
-mod tests {
-    use super::*;
-    use sourcemap_lists::tokens::tokens_in_order;
-    use std::process::Abort;
-    use std::test::Fail;
-
-    fn bare(line: u32, column: u32, is_range: bool) -> RawToken {
-        RawToken {
-            dst_line: line,
-            dst_col: column,
-            src_line: NOTHING,
-            src_col: NOTHING,
-            src_id: NOTHING,
-            name_id: NOTHING,
-            is_range,
-        }
-    }
-
-    fn sourced(column: u32, src_line: u32, src_col: u32, name_id: u32, is_range: bool) -> RawToken {
-        RawToken {
-            dst_line: 0,
-            dst_col: column,
-            src_line,
-            src_col,
-            src_id: 0,
-            name_id,
-            is_range,
-        }
-    }
-
-    fn check(
-        rt: &impl Abort,
-        alloc: Global,
-        tokens: &[RawToken],
-        mappings: &str,
-        ranges: Option<&str>,
-    ) -> std::result::Result<(), Fail> {
-        assert!(rt; tokens_in_order(tokens));
-        let text = write_mappings(alloc, tokens, 2).ok().ok_or("memory")?;
-        assert_eq!(rt; text.as_str(), mappings);
-        let bits = write_range_mappings(alloc, tokens).ok().ok_or("memory")?;
-        assert!(rt; bits.is_some() == ranges.is_some(), "at {mappings}");
-        let written = bits.as_ref().map_or("", |bits| bits.as_str());
-        assert_eq!(rt; written, ranges.unwrap_or(""), "at {mappings}");
-        Ok(())
-    }
-
-    #[test]
-    fn writes_tokens(rt: HostRuntime) -> std::result::Result<(), Fail> {
-        let alloc = rt.alloc();
-        check(&rt, alloc, &[], "", None)?;
-        check(
-            &rt,
-            alloc,
-            &[bare(0, 0, false), bare(1, 0, true)],
-            "A;A",
-            Some(";B"),
-        )?;
-        let first = sourced(0, 0, 0, NOTHING, false);
-        let repeated = [first, first, sourced(5, 0, 5, NOTHING, true)];
-        check(&rt, alloc, &repeated, "AAAA,KAAK", Some("C"))?;
-        check(
-            &rt,
-            alloc,
-            &[bare(0, 0, false), bare(0, 1, true)],
-            "A,C",
-            Some("C"),
-        )?;
-        check(
-            &rt,
-            alloc,
-            &[bare(0, 0, false), bare(0, 0, true)],
-            "A,A",
-            Some("C"),
-        )?;
-        check(
-            &rt,
-            alloc,
-            &[sourced(0, NOTHING, 0, NOTHING, false)],
-            "AA+/////HA",
-            None,
-        )?;
-        check(
-            &rt,
-            alloc,
-            &[bare(0, 0, false), bare(0, NOTHING, true)],
-            "A,+/////H",
-            Some("C"),
-        )?;
-        let unknown_name = [sourced(0, 0, 0, 7, false), sourced(4, 0, 4, 1, false)];
-        check(&rt, alloc, &unknown_name, "AAAA,IAAIC", None)
-    }
-}

@@ -2,7 +2,7 @@ use Rattle.std.proofs.Common.{◌≡◌, ℕ, ◌+◌, ◌/◌, ◌%◌, List, [
 use Rattle.std.proofs.lemmas.Bool.{cases_lt}
 use Rattle.sourcemap_digits.specs.Vlq.{glyph}
 use Rattle.sourcemap_mappings.specs.Write.{difference}
-use Rattle.sourcemap_mappings.specs.WriteSteps.{Adds, raw_difference}
+use Rattle.sourcemap_mappings.specs.Buffer.{Adds, raw_difference}
 use Rattle.sourcemap_mappings.proofs.BufferLemmas.{Adds-last, Adds-two, Adds-three, triple-one, triple-two, triple-three}
 use Rattle.sourcemap_mappings.proofs.buffer.put_three.Goals as goal
 
@@ -10,9 +10,9 @@ pub returns-clause-text : goal.returns-clause-text
 returns-clause-text c =
     let a = c.args.number in
     let b = c.args.against in
-    let room = c.args.room.now in
+    let buffer = c.args.buffer.now in
     let at = c.args.at in
-    let start = take at room in
+    let start = take at buffer in
     let raw : ℕ = raw_difference a b in
     let is : c.raw_difference-raw.result ≡ raw = c.raw_difference-raw.ensures.value in
     let second = c.goes_on-second.result in
@@ -27,7 +27,7 @@ returns-clause-text c =
           let no_third : third ≡ 0 = c.goes_on-third.ensures.no (omega arith) in
           let first : x ≡ glyph raw = c.glyph_of.ensures ∙ ap glyph (omega arith) in
           subst (λ (t : List ℕ). Adds (difference a b ∷ []) start t)
-          (sym (triple-one room at x y z end (omega arith) (omega arith) ∙ ap (λ g. start ++ g ∷ []) first))
+          (sym (triple-one buffer at x y z end (omega arith) (omega arith) ∙ ap (λ g. start ++ g ∷ []) first))
           (Adds-last a b start [] raw (omega arith) (omega arith) tt one (omega arith) (λ h. omega arith))
       | inr more ↦
           let a_second : second ≡ 1 = c.goes_on-second.ensures.yes (omega arith) in
@@ -37,14 +37,14 @@ returns-clause-text c =
                 let no_third : third ≡ 0 = c.goes_on-third.ensures.no (omega arith) in
                 let last : y ≡ glyph (raw / 32) = c.glyph_of-2.ensures ∙ ap glyph (omega arith) in
                 subst (λ (t : List ℕ). Adds (difference a b ∷ []) start t)
-                (sym (triple-two room at x y z end (omega arith) (omega arith) ∙ ap (λ g. start ++ (g ∷ y ∷ [])) first ∙ ap (λ g. start ++ (glyph (raw % 32 + 32) ∷ g ∷ [])) last))
+                (sym (triple-two buffer at x y z end (omega arith) (omega arith) ∙ ap (λ g. start ++ (g ∷ y ∷ [])) first ∙ ap (λ g. start ++ (glyph (raw % 32 + 32) ∷ g ∷ [])) last))
                 (Adds-two a b start (omega arith) (omega arith) more two)
             | inr far ↦
                 let a_third : third ≡ 1 = c.goes_on-third.ensures.yes (omega arith) in
                 let middle : y ≡ glyph (raw / 32 % 32 + 32) = c.glyph_of-2.ensures ∙ ap glyph (omega arith) in
                 let last : z ≡ glyph (raw / 32 / 32) = c.glyph_of-3.ensures ∙ ap glyph (omega arith) in
                 subst (λ (t : List ℕ). Adds (difference a b ∷ []) start t)
-                (sym (triple-three room at x y z end (omega arith) (omega arith)
+                (sym (triple-three buffer at x y z end (omega arith) (omega arith)
                 ∙ ap (λ g. start ++ (g ∷ y ∷ z ∷ [])) first
                 ∙ ap (λ g. start ++ (glyph (raw % 32 + 32) ∷ g ∷ z ∷ [])) middle
                 ∙ ap (λ g. start ++ (glyph (raw % 32 + 32) ∷ glyph (raw / 32 % 32 + 32) ∷ g ∷ [])) last))

@@ -1,7 +1,7 @@
 use Rattle.std.proofs.Common.{◌++◌, ◌∷◌, [], ◌<◌, length, refl, arith}
 use Rattle.std.proofs.lemmas.Result.{err_from_is_err_and}
-use Rattle.sourcemap_mappings.specs.Read.{Segment}
-use Rattle.sourcemap_mappings.specs.ReadSteps.{AreSums}
+use Rattle.sourcemap_mappings.specs.Segment.{Segment}
+use Rattle.sourcemap_mappings.specs.SegmentSteps.{AreSums}
 use Rattle.sourcemap_errors.proofs.AnswerLemmas.{UnlessMemory-from}
 use Rattle.sourcemap_mappings.proofs.ReadLemmas.{PartsFault-segment, AddsParts-segment, AddsParts-none}
 use Rattle.sourcemap_mappings.proofs.ReadOrder.{order_push}

@@ -1,7 +1,8 @@
 use Rattle.std.proofs.Common.{length, ◌+◌, ◌≤◌, ◌==◌}
 use Rattle.std.specs.List.{slice_split}
-use Rattle.sourcemap_mappings.specs.Read.{Segment}
-use Rattle.sourcemap_mappings.specs.ReadSteps.{AreTextSums, AreInOrderTo, counts_of}
+use Rattle.sourcemap_mappings.specs.Segment.{Segment}
+use Rattle.sourcemap_mappings.specs.SegmentSteps.{AreTextSums, counts_of}
+use Rattle.sourcemap_mappings.specs.ReadSteps.{AreInOrderTo}
 use Rattle.sourcemap_mappings.proofs.ReadLemmas.{PartsSoFar}
 use Rattle.std.proofs.Common.{List}
 use Rattle.sourcemap_mappings.proofs.read.add_parts.Given as goal

@@ -1,6 +1,7 @@
 use Rattle.std.proofs.Common.{◌≡◌, Err, arith, subst, sym}
 use Rattle.std.proofs.lemmas.Result.{err_from_is_err_and, IfOk-weaker}
-use Rattle.sourcemap_mappings.specs.Read.{Counts, MappingsAnswer}
+use Rattle.sourcemap_mappings.specs.Segment.{Counts}
+use Rattle.sourcemap_mappings.specs.Read.{MappingsAnswer}
 use Rattle.sourcemap_lists.specs.Tokens.{AreInOrder, AllWithin, in_order}
 use Rattle.sourcemap_errors.proofs.AnswerLemmas.{UnlessMemory-weaker, Gives-only}
 use Rattle.sourcemap_lists.proofs.TokensLemmas.{AreInOrder-in_order}

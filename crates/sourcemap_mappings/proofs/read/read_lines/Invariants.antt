@@ -1,7 +1,8 @@
 use Rattle.std.proofs.Common.{length, ◌+◌, ◌≤◌}
 use Rattle.std.specs.Option.{option_map_or}
 use Rattle.sourcemap_mappings.specs.Read.{beside, line_texts}
-use Rattle.sourcemap_mappings.specs.ReadSteps.{AreInOrderTo, counts_of, lines_left}
+use Rattle.sourcemap_mappings.specs.ReadSteps.{AreInOrderTo, lines_left}
+use Rattle.sourcemap_mappings.specs.SegmentSteps.{counts_of}
 use Rattle.sourcemap_mappings.proofs.ReadLemmas.{PageSoFar}
 use Rattle.sourcemap_mappings.proofs.read.read_lines.Given as goal
 

@@ -18,5 +18,5 @@ returns-then-from-clause-text c =
     let previous = option_copied c.args.previous in
     let off : follows previous token ≡ false = cc in
     let one : token.dst_line - c.args.line ≡ 1 = omega (arith, c.from.ensures, c.from-2.ensures) in
-    behind (string_bytes c.args.text.now) (take c.args.at c.args.room.now) _ (gap previous c.args.line token)
-    (take_more_set c.args.room.now c.args.at 59 (omega arith)) (one_end previous c.args.line token off one)
+    behind (string_bytes c.args.text.now) (take c.args.at c.args.buffer.now) _ (gap previous c.args.line token)
+    (take_more_set c.args.buffer.now c.args.at 59 (omega arith)) (one_end previous c.args.line token off one)

@@ -5,8 +5,8 @@ use Rattle.sourcemap_digits.specs.Bits.{IsBitText}
 use Rattle.sourcemap_lists.specs.Tokens.{without_repeats}
 use Rattle.sourcemap_mappings.specs.Write.{base, LineByLine, IsRangeLine}
 use Rattle.sourcemap_mappings.specs.WriteSteps.{repeats}
-use Rattle.sourcemap_mappings.proofs.WrittenWalk.{Walked, Walked-none, Walked-repeat_here, Walked-more, next_line}
-use Rattle.sourcemap_mappings.proofs.WrittenRanges.{Ranging, Ranging-none, Ranging-turn, Ranging-repeat, Ranging-more, Ranging-end}
+use Rattle.sourcemap_mappings.proofs.WriteWalk.{Walked, Walked-none, Walked-repeat_here, Walked-more, next_line}
+use Rattle.sourcemap_mappings.proofs.WriteRanges.{Ranging, Ranging-none, Ranging-turn, Ranging-repeat, Ranging-more, Ranging-end}
 use Rattle.sourcemap_mappings.proofs.write.range_text.Goals as goal
 use Rattle.sourcemap_mappings.proofs.write.range_text.Goals.{then-line-token+in_ok-push_bits+in_ok-push_line_ends, else-line-token, then-not-is_repeat+in_ok-push, else-not-is_repeat}
 

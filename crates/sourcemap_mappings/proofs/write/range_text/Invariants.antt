@@ -1,7 +1,7 @@
 use Rattle.std.proofs.Common.{option_copied, take, string_bytes}
 use Rattle.sourcemap_lists.specs.Tokens.{without_repeats}
-use Rattle.sourcemap_mappings.proofs.WrittenWalk.{Walked}
-use Rattle.sourcemap_mappings.proofs.WrittenRanges.{Ranging}
+use Rattle.sourcemap_mappings.proofs.WriteWalk.{Walked}
+use Rattle.sourcemap_mappings.proofs.WriteRanges.{Ranging}
 use Rattle.sourcemap_mappings.proofs.write.range_text.Given as goal
 
 abbrev pub invariant-loop-token : goal.invariant-loop-token

@@ -5,9 +5,9 @@ use Rattle.std.proofs.lemmas.Str.Ascii.{IsAscii-nil}
 use Rattle.sourcemap_lists.specs.declared.tokens.RawToken.{RawToken}
 use Rattle.sourcemap_mappings.specs.Write.{base}
 use Rattle.sourcemap_mappings.specs.WriteSteps.{repeats}
-use Rattle.sourcemap_mappings.proofs.WrittenReadBack.{reads_back}
-use Rattle.sourcemap_mappings.proofs.WrittenSegments.{Writing, Writing-none, Writing-repeat, Writing-more, Writing-end}
-use Rattle.sourcemap_mappings.proofs.WrittenWalk.{all_lines, next_line}
+use Rattle.sourcemap_mappings.proofs.WriteReadBack.{reads_back}
+use Rattle.sourcemap_mappings.proofs.WriteSegments.{Writing, Writing-none, Writing-repeat, Writing-more, Writing-end}
+use Rattle.sourcemap_mappings.proofs.WriteWalk.{all_lines, next_line}
 use Rattle.sourcemap_mappings.proofs.write.write_mappings.Goals as goal
 use Rattle.sourcemap_mappings.proofs.write.write_mappings.Goals.{then-not-is_repeat+in_ok-at, else-not-is_repeat}
 
@@ -18,11 +18,11 @@ loop-token-init c = record {
   ascii = IsAscii-nil;
 }
 
--- what is known of a text and a room, carried to other names for them
-record Gathered (names : ℕ) (done : List RawToken) (previous : Option RawToken) (against : RawToken) (text room : List ℕ) (at : ℕ) : Type 0 where
-  writing : Writing names done previous against (text ++ take at room)
+-- what is known of a text and a buffer, carried to other names for them
+record Gathered (names : ℕ) (done : List RawToken) (previous : Option RawToken) (against : RawToken) (text buffer : List ℕ) (at : ℕ) : Type 0 where
+  writing : Writing names done previous against (text ++ take at buffer)
   within : at ≤ 1024
-  ascii : IsAscii (take at room)
+  ascii : IsAscii (take at buffer)
 
 carried : (names : ℕ) (done more : List RawToken) (previous : Option RawToken) (a b : RawToken) (s t r q : List ℕ) (m n : ℕ)
     → more ≡ done → b ≡ a → t ≡ s → q ≡ r → n ≡ m → Gathered names done previous a s r m → Gathered names more previous b t q n
@@ -42,7 +42,7 @@ loop-token-preserved c =
     let previous = option_copied c.loop-token.previous in
     let against = c.loop-token.against in
     let text = string_bytes c.loop-token.text in
-    let room = c.loop-token.room in
+    let buffer = c.loop-token.buffer in
     let known = c.loop-token.invariant in
     let token = get_or tokens i (base 0 0 []) in
     let more : take (i + 1) tokens ≡ done ++ token ∷ [] = take_more tokens i (base 0 0 []) (omega arith) in
@@ -52,25 +52,25 @@ loop-token-preserved c =
           let new : repeats previous token ≡ false = cc in
           let line = next_line i against.dst_line tokens previous token (base 0 0 []) c.requires (omega arith) refl known.writing.walked in
           let put = w.in_ok-at.ensures in
-          let grown = Writing-more names done previous against (text ++ take c.loop-token.at room)
-          (string_bytes w.put_token.new.text ++ take w.in_ok-at.at w.put_token.new.room) token new line put.text put.small known.writing in
+          let grown = Writing-more names done previous against (text ++ take c.loop-token.at buffer)
+          (string_bytes w.put_token.new.text ++ take w.in_ok-at.at w.put_token.new.buffer) token new line put.text put.small known.writing in
           let next = w.against-is ∙ put.next in
           let all = carried names (done ++ token ∷ []) (take (i + 1) tokens) (Some token) _ c.if-not-is_repeat.against
-          (string_bytes w.put_token.new.text) (string_bytes c.if-not-is_repeat.text) w.put_token.new.room c.if-not-is_repeat.room w.in_ok-at.at c.if-not-is_repeat.at
-          more next (ap string_bytes w.text-is) w.room-is w.at-is
+          (string_bytes w.put_token.new.text) (string_bytes c.if-not-is_repeat.text) w.put_token.new.buffer c.if-not-is_repeat.buffer w.in_ok-at.at c.if-not-is_repeat.at
+          more next (ap string_bytes w.text-is) w.buffer-is w.at-is
           (record { writing = grown; within = put.end; ascii = put.ascii }) in
           record { writing = all.writing; within = all.within; ascii = all.ascii }
       | else-not-is_repeat w ↦
           let again : repeats previous token ≡ true = cc in
-          let kept = Writing-repeat names done previous against (text ++ take c.loop-token.at room) token again known.writing in
+          let kept = Writing-repeat names done previous against (text ++ take c.loop-token.at buffer) token again known.writing in
           let all = carried names (done ++ token ∷ []) (take (i + 1) tokens) (Some token) against c.if-not-is_repeat.against
-          text (string_bytes c.if-not-is_repeat.text) room c.if-not-is_repeat.room c.loop-token.at c.if-not-is_repeat.at
-          more w.against-is (ap string_bytes w.text-is) w.room-is w.at-is
+          text (string_bytes c.if-not-is_repeat.text) buffer c.if-not-is_repeat.buffer c.loop-token.at c.if-not-is_repeat.at
+          more w.against-is (ap string_bytes w.text-is) w.buffer-is w.at-is
           (record { writing = kept; within = known.within; ascii = known.ascii }) in
           record { writing = all.writing; within = all.within; ascii = all.ascii }
     ]
 
--- all tokens are in the text with what the room holds
+-- all tokens are in the text with what the buffer holds
 whole : (names n : ℕ) (tokens : List RawToken) (previous : Option RawToken) (against : RawToken) (text gathered : List ℕ) → length tokens ≤ n
     → text ≡ gathered → Writing names (take n tokens) previous against gathered → Writing names tokens previous against text
 whole names n tokens previous against text gathered h is w =

@@ -1,4 +1,4 @@
-use Rattle.sourcemap_mappings.proofs.WrittenLaws.{IsWritten-same, IsRangeText-same}
+use Rattle.sourcemap_mappings.proofs.WriteLaws.{IsWritten-same, IsRangeText-same}
 use Rattle.sourcemap_mappings.proofs.write.written_texts_are_determined.Goals as goal
 
 pub returns : goal.returns

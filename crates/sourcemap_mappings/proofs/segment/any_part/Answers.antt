@@ -3,8 +3,8 @@ use Rattle.std.proofs.lemmas.List.{nil_from_length}
 use Rattle.std.proofs.lemmas.Bool.Decides.{nat_tests}
 use Rattle.std.proofs.lemmas.Int.{to_z-of_z}
 use mir.Syntax.{w64}
-use Rattle.sourcemap_mappings.proofs.ReadLemmas.{read_none, read_more, HasFirstPart-last, HasFirstPart-comma, HasPartFault-from}
-use Rattle.sourcemap_mappings.proofs.read.any_part.Goals as goal
+use Rattle.sourcemap_mappings.proofs.SegmentLemmas.{read_none, read_more, HasFirstPart-last, HasFirstPart-comma, HasPartFault-from}
+use Rattle.sourcemap_mappings.proofs.segment.any_part.Goals as goal
 
 pub loop-first-init : goal.loop-first-init
 loop-first-init c = read_none c.args.line.now

@@ -9,9 +9,9 @@ use Rattle.sourcemap_lists.specs.Tokens.{without_repeats}
 use Rattle.sourcemap_mappings.specs.Write.{is_on, IsRangeLine, LineByLine}
 use Rattle.sourcemap_mappings.specs.WriteSteps.{repeats}
 use Rattle.sourcemap_digits.proofs.BitLemmas.{IsBitText-same}
-use Rattle.sourcemap_mappings.proofs.WrittenTokens.{UpTo, none_on, filter_push_no, filter_push_yes, on_yes, on_no}
-use Rattle.sourcemap_mappings.proofs.WrittenWalk.{Walked, same_list, more_list, count_is}
-use Rattle.sourcemap_mappings.proofs.WrittenLines.{Ended, Ended-none, Ended-map, Ended-turn, Ended-last, Ended-zero}
+use Rattle.sourcemap_mappings.proofs.WriteTokens.{UpTo, none_on, filter_push_no, filter_push_yes, on_yes, on_no}
+use Rattle.sourcemap_mappings.proofs.WriteWalk.{Walked, same_list, more_list, count_is}
+use Rattle.sourcemap_mappings.proofs.WriteLines.{Ended, Ended-none, Ended-map, Ended-turn, Ended-last, Ended-zero}
 
 pub no_bit : (j : ℕ) → bit_of [] j ≡ false
 no_bit j = ap (λ n. n == 1) (bit_at-zero (j % 6))

@@ -1,5 +1,5 @@
-use Rattle.sourcemap_mappings.proofs.ReadLemmas.{part_of_one, part_of_four, part_of_five}
-use Rattle.sourcemap_mappings.proofs.read.usual_part.Goals as goal
+use Rattle.sourcemap_mappings.proofs.SegmentLemmas.{part_of_one, part_of_four, part_of_five}
+use Rattle.sourcemap_mappings.proofs.segment.usual_part.Goals as goal
 
 pub returns-in-Some : goal.returns-in-Some
 returns-in-Some c =

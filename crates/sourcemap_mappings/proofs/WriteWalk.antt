@@ -9,7 +9,7 @@ use Rattle.sourcemap_lists.specs.declared.tokens.RawToken.{RawToken}
 use Rattle.sourcemap_lists.specs.Tokens.{AreInOrder, position_cmp, destination, without_repeats}
 use Rattle.sourcemap_mappings.specs.Write.{is_on, is_above, line_count}
 use Rattle.sourcemap_mappings.specs.WriteSteps.{repeats}
-use Rattle.sourcemap_mappings.proofs.WrittenTokens.{UpTo, Rises, Rises-push, all_push, all_weaker, all_above, filter_push_yes, last_or-push, without_repeats-repeat, without_repeats-more, same_line, on_yes}
+use Rattle.sourcemap_mappings.proofs.WriteTokens.{UpTo, Rises, Rises-push, all_push, all_weaker, all_above, filter_push_yes, last_or-push, without_repeats-repeat, without_repeats-more, same_line, on_yes}
 
 -- the token before is on this line, and so is what was written last; without one nothing was written
 abbrev pub Stands : ℕ → List RawToken → Option RawToken → Type 0

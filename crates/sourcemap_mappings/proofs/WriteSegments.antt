@@ -7,11 +7,12 @@ use Rattle.sourcemap_lists.specs.declared.tokens.RawToken.{RawToken}
 use Rattle.sourcemap_lists.specs.Tokens.{without_repeats}
 use Rattle.sourcemap_digits.specs.Vlq.{Spells}
 use Rattle.sourcemap_mappings.specs.Write.{is_on, is_above, has_source, has_name, last_field, base, numbers, AreSegments, IsLine, IsWritten}
-use Rattle.sourcemap_mappings.specs.WriteSteps.{Adds, repeats, gap, at_line, moved}
-use Rattle.sourcemap_mappings.proofs.WrittenSums.{IsSmall}
-use Rattle.sourcemap_mappings.proofs.WrittenTokens.{UpTo, Rises, all_push, cut_at, none_on, filter_push_no, filter_push_yes, last_field-push_no, last_field-push_yes, on_yes, on_no, below_no}
-use Rattle.sourcemap_mappings.proofs.WrittenWalk.{Stands, Walked, Walked-none, Walked-repeat, Walked-more, same_list, more_list, upto_next, count_is}
-use Rattle.sourcemap_mappings.proofs.WrittenLines.{Reached, Reached-turn, Reached-more, Reached-last, Ended-none, Ended-zero}
+use Rattle.sourcemap_mappings.specs.Buffer.{Adds}
+use Rattle.sourcemap_mappings.specs.WriteSteps.{repeats, gap, at_line, next_base}
+use Rattle.sourcemap_mappings.proofs.WriteSums.{IsSmall}
+use Rattle.sourcemap_mappings.proofs.WriteTokens.{UpTo, Rises, all_push, cut_at, none_on, filter_push_no, filter_push_yes, last_field-push_no, last_field-push_yes, on_yes, on_no, below_no}
+use Rattle.sourcemap_mappings.proofs.WriteWalk.{Stands, Walked, Walked-none, Walked-repeat, Walked-more, same_list, more_list, upto_next, count_is}
+use Rattle.sourcemap_mappings.proofs.WriteLines.{Reached, Reached-turn, Reached-more, Reached-last, Ended-none, Ended-zero}
 
 -- What segments are taken against.
 
@@ -23,7 +24,7 @@ field_by p f ts t = by_test (p t) refl where
   by_test false e = ap (λ b. cond b (f t) (last_field p f ts)) e ∙ sym (last_field-push_no p f ts t e)
 
 pub moved_base : (names : ℕ) (ts : List RawToken) (t : RawToken)
-    → moved names (base names t.dst_line ts) t ≡ base names t.dst_line (ts ++ t ∷ [])
+    → next_base names (base names t.dst_line ts) t ≡ base names t.dst_line (ts ++ t ∷ [])
 moved_base names ts t =
     let column : t.dst_col ≡ last_field (is_on t.dst_line) (λ u. u.dst_col) (ts ++ t ∷ []) =
     sym (last_field-push_yes (is_on t.dst_line) (λ u. u.dst_col) ts t (on_yes t.dst_line t.dst_line refl)) in
@@ -186,7 +187,7 @@ pub Writing-more : (names : ℕ) (done : List RawToken) (previous : Option RawTo
     → repeats previous t ≡ false → against.dst_line ≤ t.dst_line
     → Adds (numbers names (at_line against t.dst_line) t) (text ++ gap previous against.dst_line t) new
     → IsSmall t → Writing names done previous against text
-    → Writing names (done ++ t ∷ []) (Some t) (moved names (at_line against t.dst_line) t) new
+    → Writing names (done ++ t ∷ []) (Some t) (next_base names (at_line against t.dst_line) t) new
 Writing-more names done previous against text new t e h adds small w =
     let ts = without_repeats done in
     let line = against.dst_line in
@@ -196,11 +197,11 @@ Writing-more names done previous against text new t e h adds small w =
     let spelled = subst (λ (b : RawToken). Spells (numbers names b t) adds.digits) taken adds.spelled in
     let reached = subst (λ (x : List ℕ). Reached (IsLine names (ts ++ t ∷ [])) n x) (sym adds.added)
     (grown names line ts previous t text adds.digits h w.walked.rises w.walked.upto w.walked.stands spelled w.reached) in
-    let last_is = ap (λ (b : RawToken). moved names b t) taken ∙ moved_base names ts t in
+    let last_is = ap (λ (b : RawToken). next_base names b t) taken ∙ moved_base names ts t in
     record {
       walked = Walked-more line done previous t e h w.walked;
       small = subst (λ (us : List RawToken). AllByRecursion IsSmall us) more (all_push IsSmall ts t w.small small);
-      against_is = subst (λ (us : List RawToken). moved names (at_line against n) t ≡ base names n us) more last_is;
+      against_is = subst (λ (us : List RawToken). next_base names (at_line against n) t ≡ base names n us) more last_is;
       reached = subst (λ (us : List RawToken). Reached (IsLine names us) n new) more reached;
     }
 

@@ -1,8 +1,8 @@
 use Rattle.std.proofs.Common.{length}
-use Rattle.sourcemap_mappings.specs.ReadSteps.{AreSteps}
+use Rattle.sourcemap_mappings.specs.SegmentSteps.{AreSteps}
 use Rattle.sourcemap_digits.specs.Vlq.{IsSound}
-use Rattle.sourcemap_mappings.proofs.ReadLemmas.{Lacks}
-use Rattle.sourcemap_mappings.proofs.read.any_part.Given as goal
+use Rattle.sourcemap_mappings.proofs.SegmentLemmas.{Lacks}
+use Rattle.sourcemap_mappings.proofs.segment.any_part.Given as goal
 
 abbrev pub invariant-loop-first : goal.invariant-loop-first
 invariant-loop-first l = (sound : IsSound l.line l.rest) × Lacks sound.front × AreSteps sound.numbers l.read

@@ -7,14 +7,15 @@ use Rattle.std.proofs.lemmas.Bool.Decides.{nat_tests}
 use Rattle.sourcemap_lists.specs.declared.tokens.RawToken.{RawToken}
 use Rattle.sourcemap_lists.specs.Tokens.{AreInOrder, AllWithin, IsWithin, with_sound_name, without_repeats, reduced, in_order}
 use Rattle.sourcemap_digits.specs.Bits.{bit_of, first_foreign}
-use Rattle.sourcemap_mappings.specs.Read.{Segment, Line, LineText, sum_at, line_tokens, page_tokens, PartsRead, LineRead, LinesRead, beside, line_texts, MappingsAnswer}
+use Rattle.sourcemap_mappings.specs.Segment.{Segment, sum_at}
+use Rattle.sourcemap_mappings.specs.Read.{Line, LineText, line_tokens, page_tokens, PartsRead, LineRead, LinesRead, beside, line_texts, MappingsAnswer}
 use Rattle.sourcemap_mappings.specs.Write.{is_on, is_above, last_field, base, numbers, AreSegments, IsLine, IsRangeLine, EachLine, LineByLine, line_count, IsWritten, IsRangeText}
 use Rattle.sourcemap_lists.proofs.TokensLemmas.{All-without_repeats, in_order-ordered, AreInOrder-reduced}
 use Rattle.sourcemap_digits.proofs.VlqLemmas.{Spells-Reads}
-use Rattle.sourcemap_mappings.proofs.WrittenTokens.{Rises, above_more, last_field-push_yes, on_yes}
-use Rattle.sourcemap_mappings.proofs.WrittenSums.{IsSound, IsSmall, all_sound_from, segment_of, Carries, Carries-none, Carries-more, column_more, segment_sound, token_back}
-use Rattle.sourcemap_mappings.proofs.WrittenRanges.{no_bit}
-use Rattle.sourcemap_mappings.proofs.WrittenBytes.{IsFree, IsMark, Spells-free, Spells-nonempty, digits_free, join_free, split_join}
+use Rattle.sourcemap_mappings.proofs.WriteTokens.{Rises, above_more, last_field-push_yes, on_yes}
+use Rattle.sourcemap_mappings.proofs.WriteSums.{IsSound, IsSmall, all_sound_from, segment_of, Carries, Carries-none, Carries-more, column_more, segment_sound, token_back}
+use Rattle.sourcemap_mappings.proofs.WriteRanges.{no_bit}
+use Rattle.sourcemap_mappings.proofs.WriteBytes.{IsFree, IsMark, Spells-free, Spells-nonempty, digits_free, join_free, split_join}
 
 -- Segments of a line.
 

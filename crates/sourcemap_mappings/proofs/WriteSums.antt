@@ -12,11 +12,11 @@ use Rattle.sourcemap_errors.specs.declared.errors.Error.{Error}
 use Rattle.sourcemap_errors.specs.declared.errors.Error.TheVariants.{BadSourceReference, BadNameReference}
 use Rattle.sourcemap_digits.specs.Bits.{bit_of}
 use Rattle.sourcemap_lists.specs.Tokens.{IsWithin, with_sound_name}
-use Rattle.sourcemap_mappings.specs.Read.{Counts, Segment, step, sum_at, field, token_of, segment_fault}
+use Rattle.sourcemap_mappings.specs.Segment.{Counts, Segment, step, sum_at, field, token_of, segment_fault}
 use Rattle.sourcemap_mappings.specs.Write.{is_on, has_source, has_name, last_field, base, difference, numbers}
 use Rattle.sourcemap_mappings.specs.WriteSteps.{HasSmallPlaces}
 use Rattle.sourcemap_mappings.proofs.WriteLemmas.{numbers_by, numbers_are}
-use Rattle.sourcemap_mappings.proofs.WrittenTokens.{last_field-push_no, last_field-push_yes}
+use Rattle.sourcemap_mappings.proofs.WriteTokens.{last_field-push_no, last_field-push_yes}
 
 -- Sums modulo 2^32.
 

@@ -1,0 +1,12 @@
+//! Tests of what stands below records and maps: vectors from outside, and each call once. This crate
+//! holds nothing else, so that its tests are proved alone.
+#![tactic(auto)]
+
+#[cfg(test)]
+mod digits;
+#[cfg(test)]
+mod lists;
+#[cfg(test)]
+mod mappings;
+#[cfg(test)]
+mod texts;

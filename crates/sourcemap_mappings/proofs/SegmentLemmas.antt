@@ -1,0 +1,287 @@
+-- What the steps of the reader of segments come to.
+use Rattle.std.proofs.Common.{◌≡◌, ◌≢◌, ℕ, zero, suc, slice_index, ◌^◌, ◌==◌, true, false, List, [], ◌∷◌, ◌++◌, length, Option, Some, None, sym, ap, ◌∙◌, refl, subst, inl, inr, append_assoc, append-nil, length-append, ℤ, arith, eqb-true}
+use Rattle.std.specs.List.{slice_split, onto_first, AllByRecursion}
+use Rattle.std.proofs.lemmas.Bool.{cases_Bool, cond-true, cond-false}
+use Rattle.std.specs.Borrow.{Bor}
+use Rattle.sourcemap_mappings.specs.declared.segment.Numbers.{Numbers}
+use Rattle.std.proofs.lemmas.List.Splits.{slice_split-cons_yes, slice_split-cons_no}
+use Rattle.sourcemap_errors.specs.declared.errors.Error.{Error}
+use Rattle.sourcemap_errors.specs.declared.errors.Error.TheVariants.{InvalidBase64, VlqLeftover, VlqOverflow}
+use Rattle.std.specs.Int.{int_rem_euclid}
+use Rattle.std.specs.Prelude.{unsigned_abs, pos}
+use Rattle.sourcemap_mappings.specs.Segment.{step}
+use Rattle.sourcemap_mappings.specs.SegmentSteps.{AreSteps, HasFirstPart, HasPartFault, fault_in_part, EndsPart, BeginsWithStep}
+use Rattle.sourcemap_digits.specs.Vlq.{digit_value, GoesOn, IsChain, IsUnfinished, GoesTo, NumberFault, BeginsWith, Reads, IsSound}
+use Rattle.sourcemap_digits.proofs.VlqLemmas.{HasFault-later, IsSound-more}
+
+-- Numbers.
+
+zero_steps : (k : ℕ) → slice_index (0 ∷ 0 ∷ 0 ∷ 0 ∷ 0 ∷ []) k ≡ 0
+zero_steps zero = refl
+zero_steps (suc zero) = refl
+zero_steps (suc (suc zero)) = refl
+zero_steps (suc (suc (suc zero))) = refl
+zero_steps (suc (suc (suc (suc zero)))) = refl
+zero_steps (suc (suc (suc (suc (suc k))))) = refl
+
+-- The first part of a line.
+
+-- a text without a `,`
+pub Lacks : List ℕ → Type 0
+Lacks text = AllByRecursion (λ b. (b == 44) ≡ false) text
+
+pub Lacks-append : (xs ys : List ℕ) → Lacks xs → Lacks ys → Lacks (xs ++ ys)
+unfolding Lacks
+Lacks-append [] ys h k = k
+Lacks-append (x ∷ xs) ys h k = (h.0, Lacks-append xs ys h.1 k)
+
+comma_is_none : digit_value 44 ≡ None
+unfolding digit_value
+comma_is_none = refl
+
+comma_none : (v : ℕ) → digit_value 44 ≡ Some v → ⊥
+unfolding digit_value
+comma_none v e = cc
+
+digit_no_comma : (c : ℕ) → digit_value c ≢ None → (c == 44) ≡ false
+digit_no_comma c digit = elim (cases_Bool (c == 44)) [
+  | inl is ↦ absurd (digit (ap digit_value (eqb-true c 44 is) ∙ comma_is_none))
+  | inr differs ↦ differs
+]
+
+no_comma : (c v : ℕ) → digit_value c ≡ Some v → (c == 44) ≡ false
+no_comma c v e = elim (cases_Bool (c == 44)) [
+  | inl is ↦ let at : c ≡ 44 = eqb-true c 44 is in let none : digit_value 44 ≡ Some v = subst (λ b. digit_value b ≡ Some v) at e in absurd (comma_none v none)
+  | inr differs ↦ differs
+]
+
+Lacks-chain : (group : List ℕ) → IsChain group → Lacks group
+unfolding Lacks
+Lacks-chain [] h = absurd h
+Lacks-chain (c ∷ []) (v, e, last) = (no_comma c v e, tt)
+Lacks-chain (c ∷ d ∷ cs) ((v, e, on), h) = (no_comma c v e, Lacks-chain (d ∷ cs) h)
+
+Lacks-goes_on : (part : List ℕ) → AllByRecursion GoesOn part → Lacks part
+unfolding Lacks
+Lacks-goes_on [] h = tt
+Lacks-goes_on (c ∷ cs) ((v, e, on), h) = (no_comma c v e, Lacks-goes_on cs h)
+
+-- what stands before the first `,` of a text lengthens its first part
+slice_split_onto : (xs ys m : List ℕ) (ms : List (List ℕ)) → Lacks xs → slice_split (λ b. b == 44) ys ≡ m ∷ ms → slice_split (λ b. b == 44) (xs ++ ys) ≡ (xs ++ m) ∷ ms
+unfolding Lacks
+slice_split_onto [] ys m ms h e = e
+slice_split_onto (x ∷ xs) ys m ms h e =
+    slice_split-cons_no (λ b. b == 44) x (xs ++ ys) h.0 ∙ ap (onto_first x) (slice_split_onto xs ys m ms h.1 e)
+
+slice_split_some : (xs : List ℕ) → (m : List ℕ) × (ms : List (List ℕ)) × (slice_split (λ b. b == 44) xs ≡ m ∷ ms)
+slice_split_some [] = ([], [], refl)
+slice_split_some (x ∷ xs) = elim (cases_Bool (x == 44)) [
+  | inl is ↦ ([], slice_split (λ b. b == 44) xs, slice_split-cons_yes (λ b. b == 44) x xs is)
+  | inr differs ↦ let rest = slice_split_some xs in (x ∷ rest.0, rest.1, slice_split-cons_no (λ b. b == 44) x xs differs ∙ ap (onto_first x) rest.2)
+]
+
+append_some : (xs ys : List ℕ) → ys ≢ [] → xs ++ ys ≢ []
+append_some [] ys some none = some none
+append_some (x ∷ xs) ys some none = absurd cc
+
+-- a fault at the byte c of an unfinished number, or of the number that ends there
+HasPartFault-at : (line front rest part : List ℕ) (numbers : List ℤ) (c : ℕ) (e : Error) → line ≡ front ++ rest → Reads front numbers → Lacks front → (c == 44) ≡ false
+    → (goes : GoesTo rest part c) → ((m : List ℕ) → GoesTo (part ++ c ∷ m) part c → NumberFault (part ++ c ∷ m) e) → HasPartFault line e
+HasPartFault-at line front rest part numbers c e whole reads lacks differs goes fault =
+    let behind = slice_split_some goes.more in
+    let own : List ℕ = part ++ c ∷ behind.0 in
+    let one : Lacks (c ∷ []) = unfold Lacks in (differs, tt) in
+    let lacks_all : Lacks (front ++ (part ++ c ∷ [])) = Lacks-append front (part ++ c ∷ []) lacks (Lacks-append part (c ∷ []) (Lacks-goes_on part goes.unfinished.goes_on) one) in
+    let text : line ≡ (front ++ (part ++ c ∷ [])) ++ goes.more =
+    whole ∙ ap (λ zs. front ++ zs) (goes.split ∙ sym (append_assoc part (c ∷ []) goes.more)) ∙ sym (append_assoc front (part ++ c ∷ []) goes.more) in
+    let cut : (front ++ (part ++ c ∷ [])) ++ behind.0 ≡ front ++ own =
+    append_assoc front (part ++ c ∷ []) behind.0 ∙ ap (λ zs. front ++ zs) (append_assoc part (c ∷ []) behind.0) in
+    let some : own ≢ [] = append_some part (c ∷ behind.0) (λ none. cc) in
+    record {
+      part = front ++ own;
+      parts = behind.1;
+      split = ap (slice_split (λ b. b == 44)) text ∙ slice_split_onto (front ++ (part ++ c ∷ [])) goes.more behind.0 behind.1 lacks_all behind.2 ∙ ap (λ p. p ∷ behind.1) cut;
+      some = append_some front own some;
+      fault = HasFault-later (front ++ own) own (record { front = front; numbers = numbers; reads = reads; split = refl }) some e
+          (fault behind.0 (record { more = behind.0; split = refl; unfinished = goes.unfinished }));
+    }
+
+-- a number that the end of the part cuts off
+HasPartFault-cut : (line front rest part : List ℕ) (numbers : List ℤ) (parts : List (List ℕ)) → slice_split (λ b. b == 44) line ≡ (front ++ part) ∷ parts → Reads front numbers
+    → part ≢ [] → IsUnfinished part → HasPartFault line VlqLeftover
+HasPartFault-cut line front rest part numbers parts split reads some unfinished = record {
+  part = front ++ part;
+  parts = parts;
+  split = split;
+  some = append_some front part some;
+  fault = HasFault-later (front ++ part) part (record { front = front; numbers = numbers; reads = reads; split = refl }) some VlqLeftover unfinished;
+}
+
+HasPartFault-comma : (line rest : List ℕ) (c : ℕ) (cs : List ℕ) (sound : IsSound line rest) (d : ℕ) (part : List ℕ) → GoesTo rest part d → Lacks sound.front → rest ≡ c ∷ cs
+    → (c == 44) ≡ false → (d == 44) ≡ true → HasPartFault line VlqLeftover
+HasPartFault-comma line rest c cs sound d [] goes lacks first ne is =
+    absurd (let same : d ∷ goes.more ≡ c ∷ cs = sym goes.split ∙ first in cc)
+HasPartFault-comma line rest c cs sound d (x ∷ xs) goes lacks first ne is =
+    let part : List ℕ = x ∷ xs in
+    let parts : List (List ℕ) = slice_split (λ b. b == 44) goes.more in
+    let front : List ℕ = sound.front in
+    let lacks_all : Lacks (front ++ part) = Lacks-append front part lacks (Lacks-goes_on part goes.unfinished.goes_on) in
+    let text : line ≡ (front ++ part) ++ d ∷ goes.more = sound.split ∙ ap (λ zs. front ++ zs) goes.split ∙ sym (append_assoc front part (d ∷ goes.more)) in
+    HasPartFault-cut line front rest part sound.numbers parts
+    (ap (slice_split (λ b. b == 44)) text ∙ slice_split_onto (front ++ part) (d ∷ goes.more) [] parts lacks_all (slice_split-cons_yes (λ b. b == 44) d goes.more is)
+    ∙ ap (λ p. p ∷ parts) (append-nil (front ++ part)))
+    sound.reads (λ none. cc) goes.unfinished
+
+-- the first fault of a line behind some numbers, where no `,` comes next
+pub HasPartFault-from : (line rest : List ℕ) (c : ℕ) (cs : List ℕ) (sound : IsSound line rest) (e : Error) → Lacks sound.front → rest ≡ c ∷ cs → (c == 44) ≡ false
+    → NumberFault rest e → HasPartFault line (fault_in_part e)
+HasPartFault-from line rest c cs sound (InvalidBase64 d) lacks first ne (part, goes, none) = elim (cases_Bool (d == 44)) [
+  | inl is ↦
+      subst (HasPartFault line) (sym (cond-true (d == 44) VlqLeftover (InvalidBase64 d) is))
+      (HasPartFault-comma line rest c cs sound d part goes lacks first ne is)
+  | inr differs ↦
+      subst (HasPartFault line) (sym (cond-false (d == 44) VlqLeftover (InvalidBase64 d) differs))
+      (HasPartFault-at line sound.front rest part sound.numbers d (InvalidBase64 d) sound.split sound.reads lacks differs goes (λ m at. (part, at, none)))
+]
+HasPartFault-from line rest c cs sound VlqOverflow lacks first ne (part, d, goes, digit, great) =
+    HasPartFault-at line sound.front rest part sound.numbers d VlqOverflow sound.split sound.reads lacks (digit_no_comma d digit) goes (λ m at. (part, d, at, digit, great))
+HasPartFault-from line rest c cs sound VlqLeftover lacks first ne unfinished =
+    let front : List ℕ = sound.front in
+    let lacks_all : Lacks (front ++ rest) = Lacks-append front rest lacks (Lacks-goes_on rest unfinished.goes_on) in
+    HasPartFault-cut line front rest rest sound.numbers []
+    (ap (slice_split (λ b. b == 44)) (sound.split ∙ sym (append-nil (front ++ rest))) ∙ slice_split_onto (front ++ rest) [] [] [] lacks_all refl
+    ∙ ap (λ p. p ∷ []) (append-nil (front ++ rest)))
+    sound.reads (λ none. let same : c ∷ cs ≡ [] = sym first ∙ none in cc) unfinished
+HasPartFault-from line rest c cs sound _ lacks first ne fault = absurd fault
+
+-- before the first number of a line
+pub read_none : (line : List ℕ) → (sound : IsSound line line) × Lacks sound.front × AreSteps sound.numbers (record { count = 0; steps = 0 ∷ 0 ∷ 0 ∷ 0 ∷ 0 ∷ [] })
+unfolding Lacks
+read_none line =
+    (record { front = []; numbers = []; reads = refl; split = refl }, tt, record { count = refl; five = refl; each = λ k _. zero_steps k })
+
+-- one more number
+pub read_more : (line rest behind : List ℕ) (n : ℤ) (read : Numbers) (sound : IsSound line rest) → Lacks sound.front → BeginsWith rest n behind → AreSteps (sound.numbers ++ n ∷ []) read
+    → (t : IsSound line behind) × Lacks t.front × AreSteps t.numbers read
+read_more line rest behind n read sound lacks begins steps =
+    let more = IsSound-more line rest behind sound.front sound.numbers n sound.reads sound.split begins in (
+      record { front = sound.front ++ begins.group; numbers = sound.numbers ++ n ∷ []; reads = more.0; split = more.1 },
+      Lacks-append sound.front begins.group lacks (Lacks-chain begins.group begins.is_group.chain),
+      steps,
+    )
+
+-- one more number, whatever its step
+sound_more : (line rest behind : List ℕ) (n : ℤ) (sound : IsSound line rest) → Lacks sound.front → BeginsWith rest n behind
+    → (t : IsSound line behind) × Lacks t.front × (t.numbers ≡ sound.numbers ++ n ∷ [])
+sound_more line rest behind n sound lacks begins =
+    let more = IsSound-more line rest behind sound.front sound.numbers n sound.reads sound.split begins in (
+      record { front = sound.front ++ begins.group; numbers = sound.numbers ++ n ∷ []; reads = more.0; split = more.1 },
+      Lacks-append sound.front begins.group lacks (Lacks-chain begins.group begins.is_group.chain),
+      refl,
+    )
+
+-- the end of the line
+pub HasFirstPart-last : (line rest : List ℕ) (read : Numbers) (sound : IsSound line rest) → Lacks sound.front → AreSteps sound.numbers read → rest ≡ [] → HasFirstPart line read None
+HasFirstPart-last line rest read sound lacks steps none =
+    let front : List ℕ = sound.front in
+    record {
+      part = front;
+      numbers = sound.numbers;
+      split =
+          ap (slice_split (λ b. b == 44)) (sound.split ∙ ap (λ zs. front ++ zs) none) ∙ slice_split_onto front [] [] [] lacks refl ∙ ap (λ p. p ∷ []) (append-nil front);
+      shorter = tt;
+      reads = sound.reads;
+      steps = steps;
+    }
+
+-- the end of the part
+pub HasFirstPart-comma : (line rest : List ℕ) (c : ℕ) (behind : Bor (List ℕ)) (read : Numbers) (sound : IsSound line rest) → Lacks sound.front → AreSteps sound.numbers read
+    → rest ≡ c ∷ behind.now → (c == 44) ≡ true → HasFirstPart line read (Some behind)
+HasFirstPart-comma line rest c behind read sound lacks steps first is =
+    let front : List ℕ = sound.front in
+    let text : line ≡ front ++ c ∷ behind.now = sound.split ∙ ap (λ zs. front ++ zs) first in
+    record {
+      part = front;
+      numbers = sound.numbers;
+      split =
+          ap (slice_split (λ b. b == 44)) text
+          ∙ slice_split_onto front (c ∷ behind.now) [] (slice_split (λ b. b == 44) behind.now) lacks (slice_split-cons_yes (λ b. b == 44) c behind.now is)
+          ∙ ap (λ p. p ∷ slice_split (λ b. b == 44) behind.now) (append-nil front);
+      shorter = let size = ap length text ∙ length-append front (c ∷ behind.now) in omega arith;
+      reads = sound.reads;
+      steps = steps;
+    }
+
+-- A part of one, four or five numbers.
+
+ended : (line rest : List ℕ) (behind : Option (Bor (List ℕ))) (read : Numbers) (numbers : List ℤ) (sound : IsSound line rest) → Lacks sound.front
+    → sound.numbers ≡ numbers → AreSteps numbers read → EndsPart rest behind → HasFirstPart line read behind
+ended line rest None read numbers sound lacks are steps ends =
+    HasFirstPart-last line rest read sound lacks (subst (λ (ns : List ℤ). AreSteps ns read) (sym are) steps) ends
+ended line rest (Some behind) read numbers sound lacks are steps ends =
+    HasFirstPart-comma line rest 44 behind read sound lacks (subst (λ (ns : List ℤ). AreSteps ns read) (sym are) steps) ends refl
+
+abbrev IsStep : ℤ → ℕ → Type 0
+IsStep n s = s ≡ unsigned_abs (int_rem_euclid n (pos (2 ^ 32)))
+
+each_of_one : (a : ℤ) (v : ℕ) → IsStep a v → (k : ℕ)
+    → slice_index (v ∷ 0 ∷ 0 ∷ 0 ∷ 0 ∷ []) k ≡ step k (record { place = 0; numbers = a ∷ [] })
+each_of_one a v p zero = p
+each_of_one a v p (suc zero) = refl
+each_of_one a v p (suc (suc zero)) = refl
+each_of_one a v p (suc (suc (suc zero))) = refl
+each_of_one a v p (suc (suc (suc (suc zero)))) = refl
+each_of_one a v p (suc (suc (suc (suc (suc k))))) = refl
+
+each_of_four : (a b c d : ℤ) (v w x y : ℕ) → IsStep a v → IsStep b w → IsStep c x → IsStep d y → (k : ℕ)
+    → slice_index (v ∷ w ∷ x ∷ y ∷ 0 ∷ []) k ≡ step k (record { place = 0; numbers = a ∷ b ∷ c ∷ d ∷ [] })
+each_of_four a b c d v w x y p q r s zero = p
+each_of_four a b c d v w x y p q r s (suc zero) = q
+each_of_four a b c d v w x y p q r s (suc (suc zero)) = r
+each_of_four a b c d v w x y p q r s (suc (suc (suc zero))) = s
+each_of_four a b c d v w x y p q r s (suc (suc (suc (suc zero)))) = refl
+each_of_four a b c d v w x y p q r s (suc (suc (suc (suc (suc k))))) = refl
+
+each_of_five : (a b c d e : ℤ) (v w x y z : ℕ) → IsStep a v → IsStep b w → IsStep c x → IsStep d y → IsStep e z → (k : ℕ)
+    → slice_index (v ∷ w ∷ x ∷ y ∷ z ∷ []) k ≡ step k (record { place = 0; numbers = a ∷ b ∷ c ∷ d ∷ e ∷ [] })
+each_of_five a b c d e v w x y z p q r s t zero = p
+each_of_five a b c d e v w x y z p q r s t (suc zero) = q
+each_of_five a b c d e v w x y z p q r s t (suc (suc zero)) = r
+each_of_five a b c d e v w x y z p q r s t (suc (suc (suc zero))) = s
+each_of_five a b c d e v w x y z p q r s t (suc (suc (suc (suc zero)))) = t
+each_of_five a b c d e v w x y z p q r s t (suc (suc (suc (suc (suc k))))) = refl
+
+pub part_of_one : (line r₁ : List ℕ) (v : ℕ) (behind : Option (Bor (List ℕ))) → BeginsWithStep line v r₁ → EndsPart r₁ behind
+    → HasFirstPart line (record { count = 1; steps = v ∷ 0 ∷ 0 ∷ 0 ∷ 0 ∷ [] }) behind
+unfolding sound_more read_none
+part_of_one line r₁ v behind (a, in_line, p) ends =
+    let s₀ = read_none line in
+    let s₁ = sound_more line line r₁ a s₀.0 s₀.1 in_line in
+    ended line r₁ behind _ (a ∷ []) s₁.0 s₁.1 s₁.2 (record { count = refl; five = refl; each = λ k _. each_of_one a v p k }) ends
+
+pub part_of_four : (line r₁ r₂ r₃ r₄ : List ℕ) (v w x y : ℕ) (behind : Option (Bor (List ℕ)))
+    → BeginsWithStep line v r₁ → BeginsWithStep r₁ w r₂ → BeginsWithStep r₂ x r₃ → BeginsWithStep r₃ y r₄ → EndsPart r₄ behind
+    → HasFirstPart line (record { count = 4; steps = v ∷ w ∷ x ∷ y ∷ 0 ∷ [] }) behind
+unfolding sound_more read_none
+part_of_four line r₁ r₂ r₃ r₄ v w x y behind (a, in_line, p) (b, in_1, q) (c, in_2, r) (d, in_3, s) ends =
+    let s₀ = read_none line in
+    let s₁ = sound_more line line r₁ a s₀.0 s₀.1 in_line in
+    let s₂ = sound_more line r₁ r₂ b s₁.0 s₁.1 in_1 in
+    let s₃ = sound_more line r₂ r₃ c s₂.0 s₂.1 in_2 in
+    let s₄ = sound_more line r₃ r₄ d s₃.0 s₃.1 in_3 in
+    ended line r₄ behind _ (a ∷ b ∷ c ∷ d ∷ []) s₄.0 s₄.1 s₄.2
+    (record { count = refl; five = refl; each = λ k _. each_of_four a b c d v w x y p q r s k }) ends
+
+pub part_of_five : (line r₁ r₂ r₃ r₄ r₅ : List ℕ) (v w x y z : ℕ) (behind : Option (Bor (List ℕ)))
+    → BeginsWithStep line v r₁ → BeginsWithStep r₁ w r₂ → BeginsWithStep r₂ x r₃ → BeginsWithStep r₃ y r₄ → BeginsWithStep r₄ z r₅ → EndsPart r₅ behind
+    → HasFirstPart line (record { count = 5; steps = v ∷ w ∷ x ∷ y ∷ z ∷ [] }) behind
+unfolding sound_more read_none
+part_of_five line r₁ r₂ r₃ r₄ r₅ v w x y z behind (a, in_line, p) (b, in_1, q) (c, in_2, r) (d, in_3, s) (e, in_4, t) ends =
+    let s₀ = read_none line in
+    let s₁ = sound_more line line r₁ a s₀.0 s₀.1 in_line in
+    let s₂ = sound_more line r₁ r₂ b s₁.0 s₁.1 in_1 in
+    let s₃ = sound_more line r₂ r₃ c s₂.0 s₂.1 in_2 in
+    let s₄ = sound_more line r₃ r₄ d s₃.0 s₃.1 in_3 in
+    let s₅ = sound_more line r₄ r₅ e s₄.0 s₄.1 in_4 in
+    ended line r₅ behind _ (a ∷ b ∷ c ∷ d ∷ e ∷ []) s₅.0 s₅.1 s₅.2
+    (record { count = refl; five = refl; each = λ k _. each_of_five a b c d e v w x y z p q r s t k }) ends

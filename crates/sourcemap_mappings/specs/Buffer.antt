@@ -1,0 +1,13 @@
+-- What a buffer of digits is filled with.
+use Rattle.std.specs.Prelude.{◌≡◌, ℕ, ◌+◌, ℤ, List, ◌++◌, nat_lt, if◌then◌else◌, ◌-◌, ◌*◌}
+use Rattle.sourcemap_digits.specs.Vlq.{Spells}
+
+-- the shortest digits of some numbers were added to a text
+pub record Adds (numbers : List ℤ) (old new : List ℕ) : Type 0 where
+  pub digits : List ℕ
+  pub spelled : Spells numbers digits
+  pub added : new ≡ old ++ digits
+
+-- the raw value of the digits of a difference of numbers
+abbrev pub raw_difference : ℕ → ℕ → ℕ
+raw_difference number against = if nat_lt number against then 2 * (against - number) + 1 else 2 * (number - against)

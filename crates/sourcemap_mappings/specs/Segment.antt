@@ -1,0 +1,73 @@
+-- One part of a line of mappings as a segment: its numbers, the token that it stands for, and its
+-- first fault. A part that is not empty is a segment and stands for one token.
+use Rattle.std.specs.Prelude.{ℕ, ◌%◌, ◌^◌, ℤ, pos, unsigned_abs, List, length, slice_get, sum_by, Option, Some, None, Bool, not, ◌&&◌, ◌||◌, ◌==◌, nat_lt, nat_le, min, if◌then◌else◌}
+use Rattle.std.specs.Option.{option_map_or}
+use Rattle.std.specs.List.{slice_split}
+use Rattle.std.specs.Int.{int_rem_euclid}
+use Rattle.sourcemap_lists.specs.declared.tokens.RawToken.{RawToken}
+use Rattle.sourcemap_errors.specs.declared.errors.Error.{Error}
+use Rattle.sourcemap_errors.specs.declared.errors.Error.TheVariants.{BadSegmentSize, BadSourceReference, BadNameReference}
+use Rattle.sourcemap_digits.specs.Bits.{bit_of}
+use Rattle.sourcemap_lists.specs.Tokens.{no_id}
+
+-- the byte that stands between the parts of a line
+abbrev pub comma : ℕ
+comma = 44
+
+-- the byte that stands between lines
+abbrev pub semicolon : ℕ
+semicolon = 59
+
+-- the parts of a line
+abbrev pub parts_of : List ℕ → List (List ℕ)
+parts_of line = slice_split (λ b. b == comma) line
+
+-- how many sources and names a map has
+pub record Counts : Type 0 where
+  pub sources : ℕ
+  pub names : ℕ
+
+-- a segment: how many parts of its line stand before it, empty ones too, and its numbers
+pub record Segment : Type 0 where
+  pub place : ℕ
+  pub numbers : List ℤ
+
+-- number k of a segment as a step modulo 2^32, no step where it is missing
+abbrev pub step : ℕ → Segment → ℕ
+step k s = option_map_or (λ z. unsigned_abs (int_rem_euclid z (pos (2 ^ 32)))) (slice_get s.numbers k) 0
+
+-- the sum of the numbers k of some segments, modulo 2^32
+abbrev pub sum_at : ℕ → List Segment → ℕ
+sum_at k segments = sum_by (step k) segments % 2 ^ 32
+
+abbrev pub has_number : ℕ → Segment → Bool
+has_number k s = nat_lt k (length s.numbers)
+
+-- a field of a token: a sum over the text, or the number that names nothing
+abbrev pub field : ℕ → List Segment → Segment → ℕ
+field k all s = if has_number k s then sum_at k all else no_id
+
+-- the token of segment s of line n: `here` are the segments of its line up to it, `all` those of the text up to it
+abbrev pub token_of : ℕ → List ℕ → List Segment → List Segment → Segment → RawToken
+token_of n bits here all s = record {
+  dst_line = n;
+  dst_col = sum_at 0 here;
+  src_line = field 2 all s;
+  src_col = field 3 all s;
+  src_id = field 1 all s;
+  name_id = field 4 all s;
+  is_range = bit_of bits s.place;
+}
+
+-- Faults of one segment.
+
+abbrev pub is_size : ℕ → Bool
+is_size size = (size == 1) || (size == 4) || (size == 5)
+
+-- the first fault of a segment's numbers, where `all` are the segments of the text up to it
+abbrev pub segment_fault : Counts → List Segment → Segment → Option Error
+segment_fault counts all s =
+    if not (is_size (length s.numbers)) then Some (BadSegmentSize (min (length s.numbers) 4294967295))
+    else if has_number 1 s && nat_le counts.sources (sum_at 1 all) then Some (BadSourceReference (sum_at 1 all))
+    else if has_number 4 s && nat_le counts.names (sum_at 4 all) then Some (BadNameReference (sum_at 4 all))
+    else None
