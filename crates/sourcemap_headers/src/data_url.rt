@@ -68,41 +68,6 @@ pub fn data_url(alloc: Global, bytes: &[u8]) -> Result<String>
 
 /// A law: a text has one answer as a data URL.
 pub fn data_urls_have_one_answer()
-    ensures { (url : List ℕ) (a b : Answer (List ℕ) Fault) → DataUrlAnswer url a → DataUrlAnswer url b → a ≡ b }
+    ensures { (url : List ℕ) (a b : Answer (List ℕ) Fault)
+        → DataUrlAnswer url a → DataUrlAnswer url b → a ≡ b }
 {}
-
-#[cfg(test)]
-mod tests {
-    use super::*;
-    use std::test::Fail;
-
-    #[test]
-    fn reads_and_writes(rt: HostRuntime) -> std::result::Result<(), Fail> {
-        for charset in ["", ";charset=utf-8", ";charset=utf8"] {
-            let url = format!(in rt.alloc();
-                "data:application/json{charset};base64,eyJtYXBwaW5ncyI6IkEifQ=="
-            )?;
-            let bytes = data_url_bytes(rt.alloc(), url.as_str())?;
-            assert_eq!(rt; bytes.as_slice(), b"{\"mappings\":\"A\"}".as_slice());
-        }
-        for url in [
-            "data:application/json;charset=latin1;base64,eyJtYXBwaW5ncyI6IkEifQ==",
-            "data:application/json;base64,eyJtYXBwaW5ncyI6IkEifQ",
-            "data:application/json;base64,eyJtYXBwaW5ncyI6IkEifQ==eyJt",
-            "data:application/json,eyJt",
-            "data:text/plain;base64,eyJt",
-            "",
-        ] {
-            assert!(rt;
-                matches!(data_url_bytes(rt.alloc(), url), Err(Error::InvalidDataUrl)),
-                "{url}"
-            );
-        }
-        let url = data_url(rt.alloc(), b"{\"mappings\":\"A\"}")?;
-        assert_eq!(rt;
-            url.as_str(),
-            "data:application/json;charset=utf-8;base64,eyJtYXBwaW5ncyI6IkEifQ=="
-        );
-        Ok(())
-    }
-}

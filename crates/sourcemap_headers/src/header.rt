@@ -29,7 +29,8 @@ fn goes_on(bytes: &[u8]) -> bool
 /// newline behind it is a fault of kind `InvalidData`.
 pub fn strip_junk_header(bytes: &[u8]) -> io::Result<&[u8]>
     ensures bytes { IfOk result (λ rest. behind_header bytes.now ≡ Some rest.now) }
-    ensures fault { IfErr result (λ e. (behind_header bytes.now ≡ None) × (error_kind e ≡ InvalidData)) }
+    ensures fault { IfErr result (λ e. (behind_header bytes.now ≡ None)
+        × (error_kind e ≡ InvalidData)) }
 {
     if !begins_junk_header(bytes) {
         return Ok(bytes);

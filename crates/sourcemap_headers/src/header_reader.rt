@@ -35,7 +35,8 @@ enum Skipped {
 /// The first bytes of a text, of which there is one at least.
 fn skip_first(chunk: &[u8]) -> Skipped
     requires { 0 < length chunk.now }
-    ensures junk { (later : List ℕ) → left_at Place.Start (chunk.now ++ later) ≡ left_after result chunk.now later }
+    ensures junk { (later : List ℕ)
+        → left_at Place.Start (chunk.now ++ later) ≡ left_after result chunk.now later }
     ensures within { IsWithin result (length chunk.now) }
 {
     match chunk {
@@ -46,7 +47,9 @@ fn skip_first(chunk: &[u8]) -> Skipped
 
 /// The bytes that come next in a header, after a carriage return or not.
 fn skip_junk(follows_return: bool, chunk: &[u8]) -> Skipped
-    ensures junk { (later : List ℕ) → left_at (Place.Junk follows_return) (chunk.now ++ later) ≡ left_after result chunk.now later }
+    ensures junk { (later : List ℕ)
+        → left_at (Place.Junk follows_return) (chunk.now ++ later)
+        ≡ left_after result chunk.now later }
     ensures within { IsWithin result (length chunk.now) }
 {
     let mut after_return = follows_return;
@@ -66,7 +69,8 @@ fn skip_junk(follows_return: bool, chunk: &[u8]) -> Skipped
 
 fn skip(place: Place, chunk: &[u8]) -> Skipped
     requires { 0 < length chunk.now }
-    ensures junk { IsInHeader place → (later : List ℕ) → left_at place (chunk.now ++ later) ≡ left_after result chunk.now later }
+    ensures junk { IsInHeader place → (later : List ℕ)
+        → left_at place (chunk.now ++ later) ≡ left_after result chunk.now later }
     ensures within { IsWithin result (length chunk.now) }
 {
     match place {
@@ -95,7 +99,8 @@ impl<R: Read + Drop> StripHeaderReader<R> {
     /// A reader over `reader`, of which nothing was read here.
     pub fn new(reader: R) -> Self
         ensures fresh { has_failed result ≡ false }
-        ensures left { left_of R.remaining result ≡ option_and_then read_behind_header (R.remaining reader) }
+        ensures left { left_of R.remaining result
+            ≡ option_and_then read_behind_header (R.remaining reader) }
     {
         StripHeaderReader {
             reader,
@@ -109,10 +114,13 @@ impl<R: Read + Drop> StripHeaderReader<R> {
         requires sound { has_failed self.old ≡ false }
         ensures bound { IfOk result (λ count. IfSome count (λ n. n ≤ length buf.new)) }
         ensures gave { Gave R.remaining self.old self.new (given result buf.new) }
-        ensures end { IfOk result (λ count. count ≡ Some 0 → IsAtEnd (left_of R.remaining self.new)) }
+        ensures end { IfOk result (λ count. count ≡ Some 0
+            → IsAtEnd (left_of R.remaining self.new)) }
         ensures sound { OnOk result (has_failed self.new ≡ false) }
-        ensures known { IfOk result (λ count. IsSome count → ¬ HasFaultyHeader R.remaining self.new) }
-        ensures fault { IfErr result (λ e. IsTrue (has_failed self.new) → error_kind e ≡ InvalidData) }
+        ensures known { IfOk result (λ count. IsSome count
+            → ¬ HasFaultyHeader R.remaining self.new) }
+        ensures fault { IfErr result (λ e. IsTrue (has_failed self.new)
+            → error_kind e ≡ InvalidData) }
     {
         match self.place {
             Place::Behind => Ok(Some(self.reader.read(buf)?)),
@@ -127,10 +135,13 @@ impl<R: Read + Drop> StripHeaderReader<R> {
         requires room { 0 < length buf.old }
         requires sound { has_failed self.old ≡ false }
         ensures bound { ReadsAtMost result buf.new }
-        ensures bytes { ReadConsumes (left_of R.remaining self.old) (left_of R.remaining self.new) result buf.new }
+        ensures bytes { ReadConsumes (left_of R.remaining self.old) (left_of R.remaining self.new)
+            result buf.new }
         ensures refused { HasFaultyHeader R.remaining self.old → IsErr result }
-        ensures stays { HasFaultyHeader R.remaining self.old → HasFaultyHeader R.remaining self.new }
-        ensures fault { IfErr result (λ e. IsTrue (has_failed self.new) → error_kind e ≡ InvalidData) }
+        ensures stays { HasFaultyHeader R.remaining self.old
+            → HasFaultyHeader R.remaining self.new }
+        ensures fault { IfErr result (λ e. IsTrue (has_failed self.new)
+            → error_kind e ≡ InvalidData) }
     {
         for _ in 0..u64::MAX {
             if let Some(count) = self.turn(buf)? {
@@ -145,10 +156,13 @@ impl<R: Read + Drop> StripHeaderReader<R> {
         requires in_header { IsInHeader self.old.place }
         ensures bound { IfOk result (λ count. IfSome count (λ n. n ≤ length buf.new)) }
         ensures gave { Gave R.remaining self.old self.new (given result buf.new) }
-        ensures end { IfOk result (λ count. count ≡ Some 0 → IsAtEnd (left_of R.remaining self.new)) }
+        ensures end { IfOk result (λ count. count ≡ Some 0
+            → IsAtEnd (left_of R.remaining self.new)) }
         ensures sound { OnOk result (has_failed self.new ≡ false) }
-        ensures known { IfOk result (λ count. IsSome count → ¬ HasFaultyHeader R.remaining self.new) }
-        ensures fault { IfErr result (λ e. IsTrue (has_failed self.new) → error_kind e ≡ InvalidData) }
+        ensures known { IfOk result (λ count. IsSome count
+            → ¬ HasFaultyHeader R.remaining self.new) }
+        ensures fault { IfErr result (λ e. IsTrue (has_failed self.new)
+            → error_kind e ≡ InvalidData) }
     {
         let count = self.reader.read(buf)?;
         if count == 0 {
@@ -185,13 +199,17 @@ impl<R: Read + Drop> Read for StripHeaderReader<R> {
 
     fn read(&mut self, buf: &mut [u8]) -> io::Result<usize>
         ensures bound { ReadsAtMost result buf.new }
-        ensures bytes { ReadConsumes (left_of R.remaining self.old) (left_of R.remaining self.new) result buf.new }
+        ensures bytes { ReadConsumes (left_of R.remaining self.old) (left_of R.remaining self.new)
+            result buf.new }
         // a faulty header is refused by each read that has room, and no read gets past it
-        ensures refused { HasFaultyHeader R.remaining self.old → 0 < length buf.old → IsErr result }
-        ensures stays { HasFaultyHeader R.remaining self.old → HasFaultyHeader R.remaining self.new }
+        ensures refused { HasFaultyHeader R.remaining self.old → 0 < length buf.old
+            → IsErr result }
+        ensures stays { HasFaultyHeader R.remaining self.old
+            → HasFaultyHeader R.remaining self.new }
         // once the fault was met, each later read answers it, one without room too
         ensures again { IsTrue (has_failed self.old) → IsErr result × IsTrue (has_failed self.new) }
-        ensures fault { IfErr result (λ e. IsTrue (has_failed self.new) → error_kind e ≡ InvalidData) }
+        ensures fault { IfErr result (λ e. IsTrue (has_failed self.new)
+            → error_kind e ≡ InvalidData) }
     {
         if let Place::Faulty = self.place {
             return Err(io::Error::from(io::ErrorKind::InvalidData));
@@ -200,82 +218,5 @@ impl<R: Read + Drop> Read for StripHeaderReader<R> {
             return Ok(0);
         }
         self.read_behind_junk(buf)
-    }
-}
-
-#[cfg(test)]
-mod tests {
-    use super::*;
-    use crate::header::strip_junk_header;
-    use std::io::ErrorKind;
-    use std::test::Fail;
-
-    /// Gives one byte a read, and a fault in place of the read of each `!`.
-    #[derive(Drop)]
-    struct OneByOne<'a>(&'a [u8]);
-
-    impl Read for OneByOne<'_> {
-        fn read(&mut self, buf: &mut [u8]) -> io::Result<usize> {
-            match (self.0, buf) {
-                ([b'!', rest @ ..], _) => {
-                    self.0 = rest;
-                    Err(io::Error::from(ErrorKind::TimedOut))
-                }
-                ([byte, rest @ ..], [first, ..]) => {
-                    self.0 = rest;
-                    *first = *byte;
-                    Ok(1)
-                }
-                _ => Ok(0),
-            }
-        }
-    }
-
-    #[test]
-    fn drops_the_header(rt: HostRuntime) -> Result<(), Fail> {
-        let cases: [(&[u8], &[u8]); 5] = [
-            (b")]}garbage\r\n[1, 2, 3]", b"[1, 2, 3]"),
-            (b")]}", b""),
-            (b")]}'\n", b""),
-            (b"'\r\n\n{}", b"\n{}"),
-            (b"{}\r[", b"{}\r["),
-        ];
-        for (text, behind) in cases {
-            let mut bytes = Vec::new(rt.alloc());
-            StripHeaderReader::new(OneByOne(text)).read_to_end(&mut bytes)?;
-            assert_eq!(rt; bytes.as_slice(), behind);
-        }
-        assert_eq!(rt;
-            strip_junk_header(b")]}garbage\r\n[1, 2, 3]")?,
-            b"\n[1, 2, 3]".as_slice()
-        );
-        Ok(())
-    }
-
-    #[test]
-    fn faults(rt: HostRuntime) {
-        let mut buf = [0u8; 4];
-        let mut faulty = StripHeaderReader::new(OneByOne(b")]}'\r[1, 2, 3]"));
-        assert_eq!(rt; faulty.read(&mut []).map_err(|e| e.kind()), Ok(0));
-        for room in [4, 0, 4] {
-            assert_eq!(rt;
-                faulty.read(&mut buf[..room]).map_err(|e| e.kind()),
-                Err(ErrorKind::InvalidData)
-            );
-        }
-        assert_eq!(rt;
-            strip_junk_header(b")]}'\r[1, 2, 3]").map_err(|e| e.kind()),
-            Err(ErrorKind::InvalidData)
-        );
-        let mut broken = StripHeaderReader::new(OneByOne(b")]}!x\nab"));
-        assert_eq!(rt;
-            broken.read(&mut buf).map_err(|e| e.kind()),
-            Err(ErrorKind::TimedOut)
-        );
-        assert_eq!(rt; broken.read(&mut buf).map_err(|e| e.kind()), Ok(1));
-        assert_eq!(rt; buf[0], b'a');
-        assert_eq!(rt; broken.read(&mut buf).map_err(|e| e.kind()), Ok(1));
-        assert_eq!(rt; buf[0], b'b');
-        assert_eq!(rt; broken.read(&mut buf).map_err(|e| e.kind()), Ok(0));
     }
 }

@@ -1,9 +1,0 @@
-pub mod DebugIdLemmas
-pub mod JsontypesLemmas
-pub mod FieldsLemmas
-pub mod DepthLemmas
-pub mod ReadingLemmas
-pub mod StripHeaderLemmas
-pub mod DataUrlLemmas
-pub mod ReadBackLemmas
-pub mod GroupsLemmas

@@ -24,8 +24,8 @@ pub fn read_all<R: Read + Drop>(alloc: Global, mut reader: R) -> Result<Vec<u8>>
 }
 
 /// The JSON value that bytes hold, behind a junk header or behind none. A faulty header is `Io` of
-/// kind `InvalidData`, and bytes that are not JSON behind it are `BadJson(Parse)`. Else only want of
-/// memory refuses.
+/// kind `InvalidData`, and bytes that are not JSON behind it are `BadJson(Parse)`. Else only want
+/// of memory refuses.
 pub fn read_json(alloc: Global, bytes: &[u8]) -> Result<Value>
     ensures { MatchResult result
         (λ value. HoldJson bytes.now (view value))
@@ -45,8 +45,8 @@ fn read_json_owned(alloc: Global, bytes: Vec<u8>) -> Result<Value>
 }
 
 /// The record that bytes hold, behind a junk header or behind none. A faulty header is `Io` of kind
-/// `InvalidData`, bytes that are not JSON behind it are `BadJson(Parse)`, and JSON that is no record
-/// is `BadJson(Shape)`. Else only want of memory refuses.
+/// `InvalidData`, bytes that are not JSON behind it are `BadJson(Parse)`, and JSON that is no
+/// record is `BadJson(Shape)`. Else only want of memory refuses.
 pub fn read_record(alloc: Global, bytes: &[u8]) -> Result<RawSourceMap>
     ensures { MatchResult result
         (λ raw. HoldRecord bytes.now (tree raw))

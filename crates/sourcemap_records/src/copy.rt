@@ -84,7 +84,8 @@ fn copy_fields(
     sections: Option<Vec<RawSection>>,
     alloc: Global,
 ) -> Result<RawSourceMap>
-    ensures { Makes tree result (tree_with (flat (tree whole.now)) (option_map (λ v. sections_from (map section v.items)) sections)) }
+    ensures { Makes tree result (tree_with (flat (tree whole.now))
+        (option_map (λ v. sections_from (map section v.items)) sections)) }
 {
     let groups = copy_groups(whole, alloc)?;
     Ok(joined(groups, sections))

@@ -190,7 +190,8 @@ impl<T: Field> Field for Vec<T> {
 }
 
 fn take_items<T: Field>(alloc: Global, items: Vec<Value>) -> Result<Vec<T>>
-    ensures { Reads (λ v. map T.see v.items) result (items_read T.reading (items_view items.items)) }
+    ensures { Reads (λ v. map T.see v.items) result
+        (items_read T.reading (items_view items.items)) }
 {
     let mut fields = Vec::with_capacity(alloc, items.len())?;
     for item in items {
@@ -263,7 +264,8 @@ pub(crate) fn put_field<F: Field>(
     field: Option<F>,
 ) -> Result<()>
     ensures ok { OnOk result (members_view members.new.entries
-        ≡ put_if key.now (option_map F.writing (option_map F.see field)) (members_view members.old.entries)) }
+        ≡ put_if key.now (option_map F.writing (option_map F.see field))
+        (members_view members.old.entries)) }
     ensures in_range { OnOk result (IfSome (option_map F.see field) F.in_range) }
     ensures err { IfErr result (λ e. e ≡ OutOfMemory) }
 {

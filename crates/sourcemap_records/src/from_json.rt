@@ -98,7 +98,8 @@ fn take_fields(
     sections: Option<Vec<RawSection>>,
 ) -> Result<RawSourceMap>
     ensures { Reads tree result (with (fields_in (members_view members.entries))
-        (λ fields. Some (tree_with fields (option_map (λ v. sections_from (map section v.items)) sections)))) }
+        (λ fields. Some (tree_with fields
+        (option_map (λ v. sections_from (map section v.items)) sections)))) }
 {
     let groups = take_groups(alloc, members)?;
     Ok(joined(groups, sections))

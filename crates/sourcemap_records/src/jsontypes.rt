@@ -28,8 +28,8 @@ pub struct FacebookScopeMapping {
     pub mappings: String,
 }
 
-/// For each source, in the order of the sources, its scopes: a list of which the first entry counts,
-/// or `None`.
+/// For each source, in the order of the sources, its scopes: a list of which the first entry
+/// counts, or `None`.
 pub type FacebookSources = Option<Vec<Option<Vec<FacebookScopeMapping>>>>;
 
 /// A section of an index map as it stands in JSON.
@@ -80,8 +80,8 @@ pub struct RawSourceMap {
     pub debug_id: Option<DebugId>,
 }
 
-/// Which keys a value has, as far as they tell a source map from other JSON: each flag says that the
-/// key is there with a value other than null.
+/// Which keys a value has, as far as they tell a source map from other JSON: each flag says that
+/// the key is there with a value other than null.
 #[derive(Clone, Copy, Debug, PartialEq)]
 pub struct MinimalRawSourceMap {
     /// The number of the format; `None` where it is missing or null.

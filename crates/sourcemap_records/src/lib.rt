@@ -8,6 +8,4 @@ mod field_types;
 mod from_json;
 pub mod jsontypes;
 mod keys;
-#[cfg(test)]
-mod tests;
 mod to_json;

@@ -113,7 +113,8 @@ pub(crate) fn give_map(alloc: Global, mut map: RawSourceMap) -> Result<Value>
 
 #[cycle(to_json)]
 fn give_list(alloc: Global, sections: Vec<RawSection>) -> Result<Vec<Value>>
-    ensures ok { IfOk result (λ v. map view v.items ≡ map written_one (map section sections.items)) }
+    ensures ok { IfOk result (λ v. map view v.items
+        ≡ map written_one (map section sections.items)) }
     ensures in_range { OnOk result (AllByRecursion IsSectionInRange (map section sections.items)) }
     ensures err { IfErr result (λ e. e ≡ OutOfMemory) }
 {

@@ -1,6 +1,7 @@
-use crate::jsontypes::{DebugId, FacebookScopeMapping, MinimalRawSourceMap, RawSourceMap};
+// Records read from JSON texts and written as JSON texts, against the texts that they stand for.
 use serde_json::Value;
 use sourcemap_errors::errors::{Error, JsonFault};
+use sourcemap_json::jsontypes::{DebugId, FacebookScopeMapping, MinimalRawSourceMap, RawSourceMap};
 use std::alloc::Global;
 use std::process::Abort;
 use std::test::Fail;
