@@ -1,0 +1,5 @@
+pub mod TextListsLemmas
+pub mod FittingLemmas
+pub mod ContentsLemmas
+pub mod SourcesLemmas
+pub mod EqualityLemmas
