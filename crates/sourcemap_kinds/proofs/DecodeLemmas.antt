@@ -5,7 +5,7 @@ use Rattle.sourcemap_errors.specs.declared.errors.Error.{Error}
 use Rattle.sourcemap_errors.specs.Answer.{Gives, IsAnswer}
 use Rattle.sourcemap_errors.proofs.AnswerLemmas.{Gives-only}
 use Rattle.sourcemap_records.specs.Jsontypes.{Tree}
-use Rattle.sourcemap_regular.specs.Types.{MapValue}
+use Rattle.sourcemap_regular.specs.Map.{MapValue}
 use Rattle.sourcemap_records.proofs.BytesLemmas as reading
 use Rattle.sourcemap_records.proofs.BytesLemmas.{regular_decodes_once, value_once, bytes_once, url_once, answer_only}
 use Rattle.sourcemap_kinds.specs.DecodedMap.{map_value}

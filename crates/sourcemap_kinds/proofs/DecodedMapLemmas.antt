@@ -5,9 +5,9 @@ use Rattle.sourcemap_errors.specs.declared.errors.Error.{Error}
 use Rattle.sourcemap_errors.specs.declared.errors.Error.TheVariants.{OutOfMemory}
 use Rattle.sourcemap_errors.specs.Answer.{UnlessMemory, Gives, IsAnswer}
 use Rattle.sourcemap_errors.proofs.AnswerLemmas.{UnlessMemory-weaker}
-use Rattle.sourcemap_regular.specs.Types.{MapValue, MeansTheSame}
-use Rattle.sourcemap_regular.specs.Bytes.{BytesReadBack, UrlReadsBack, IsIo}
-use Rattle.sourcemap_regular.specs.Encoder.{KeepsParts}
+use Rattle.sourcemap_regular.specs.Map.{MapValue, MeansTheSame}
+use Rattle.sourcemap_regular.specs.Write.{BytesReadBack, UrlReadsBack, IsIo}
+use Rattle.sourcemap_regular.specs.Encode.{KeepsParts}
 use Rattle.sourcemap_kinds.specs.DecodedMap.{map_value, StandsFor}
 use Rattle.sourcemap_kinds.specs.Decode.{ValueDecodes, BytesDecode, UrlDecodes, AreSame}
 use Rattle.sourcemap_kinds.specs.declared.decoded_map.DecodedMap.{DecodedMap}

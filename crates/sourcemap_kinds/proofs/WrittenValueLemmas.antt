@@ -4,8 +4,8 @@ use Rattle.serde_json.specs.Data.{Data}
 use Rattle.serde_json.specs.Written.{has_float, compact_text}
 use Rattle.sourcemap_mappings.proofs.WrittenLaws.{IsWritten-same, IsRangeText-same}
 use Rattle.sourcemap_records.specs.Jsontypes.{plain, written}
-use Rattle.sourcemap_regular.specs.Types.{MapValue}
-use Rattle.sourcemap_regular.specs.Encoder.{record_with}
+use Rattle.sourcemap_regular.specs.Map.{MapValue}
+use Rattle.sourcemap_regular.specs.Encode.{record_with}
 use Rattle.sourcemap_regular.proofs.BytesLemmas.{record-whole}
 use Rattle.sourcemap_kinds.specs.DecodedMap.{IsValueOf, IsTextOf}
 

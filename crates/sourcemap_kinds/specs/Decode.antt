@@ -3,7 +3,7 @@ use Rattle.std.specs.Prelude.{ℕ, List, Result}
 use Rattle.serde_json.specs.Data.{Data}
 use Rattle.sourcemap_errors.specs.declared.errors.Error.{Error}
 use Rattle.sourcemap_records.specs.Jsontypes.{Tree}
-use Rattle.sourcemap_regular.specs.Types.{MapValue}
+use Rattle.sourcemap_regular.specs.Map.{MapValue}
 pub use Rattle.sourcemap_records.specs.Bytes.{AreSame, UnlessRead, IsAnswerRead, Reading}
 use Rattle.sourcemap_records.specs.Bytes.{ValueStandsFor, BytesStandFor, UrlStandsFor}
 use Rattle.sourcemap_regular.specs.Decode.{RegularDecodes}

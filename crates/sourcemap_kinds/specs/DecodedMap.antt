@@ -3,8 +3,8 @@ use Rattle.std.specs.Prelude.{◌≡◌, ℕ, List, Ok}
 use Rattle.serde_json.specs.Data.{Data}
 use Rattle.serde_json.specs.Written.{compact_text}
 use Rattle.sourcemap_records.specs.Jsontypes.{Tree, written}
-use Rattle.sourcemap_regular.specs.Types.{MapValue, MeansTheSame}
-use Rattle.sourcemap_regular.specs.Encoder.{IsRecordOf, KeepsParts}
+use Rattle.sourcemap_regular.specs.Map.{MapValue, MeansTheSame}
+use Rattle.sourcemap_regular.specs.Encode.{IsRecordOf, KeepsParts}
 use Rattle.sourcemap_kinds.specs.Decode.{ValueDecodes}
 use Rattle.sourcemap_kinds.specs.declared.decoded_map.DecodedMap.{DecodedMap}
 use Rattle.sourcemap_kinds.specs.declared.decoded_map.DecodedMap.TheVariants.{Regular}

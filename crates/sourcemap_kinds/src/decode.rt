@@ -5,7 +5,7 @@ ghost use Rattle.serde_json.specs.View.{view};
 ghost use Rattle.sourcemap_errors.specs.Answer.{IsAnswer};
 ghost use Rattle.sourcemap_errors.specs.declared.errors.Error.{Error};
 ghost use Rattle.sourcemap_records.specs.Jsontypes.{tree};
-ghost use Rattle.sourcemap_regular.specs.Types.{MapValue, IsWellFormed};
+ghost use Rattle.sourcemap_regular.specs.Map.{MapValue, IsWellFormed};
 ghost use Rattle.sourcemap_kinds.specs.DecodedMap.{map_value};
 ghost use Rattle.sourcemap_kinds.specs.Decode.{TreeDecodes, ValueDecodes, BytesDecode, UrlDecodes, AreSame, IsAnswerRead, Reading};
 

@@ -8,11 +8,11 @@ ghost use Rattle.sourcemap_errors.specs.Answer.{UnlessMemory, Gives, IsAnswer};
 ghost use Rattle.sourcemap_errors.specs.declared.errors.Error.{Error};
 ghost use Rattle.sourcemap_errors.specs.declared.errors.Error.TheVariants.{OutOfMemory};
 ghost use Rattle.sourcemap_records.specs.Jsontypes.{tree};
-ghost use Rattle.sourcemap_regular.specs.Bytes.{IsEncoded, IsIo};
-ghost use Rattle.sourcemap_regular.specs.Encoder.{RecordAnswer, KeepsParts};
+ghost use Rattle.sourcemap_regular.specs.Write.{IsEncoded, IsIo};
+ghost use Rattle.sourcemap_regular.specs.Encode.{RecordAnswer, KeepsParts};
 ghost use Rattle.sourcemap_regular.specs.Equality.{same_map, same_map_equiv};
 ghost use Rattle.sourcemap_regular.specs.Token.{answers, lookup, token_value};
-ghost use Rattle.sourcemap_regular.specs.Types.{MapValue, IsWellFormed, MeansTheSame, meaning};
+ghost use Rattle.sourcemap_regular.specs.Map.{MapValue, IsWellFormed, MeansTheSame, meaning};
 ghost use Rattle.sourcemap_kinds.specs.DecodedMap.{map_value};
 
 use crate::decode::{decode, decode_data_url, decode_slice, decode_value};
@@ -37,7 +37,7 @@ impl DecodedMap {
     ghost use Rattle.sourcemap_kinds.specs.DecodedMap.{IsValueOf, StandsFor};
     ghost use Rattle.sourcemap_kinds.specs.Decode.{ValueDecodes, BytesDecode, AreSame, IsAnswerRead, Reading};
     ghost use Rattle.sourcemap_records.specs.Jsontypes.{flat, IsFine};
-    ghost use Rattle.sourcemap_regular.specs.Encoder.{ReadsBack};
+    ghost use Rattle.sourcemap_regular.specs.Encode.{ReadsBack};
 
     // The allocator that the map keeps.
     fn allocator(&self) -> Global {
@@ -181,7 +181,7 @@ impl PartialEq for DecodedMap {
 
 impl Encodable for DecodedMap {
     ghost use Rattle.sourcemap_records.specs.Jsontypes.{flat, IsFine};
-    ghost use Rattle.sourcemap_regular.specs.Encoder.{RecordAnswer, ReadsBack};
+    ghost use Rattle.sourcemap_regular.specs.Encode.{RecordAnswer, ReadsBack};
 
     ghost encodes = { λ m. RecordAnswer (map_value m) };
 

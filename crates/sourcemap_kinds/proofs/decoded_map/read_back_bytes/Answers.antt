@@ -1,6 +1,6 @@
 -- The bytes are the text that was written, and that reads back.
 use Rattle.std.proofs.Common.{◌≡◌, ◌∙◌, sym, ap, subst, ◌++◌}
-use Rattle.sourcemap_regular.specs.Bytes.{BytesReadBack}
+use Rattle.sourcemap_regular.specs.Write.{BytesReadBack}
 use Rattle.sourcemap_regular.proofs.BytesLemmas.{encoded-back}
 use Rattle.sourcemap_kinds.specs.DecodedMap.{map_value}
 use Rattle.sourcemap_kinds.proofs.DecodedMapLemmas.{bytes_kept}

@@ -1,6 +1,6 @@
 -- The URL reads back.
 use Rattle.std.proofs.Common.{sym, subst}
-use Rattle.sourcemap_regular.specs.Bytes.{UrlReadsBack}
+use Rattle.sourcemap_regular.specs.Write.{UrlReadsBack}
 use Rattle.sourcemap_kinds.proofs.DecodedMapLemmas.{url_kept}
 use Rattle.sourcemap_kinds.proofs.decoded_map.read_back_url.Goals as goal
 
