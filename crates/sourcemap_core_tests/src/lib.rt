@@ -1,5 +1,5 @@
-//! Tests of what stands below records and maps: vectors from outside, and each call once. This crate
-//! holds nothing else, so that its tests are proved alone.
+//! Tests of what stands below records and maps: vectors from outside, and each call once. This
+//! crate holds nothing else, so that its tests are proved alone.
 #![tactic(auto)]
 
 #[cfg(test)]

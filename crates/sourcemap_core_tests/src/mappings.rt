@@ -1,5 +1,7 @@
 //! The text of mappings, read and written.
-use sourcemap_core::mappings::{parse_mappings, tokens_in_order, write_mappings, write_range_mappings};
+use sourcemap_core::mappings::{
+    parse_mappings, tokens_in_order, write_mappings, write_range_mappings,
+};
 use sourcemap_core::tokens::{NO_ID, RawToken};
 use std::alloc::Global;
 use std::process::Abort;

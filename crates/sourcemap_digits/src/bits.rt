@@ -11,11 +11,12 @@ use crate::vlq::{digit_of, glyph_char};
 use sourcemap_errors::errors::{Error, Result};
 use std::alloc::Global;
 
-/// The bits of a text, six a digit. Answers `InvalidBase64` at the first byte that is no digit, else
-/// only want of memory refuses.
+/// The bits of a text, six a digit. Answers `InvalidBase64` at the first byte that is no digit,
+/// else only want of memory refuses.
 pub fn decode_rmi(alloc: Global, text: &str) -> Result<Vec<bool>>
     ensures answers { IsAnswer (λ bits. bits.items) (BitAnswers text.now) result }
-    ensures only { (answer : Result (List Bool) Error) → BitAnswers text.now answer → Gives (λ bits. bits.items) result answer }
+    ensures only { (answer : Result (List Bool) Error) → BitAnswers text.now answer
+        → Gives (λ bits. bits.items) result answer }
 {
     let mut bits = Vec::new(alloc);
     for byte in text.as_bytes() {
@@ -64,7 +65,8 @@ pub fn has_bit(text: &[u8], place: usize) -> bool
 
 /// Writes the shortest text of bits behind a text. Only want of memory refuses.
 pub fn push_bits(text: &mut String, bits: &[bool]) -> Result<()>
-    ensures written { OnOk result ((part : List ℕ) × IsBitText bits.now part × (string_bytes text.new ≡ string_bytes text.old ++ part)) }
+    ensures written { OnOk result ((part : List ℕ) × IsBitText bits.now part
+        × (string_bytes text.new ≡ string_bytes text.old ++ part)) }
     ensures memory { IfErr result (λ e. e ≡ OutOfMemory) }
 {
     for digit in 0..digit_count(bits) {
@@ -90,7 +92,8 @@ fn six_bits(value: u8) -> [bool; 6]
 // How many digits hold the bits up to the last true one.
 fn digit_count(bits: &[bool]) -> usize
     ensures rest { (j : ℕ) → 6 * result ≤ j → slice_index_or bits.now j false ≡ false }
-    ensures last { 0 < result → (j : ℕ) × (j / 6 + 1 ≡ result) × (slice_index_or bits.now j false ≡ true) }
+    ensures last { 0 < result → (j : ℕ) × (j / 6 + 1 ≡ result)
+        × (slice_index_or bits.now j false ≡ true) }
     ensures small { 6 * result ≤ length bits.now + 5 }
 {
     match bits.iter().rposition(|bit| *bit) {
@@ -103,7 +106,8 @@ fn digit_count(bits: &[bool]) -> usize
 fn value_from(bits: &[bool], place: usize) -> u8
     requires { place < length bits.now }
     ensures small { result < 64 }
-    ensures each { (k : ℕ) → k < 6 → (bit_at result k == 1) ≡ slice_index_or bits.now (place + k) false }
+    ensures each { (k : ℕ) → k < 6
+        → (bit_at result k == 1) ≡ slice_index_or bits.now (place + k) false }
 {
     bit_from(bits, place)
         + 2 * bit_from(bits, place + 1)
@@ -123,6 +127,8 @@ fn bit_from(bits: &[bool], place: usize) -> u8
 
 // A text has one list of bits or one fault, and bits have one shortest text.
 fn bits_are_determined()
-    ensures one_answer { (text : List ℕ) (a b : Result (List Bool) Error) → BitAnswers text a → BitAnswers text b → a ≡ b }
-    ensures one_text { (bits : List Bool) (a b : List ℕ) → IsBitText bits a → IsBitText bits b → a ≡ b }
+    ensures one_answer { (text : List ℕ) (a b : Result (List Bool) Error) → BitAnswers text a
+        → BitAnswers text b → a ≡ b }
+    ensures one_text { (bits : List Bool) (a b : List ℕ) → IsBitText bits a → IsBitText bits b
+        → a ≡ b }
 {}

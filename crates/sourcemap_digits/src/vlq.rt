@@ -60,8 +60,8 @@ pub fn glyph_char(value: u8) -> char
 }
 
 /// The number at the front of a text, and the text behind it; else the first fault of that number:
-/// `InvalidBase64` at a byte that is no digit, `VlqOverflow` at a digit that takes it to 2^62 or more
-/// from 0 or is its fourteenth, `VlqLeftover` where the text ends within it.
+/// `InvalidBase64` at a byte that is no digit, `VlqOverflow` at a digit that takes it to 2^62 or
+/// more from 0 or is its fourteenth, `VlqLeftover` where the text ends within it.
 // Most numbers have one digit, or two.
 #[inline(always)]
 pub fn next_number(text: &[u8]) -> Result<(i64, &[u8])>
@@ -141,7 +141,8 @@ fn number_from(raw: u64) -> i64
 /// Writes the shortest digits of a number behind a text. Answers `VlqOverflow` for a number that is
 /// 2^62 or more from 0, and writes nothing then; else only want of memory refuses.
 pub fn push_number(text: &mut String, number: i64) -> Result<()>
-    ensures written { OnOk result ((digits : List ℕ) × IsShortest digits number × (string_bytes text.new ≡ string_bytes text.old ++ digits)) }
+    ensures written { OnOk result ((digits : List ℕ) × IsShortest digits number
+        × (string_bytes text.new ≡ string_bytes text.old ++ digits)) }
     ensures refused { IfErr result (λ e. UnlessMemory e ((e ≡ VlqOverflow) × IsTooFar number)) }
 {
     let magnitude = number.unsigned_abs();
@@ -163,7 +164,8 @@ pub fn push_number(text: &mut String, number: i64) -> Result<()>
 /// the left. Else only want of memory refuses.
 pub fn parse_vlq_segment(alloc: Global, segment: &str) -> Result<Vec<i64>>
     ensures answers { IsAnswer (λ numbers. numbers.items) (SegmentAnswers segment.now) result }
-    ensures only { (answer : Result (List ℤ) Error) → SegmentAnswers segment.now answer → Gives (λ numbers. numbers.items) result answer }
+    ensures only { (answer : Result (List ℤ) Error) → SegmentAnswers segment.now answer
+        → Gives (λ numbers. numbers.items) result answer }
 {
     let mut numbers = Vec::new(alloc);
     let mut rest = segment.as_bytes();
@@ -182,7 +184,8 @@ pub fn parse_vlq_segment(alloc: Global, segment: &str) -> Result<Vec<i64>>
 /// number is 2^62 or more from 0, else only want of memory refuses.
 pub fn generate_vlq_segment(alloc: Global, numbers: &[i64]) -> Result<String>
     ensures written { IsAnswer string_bytes (SpellingAnswers numbers.now) result }
-    ensures only { (answer : Result (List ℕ) Error) → SpellingAnswers numbers.now answer → Gives string_bytes result answer }
+    ensures only { (answer : Result (List ℕ) Error) → SpellingAnswers numbers.now answer
+        → Gives string_bytes result answer }
     ensures reads_back { IfOk result (λ text. Reads (string_bytes text) numbers.now) }
 {
     let mut text = String::new(alloc);
@@ -195,7 +198,10 @@ pub fn generate_vlq_segment(alloc: Global, numbers: &[i64]) -> Result<String>
 // A segment stands for one list of numbers or one fault, and numbers have one shortest text, which
 // stands for them.
 fn segments_are_determined()
-    ensures one_answer { (text : List ℕ) (a b : Result (List ℤ) Error) → SegmentAnswers text a → SegmentAnswers text b → a ≡ b }
-    ensures one_text { (numbers : List ℤ) (a b : List ℕ) → Spells numbers a → Spells numbers b → a ≡ b }
-    ensures round_trip { (numbers : List ℤ) (text : List ℕ) → Spells numbers text → numbers ≢ [] → SegmentAnswers text (Ok numbers) }
+    ensures one_answer { (text : List ℕ) (a b : Result (List ℤ) Error) → SegmentAnswers text a
+        → SegmentAnswers text b → a ≡ b }
+    ensures one_text { (numbers : List ℤ) (a b : List ℕ) → Spells numbers a → Spells numbers b
+        → a ≡ b }
+    ensures round_trip { (numbers : List ℤ) (text : List ℕ) → Spells numbers text → numbers ≢ []
+        → SegmentAnswers text (Ok numbers) }
 {}

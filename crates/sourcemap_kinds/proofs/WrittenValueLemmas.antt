@@ -2,7 +2,7 @@
 use Rattle.std.proofs.Common.{◌≡◌, ℕ, List, length, false, sym, ap, ◌∙◌}
 use Rattle.serde_json.specs.Data.{Data}
 use Rattle.serde_json.specs.Written.{has_float, compact_text}
-use Rattle.sourcemap_mappings.proofs.WrittenLaws.{IsWritten-same, IsRangeText-same}
+use Rattle.sourcemap_mappings.proofs.WriteLaws.{IsWritten-same, IsRangeText-same}
 use Rattle.sourcemap_records.specs.Jsontypes.{plain, written}
 use Rattle.sourcemap_regular.specs.Map.{MapValue}
 use Rattle.sourcemap_regular.specs.Encode.{record_with}

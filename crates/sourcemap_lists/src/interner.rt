@@ -33,7 +33,8 @@ impl Model for Interner {
 
     ghost invariant = { λ a. (length (map string_bytes a.texts.items) ≤ 4294967295)
         × AreDistinct (map string_bytes a.texts.items)
-        × ((text : List ℕ) → get_by_text a.ids text ≡ place_of text (map string_bytes a.texts.items)) };
+        × ((text : List ℕ)
+        → get_by_text a.ids text ≡ place_of text (map string_bytes a.texts.items)) };
 }
 
 impl Interner {
@@ -59,7 +60,8 @@ impl Interner {
         ensures text { IfOk result (λ id. slice_get self.new id ≡ Some text.now) }
         // only a new text for which there is room takes memory
         ensures known { IsSome (place_of text.now self.old) → IsOk result }
-        ensures full { id_for self.old text.now ≡ Err IncompatibleSourceMap → result ≡ Err IncompatibleSourceMap }
+        ensures full { id_for self.old text.now ≡ Err IncompatibleSourceMap
+            → result ≡ Err IncompatibleSourceMap }
     {
         if let Some(id) = self.ids.get(text) {
             return Ok(*id);
@@ -111,9 +113,12 @@ impl Interner {
 // Puts a text at the end of `texts`, and its id into `ids`. Where memory runs out, neither changes.
 fn put(texts: &mut Vec<String>, ids: &mut HashMap<String, u32>, text: &str, id: u32) -> Result<()>
     ensures texts { map string_bytes texts.new.items
-        ≡ (if is_ok result then map string_bytes texts.old.items ++ text.now ∷ [] else map string_bytes texts.old.items) }
+        ≡ (if is_ok result then map string_bytes texts.old.items ++ text.now ∷ []
+        else map string_bytes texts.old.items) }
     ensures ids { (other : List ℕ) → get_by_text ids.new other
-        ≡ (if is_ok result then cond (bytes_eq text.now other) (Some id) (get_by_text ids.old other) else get_by_text ids.old other) }
+        ≡ (if is_ok result
+        then cond (bytes_eq text.now other) (Some id) (get_by_text ids.old other)
+        else get_by_text ids.old other) }
     ensures only { IfErr result (λ e. e ≡ OutOfMemory) }
 {
     let alloc = *texts.allocator();

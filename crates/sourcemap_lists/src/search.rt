@@ -6,8 +6,8 @@ ghost use Rattle.sourcemap_lists.specs.Search.{GivesKey, closest};
 use std::cmp::Ordering;
 
 /// The item closest to `key`, with its own index. In a slice in order of `map` that is the first of
-/// those with this key; where there are none, the last of those with a smaller one, if any. Of a slice in no order
-/// some item whose key is at most `key`, or none.
+/// those with this key; where there are none, the last of those with a smaller one, if any. Of a
+/// slice in no order some item whose key is at most `key`, or none.
 pub fn greatest_lower_bound<'a, T, K: Ord + Drop, F: Fn(&'a T) -> K>(
     slice: &'a [T],
     key: &K,
@@ -16,8 +16,10 @@ pub fn greatest_lower_bound<'a, T, K: Ord + Drop, F: Fn(&'a T) -> K>(
     requires { F.IsAlwaysCallable map }
     // the index is the item's own
     ensures own_index { IfSome result (λ found. slice_get slice.now found.0 ≡ Some found.1.now) }
-    ensures closest { (key_of : T → K) → GivesKey (F.post map) key_of → IsSortedByKey key_of K.cmp slice.now
-        → option_map (λ found. (found.0, found.1.now)) result ≡ closest key_of K.cmp slice.now key.now }
+    ensures closest { (key_of : T → K) → GivesKey (F.post map) key_of
+        → IsSortedByKey key_of K.cmp slice.now
+        → option_map (λ found. (found.0, found.1.now)) result
+        ≡ closest key_of K.cmp slice.now key.now }
     ensures at_most { (key_of : T → K) → GivesKey (F.post map) key_of
         → IfSome result (λ found. IsTrue (is_le (K.cmp (key_of found.1.now) key.now))) }
 {

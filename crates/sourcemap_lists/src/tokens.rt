@@ -119,5 +119,6 @@ pub fn one_stable_order(tokens: &[RawToken], sorted: &[RawToken])
 /// [`NO_ID`], a list has the same closest tokens, up to such a name id.
 pub fn reduced_answers_alike(tokens: &[RawToken], names: u32, line: u32, col: u32)
     ensures { closest_item destination position_cmp (reduced names tokens.now) (line, col)
-        ≡ option_map (with_sound_name names) (closest_item destination position_cmp tokens.now (line, col)) }
+        ≡ option_map (with_sound_name names)
+        (closest_item destination position_cmp tokens.now (line, col)) }
 {}

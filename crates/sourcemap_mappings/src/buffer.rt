@@ -16,7 +16,7 @@ static NEAR: [u8; 31] = [
     b'C', b'E', b'G', b'I', b'K', b'M', b'O', b'Q', b'S', b'U', b'W', b'Y', b'a', b'c', b'e',
 ];
 
-// Puts the digits of a difference into the buffer, and says where they end. This is fast for one digit.
+// Puts the digits of a difference into the buffer, and says where they end; fast for one digit.
 #[inline(always)]
 pub(crate) fn put_near(
     buffer: &mut [u8; BUFFER_SIZE],
@@ -25,7 +25,8 @@ pub(crate) fn put_near(
     against: u32,
 ) -> usize
     requires { at + 7 ≤ 1024 }
-    ensures text { Adds (difference number against ∷ []) (take at buffer.old) (take result buffer.new) }
+    ensures text { Adds (difference number against ∷ []) (take at buffer.old)
+        (take result buffer.new) }
     ensures start { at ≤ result }
     ensures end { result ≤ at + 7 }
     ensures small { number < 2 ^ 32 }
@@ -38,12 +39,13 @@ pub(crate) fn put_near(
     put_far(buffer, at, number, against)
 }
 
-// The same, fast for one digit or two: both are stored, and what comes next overwrites the second if it
-// is not the number's. So the processor has no length to guess.
+// The same, fast for one digit or two: both are stored, and what comes next overwrites the second
+// if it is not the number's. So the processor has no length to guess.
 #[inline(always)]
 pub(crate) fn put_two(buffer: &mut [u8; BUFFER_SIZE], at: usize, number: u32, against: u32) -> usize
     requires { at + 7 ≤ 1024 }
-    ensures text { Adds (difference number against ∷ []) (take at buffer.old) (take result buffer.new) }
+    ensures text { Adds (difference number against ∷ []) (take at buffer.old)
+        (take result buffer.new) }
     ensures start { at ≤ result }
     ensures end { result ≤ at + 7 }
     ensures small { number < 2 ^ 32 }
@@ -67,7 +69,8 @@ pub(crate) fn put_three(
     against: u32,
 ) -> usize
     requires { at + 7 ≤ 1024 }
-    ensures text { Adds (difference number against ∷ []) (take at buffer.old) (take result buffer.new) }
+    ensures text { Adds (difference number against ∷ []) (take at buffer.old)
+        (take result buffer.new) }
     ensures start { at ≤ result }
     ensures end { result ≤ at + 7 }
     ensures small { number < 2 ^ 32 }
@@ -106,7 +109,8 @@ fn raw_difference(number: u32, against: u32) -> u64
 // Puts any number of digits.
 fn put_far(buffer: &mut [u8; BUFFER_SIZE], at: usize, number: u32, against: u32) -> usize
     requires { at + 7 ≤ 1024 }
-    ensures text { Adds (difference number against ∷ []) (take at buffer.old) (take result buffer.new) }
+    ensures text { Adds (difference number against ∷ []) (take at buffer.old)
+        (take result buffer.new) }
     ensures start { at ≤ result }
     ensures end { result ≤ at + 7 }
     ensures small { number < 2 ^ 32 }
@@ -130,7 +134,8 @@ pub(crate) fn flush(
 ) -> Result<(), AllocError>
     requires within { at ≤ 1024 }
     requires ascii { IsAscii (take at buffer.now) }
-    ensures text { OnOk result (string_bytes text.new ≡ string_bytes text.old ++ take at buffer.now) }
+    ensures text { OnOk result (string_bytes text.new
+        ≡ string_bytes text.old ++ take at buffer.now) }
 {
     match str::from_utf8(&buffer[..at]) {
         Ok(gathered) => text.push_str(gathered),

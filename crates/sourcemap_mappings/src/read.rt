@@ -17,8 +17,8 @@ use sourcemap_errors::errors::{Error, Result};
 use sourcemap_lists::tokens::{RawToken, sort_tokens};
 use std::alloc::Global;
 
-// For how many tokens room is made at most before the first is read. A list that grows past what the
-// allocator keeps at hand is moved, and its pages are touched twice.
+// For how many tokens room is made at most before the first is read. A list that grows past what
+// the allocator keeps at hand is moved, and its pages are touched twice.
 const FIRST_TOKENS: usize = 1 << 23;
 
 // The first line of a text, and the text behind it if there is more.
@@ -111,7 +111,8 @@ fn add_line(
         → IfErr result (λ e. UnlessMemory e
         (LineFault (counts_of limits) number before (text.now, bits.now) e)) }
     ensures order { AreInOrderTo number (record sums { column = 0 }) tokens.old.items
-        → IfOk result (λ after. AreInOrderTo (number + 1) (record after { column = 0 }) tokens.new.items) }
+        → IfOk result (λ after. AreInOrderTo (number + 1)
+        (record after { column = 0 }) tokens.new.items) }
 {
     if text.is_empty() {
         return Ok(sums);
@@ -123,10 +124,11 @@ fn add_line(
     add_parts(tokens, text, bits, line, sums, limits)
 }
 
-// The next line of a text of range bits, empty where the text is at its end, and what stands behind it.
+// The next line of a text of range bits, empty where the text is at its end, and what is behind it.
 #[inline]
 fn next_bits(ranges: Option<&str>) -> (&str, Option<&str>)
-    ensures { (line : List ℕ) (lines : List (List ℕ)) → beside (line ∷ lines) (lines_left ranges.entry)
+    ensures { (line : List ℕ) (lines : List (List ℕ))
+        → beside (line ∷ lines) (lines_left ranges.entry)
         ≡ (line, result.0.now) ∷ beside lines (lines_left result.1) }
 {
     match ranges {
@@ -206,7 +208,8 @@ pub fn parse_mappings(
     names: u32,
 ) -> Result<Vec<RawToken>>
     ensures answer { IsAnswer (λ v. v.items)
-        (MappingsAnswer mappings.now ranges.now (record { sources = sources; names = names })) result }
+        (MappingsAnswer mappings.now ranges.now
+        (record { sources = sources; names = names })) result }
     ensures only { (due : Result (List RawToken) Error)
         → MappingsAnswer mappings.now ranges.now (record { sources = sources; names = names }) due
         → Gives (λ v. v.items) result due }
@@ -221,5 +224,6 @@ pub fn parse_mappings(
 /// Two texts, of mappings and of range bits, have one answer.
 pub fn mappings_determine_one_answer()
     ensures { (mappings ranges : List ℕ) (counts : Counts) (a b : Result (List RawToken) Error)
-        → MappingsAnswer mappings ranges counts a → MappingsAnswer mappings ranges counts b → a ≡ b }
+        → MappingsAnswer mappings ranges counts a → MappingsAnswer mappings ranges counts b
+        → a ≡ b }
 {}

@@ -1,4 +1,4 @@
-//! One part of a line of mappings as a segment: its numbers, the token that it stands for, its faults.
+//! One part of a line of mappings as a segment: its numbers, its token and its faults.
 ghost use Rattle.std.specs.Prelude.{◌≡◌, ◌+◌, ◌<◌, ◌≤◌, ◌==◌, ℤ, List, [], ◌∷◌, ◌++◌, length, nat_lt, min, Result, ◌||◌, if◌then◌else◌, IsTrue, MatchResult, IfOk, IfErr, IfSome, unsigned_abs, pos, ◌^◌};
 ghost use Rattle.std.specs.Int.{int_rem_euclid};
 ghost use Rattle.sourcemap_errors.specs.declared.errors.Error.{Error};
@@ -26,8 +26,8 @@ pub(crate) struct Spot {
     pub(crate) place: usize,
 }
 
-// The sums of the numbers so far, modulo 2^32: the column's along a line, the others' along the text.
-// And whether the column never fell, so that the tokens so far are in order.
+// The sums of the numbers so far, modulo 2^32: the column's along a line, the others' along the
+// text. And whether the column never fell, so that the tokens so far are in order.
 #[derive(Clone, Copy)]
 pub(crate) struct Sums {
     pub(crate) rises: bool,
@@ -56,7 +56,8 @@ fn step_of(number: i64) -> u32
 // Takes up one more number.
 #[inline]
 fn add_number(read: &mut Numbers, number: i64)
-    ensures { (numbers : List ℤ) → AreSteps numbers read.old → AreSteps (numbers ++ number ∷ []) read.new }
+    ensures { (numbers : List ℤ) → AreSteps numbers read.old
+        → AreSteps (numbers ++ number ∷ []) read.new }
 {
     let count = read.count;
     if count < 5 {
@@ -166,7 +167,8 @@ fn any_part(line: &[u8]) -> Result<(Numbers, Option<&[u8]>)>
 // The sums behind a segment.
 #[inline]
 pub(crate) fn advanced(sums: Sums, read: &Numbers) -> Sums
-    ensures sums { (before here : List Segment) (s : Segment) → AreSums before here sums → AreSteps s.numbers read.now
+    ensures sums { (before here : List Segment) (s : Segment) → AreSums before here sums
+        → AreSteps s.numbers read.now
         → AreSums before (here ++ s ∷ []) result }
     ensures rises { IsTrue result.rises → IsTrue sums.rises × (sums.column ≤ result.column) }
 {
@@ -192,7 +194,8 @@ fn is_size(count: u32) -> bool
 // Refuses a segment of so many numbers, with the sums up to it.
 #[inline]
 pub(crate) fn check(count: u32, sums: Sums, limits: Limits) -> Result<()>
-    ensures { (before here : List Segment) (s : Segment) → AreSums before here sums → count ≡ min (length s.numbers) 4294967295
+    ensures { (before here : List Segment) (s : Segment) → AreSums before here sums
+        → count ≡ min (length s.numbers) 4294967295
         → MatchResult result (λ _. segment_fault (counts_of limits) (before ++ here) s ≡ None)
         (λ e. segment_fault (counts_of limits) (before ++ here) s ≡ Some e) }
 {
@@ -219,7 +222,8 @@ fn field(count: u32, place: u32, sum: u32) -> u32
 // The token of a segment of so many numbers, with the sums up to it.
 #[inline]
 pub(crate) fn token_at(spot: Spot, bits: &[u8], count: u32, sums: Sums) -> RawToken
-    ensures token { (before here : List Segment) (s : Segment) → AreSums before here sums → count ≡ min (length s.numbers) 4294967295
+    ensures token { (before here : List Segment) (s : Segment) → AreSums before here sums
+        → count ≡ min (length s.numbers) 4294967295
         → s.place ≡ spot.place → result ≡ token_of spot.line bits.now here (before ++ here) s }
     ensures destination { destination result ≡ (spot.line, sums.column) }
 {

@@ -72,7 +72,8 @@ fn follows_on(previous: Option<&RawToken>, token: &RawToken) -> bool
 
 // Ends the lines from `from` up to `to`.
 fn push_line_ends(text: &mut String, from: u32, to: u32) -> std::result::Result<(), AllocError>
-    ensures text { OnOk result (string_bytes text.new ≡ string_bytes text.old ++ replicate (to - from) semicolon) }
+    ensures text { OnOk result (string_bytes text.new
+        ≡ string_bytes text.old ++ replicate (to - from) semicolon) }
 {
     for _line in from..to {
         text.push(';')?;
@@ -80,8 +81,8 @@ fn push_line_ends(text: &mut String, from: u32, to: u32) -> std::result::Result<
     Ok(())
 }
 
-// Puts what stands between two segments, where the text and the buffer have come to this line. The end
-// of one line, or a comma, goes into the buffer.
+// Puts what stands between two segments, where the text and the buffer have come to this line. The
+// end of one line, or a comma, goes into the buffer.
 #[inline(always)]
 fn put_gap(
     text: &mut String,
@@ -94,7 +95,8 @@ fn put_gap(
     requires within { at < 1024 }
     requires ascii { IsAscii (take at buffer.now) }
     ensures text { IfOk result (λ end. string_bytes text.new ++ take end buffer.new
-        ≡ (string_bytes text.old ++ take at buffer.old) ++ gap (option_copied previous.entry) line token.now) }
+        ≡ (string_bytes text.old ++ take at buffer.old) ++ gap
+        (option_copied previous.entry) line token.now) }
     ensures end { IfOk result (λ end. end ≤ at + 1) }
     ensures ascii { IfOk result (λ end. IsAscii (take end buffer.new)) }
 {
@@ -111,8 +113,8 @@ fn put_gap(
     Ok(0)
 }
 
-// Puts the segment of a token on the line of `against`, which moves on to what the segment behind it
-// is taken against.
+// Puts the segment of a token on the line of `against`, which moves on to what the segment behind
+// it is taken against.
 #[inline(always)]
 fn put_segment(
     buffer: &mut [u8; BUFFER_SIZE],
@@ -122,7 +124,8 @@ fn put_segment(
     names: u32,
 ) -> usize
     requires { start + 35 ≤ 1024 }
-    ensures text { Adds (numbers names against.old token.now) (take start buffer.old) (take result buffer.new) }
+    ensures text { Adds (numbers names against.old token.now) (take start buffer.old)
+        (take result buffer.new) }
     ensures end { result ≤ start + 35 }
     ensures small { HasSmallPlaces token.now }
     ensures next { against.new ≡ next_base names against.old token.now }
@@ -167,7 +170,8 @@ fn make_space(
 ) -> std::result::Result<usize, AllocError>
     requires within { at ≤ 1024 }
     requires ascii { IsAscii (take at buffer.now) }
-    ensures text { IfOk result (λ end. string_bytes text.new ++ take end buffer.now ≡ string_bytes text.old ++ take at buffer.now) }
+    ensures text { IfOk result (λ end. string_bytes text.new ++ take end buffer.now
+        ≡ string_bytes text.old ++ take at buffer.now) }
     ensures end { IfOk result (λ end. end + 36 ≤ 1024) }
     ensures ascii { IfOk result (λ end. IsAscii (take end buffer.now)) }
 {
@@ -178,8 +182,8 @@ fn make_space(
     Ok(0)
 }
 
-// Adds the segment of a token to a text that has come to the line of `against`, which is then what the
-// segment behind it is taken against.
+// Adds the segment of a token to a text that has come to the line of `against`, which is then what
+// the segment behind it is taken against.
 #[inline(always)]
 fn put_token(
     text: &mut String,
@@ -192,13 +196,16 @@ fn put_token(
 ) -> std::result::Result<usize, AllocError>
     requires within { at ≤ 1024 }
     requires ascii { IsAscii (take at buffer.now) }
-    ensures text { IfOk result (λ end. Adds (numbers names (at_line against.old token.now.dst_line) token.now)
-        ((string_bytes text.old ++ take at buffer.old) ++ gap (option_copied previous.entry) against.old.dst_line token.now)
+    ensures text { IfOk result
+        (λ end. Adds (numbers names (at_line against.old token.now.dst_line) token.now)
+        ((string_bytes text.old ++ take at buffer.old) ++ gap
+        (option_copied previous.entry) against.old.dst_line token.now)
         (string_bytes text.new ++ take end buffer.new)) }
     ensures end { IfOk result (λ end. end ≤ 1024) }
     ensures ascii { IfOk result (λ end. IsAscii (take end buffer.new)) }
     ensures small { OnOk result ((token.now.dst_line < 2 ^ 32) × HasSmallPlaces token.now) }
-    ensures next { OnOk result (against.new ≡ next_base names (at_line against.old token.now.dst_line) token.now) }
+    ensures next { OnOk result (against.new
+        ≡ next_base names (at_line against.old token.now.dst_line) token.now) }
 {
     let free = make_space(text, buffer, at)?;
     let start = put_gap(text, buffer, free, previous, against.dst_line, token)?;
@@ -206,17 +213,19 @@ fn put_token(
     Ok(put_segment(buffer, start, against, token, names))
 }
 
-/// The text of mappings of some tokens in order, for a map of so many names: the lines from 0 to the
-/// last token's, and for each token a segment of the differences of its numbers to those written
-/// last. A token equal in all fields to the one before it is left out, and so is a name id that names
-/// none of the names. No tokens give the empty text. Only want of memory refuses.
+/// The text of mappings of some tokens in order, for a map of so many names: the lines from 0 to
+/// the last token's, and for each token a segment of the differences of its numbers to those
+/// written last. A token equal in all fields to the one before it is left out, and so is a name id
+/// that names none of the names. No tokens give the empty text. Only want of memory refuses.
 pub fn write_mappings(alloc: Global, tokens: &[RawToken], names: u32) -> Result<String>
     requires { AreInOrder tokens.now }
     ensures text { IfOk result (λ s. IsWritten names tokens.now (string_bytes s)) }
     ensures memory { IfErr result (λ e. e ≡ OutOfMemory) }
-    ensures reads_back { IfOk result (λ s. (sources : ℕ) → sources < 2 ^ 32 → AllWithin sources names tokens.now
+    ensures reads_back { IfOk result (λ s. (sources : ℕ) → sources < 2 ^ 32
+        → AllWithin sources names tokens.now
         → (ranges : Option (List ℕ)) → IsRangeText tokens.now ranges
-        → MappingsAnswer (string_bytes s) (option_map_or (λ bits. bits) ranges []) (record { sources = sources; names = names })
+        → MappingsAnswer (string_bytes s) (option_map_or (λ bits. bits) ranges [])
+        (record { sources = sources; names = names })
         (Ok (reduced names tokens.now))) }
 {
     let mut text = String::with_capacity(alloc, tokens.len().min(FIRST_TOKENS) * 6)?;
@@ -242,9 +251,9 @@ pub fn write_mappings(alloc: Global, tokens: &[RawToken], names: u32) -> Result<
     Ok(text)
 }
 
-/// The text of range bits of some tokens in order, none if no token is a range: for each line from 0
-/// to the last token's the range flags of its segments, as `write_mappings` writes them. Only want of
-/// memory refuses.
+/// The text of range bits of some tokens in order, none if no token is a range: for each line from
+/// 0 to the last token's the range flags of its segments, as `write_mappings` writes them. Only
+/// want of memory refuses.
 pub fn write_range_mappings(alloc: Global, tokens: &[RawToken]) -> Result<Option<String>>
     requires { AreInOrder tokens.now }
     ensures text { IfOk result (λ o. IsRangeText tokens.now (option_map string_bytes o)) }
@@ -265,7 +274,8 @@ fn has_range(tokens: &[RawToken]) -> bool
 // The text of range bits of some tokens.
 fn range_text(alloc: Global, tokens: &[RawToken]) -> Result<String>
     requires { AreInOrder tokens.now }
-    ensures text { IfOk result (λ s. LineByLine (IsRangeLine (without_repeats tokens.now)) tokens.now (string_bytes s)) }
+    ensures text { IfOk result
+        (λ s. LineByLine (IsRangeLine (without_repeats tokens.now)) tokens.now (string_bytes s)) }
     ensures memory { IfErr result (λ e. e ≡ OutOfMemory) }
 {
     let mut text = String::new(alloc);
@@ -288,9 +298,11 @@ fn range_text(alloc: Global, tokens: &[RawToken]) -> Result<String>
     Ok(text)
 }
 
-/// Says that the written texts are determined: tokens have one text of mappings for so many names, and
-/// one text of range bits.
+/// Says that the written texts are determined: tokens have one text of mappings for so many names,
+/// and one text of range bits.
 pub fn written_texts_are_determined()
-    ensures one_text { (names : ℕ) (tokens : List RawToken) (a b : List ℕ) → IsWritten names tokens a → IsWritten names tokens b → a ≡ b }
-    ensures one_range_text { (tokens : List RawToken) (a b : Option (List ℕ)) → IsRangeText tokens a → IsRangeText tokens b → a ≡ b }
+    ensures one_text { (names : ℕ) (tokens : List RawToken) (a b : List ℕ)
+        → IsWritten names tokens a → IsWritten names tokens b → a ≡ b }
+    ensures one_range_text { (tokens : List RawToken) (a b : Option (List ℕ)) → IsRangeText tokens a
+        → IsRangeText tokens b → a ≡ b }
 {}

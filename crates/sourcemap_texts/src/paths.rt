@@ -19,7 +19,8 @@ pub fn find_common_prefix<'a, I: Iterator<Item = &'a str> + Drop>(
     requires can { I.can_next texts }
     requires ends { IsFinite (I.remaining texts) }
     ensures runs { WholeRun I.next_gives texts (λ p.
-        Gives (option_map string_bytes) result (Ok (common_prefix (map (λ text. text.now) p.items)))) }
+        Gives (option_map string_bytes) result
+        (Ok (common_prefix (map (λ text. text.now) p.items)))) }
 {
     let mut prefix: Option<&'a str> = None;
     for text in texts {
@@ -91,8 +92,10 @@ fn common_length(a: &[u8], b: &[u8]) -> usize
 
 // Whether both texts have the same byte at the place `at`.
 fn has_same_byte(a: &[u8], b: &[u8], at: usize) -> bool
-    ensures same { OnTrue result ((at < length a.now) × (at < length b.now) × (slice_index a.now at ≡ slice_index b.now at)) }
-    ensures differ { OnFalse result (at < length a.now → at < length b.now → slice_index a.now at ≢ slice_index b.now at) }
+    ensures same { OnTrue result ((at < length a.now) × (at < length b.now)
+        × (slice_index a.now at ≡ slice_index b.now at)) }
+    ensures differ { OnFalse result (at < length a.now → at < length b.now
+        → slice_index a.now at ≢ slice_index b.now at) }
 {
     at < a.len() && at < b.len() && a[at] == b[at]
 }

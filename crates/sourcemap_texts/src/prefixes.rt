@@ -24,7 +24,8 @@ fn behind<'a>(text: &'a str, prefix: &str) -> Option<&'a str>
 
 // The text behind the first of the prefixes that it starts with, if there is one.
 fn behind_first<'a, S: AsStr>(text: &'a str, prefixes: &[S]) -> Option<&'a str>
-    ensures { unwrap_or (option_copied result) text.now ≡ cut_by (map S.text prefixes.now) text.now }
+    ensures { unwrap_or (option_copied result) text.now
+        ≡ cut_by (map S.text prefixes.now) text.now }
 {
     for prefix in prefixes {
         if let Some(rest) = behind(text, prefix.as_str()) {
