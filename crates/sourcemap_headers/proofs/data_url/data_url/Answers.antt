@@ -1,0 +1,6 @@
+-- The text in front of the digits.
+use Rattle.std.proofs.Common.{rules}
+use Rattle.sourcemap_headers.proofs.data_url.data_url.Goals as goal
+
+pub returns-clause-text : goal.returns-clause-text
+returns-clause-text c = search rules
