@@ -3,3 +3,5 @@ pub mod FittingLemmas
 pub mod ContentsLemmas
 pub mod SourcesLemmas
 pub mod EqualityLemmas
+pub mod FromRecordLemmas
+pub mod ToRecordLemmas

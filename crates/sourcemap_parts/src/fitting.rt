@@ -25,7 +25,7 @@ pub fn put(
 }
 
 // Cuts or fills a list to this length.
-fn fit(texts: &mut Vec<Option<String>>, count: usize) -> Result<()>
+pub(crate) fn fit(texts: &mut Vec<Option<String>>, count: usize) -> Result<()>
     ensures ok { OnOk result (contents_in texts.new ≡ fitted count (contents_in texts.old)) }
     ensures len { OnOk result (vec_len texts.new ≡ count) }
     ensures err { OnErr result (texts.new.items ≡ texts.old.items) }

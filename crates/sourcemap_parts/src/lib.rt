@@ -4,6 +4,9 @@
 
 pub mod contents;
 pub mod fitting;
+pub mod from_record;
 pub mod heading;
+pub mod parts;
 pub mod sources;
 pub mod text_lists;
+pub mod to_record;
