@@ -1,0 +1,3 @@
+pub mod EqualityLemmas
+pub mod ListLemmas
+pub mod MapLemmas

@@ -1,0 +1,28 @@
+-- What the parts of a map hold, as one value.
+use Rattle.std.specs.Prelude.{ℕ, ◌≤◌, List, Option, length}
+use Rattle.sourcemap_lists.specs.declared.tokens.RawToken.{RawToken}
+use Rattle.sourcemap_parts.specs.Heading.{HeadingValue}
+use Rattle.sourcemap_parts.specs.Sources.{SourcesValue}
+use Rattle.sourcemap_texts.specs.Texts.{texts_of}
+use Rattle.sourcemap_regular.specs.Map.{MapValue}
+use Rattle.sourcemap_regular.specs.declared.map.SourceMap.TheInside.{Inside}
+
+-- the map over these parts
+abbrev pub map_over : HeadingValue → List RawToken → List (List ℕ) → SourcesValue → List (Option (List ℕ)) → MapValue
+map_over heading tokens names sources contents = record {
+  file = heading.file;
+  root = sources.root;
+  tokens = tokens;
+  names = names;
+  sources = sources.texts;
+  contents = contents;
+  ignored = heading.ignored;
+  debug_id = heading.debug_id;
+}
+
+abbrev pub value_of : Inside → MapValue
+value_of a = map_over a.heading a.tokens (texts_of a.names) a.sources a.contents
+
+-- the id 4294967295 names nothing
+abbrev pub HasFewNames : Inside → Type 0
+HasFewNames a = length (texts_of a.names) ≤ 4294967295

@@ -1,0 +1,28 @@
+//! Copies of a map.
+ghost use Rattle.std.specs.Prelude.{Ok};
+ghost use Rattle.sourcemap_errors.specs.Answer.{Gives};
+
+use crate::map::SourceMap;
+use sourcemap_errors::errors::Result;
+use sourcemap_parts::text_lists::copy_texts;
+
+impl SourceMap {
+    /// A map equal to this one. Only want of memory refuses.
+    pub fn clone(&self) -> Result<Self>
+        ensures { Gives (λ m. m) result (Ok self.now) }
+    {
+        let alloc = *self.names.allocator();
+        let heading = self.heading.clone(alloc)?;
+        let tokens = self.tokens.clone()?;
+        let names = copy_texts(alloc, self.names.as_slice())?;
+        let sources = self.sources.clone()?;
+        let contents = self.contents.clone()?;
+        Ok(SourceMap {
+            heading,
+            tokens,
+            names,
+            sources,
+            contents,
+        })
+    }
+}

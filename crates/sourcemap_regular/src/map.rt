@@ -1,0 +1,233 @@
+//! A regular map over its parts: its getters, and the lookup of a position.
+ghost use Rattle.std.specs.Prelude.{◌≡◌, ◌==◌, not, ◌≤◌, [], Ok, length, min, option_map, unwrap_or, vec_len};
+ghost use Rattle.std.specs.Option.{option_copied, ForSome};
+ghost use Rattle.sourcemap_errors.specs.Answer.{Gives};
+ghost use Rattle.sourcemap_texts.specs.Texts.{texts_of, contents_in};
+ghost use Rattle.sourcemap_regular.specs.Map.{distance};
+
+use crate::token::Token;
+use sourcemap_errors::errors::Result;
+use sourcemap_lists::token_list::TokenList;
+use sourcemap_lists::tokens::RawToken;
+use sourcemap_parts::contents::Contents;
+use sourcemap_parts::heading::Heading;
+use sourcemap_parts::sources::Sources;
+use sourcemap_records::jsontypes::DebugId;
+use sourcemap_texts::copies::owned;
+use std::alloc::Global;
+use std::marker::Model;
+
+/// A source map: tokens that tie places of a generated text to places in sources. Lines and columns
+/// count from 0, columns in UTF-16 units.
+#[derive(Debug, Drop)]
+pub struct SourceMap {
+    pub(crate) heading: Heading,
+    pub(crate) tokens: TokenList,
+    pub(crate) names: Vec<String>,
+    pub(crate) sources: Sources,
+    pub(crate) contents: Contents,
+}
+
+impl Model for SourceMap {
+    ghost use Rattle.sourcemap_regular.specs.Map.{MapValue};
+
+    ghost Value = { MapValue };
+
+    ghost use Rattle.sourcemap_regular.specs.MapStored.{value_of, HasFewNames};
+
+    ghost view = { value_of };
+
+    ghost invariant = { HasFewNames };
+}
+
+// How far a column stands behind a range token of its own line.
+fn distance(token: RawToken, line: u32, col: u32) -> u32
+    ensures { result ≡ distance token (line, col) }
+{
+    if token.is_range && token.dst_line == line {
+        col.saturating_sub(token.dst_col)
+    } else {
+        0
+    }
+}
+
+impl SourceMap {
+    ghost use Rattle.sourcemap_regular.specs.Map.{made_of, meaning, name_of, source_of, contents_of};
+    ghost use Rattle.sourcemap_regular.specs.MapStored.{map_over};
+    ghost use Rattle.sourcemap_regular.specs.Token.{answers, lookup, token_at, token_value};
+
+    /// A map of these parts, its tokens sorted stably by line and column of the generated text.
+    /// It has no root, passes over no source and has no debug id. A missing list of contents is the
+    /// same as an empty one. Names, sources and contents are to be at most 4294967295 each, so that
+    /// each has a number; a token may name a source or a name that is not there, and has none then.
+    /// Only want of memory refuses.
+    pub fn new(
+        alloc: Global,
+        file: Option<&str>,
+        tokens: Vec<RawToken>,
+        names: Vec<String>,
+        sources: Vec<String>,
+        sources_content: Option<Vec<Option<String>>>,
+    ) -> Result<Self>
+        requires few_names { vec_len names ≤ 4294967295 }
+        requires few_sources { vec_len sources ≤ 4294967295 }
+        requires few_contents { ForSome sources_content (λ contents. vec_len contents ≤ 4294967295) }
+        ensures { Gives (λ m. m) result (Ok (made_of (option_copied file.entry) tokens.items
+            (texts_of names) (texts_of sources) (unwrap_or (option_map contents_in sources_content) []))) }
+    {
+        let file = owned(alloc, file)?;
+        let tokens = TokenList::sorted(tokens)?;
+        let heading = Heading::new(alloc, file);
+        let sources = Sources::new(sources);
+        let contents = contents_if(alloc, sources_content);
+        Ok(SourceMap::of_parts(
+            heading, tokens, names, sources, contents,
+        ))
+    }
+
+    /// The map of these parts, with at most 4294967295 names.
+    pub fn of_parts(
+        heading: Heading,
+        tokens: TokenList,
+        names: Vec<String>,
+        sources: Sources,
+        contents: Contents,
+    ) -> Self
+        requires { vec_len names ≤ 4294967295 }
+        ensures { result ≡ map_over heading tokens (texts_of names) sources contents }
+    {
+        SourceMap {
+            heading,
+            tokens,
+            names,
+            sources,
+            contents,
+        }
+    }
+
+    /// The name of the generated file.
+    pub fn get_file(&self) -> Option<&str>
+        ensures { option_copied result ≡ self.now.file }
+    {
+        self.heading.file()
+    }
+
+    /// The root that is put before the sources.
+    pub fn get_source_root(&self) -> Option<&str>
+        ensures { option_copied result ≡ self.now.root }
+    {
+        self.sources.root()
+    }
+
+    /// The identifier that ties the map to its file.
+    pub fn get_debug_id(&self) -> Option<DebugId>
+        ensures { result ≡ self.now.debug_id }
+    {
+        self.heading.debug_id()
+    }
+
+    /// The allocator that the map keeps.
+    pub fn allocator(&self) -> Global {
+        *self.names.allocator()
+    }
+
+    /// The token with this index, in order of line and column of the generated text.
+    pub fn get_token(&self, index: usize) -> Option<Token<'_>>
+        ensures { option_map token_value result ≡ token_at self.now index }
+    {
+        match self.tokens.get(index) {
+            None => None,
+            Some(raw) => Some(Token {
+                map: self,
+                raw,
+                index,
+                behind: 0,
+            }),
+        }
+    }
+
+    /// How many tokens there are, at most 4294967295.
+    pub fn get_token_count(&self) -> u32
+        ensures { result ≡ min (length self.now.tokens) 4294967295 }
+    {
+        u32::try_from(self.tokens.len()).unwrap_or(u32::MAX)
+    }
+
+    /// The token closest to a line and a column of the generated text, both from 0, the column in
+    /// UTF-16 units: of the tokens at that place the first, and if there are none, the last one that
+    /// stands before it, on its line or on an earlier one. On its own line a range token adds the
+    /// columns between to its column in the source, which stops at 4294967295.
+    pub fn lookup_token(&self, line: u32, col: u32) -> Option<Token<'_>>
+        ensures value { option_map token_value result ≡ lookup self.now (line, col) }
+        ensures meaning { option_map answers result ≡ meaning self.now (line, col) }
+    {
+        match self.tokens.closest(line, col) {
+            None => None,
+            Some((index, raw)) => {
+                let behind = distance(raw, line, col);
+                Some(Token {
+                    map: self,
+                    raw,
+                    index,
+                    behind,
+                })
+            }
+        }
+    }
+
+    /// How many sources there are.
+    pub fn get_source_count(&self) -> u32
+        ensures { result ≡ length self.now.sources }
+    {
+        self.sources.len()
+    }
+
+    /// The source of this number, behind the root if there is one that is not empty.
+    pub fn get_source(&self, id: u32) -> Option<&str>
+        ensures { option_copied result ≡ source_of self.now id }
+    {
+        self.sources.get(id)
+    }
+
+    /// The contents of the source of this number, if the map has them.
+    pub fn get_source_contents(&self, id: u32) -> Option<&str>
+        ensures { option_copied result ≡ contents_of self.now id }
+    {
+        self.contents.get(id)
+    }
+
+    /// How many names there are.
+    pub fn get_name_count(&self) -> u32
+        ensures { result ≡ length self.now.names }
+    {
+        self.names.len() as u32
+    }
+
+    /// Whether there is a name.
+    pub fn has_names(&self) -> bool
+        ensures { result ≡ not (length self.now.names == 0) }
+    {
+        !self.names.is_empty()
+    }
+
+    /// The name of this number.
+    pub fn get_name(&self, id: u32) -> Option<&str>
+        ensures { option_copied result ≡ name_of self.now id }
+    {
+        match self.names.get(id as usize) {
+            Some(name) => Some(name.as_str()),
+            None => None,
+        }
+    }
+}
+
+// The contents of a list, none where there is no list.
+fn contents_if(alloc: Global, contents: Option<Vec<Option<String>>>) -> Contents
+    requires { ForSome contents (λ list. vec_len list ≤ 4294967295) }
+    ensures { result ≡ unwrap_or (option_map contents_in contents) [] }
+{
+    match contents {
+        None => Contents::new(alloc),
+        Some(list) => Contents::of_list(list),
+    }
+}

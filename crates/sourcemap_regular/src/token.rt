@@ -1,0 +1,178 @@
+ghost use Rattle.std.specs.Prelude.{◌≡◌, ℕ, ◌+◌, ◌<◌, ◌^◌, Some, slice_get};
+
+use crate::map::SourceMap;
+use sourcemap_lists::tokens::RawToken;
+use std::fmt;
+
+/// A token of a map, with the map: it answers by texts what the raw token says by numbers.
+/// A token that a lookup found also knows how far behind it the position stands that was asked for.
+#[derive(Clone, Copy)]
+pub struct Token<'a> {
+    pub(crate) map: &'a SourceMap,
+    pub(crate) raw: RawToken,
+    pub(crate) index: usize,
+    pub(crate) behind: u32,
+    ghost own: { slice_get map.now.tokens index ≡ Some raw },
+    ghost small: { index + 1 < 2 ^ 64 },
+}
+
+impl<'a> Token<'a> {
+    ghost use Rattle.std.specs.Prelude.{◌≢◌, ◌==◌, not, [], IsTrue, IsSome, ◌↔◌, option_map, is_some, unwrap_or};
+    ghost use Rattle.std.specs.Option.{option_copied};
+    ghost use Rattle.sourcemap_regular.specs.Token.{answers};
+
+    /// The map that the token is of.
+    pub fn sourcemap(&self) -> &'a SourceMap
+        ensures { result.now ≡ self.now.map.now }
+    {
+        self.map
+    }
+
+    /// The token's line in the generated text.
+    pub fn get_dst_line(&self) -> u32
+        ensures { result ≡ self.now.raw.dst_line }
+    {
+        self.raw.dst_line
+    }
+
+    /// The token's column in the generated text, in UTF-16 units.
+    pub fn get_dst_col(&self) -> u32
+        ensures { result ≡ self.now.raw.dst_col }
+    {
+        self.raw.dst_col
+    }
+
+    /// The token's line and column in the generated text.
+    pub fn get_dst(&self) -> (u32, u32)
+        ensures { result ≡ (self.now.raw.dst_line, self.now.raw.dst_col) }
+    {
+        (self.raw.dst_line, self.raw.dst_col)
+    }
+
+    /// The line in the source. A token of a well-formed map has 4294967295 if it has no source.
+    pub fn get_src_line(&self) -> u32
+        ensures { result ≡ (answers self.now).line }
+    {
+        self.raw.src_line
+    }
+
+    /// The column in the source, in UTF-16 units. A token of a well-formed map has 4294967295 if it
+    /// has no source. A range token that was looked up on its own line adds the columns between,
+    /// up to 4294967295.
+    pub fn get_src_col(&self) -> u32
+        ensures { result ≡ (answers self.now).column }
+    {
+        self.raw.src_col.saturating_add(self.behind)
+    }
+
+    /// Line and column in the source.
+    pub fn get_src(&self) -> (u32, u32)
+        ensures { result ≡ ((answers self.now).line, (answers self.now).column) }
+    {
+        (self.get_src_line(), self.get_src_col())
+    }
+
+    /// The number of the source, 4294967295 for none.
+    pub fn get_src_id(&self) -> u32
+        ensures { result ≡ self.now.raw.src_id }
+    {
+        self.raw.src_id
+    }
+
+    /// The source, behind the root, if there is one of that number.
+    pub fn get_source(&self) -> Option<&'a str>
+        ensures { option_copied result ≡ (answers self.now).source }
+    {
+        self.map.get_source(self.raw.src_id)
+    }
+
+    /// Whether the token names a source by a number other than 4294967295.
+    pub fn has_source(&self) -> bool
+        ensures { result ≡ not (self.now.raw.src_id == 4294967295) }
+    {
+        self.raw.src_id != u32::MAX
+    }
+
+    /// The name, if there is one of that number.
+    pub fn get_name(&self) -> Option<&'a str>
+        ensures { option_copied result ≡ (answers self.now).name }
+    {
+        self.map.get_name(self.raw.name_id)
+    }
+
+    /// Whether the token has a name.
+    pub fn has_name(&self) -> bool
+        ensures { result ≡ is_some (answers self.now).name }
+    {
+        self.get_name().is_some()
+    }
+
+    /// The number of the name, 4294967295 for none.
+    pub fn get_name_id(&self) -> u32
+        ensures { result ≡ self.now.raw.name_id }
+    {
+        self.raw.name_id
+    }
+
+    /// Source (the empty text if there is none), line and column in it, and name.
+    pub fn to_tuple(&self) -> (&'a str, u32, u32, Option<&'a str>)
+        ensures source { result.0.now ≡ unwrap_or (answers self.now).source [] }
+        ensures line { result.1 ≡ (answers self.now).line }
+        ensures column { result.2 ≡ (answers self.now).column }
+        ensures name { option_copied result.3 ≡ (answers self.now).name }
+    {
+        (
+            self.get_source().unwrap_or(""),
+            self.get_src_line(),
+            self.get_src_col(),
+            self.get_name(),
+        )
+    }
+
+    /// The token by numbers, without the columns that a lookup adds.
+    pub fn get_raw_token(&self) -> RawToken
+        ensures { result ≡ self.now.raw }
+    {
+        self.raw
+    }
+
+    /// Whether this is a range token.
+    pub fn is_range(&self) -> bool
+        ensures { result ≡ (answers self.now).is_range }
+    {
+        self.raw.is_range
+    }
+}
+
+impl fmt::Display for Token<'_> {
+    ghost use Rattle.std.specs.Prelude.{Some as Known};
+    ghost use Rattle.sourcemap_regular.specs.Token.{answers, token_text};
+
+    ghost output = { λ token. Known (token_text (answers token)) };
+
+    /// `source:line:column`, with `<unknown>` for no source, and ` name=NAME` if there is a name.
+    /// The alternate form adds ` (line:column)` of the generated text, and ` (range)` for a range token.
+    fn fmt<W: fmt::Write>(&self, f: &mut fmt::Formatter<W>) -> fmt::Result {
+        let source = self.get_source().unwrap_or("<unknown>");
+        let line = self.get_src_line();
+        let column = self.get_src_col();
+        write!(f, "{source}:{line}:{column}")?;
+        if let Some(name) = self.get_name() {
+            write!(f, " name={name}")?;
+        }
+        if f.alternate() {
+            write!(f, " ({}:{})", self.raw.dst_line, self.raw.dst_col)?;
+            if self.raw.is_range {
+                f.write_str(" (range)")?;
+            }
+        }
+        Ok(())
+    }
+}
+
+impl fmt::Debug for Token<'_> {
+    /// The alternate form within `<Token ` and `>`.
+    fn fmt<W: fmt::Write>(&self, f: &mut fmt::Formatter<W>) -> fmt::Result {
+        write!(f, "<Token {self:#}>")
+    }
+}

@@ -1,0 +1,5 @@
+pub mod KeptContentsLemmas
+pub mod KeptTextsLemmas
+pub mod NumberingLemmas
+pub mod RenumberingLemmas
+pub mod RewrittenLemmas

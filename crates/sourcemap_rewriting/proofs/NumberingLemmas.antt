@@ -1,0 +1,393 @@
+-- Texts that are kept once each, and their new numbers.
+use Rattle.std.proofs.Common.{◌≡◌, ◌≢◌, refl, sym, ap, subst, ◌∙◌, ℕ, zero, suc, ◌+◌, ◌<◌, ◌≤◌, List, [], ◌∷◌, ◌++◌, append_assoc, length, map, fold, Bool, true, false, cond, Some, None, Option, arith, inl, inr, ◌⊎◌, slice_get, slice_set, get_or, is_some, option_map, replicate, string_bytes, String}
+use Rattle.std.specs.HashMap.{IsEmpty, hash_map_len}
+use Rattle.std.specs.List.{AllByRecursion}
+use Rattle.std.specs.Map.{lookup}
+use Rattle.std.specs.Option.{option_or}
+use Rattle.std.specs.Str.{bytes_eq}
+use Rattle.std.specs.declared.alloc.Global.{Global}
+use Rattle.std.proofs.lemmas.Bool.{cases_Bool, cases_eq}
+use Rattle.std.proofs.lemmas.Slice.Eq.{bytes_eq-Decides}
+use Rattle.std.proofs.lemmas.List.Sums.{fold-append}
+use Rattle.std.proofs.lemmas.List.{map_push, length_push, append-nil, length-set, length-replicate}
+use Rattle.std.proofs.lemmas.Option.{slice_get_within, slice_get_past, slice_get-map, slice_get_read}
+use Rattle.sourcemap_lists.specs.Interner.{place_of, with_text, AreDistinct}
+use Rattle.sourcemap_lists.proofs.InternerLemmas.{AreDistinct-append, place_of-append, place_of-last, slice_get-place_of}
+use Rattle.sourcemap_rewriting.specs.Kept.{present, kept_once, number_in}
+use Rattle.sourcemap_rewriting.specs.Numbering.{with_text_if, first_some, HasPlace, kept_of, met_texts, IsMet, IsMetOrNot, NumbersMore, id_of, IsIndex, IsNumbering, Meets}
+use Rattle.sourcemap_rewriting.specs.declared.numbering.NewNumbers.{NewNumbers}
+use Rattle.sourcemap_rewriting.specs.declared.numbering.Numbering.{Numbering}
+
+pub option_or-None : {A : Type 0} (o : Option A) → option_or o None ≡ o
+option_or-None None = refl
+option_or-None (Some x) = refl
+
+-- Texts that are kept once.
+
+pub fold-push : {A B : Type 0} (f : B → A → B) (a : B) (xs : List A) (x : A) → fold f a (xs ++ x ∷ []) ≡ f (fold f a xs) x
+fold-push f a xs x = fold-append f a xs (x ∷ [])
+
+present-push : (os : List (Option (List ℕ))) (o : Option (List ℕ)) → present (os ++ o ∷ []) ≡ present os ++ present (o ∷ [])
+present-push [] o = refl
+present-push (None ∷ os) o = present-push os o
+present-push (Some t ∷ os) o = ap (λ ts. t ∷ ts) (present-push os o)
+
+-- one more use
+pub kept_once-push : (os : List (Option (List ℕ))) (o : Option (List ℕ)) → kept_once (present (os ++ o ∷ [])) ≡ with_text_if (kept_once (present os)) o
+kept_once-push os o = ap kept_once (present-push os o) ∙ by_case o
+  where
+    by_case : (o : Option (List ℕ)) → kept_once (present os ++ present (o ∷ [])) ≡ with_text_if (kept_once (present os)) o
+    by_case None = ap kept_once (append-nil (present os))
+    by_case (Some t) = fold-push with_text [] (present os) t
+
+pub kept_of-push : (texts : List (List ℕ)) (ids : List ℕ) (id : ℕ) → kept_of texts (ids ++ id ∷ []) ≡ with_text_if (kept_of texts ids) (slice_get texts id)
+kept_of-push texts ids id = ap (λ os. kept_once (present os)) (map_push (slice_get texts) ids id) ∙ kept_once-push (map (slice_get texts) ids) (slice_get texts id)
+
+-- a text that has a place keeps it
+pub place_of-with_text : (texts : List (List ℕ)) (text other : List ℕ) (n : ℕ) → place_of other texts ≡ Some n → place_of other (with_text texts text) ≡ Some n
+place_of-with_text texts text other n e =
+    elim (cases_Option (place_of text texts)) [
+      | inl none ↦
+          elim (cases_Bool (bytes_eq text other)) [
+            | inl same ↦
+                let alike : text ≡ other = (bytes_eq-Decides text other).0 same in
+                let never : place_of other texts ≡ None = subst (λ t. place_of t texts ≡ None) alike none in
+                cc
+            | inr apart ↦ rw (none, place_of-append texts text none other, apart) e
+          ]
+      | inr some ↦ rw some.1 e
+    ]
+  where
+    cases_Option : {A : Type 0} (o : Option A) → (o ≡ None) ⊎ ((x : A) × (o ≡ Some x))
+    cases_Option None = inl refl
+    cases_Option (Some x) = inr (x, refl)
+
+pub place_of-with_text_if : (texts : List (List ℕ)) (o : Option (List ℕ)) (other : List ℕ) (n : ℕ) → place_of other texts ≡ Some n → place_of other (with_text_if texts o) ≡ Some n
+place_of-with_text_if texts None other n e = e
+place_of-with_text_if texts (Some t) other n e = place_of-with_text texts t other n e
+
+-- also when more numbers are met
+pub place_of-kept_of : (texts : List (List ℕ)) (ids more : List ℕ) (text : List ℕ) (n : ℕ) → place_of text (kept_of texts ids) ≡ Some n → place_of text (kept_of texts (ids ++ more)) ≡ Some n
+place_of-kept_of texts ids [] text n e = rw (append-nil ids) e
+place_of-kept_of texts ids (id ∷ more) text n e =
+    let next : place_of text (kept_of texts (ids ++ id ∷ [])) ≡ Some n =
+    ap (place_of text) (kept_of-push texts ids id) ∙ place_of-with_text_if (kept_of texts ids) (slice_get texts id) text n e in
+    subst (λ all. place_of text (kept_of texts all) ≡ Some n) (append_assoc ids (id ∷ []) more) (place_of-kept_of texts (ids ++ id ∷ []) more text n next)
+
+AreDistinct-with_text : (texts : List (List ℕ)) (text : List ℕ) → AreDistinct texts → AreDistinct (with_text texts text)
+AreDistinct-with_text texts text distinct = by_case (place_of text texts) refl
+  where
+    by_case : (o : Option ℕ) → place_of text texts ≡ o → AreDistinct (with_text texts text)
+    by_case None e = rw e (AreDistinct-append texts text distinct e)
+    by_case (Some n) e = rw e distinct
+
+-- texts that are kept once are distinct
+pub distinct-kept_of : (texts : List (List ℕ)) (ids : List ℕ) → AreDistinct (kept_of texts ids)
+distinct-kept_of texts ids = after [] (present (map (slice_get texts) ids)) (λ text id e. cc)
+  where
+    after : (kept us : List (List ℕ)) → AreDistinct kept → AreDistinct (fold with_text kept us)
+    after kept [] distinct = distinct
+    after kept (u ∷ us) distinct = after (with_text kept u) us (AreDistinct-with_text kept u distinct)
+
+-- What the first gives.
+
+pub first_some-push : {X Y : Type 0} (f : X → Option Y) (xs : List X) (x : X) → first_some f (xs ++ x ∷ []) ≡ option_or (first_some f xs) (f x)
+first_some-push f [] x = option_or-None (f x)
+first_some-push f (y ∷ ys) x =
+    ap (option_or (f y)) (first_some-push f ys x) ∙ option_or-assoc (f y) (first_some f ys) (f x)
+  where
+    option_or-assoc : {Y : Type 0} (a b c : Option Y) → option_or a (option_or b c) ≡ option_or (option_or a b) c
+    option_or-assoc None b c = refl
+    option_or-assoc (Some x) b c = refl
+
+-- a text that was added has a place
+place_of-added : (texts : List (List ℕ)) (text : List ℕ) → (n : ℕ) × (place_of text (with_text texts text) ≡ Some n)
+place_of-added texts text = by_case (place_of text texts) refl
+  where
+    by_case : (o : Option ℕ) → place_of text texts ≡ o → (n : ℕ) × (place_of text (with_text texts text) ≡ Some n)
+    by_case None e = (length texts, rw e (place_of-last texts text (length texts) refl e))
+    by_case (Some n) e = (n, rw e e)
+
+place_of-fold : (us : List (List ℕ)) (texts : List (List ℕ)) (text : List ℕ) (n : ℕ) → place_of text texts ≡ Some n → place_of text (fold with_text texts us) ≡ Some n
+place_of-fold [] texts text n e = e
+place_of-fold (u ∷ us) texts text n e = place_of-fold us (with_text texts u) text n (place_of-with_text texts u text n e)
+
+-- each text in use is kept
+all_kept : (os : List (Option (List ℕ))) (texts : List (List ℕ)) → AllByRecursion (HasPlace (fold with_text texts (present os))) os
+all_kept [] texts = tt
+all_kept (None ∷ os) texts = (tt, all_kept os texts)
+all_kept (Some t ∷ os) texts =
+    let here = place_of-added texts t in
+    ((here.0, place_of-fold (present os) (with_text texts t) t here.0 here.1), all_kept os (with_text texts t))
+
+pub used-kept : (os : List (Option (List ℕ))) → AllByRecursion (HasPlace (kept_once (present os))) os
+used-kept os = all_kept os []
+
+-- No more are kept than there are.
+
+-- how many of the texts are not among those that are kept
+abbrev missing : List (List ℕ) → List (List ℕ) → ℕ
+missing kept [] = 0
+missing kept (text ∷ texts) = cond (is_some (place_of text kept)) 0 1 + missing kept texts
+
+abbrev AreFew : List (List ℕ) → List (List ℕ) → Type 0
+AreFew kept texts = length kept + missing kept texts ≤ length texts
+
+AreFew-none : (texts : List (List ℕ)) → AreFew [] texts
+AreFew-none [] = omega arith
+AreFew-none (t ∷ ts) = let rest : AreFew [] ts = AreFew-none ts in omega arith
+
+less_missing : (kept : List (List ℕ)) (added text : List ℕ) → cond (is_some (place_of text (with_text kept added))) 0 1 ≤ cond (is_some (place_of text kept)) 0 1
+less_missing kept added text = by_case (place_of text kept) refl
+  where
+    by_case : (o : Option ℕ) → place_of text kept ≡ o → cond (is_some (place_of text (with_text kept added))) 0 1 ≤ cond (is_some (place_of text kept)) 0 1
+    by_case None e = rw e (one_at_most (is_some (place_of text (with_text kept added))))
+      where
+        one_at_most : (b : Bool) → cond b 0 1 ≤ 1
+        one_at_most true = omega arith
+        one_at_most false = omega arith
+    by_case (Some n) e = rw (e, place_of-with_text kept added text n e) (omega arith)
+
+missing-with_text : (kept texts : List (List ℕ)) (added : List ℕ) → missing (with_text kept added) texts ≤ missing kept texts
+missing-with_text kept [] added = omega arith
+missing-with_text kept (t ∷ ts) added =
+    let here = less_missing kept added t in
+    let rest = missing-with_text kept ts added in
+    omega arith
+
+one_less : (kept texts : List (List ℕ)) (added : List ℕ) (i : ℕ) → slice_get texts i ≡ Some added → place_of added kept ≡ None → missing (with_text kept added) texts + 1 ≤ missing kept texts
+one_less kept [] added i at new = cc
+one_less kept (t ∷ ts) added zero at new =
+    let same : t ≡ added = cc in
+    let found = place_of-added kept added in
+    let was : cond {A = ℕ} (is_some (place_of t kept)) 0 1 ≡ 1 = rw (same, new) refl in
+    let now : cond {A = ℕ} (is_some (place_of t (with_text kept added))) 0 1 ≡ 0 = rw (same, found.1) refl in
+    let rest = missing-with_text kept ts added in
+    omega arith
+one_less kept (t ∷ ts) added (suc i) at new =
+    let here = less_missing kept added t in
+    let rest = one_less kept ts added i at new in
+    omega arith
+
+AreFew-with_text_if : (kept texts : List (List ℕ)) (i : ℕ) → AreFew kept texts → AreFew (with_text_if kept (slice_get texts i)) texts
+AreFew-with_text_if kept texts i few = by_case (slice_get texts i) refl
+  where
+    length-new : (t : List ℕ) → place_of t kept ≡ None → length (with_text kept t) ≡ length kept + 1
+    length-new t e = rw e (length_push kept t)
+
+    by_text : (t : List ℕ) → slice_get texts i ≡ Some t → (o : Option ℕ) → place_of t kept ≡ o → AreFew (with_text kept t) texts
+    by_text t e None new =
+        let more = length-new t new in
+        let less = one_less kept texts t i e new in
+        omega arith
+    by_text t e (Some n) old = rw old few
+
+    by_case : (o : Option (List ℕ)) → slice_get texts i ≡ o → AreFew (with_text_if kept o) texts
+    by_case None e = few
+    by_case (Some t) e = by_text t e (place_of t kept) refl
+
+-- there is room for a new one
+room-for_new : (kept texts : List (List ℕ)) (i : ℕ) (text : List ℕ) → AreFew kept texts → slice_get texts i ≡ Some text → place_of text kept ≡ None → length kept < length texts
+room-for_new kept texts i text few at new =
+    let less = one_less kept texts text i at new in
+    omega arith
+
+fold-present : (kept : List (List ℕ)) (o : Option (List ℕ)) (os : List (Option (List ℕ))) → fold with_text kept (present (o ∷ os)) ≡ fold with_text (with_text_if kept o) (present os)
+fold-present kept None os = refl
+fold-present kept (Some t) os = refl
+
+AreFew-kept_of : (texts : List (List ℕ)) (ids : List ℕ) → AreFew (kept_of texts ids) texts
+AreFew-kept_of texts ids = few_after [] ids (AreFew-none texts)
+  where
+    few_after : (kept : List (List ℕ)) (ids : List ℕ) → AreFew kept texts → AreFew (fold with_text kept (present (map (slice_get texts) ids))) texts
+    few_after kept [] few = few
+    few_after kept (id ∷ ids) few =
+        rw (fold-present kept (slice_get texts id) (map (slice_get texts) ids))
+        (few_after (with_text_if kept (slice_get texts id)) ids (AreFew-with_text_if kept texts id few))
+
+pub kept_once-few : (texts : List (List ℕ)) (ids : List ℕ) → length (kept_of texts ids) ≤ length texts
+kept_once-few texts ids = let all = AreFew-kept_of texts ids in omega arith
+
+-- a text that is kept has the number of its place, also when more are kept
+pub number_in-with_text_if : (kept : List (List ℕ)) (added o : Option (List ℕ)) → HasPlace kept o → number_in (with_text_if kept added) o ≡ number_in kept o
+number_in-with_text_if kept added None h = refl
+number_in-with_text_if kept added (Some t) h = rw (h.1, place_of-with_text_if kept added t h.0 h.1) refl
+
+-- and its number names it
+pub slice_get-number_in : (kept : List (List ℕ)) (o : Option (List ℕ)) → length kept ≤ 4294967295 → HasPlace kept o → slice_get kept (number_in kept o) ≡ o
+slice_get-number_in kept None few h = slice_get_past kept 4294967295 few
+slice_get-number_in kept (Some t) few h = rw h.1 (slice_get-place_of t kept h.0 h.1)
+
+-- Items of lists.
+
+module _ {X : Type 0} where
+  pub slice_get-set_same : (xs : List X) (i : ℕ) (y : X) → i < length xs → slice_get (slice_set xs i y) i ≡ Some y
+  slice_get-set_same [] i y h = absurd (omega arith)
+  slice_get-set_same (x ∷ xs) zero y h = refl
+  slice_get-set_same (x ∷ xs) (suc i) y h = slice_get-set_same xs i y (omega arith)
+
+  pub slice_get-set_other : (xs : List X) (i j : ℕ) (y : X) → j ≢ i → slice_get (slice_set xs i y) j ≡ slice_get xs j
+  slice_get-set_other [] i j y h = refl
+  slice_get-set_other (x ∷ xs) zero zero y h = absurd (h refl)
+  slice_get-set_other (x ∷ xs) zero (suc j) y h = refl
+  slice_get-set_other (x ∷ xs) (suc i) zero y h = refl
+  slice_get-set_other (x ∷ xs) (suc i) (suc j) y h = slice_get-set_other xs i j y (λ e. h (ap suc e))
+
+  slice_get-pushed : (xs : List X) (y x : X) (k : ℕ) → slice_get xs k ≡ Some x → slice_get (xs ++ y ∷ []) k ≡ Some x
+  slice_get-pushed [] y x k e = cc
+  slice_get-pushed (z ∷ xs) y x zero e = e
+  slice_get-pushed (z ∷ xs) y x (suc k) e = slice_get-pushed xs y x k e
+
+  slice_get-last : (xs : List X) (y : X) → slice_get (xs ++ y ∷ []) (length xs) ≡ Some y
+  slice_get-last [] y = refl
+  slice_get-last (x ∷ xs) y = slice_get-last xs y
+
+  slice_get-replicate : (n : ℕ) (x : X) (i : ℕ) → i < n → slice_get (replicate n x) i ≡ Some x
+  slice_get-replicate zero x i h = absurd (omega arith)
+  slice_get-replicate (suc n) x zero h = refl
+  slice_get-replicate (suc n) x (suc i) h = slice_get-replicate n x i (omega arith)
+
+  pub All-at : (P : X → Type 0) (xs : List X) (k : ℕ) (x : X) → slice_get xs k ≡ Some x → AllByRecursion P xs → P x
+  All-at P [] k x e all = cc
+  All-at P (y ∷ ys) zero x e all = let same : y ≡ x = cc in subst P same all.0
+  All-at P (y ∷ ys) (suc k) x e all = All-at P ys k x e all.1
+
+  All-pushed : (P : X → Type 0) (xs : List X) (x : X) → AllByRecursion P xs → P x → AllByRecursion P (xs ++ x ∷ [])
+  All-pushed P [] x all h = (h, tt)
+  All-pushed P (y ∷ ys) x all h = (all.0, All-pushed P ys x all.1 h)
+
+  pub All-weaker : (P Q : X → Type 0) → ((x : X) → P x → Q x) → (xs : List X) → AllByRecursion P xs → AllByRecursion Q xs
+  All-weaker P Q weaker [] all = tt
+  All-weaker P Q weaker (x ∷ xs) all = (weaker x all.0, All-weaker P Q weaker xs all.1)
+
+pub text-at : (texts : List (String Global)) (i : ℕ) (s : String Global) → i < length texts → s ≡ get_or texts i s → slice_get (map string_bytes texts) i ≡ Some (string_bytes s)
+text-at texts i s within read = slice_get-map string_bytes texts i ∙ ap (option_map string_bytes) (slice_get_read texts (length texts) i s refl within read)
+
+-- what the items before give already
+first_some-met : {X Y : Type 0} (f : X → Option Y) (xs : List X) (k : ℕ) (x : X) → slice_get xs k ≡ Some x → first_some f xs ≡ option_or (first_some f xs) (f x)
+first_some-met f [] k x e = cc
+first_some-met f (y ∷ ys) zero x e = let same : y ≡ x = cc in rw (← same) (twice (f y) (first_some f ys))
+  where
+    twice : {Y : Type 0} (a b : Option Y) → option_or a b ≡ option_or (option_or a b) a
+    twice None None = refl
+    twice None (Some z) = refl
+    twice (Some z) b = refl
+first_some-met f (y ∷ ys) (suc k) x e =
+    ap (option_or (f y)) (first_some-met f ys k x e) ∙ assoc (f y) (first_some f ys) (f x)
+  where
+    assoc : {Y : Type 0} (a b c : Option Y) → option_or a (option_or b c) ≡ option_or (option_or a b) c
+    assoc None b c = refl
+    assoc (Some z) b c = refl
+
+-- A numbering.
+
+pub numbering-new : (texts : List (List ℕ)) (n : Numbering) → n.met.numbers.items ≡ replicate (length texts) 4294967295 → n.met.order.items ≡ [] → IsEmpty n.ids → IsNumbering texts n
+numbering-new texts n numbers order none = record {
+  numbered = record {
+    many = ap length numbers ∙ length-replicate (length texts) 4294967295;
+    met = subst (λ xs. AllByRecursion (IsMet texts n.met) xs) (sym order) tt;
+    others = λ id text e. inl (ap (λ xs. slice_get xs id) numbers ∙ slice_get-replicate (length texts) 4294967295 id (slice_get_within texts id text e));
+  };
+  index = record {
+    places = λ text. ap (lookup (λ key. bytes_eq text key.now)) none ∙ sym (ap (λ ids. place_of text (kept_of texts ids)) order);
+    count = ap length none ∙ sym (ap (λ ids. length (kept_of texts ids)) order);
+  };
+}
+
+module _ (texts : List (List ℕ)) (n : Numbering) (id : ℕ) (text : List ℕ) (is : IsNumbering texts n) (named : slice_get texts id ≡ Some text) where
+  pub known-met : (known : ℕ) → slice_get n.met.numbers.items id ≡ Some known → known ≢ 4294967295 → (k : ℕ) × (slice_get n.met.order.items k ≡ Some id) × (place_of text (met_texts texts n.met) ≡ Some known)
+  known-met known numbered apart = by_case (is.numbered.others id text named)
+    where
+      by_case : IsMetOrNot texts n.met id → (k : ℕ) × (slice_get n.met.order.items k ≡ Some id) × (place_of text (met_texts texts n.met) ≡ Some known)
+      by_case (inl none) = let same : 4294967295 ≡ known = cc in absurd (apart (sym same))
+      by_case (inr (k, at)) =
+          let met = All-at (IsMet texts n.met) n.met.order.items k id at is.numbered.met in
+          let same_text : met.text ≡ text = let e = met.named in cc in
+          let same_number : met.number ≡ known = let e = met.numbered in cc in
+          (k, at, subst (λ t. place_of t (met_texts texts n.met) ≡ Some known) same_text (met.placed ∙ ap Some same_number))
+
+  -- one that was met before
+  pub more-known : (known : ℕ) → slice_get n.met.numbers.items id ≡ Some known → known ≢ 4294967295 → NumbersMore texts id n.met n.met
+  more-known known numbered apart =
+      let met = known-met known numbered apart in
+      record {
+        kept = rw (named, met.2) refl;
+        met = λ f none. first_some-met f n.met.order.items met.0 id met.1;
+      }
+
+  pub number-known : (known : ℕ) → slice_get n.met.numbers.items id ≡ Some known → known ≢ 4294967295 → number_in (met_texts texts n.met) (slice_get texts id) ≡ known
+  number-known known numbered apart = let met = known-met known numbered apart in rw (named, met.2) refl
+
+  pub room : length texts ≤ 4294967295 → id_of n.ids text ≡ None → hash_map_len n.ids < 4294967295
+  room few new =
+      let less = room-for_new (met_texts texts n.met) texts id text (AreFew-kept_of texts n.met.order.items) named (sym (is.index.places text) ∙ new) in
+      omega (arith, is.index.count)
+
+  -- one that was not
+  module _ (number : ℕ) (next : Numbering) (meets : Meets text id number n next) where
+    within : id < length n.met.numbers.items
+    within = let here = slice_get_within texts id text named in omega (arith, is.numbered.many)
+
+    numbered : slice_get next.met.numbers.items id ≡ Some number
+    numbered = ap (λ xs. slice_get xs id) meets.numbers ∙ slice_get-set_same n.met.numbers.items id number within
+
+    kept_more : met_texts texts next.met ≡ with_text_if (met_texts texts n.met) (slice_get texts id)
+    kept_more = ap (kept_of texts) meets.order ∙ kept_of-push texts n.met.order.items id
+
+    kept_new : met_texts texts next.met ≡ with_text (met_texts texts n.met) text
+    kept_new = kept_more ∙ ap (with_text_if (met_texts texts n.met)) named
+
+    placed : place_of text (met_texts texts next.met) ≡ Some number
+    placed = ap (place_of text) kept_new ∙ meets.place (met_texts texts n.met) is.index
+
+    here_met : IsMet texts next.met id
+    here_met = record { text = text; number = number; named = named; numbered = numbered; placed = placed }
+
+    still_met : (x : ℕ) → IsMet texts n.met x → IsMet texts next.met x
+    still_met x met =
+        elim (cases_eq x id) [
+          | inl same ↦ subst (IsMet texts next.met) (sym same) here_met
+          | inr other ↦ record {
+            text = met.text;
+            number = met.number;
+            named = met.named;
+            numbered = ap (λ xs. slice_get xs x) meets.numbers ∙ slice_get-set_other n.met.numbers.items id x number other ∙ met.numbered;
+            placed = ap (place_of met.text) kept_new ∙ place_of-with_text (met_texts texts n.met) text met.text met.number met.placed;
+          }
+        ]
+
+    other_or_met : (x : ℕ) (t : List ℕ) → slice_get texts x ≡ Some t → IsMetOrNot texts next.met x
+    other_or_met x t e =
+        elim (cases_eq x id) [
+          | inl same ↦ inr (length n.met.order.items, ap (λ xs. slice_get xs (length n.met.order.items)) meets.order ∙ slice_get-last n.met.order.items id ∙ ap Some (sym same))
+          | inr other ↦ elim (is.numbered.others x t e) [
+            | inl none ↦ inl (ap (λ xs. slice_get xs x) meets.numbers ∙ slice_get-set_other n.met.numbers.items id x number other ∙ none)
+            | inr at ↦ inr (at.0, ap (λ xs. slice_get xs at.0) meets.order ∙ slice_get-pushed n.met.order.items id x at.0 at.1)
+          ]
+        ]
+
+    pub more-new : NumbersMore texts id n.met next.met
+    more-new = record {
+      kept = kept_more;
+      met = λ f none. ap (first_some f) meets.order ∙ first_some-push f n.met.order.items id;
+    }
+
+    pub numbering-more : IsNumbering texts next
+    numbering-more = record {
+      numbered = record {
+        many = ap length meets.numbers ∙ length-set n.met.numbers.items id number ∙ is.numbered.many;
+        met = subst (AllByRecursion (IsMet texts next.met)) (sym meets.order)
+            (All-pushed (IsMet texts next.met) n.met.order.items id (All-weaker (IsMet texts n.met) (IsMet texts next.met) still_met n.met.order.items is.numbered.met) here_met);
+        others = other_or_met;
+      };
+      index = subst (λ kept. IsIndex kept next.ids) (sym kept_new) (meets.index (met_texts texts n.met) is.index);
+    }
+
+    pub number-new : number_in (met_texts texts next.met) (slice_get texts id) ≡ number
+    number-new = rw (named, placed) refl
+
+-- a number past the texts
+pub more-past : (texts : List (List ℕ)) (n : NewNumbers) (id : ℕ) → length texts ≤ id → NumbersMore texts id n n
+more-past texts n id past =
+    let none = slice_get_past texts id past in
+    record { kept = rw none refl; met = λ f h. rw (h none) (sym (option_or-None (first_some f n.order.items))) }

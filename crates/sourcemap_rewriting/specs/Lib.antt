@@ -1,0 +1,7 @@
+pub mod CutSources
+pub mod Kept
+pub mod KeptContents
+pub mod Numbering
+pub mod Options
+pub mod Renumbering
+pub mod Rewritten

@@ -1,0 +1,28 @@
+-- What the options of a rewriting say.
+use Rattle.std.specs.Prelude.{◌≡◌, ℕ, Bool, true, false, List, [], map, None}
+use Rattle.sourcemap_rewriting.specs.declared.options.RewriteOptions.{RewriteOptions}
+
+-- what a rewriting keeps, and which prefixes of sources it takes away
+pub record Removal : Type 0 where
+  pub with_names : Bool
+  pub with_contents : Bool
+  pub prefixes : List (List ℕ)
+
+abbrev pub removal_of : RewriteOptions → Removal
+removal_of options = record {
+  with_names = options.with_names;
+  with_contents = options.with_source_contents;
+  prefixes = map (λ prefix. prefix.now) options.strip_prefixes.now;
+}
+
+-- names and contents are kept, no file is read, and sources stay whole
+pub record IsDefault (options : RewriteOptions) : Type 0 where
+  pub names : options.with_names ≡ true
+  pub contents : options.with_source_contents ≡ true
+  pub no_files : options.load_local_source_contents ≡ false
+  pub no_base : options.base_path ≡ None
+  pub no_prefixes : options.strip_prefixes.now ≡ []
+  pub no_folder : options.current_dir ≡ None
+
+abbrev pub no_removal : Removal
+no_removal = record { with_names = true; with_contents = true; prefixes = [] }

@@ -1,0 +1,45 @@
+-- The parts of a map that a rewriting changes, as they are due.
+use Rattle.std.specs.Prelude.{◌≡◌, ◌≤◌, ℕ, cond, List, [], map, slice_get, Option, None, option_and_then, vec_len}
+use Rattle.std.specs.Str.{bytes_eq}
+use Rattle.sourcemap_lists.specs.declared.tokens.RawToken.{RawToken}
+use Rattle.sourcemap_texts.specs.Texts.{texts_of, contents_in}
+use Rattle.sourcemap_texts.specs.Prefixes.{cut_by}
+use Rattle.sourcemap_rewriting.specs.Options.{Removal}
+use Rattle.sourcemap_rewriting.specs.CutSources.{all_prefixes}
+use Rattle.sourcemap_rewriting.specs.Kept.{present}
+use Rattle.sourcemap_rewriting.specs.KeptContents.{given}
+use Rattle.sourcemap_rewriting.specs.Numbering.{kept_of, numbered_by}
+use Rattle.sourcemap_rewriting.specs.declared.rewritten.RewrittenParts.{RewrittenParts}
+
+-- the contents of a token's source, if that is this text
+abbrev pub contents_among : List (List ℕ) → List (Option (List ℕ)) → List ℕ → RawToken → Option (List ℕ)
+contents_among sources contents text t =
+    option_and_then (λ source. cond (bytes_eq source text) (given contents t.src_id) None) (slice_get sources t.src_id)
+
+-- the contents of the first token in order whose source is this text, and has some
+abbrev pub contents_due : List (List ℕ) → List (Option (List ℕ)) → List RawToken → List ℕ → Option (List ℕ)
+contents_due sources contents tokens text =
+    slice_get (present (map (contents_among sources contents text) tokens)) 0
+
+-- the sources, and the names, that tokens use
+abbrev pub sources_used : List (List ℕ) → List RawToken → List (List ℕ)
+sources_used sources tokens = kept_of sources (map (λ t. t.src_id) tokens)
+
+abbrev pub names_used : List (List ℕ) → List RawToken → List (List ℕ)
+names_used names tokens = kept_of names (map (λ t. t.name_id) tokens)
+
+pub record AreRewritten (sources names paths : List (List ℕ)) (contents : List (Option (List ℕ)))
+    (removal : Removal) (tokens : List RawToken) (p : RewrittenParts) : Type 0 where
+  pub tokens_due : p.tokens
+      ≡ map (numbered_by sources names (sources_used sources tokens) (names_used names tokens)) tokens
+  pub names_due : texts_of p.names ≡ names_used names tokens
+  pub sources_due : texts_of p.sources
+      ≡ map (cut_by (all_prefixes removal.prefixes paths)) (sources_used sources tokens)
+  pub contents_kept : contents_in p.contents
+      ≡ cond removal.with_contents (map (contents_due sources contents tokens) (sources_used sources tokens)) []
+
+-- each name, source and item of contents has a number
+pub record AreFew (p : RewrittenParts) : Type 0 where
+  pub names : vec_len p.names ≤ 4294967295
+  pub sources : vec_len p.sources ≤ 4294967295
+  pub contents : vec_len p.contents ≤ 4294967295

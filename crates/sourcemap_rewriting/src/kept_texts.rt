@@ -1,0 +1,39 @@
+//! Texts that are moved to their new numbers.
+ghost use Rattle.std.specs.Prelude.{◌≡◌, ◌<◌, [], IfOk, IsOkUnless, slice_get, slice_set, Some, string_bytes, vec_len};
+ghost use Rattle.sourcemap_errors.specs.declared.errors.Error.TheVariants.{OutOfMemory};
+ghost use Rattle.sourcemap_texts.specs.Texts.{texts_of};
+ghost use Rattle.sourcemap_rewriting.specs.Numbering.{AreNumbered, met_texts};
+
+use crate::numbering::NewNumbers;
+use sourcemap_errors::errors::Result;
+use std::alloc::Global;
+use std::mem;
+
+// The text at a place, which is left without one.
+fn taken(alloc: Global, texts: &mut Vec<String>, id: usize) -> String
+    requires { id < vec_len texts.old }
+    ensures taken { slice_get (texts_of texts.old) id ≡ Some (string_bytes result) }
+    ensures left { texts_of texts.new ≡ slice_set (texts_of texts.old) id [] }
+{
+    mem::replace(&mut texts[id], String::new(alloc))
+}
+
+// The texts that were met, by new number. Each is moved from its first old number.
+pub(crate) fn kept_texts(
+    alloc: Global,
+    mut texts: Vec<String>,
+    numbers: &NewNumbers,
+) -> Result<Vec<String>>
+    requires { AreNumbered (texts_of texts) numbers.now }
+    ensures ok { IfOk result (λ kept. texts_of kept ≡ met_texts (texts_of texts) numbers.now) }
+    ensures memory { IsOkUnless result OutOfMemory }
+{
+    let mut kept = Vec::new(alloc);
+    for id in &numbers.order {
+        let id = *id as usize;
+        if numbers.numbers[id] as usize == kept.len() {
+            kept.push(taken(alloc, &mut texts, id))?;
+        }
+    }
+    Ok(kept)
+}

@@ -1,0 +1,12 @@
+//! What rewriting a map does to its lists and texts: each source and name that is used is kept
+//! once, tokens get the new numbers, contents follow their sources, and prefixes are cut. Nothing
+//! here knows a map.
+#![tactic(auto)]
+
+mod cut_sources;
+mod kept_contents;
+mod kept_texts;
+mod numbering;
+pub mod options;
+mod renumbering;
+pub mod rewritten;
