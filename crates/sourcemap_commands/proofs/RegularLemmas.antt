@@ -5,7 +5,7 @@ use Rattle.sourcemap.specs.declared.errors.Error.{Error}
 use Rattle.sourcemap.specs.declared.errors.Error.TheVariants.{OutOfMemory}
 use Rattle.sourcemap.specs.Types.{MapValue}
 use Rattle.sourcemap.specs.Rewrite.{IsDefault, no_removal, removal_of, rewrite_due, rewritten}
-use Rattle.sourcemap_regular.specs.declared.rewrite.RewriteOptions.{RewriteOptions}
+use Rattle.sourcemap_rewriting.specs.declared.options.RewriteOptions.{RewriteOptions}
 use Rattle.sourcemap_kinds.proofs.DecodedMapLemmas.{memory_alone}
 
 -- default options take nothing away

@@ -36,8 +36,6 @@ pub enum DecodedMap {
 impl DecodedMap {
     ghost use Rattle.sourcemap_kinds.specs.DecodedMap.{IsValueOf, StandsFor};
     ghost use Rattle.sourcemap_kinds.specs.Decode.{ValueDecodes, BytesDecode, AreSame, IsAnswerRead, Reading};
-    ghost use Rattle.sourcemap_records.specs.Jsontypes.{flat, IsFine};
-    ghost use Rattle.sourcemap_regular.specs.Encode.{ReadsBack};
 
     // The allocator that the map keeps.
     fn allocator(&self) -> Global {
@@ -73,10 +71,7 @@ impl DecodedMap {
 
     // The record of the map, with its texts.
     fn into_record(self) -> Result<RawSourceMap>
-        ensures answer { IsAnswer tree (RecordAnswer (map_value self)) result }
-        ensures fine { IfOk result (λ r. IsFine (tree r)) }
-        ensures reads_back { IfOk result (λ r. IsWellFormed (map_value self)
-            → ReadsBack (map_value self) (flat (tree r))) }
+        ensures { IsAnswer tree (RecordAnswer (map_value self)) result }
     {
         match self {
             DecodedMap::Regular(map) => map.into_raw_sourcemap(),
