@@ -1,4 +1,4 @@
-//! Lists of tokens and of texts: their order, the item closest to a place, numbers for texts.
+//! Lists of tokens and of texts: their order, the item closest to a place, ids for texts.
 #![tactic(auto)]
 
 pub mod interner;

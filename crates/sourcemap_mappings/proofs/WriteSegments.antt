@@ -84,13 +84,13 @@ join_push [] s segment = refl
 join_push (u ∷ us) s segment = ap (λ t. s ++ 44 ∷ t) (join_push us u segment) ∙ sym (append_assoc s (44 ∷ join_with_byte 44 (u ∷ us)) (44 ∷ segment))
 
 -- a comma where the line has tokens
-pub comma : List RawToken → List ℕ
-comma [] = []
-comma (t ∷ ts) = 44 ∷ []
+pub comma_behind : List RawToken → List ℕ
+comma_behind [] = []
+comma_behind (t ∷ ts) = 44 ∷ []
 
 joined_more : (names : ℕ) (before ts : List RawToken) (segments : List (List ℕ)) (segment : List ℕ) → AreSegments names before ts segments
-    → join_with_byte 44 (segments ++ segment ∷ []) ≡ join_with_byte 44 segments ++ (comma ts ++ segment)
-unfolding comma
+    → join_with_byte 44 (segments ++ segment ∷ []) ≡ join_with_byte 44 segments ++ (comma_behind ts ++ segment)
+unfolding comma_behind
 joined_more names before [] [] segment are = refl
 joined_more names before [] (s ∷ segments) segment are = absurd cc
 joined_more names before (t ∷ ts) [] segment are = absurd are
@@ -98,7 +98,7 @@ joined_more names before (t ∷ ts) (s ∷ segments) segment are = join_push seg
 
 pub IsLine-more : (names : ℕ) (ts : List RawToken) (t : RawToken) (part segment : List ℕ) → Rises ts → UpTo t.dst_line ts
     → Spells (numbers names (base names t.dst_line ts) t) segment → IsLine names ts t.dst_line part
-    → IsLine names (ts ++ t ∷ []) t.dst_line (part ++ (comma (filter (is_on t.dst_line) ts) ++ segment))
+    → IsLine names (ts ++ t ∷ []) t.dst_line (part ++ (comma_behind (filter (is_on t.dst_line) ts) ++ segment))
 IsLine-more names ts t part segment rises upto spelled line =
     let n = t.dst_line in
     let above = filter_push_no (is_above n) ts t (below_no n n (omega arith)) in
@@ -108,7 +108,7 @@ IsLine-more names ts t part segment rises upto spelled line =
       line.0 ++ segment ∷ [],
       subst (λ (us : List RawToken). AreSegments names us (filter (is_on n) (ts ++ t ∷ [])) (line.0 ++ segment ∷ [])) (sym above)
           (subst (λ (us : List RawToken). AreSegments names (filter (is_above n) ts) us (line.0 ++ segment ∷ [])) (sym on) are),
-      ap (λ x. x ++ (comma (filter (is_on n) ts) ++ segment)) line.2 ∙ sym (joined_more names _ _ line.0 segment line.1),
+      ap (λ x. x ++ (comma_behind (filter (is_on n) ts) ++ segment)) line.2 ∙ sym (joined_more names _ _ line.0 segment line.1),
     )
 
 -- What the writer of mappings knows.
@@ -141,24 +141,24 @@ Writing-repeat names done previous against text t e w =
 
 -- the ends of the lines up to a token's own, and a comma where that line has tokens
 gap_is : (line : ℕ) (ts : List RawToken) (previous : Option RawToken) (t : RawToken) → line ≤ t.dst_line → UpTo line ts → Stands line ts previous
-    → gap previous line t ≡ replicate (t.dst_line - line) 59 ++ comma (filter (is_on t.dst_line) ts)
-unfolding comma
+    → gap previous line t ≡ replicate (t.dst_line - line) 59 ++ comma_behind (filter (is_on t.dst_line) ts)
+unfolding comma_behind
 gap_is line ts None t h u s =
     sym (append-nil (replicate (t.dst_line - line) 59))
-    ∙ ap (λ (us : List RawToken). replicate (t.dst_line - line) 59 ++ comma (filter (is_on t.dst_line) us)) (sym s.1)
+    ∙ ap (λ (us : List RawToken). replicate (t.dst_line - line) 59 ++ comma_behind (filter (is_on t.dst_line) us)) (sym s.1)
 gap_is line ts (Some p) t h u s = ⊎_elim
     (λ (same : p.dst_line ≡ t.dst_line).
     let no_line : t.dst_line - line ≡ 0 = (let on : p.dst_line ≡ line = s.0 in omega arith) in
     let is_line : line ≡ t.dst_line = sym s.0 ∙ same in
     let full : filter (is_on t.dst_line) ts ≡ s.1.0 ∷ s.1.1 = subst (λ (n : ℕ). filter (is_on n) ts ≡ s.1.0 ∷ s.1.1) is_line s.1.2 in
     ap (λ b. cond b (44 ∷ []) (replicate (t.dst_line - line) 59)) (on_yes p.dst_line t.dst_line same)
-    ∙ ap (λ us. comma us) (sym full)
-    ∙ ap (λ (k : ℕ). replicate k 59 ++ comma (filter (is_on t.dst_line) ts)) (sym no_line))
+    ∙ ap (λ us. comma_behind us) (sym full)
+    ∙ ap (λ (k : ℕ). replicate k 59 ++ comma_behind (filter (is_on t.dst_line) ts)) (sym no_line))
     (λ (off : p.dst_line ≢ t.dst_line).
     let past : line < t.dst_line = (let on : p.dst_line ≡ line = s.0 in omega arith) in
     ap (λ b. cond b (44 ∷ []) (replicate (t.dst_line - line) 59)) (on_no p.dst_line t.dst_line off)
     ∙ sym (append-nil (replicate (t.dst_line - line) 59))
-    ∙ ap (λ us. replicate (t.dst_line - line) 59 ++ comma us) (sym (none_on line t.dst_line ts u past)))
+    ∙ ap (λ us. replicate (t.dst_line - line) 59 ++ comma_behind us) (sym (none_on line t.dst_line ts u past)))
     (cases_eq p.dst_line t.dst_line)
 
 -- a gap and the segment of a token added
@@ -169,7 +169,7 @@ grown : (names line : ℕ) (ts : List RawToken) (previous : Option RawToken) (t 
 grown names line ts previous t text digits h rises u s spelled r =
     let n = t.dst_line in
     let ends : List ℕ = replicate (n - line) 59 in
-    let some_comma = comma (filter (is_on n) ts) in
+    let some_comma = comma_behind (filter (is_on n) ts) in
     let upto = upto_next line n ts h u in
     let turned = Reached-turn (IsLine names ts) line n text h (λ m k. IsLine-blank names line m ts u k) r in
     let more = Reached-more (IsLine names ts) (IsLine names (ts ++ t ∷ [])) n (text ++ ends) (some_comma ++ digits)
