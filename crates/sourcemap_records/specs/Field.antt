@@ -8,6 +8,7 @@ use Rattle.serde_json.specs.View.{items_of}
 use Rattle.sourcemap_errors.specs.declared.errors.Error.{Error}
 use Rattle.sourcemap_errors.specs.declared.errors.Error.TheVariants.{BadJson, OutOfMemory}
 use Rattle.sourcemap_errors.specs.declared.errors.JsonFault.TheVariants.{Shape}
+use Rattle.sourcemap_errors.specs.Answer.{UnlessMemory}
 
 -- what is due of a reading: a value that has none is a fault
 abbrev pub due : {X : Type 0} → Option X → Result X Error
@@ -22,14 +23,9 @@ abbrev pub KeepsOthers : List ℕ → Members → Members → Type 0
 KeepsOthers key before after = (other : List ℕ) → bytes_eq other key ≡ false → get_member other after ≡ get_member other before
 
 -- what a reader returned, seen by `see`, is the reading; a value without one is of the wrong shape
-abbrev pub Refuses : {X : Type 0} → Error → Option X → Type 0
-Refuses OutOfMemory _ = Unit {0}
-Refuses (BadJson Shape) reading = reading ≡ None
-Refuses _ _ = ⊥
-
 abbrev pub Reads : {X Y : Type 0} → (X → Y) → Result X Error → Option Y → Type 0
 Reads see (Ok x) reading = reading ≡ Some (see x)
-Reads see (Err e) reading = Refuses e reading
+Reads see (Err e) reading = UnlessMemory e ((e ≡ BadJson Shape) × (reading ≡ None))
 
 -- what was made, seen by `see`, is this; only memory may be wanting
 abbrev pub Makes : {X Y : Type 0} → (X → Y) → Result X Error → Y → Type 0

@@ -1,0 +1,6 @@
+-- The text behind the header is not JSON.
+use Rattle.std.proofs.Common.{rules}
+use Rattle.sourcemap_records.proofs.bytes.read_json.Goals as goal
+
+pub returns-in_err-from_slice : goal.returns-in_err-from_slice
+returns-in_err-from_slice c = search rules

@@ -1,0 +1,6 @@
+-- The record is that of the value.
+use Rattle.std.proofs.Common.{rules}
+use Rattle.sourcemap_records.proofs.jsontypes.RawSourceMap.from_owned.Goals as goal
+
+pub returns : goal.returns
+returns c = search rules

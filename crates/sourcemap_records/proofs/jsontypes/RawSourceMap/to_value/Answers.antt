@@ -1,0 +1,6 @@
+-- The copy is written as the record is.
+use Rattle.std.proofs.Common.{rules}
+use Rattle.sourcemap_records.proofs.jsontypes.RawSourceMap.to_value.Goals as goal
+
+pub returns-clause-value : goal.returns-clause-value
+returns-clause-value c = search rules
