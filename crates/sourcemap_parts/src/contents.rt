@@ -13,8 +13,8 @@ use sourcemap_errors::errors::Result;
 use std::alloc::Global;
 use std::marker::Model;
 
-/// Contents by id of their source, each where there are some. The list may be shorter or longer than
-/// that of the sources; it has at most 4294967295 items.
+/// Contents by id of their source, each where there are some. The list may be shorter or longer
+/// than that of the sources; it has at most 4294967295 items.
 #[derive(Debug, Drop)]
 pub struct Contents {
     texts: Vec<Option<String>>,

@@ -118,7 +118,8 @@ fn has_room(lists: &RecordLists) -> bool
 // The tokens that these texts stand for. The texts are let go.
 fn tokens_in(alloc: Global, texts: RecordTexts, sources: u32, names: u32) -> Result<TokenList>
     ensures answer { IsAnswer (λ list. list)
-        (MappingsAnswer (string_bytes texts.mappings) (string_bytes texts.ranges) (record { sources = sources; names = names })) result }
+        (MappingsAnswer (string_bytes texts.mappings) (string_bytes texts.ranges)
+        (record { sources = sources; names = names })) result }
     ensures within { IfOk result (AllWithin sources names) }
 {
     let mappings = texts.mappings.as_str();

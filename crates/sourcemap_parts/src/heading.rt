@@ -79,7 +79,8 @@ impl Heading {
 
     /// Sets the name of the generated file. Only want of memory refuses, and then nothing changes.
     pub fn set_file(&mut self, alloc: Global, file: Option<&str>) -> Result<()>
-        ensures { Changes result self.old self.new (record self.old { file = option_copied file.entry }) }
+        ensures { Changes result self.old self.new
+            (record self.old { file = option_copied file.entry }) }
     {
         self.file = owned(alloc, file)?;
         Ok(())

@@ -64,7 +64,8 @@ impl Sources {
     /// them. Sources that begin with `/`, `http:` or `https:` are shown without it. Only want of
     /// memory refuses, and then nothing changes.
     pub fn set_root(&mut self, root: Option<String>) -> Result<()>
-        ensures { Changes result self.old self.new (record self.old { root = option_map string_bytes root }) }
+        ensures { Changes result self.old self.new
+            (record self.old { root = option_map string_bytes root }) }
     {
         let alloc = *self.texts.allocator();
         let shown = shown_apart(alloc, text_or_empty(&root), &self.texts)?;
@@ -242,7 +243,8 @@ fn shown(alloc: Global, root: &str, source: &str) -> Result<String>
 }
 
 fn all_shown(alloc: Global, root: &str, sources: &[String]) -> Result<Vec<String>>
-    ensures { Gives texts_of result (Ok (map (shown_behind root.now) (map string_bytes sources.now))) }
+    ensures { Gives texts_of result
+        (Ok (map (shown_behind root.now) (map string_bytes sources.now))) }
 {
     let mut all = Vec::with_capacity(alloc, sources.len())?;
     for source in sources {

@@ -44,7 +44,8 @@ pub fn copy_text(alloc: Global, text: &Option<String>) -> Result<Option<String>>
 
 /// Whether both are missing, or both are there and are the same text.
 pub fn same_maybe(a: &Option<String>, b: &Option<String>) -> bool
-    ensures { result ≡ option_eq same_text (option_map string_bytes a.now) (option_map string_bytes b.now) }
+    ensures { result
+        ≡ option_eq same_text (option_map string_bytes a.now) (option_map string_bytes b.now) }
 {
     a == b
 }

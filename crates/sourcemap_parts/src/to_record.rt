@@ -145,7 +145,8 @@ fn into_token_texts(alloc: Global, tokens: TokenList, names: u32) -> Result<Toke
 
 fn written(alloc: Global, texts: TokenTexts, rest: Rest) -> Result<RawSourceMap>
     ensures value { Gives tree result
-        (Ok (plain (record_with (rest_view rest) (string_bytes texts.mappings) (text_view texts.ranges)))) }
+        (Ok (plain (record_with (rest_view rest)
+        (string_bytes texts.mappings) (text_view texts.ranges)))) }
     ensures fine { IfOk result (λ r. IsFine (tree r)) }
 {
     let Rest {
@@ -168,7 +169,8 @@ fn lists_of(
     contents: Vec<Option<String>>,
     ignored: &BTreeSet<u32>,
 ) -> Result<Lists>
-    ensures lists { IfOk result (AreListsOf (texts_of names) (texts_of sources) (contents_in contents) ignored.now.keys) }
+    ensures lists { IfOk result
+        (AreListsOf (texts_of names) (texts_of sources) (contents_in contents) ignored.now.keys) }
     ensures memory { IfErr result (λ e. e ≡ OutOfMemory) }
 {
     let contents = content_texts(contents, sources.len())?;
@@ -224,7 +226,8 @@ fn has_some(contents: &[Option<String>]) -> bool
 }
 
 fn contents_if_some(contents: Vec<Option<String>>) -> Option<Vec<Option<String>>>
-    ensures { option_map (λ v. map text_view v.items) result ≡ some_contents (map text_view contents.items) }
+    ensures { option_map (λ v. map text_view v.items) result
+        ≡ some_contents (map text_view contents.items) }
 {
     if has_some(contents.as_slice()) {
         Some(contents)

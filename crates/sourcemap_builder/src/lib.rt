@@ -1,0 +1,4 @@
+//! Building a source map, token by token.
+#![tactic(auto)]
+
+pub mod builder;
