@@ -1,3 +1,8 @@
+pub mod DecodeLemmas
+pub mod EncodeLemmas
 pub mod EqualityLemmas
-pub mod ListLemmas
 pub mod MapLemmas
+pub mod RewriteLemmas
+pub mod RewriteMeaning
+pub mod RewriteTwice
+pub mod WriteLemmas

@@ -5,7 +5,7 @@ use Rattle.std.proofs.lemmas.List.FromFn.{length-enumerate_from}
 use Rattle.sourcemap_lists.specs.declared.tokens.RawToken.{RawToken}
 use Rattle.sourcemap_regular.specs.Map.{MapValue}
 use Rattle.sourcemap_regular.specs.Token.{TokenValue, token_at, tokens_from}
-use Rattle.sourcemap_regular.proofs.ListLemmas.{drop-from_slice_get, drop-past}
+use Rattle.sourcemap_parts.proofs.ContentsLemmas.{drop-from_slice_get, drop-past}
 
 of_raw : MapValue → ℕ → Option RawToken → Option TokenValue
 of_raw m i o = option_map (λ raw. record { map_of = m; raw = raw; index = i; behind = 0 }) o

@@ -1,6 +1,10 @@
+pub mod Decode
+pub mod Encode
 pub mod Equality
 pub mod Iterators
 pub mod Map
 pub mod MapStored
+pub mod Rewrite
 pub mod Token
 pub mod TokenOrder
+pub mod Write

@@ -2,6 +2,7 @@
 use Rattle.std.specs.Prelude.{ℕ, ◌≤◌, List, Option, length}
 use Rattle.sourcemap_lists.specs.declared.tokens.RawToken.{RawToken}
 use Rattle.sourcemap_parts.specs.Heading.{HeadingValue}
+use Rattle.sourcemap_parts.specs.Parts.{PartsValue}
 use Rattle.sourcemap_parts.specs.Sources.{SourcesValue}
 use Rattle.sourcemap_texts.specs.Texts.{texts_of}
 use Rattle.sourcemap_regular.specs.Map.{MapValue}
@@ -18,6 +19,19 @@ map_over heading tokens names sources contents = record {
   contents = contents;
   ignored = heading.ignored;
   debug_id = heading.debug_id;
+}
+
+abbrev pub map_in : PartsValue → MapValue
+map_in p = map_over p.heading p.tokens p.names p.sources p.contents
+
+-- the parts of a map
+abbrev pub parts_in : MapValue → PartsValue
+parts_in m = record {
+  heading = record { file = m.file; ignored = m.ignored; debug_id = m.debug_id };
+  tokens = m.tokens;
+  names = m.names;
+  sources = record { root = m.root; texts = m.sources };
+  contents = m.contents;
 }
 
 abbrev pub value_of : Inside → MapValue

@@ -1,17 +1,17 @@
 -- A map rewritten: what no token uses falls away, with the root and the ignore list, and what the
 -- options take.
-use Rattle.std.specs.Prelude.{length, ◌≤◌, ◌≡◌, ℕ, Bool, true, false, not, cond, List, [], ◌∷◌, ◌++◌, map, fold, filter, slice_get, codes, Option, Some, None, option_map, option_and_then, unwrap_or, Result, Ok, Err, if◌then◌else◌}
-use Rattle.std.specs.List.{list_any}
+use Rattle.std.specs.Prelude.{length, ◌≤◌, ◌≡◌, ℕ, cond, List, [], map, slice_get, Option, None, option_map, option_and_then, Result, Ok, Err, if◌then◌else◌}
 use Rattle.std.specs.Str.{bytes_eq}
 use Rattle.sourcemap_errors.specs.declared.errors.Error.{Error}
 use Rattle.sourcemap_errors.specs.declared.errors.Error.TheVariants.{IncompatibleSourceMap}
 use Rattle.sourcemap_lists.specs.declared.tokens.RawToken.{RawToken}
-use Rattle.sourcemap_lists.specs.Interner.{place_of, with_text}
-use Rattle.sourcemap_texts.specs.Paths.{common_prefix}
 use Rattle.sourcemap_lists.specs.Tokens.{destination}
 use Rattle.sourcemap_texts.specs.Prefixes.{cut_by}
+use Rattle.sourcemap_rewriting.specs.declared.options.RewriteOptions.{RewriteOptions}
 use Rattle.sourcemap_regular.specs.Map.{MapValue, Meaning, source_of, name_of, contents_of, meaning, meaning_of}
-use Rattle.sourcemap_regular.specs.declared.rewrite.RewriteOptions.{RewriteOptions}
+pub use Rattle.sourcemap_rewriting.specs.CutSources.{common_if, all_prefixes}
+pub use Rattle.sourcemap_rewriting.specs.Kept.{present, kept_once, number_in}
+pub use Rattle.sourcemap_rewriting.specs.Options.{Removal, removal_of, IsDefault, no_removal}
 
 -- What is kept.
 

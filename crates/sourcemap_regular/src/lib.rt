@@ -4,8 +4,12 @@
 
 mod changes;
 mod clone;
+pub mod decode;
+pub mod encode;
 mod equality;
 pub mod iterators;
 pub mod map;
+pub mod rewrite;
 pub mod token;
 mod token_order;
+pub mod write;

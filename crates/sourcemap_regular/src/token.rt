@@ -1,3 +1,4 @@
+//! A token of a map, with the map.
 ghost use Rattle.std.specs.Prelude.{◌≡◌, ℕ, ◌+◌, ◌<◌, ◌^◌, Some, slice_get};
 
 use crate::map::SourceMap;

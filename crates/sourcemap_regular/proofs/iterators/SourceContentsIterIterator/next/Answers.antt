@@ -1,5 +1,5 @@
 use Rattle.std.proofs.Common.{arith, length}
-use Rattle.sourcemap_regular.proofs.ListLemmas.{drop-fitted}
+use Rattle.sourcemap_parts.proofs.ContentsLemmas.{drop-fitted}
 use Rattle.sourcemap_regular.proofs.iterators.SourceContentsIterIterator.next.Goals as goal
 
 pub returns-clause-steps : goal.returns-clause-steps

@@ -1,0 +1,83 @@
+-- The parts of a map that is rewritten, as its definition has them.
+use Rattle.std.proofs.Common.{◌≡◌, refl, ap, subst, ◌∙◌, ℕ, ◌≤◌, List, [], ◌∷◌, length, map, Bool, true, false, cond, Some, None, Option, arith, slice_get}
+use Rattle.std.proofs.lemmas.List.{length-map}
+use Rattle.sourcemap_lists.specs.declared.tokens.RawToken.{RawToken}
+use Rattle.sourcemap_parts.specs.Sources.{shown}
+use Rattle.sourcemap_texts.specs.Texts.{texts_of, contents_in}
+use Rattle.sourcemap_texts.specs.Prefixes.{cut_by}
+use Rattle.sourcemap_rewriting.specs.Numbering.{kept_of, numbered_by}
+use Rattle.sourcemap_rewriting.specs.Rewritten.{AreRewritten}
+use Rattle.sourcemap_rewriting.specs.declared.rewritten.RewrittenParts.{RewrittenParts}
+use Rattle.sourcemap_rewriting.proofs.NumberingLemmas.{kept_once-few}
+use Rattle.sourcemap_regular.specs.Map.{MapValue, shown_sources, source_of}
+use Rattle.sourcemap_regular.specs.Rewrite.{Removal, present, kept_once, number_in, used_sources, used_names, kept_names, contents_for, cuts, renumbered, rewritten}
+
+-- The parts as the definition has them.
+
+pub map-map : {X Y Z : Type 0} (f : Y → Z) (g : X → Y) (xs : List X) → map f (map g xs) ≡ map (λ x. f (g x)) xs
+map-map f g [] = refl
+map-map f g (x ∷ xs) = ap (λ rest. f (g x) ∷ rest) (map-map f g xs)
+
+present-nothing : (ids : List ℕ) → present (map (slice_get []) ids) ≡ []
+present-nothing [] = refl
+present-nothing (id ∷ ids) = present-nothing ids
+
+kept_of-if : (w : Bool) (names : List (List ℕ)) (ids : List ℕ) → kept_of (cond w names []) ids ≡ cond w (kept_of names ids) []
+kept_of-if true names ids = refl
+kept_of-if false names ids = ap kept_once (present-nothing ids)
+
+number_in-if : (w : Bool) (kept names : List (List ℕ)) (id : ℕ) → number_in (cond w kept []) (slice_get (cond w names []) id) ≡ number_in (cond w kept []) (slice_get names id)
+number_in-if true kept names id = refl
+number_in-if false kept names id = by_case (slice_get names id)
+  where
+    by_case : (o : Option (List ℕ)) → 4294967295 ≡ number_in [] o
+    by_case None = refl
+    by_case (Some t) = refl
+
+module _ (m : MapValue) (removal : Removal) where
+  pub sources_used : kept_of (shown_sources m) (map (λ t. t.src_id) m.tokens) ≡ used_sources m
+  sources_used = ap (λ os. kept_once (present os)) (map-map (slice_get (shown_sources m)) (λ (t : RawToken). t.src_id) m.tokens)
+
+  pub names_used : kept_of m.names (map (λ t. t.name_id) m.tokens) ≡ used_names m
+  names_used = ap (λ os. kept_once (present os)) (map-map (slice_get m.names) (λ (t : RawToken). t.name_id) m.tokens)
+
+  names_kept : kept_of (cond removal.with_names m.names []) (map (λ t. t.name_id) m.tokens) ≡ kept_names removal m
+  names_kept = kept_of-if removal.with_names m.names (map (λ t. t.name_id) m.tokens) ∙ ap (λ kept. cond removal.with_names kept []) names_used
+
+  pub few_used_sources : length m.sources ≤ 4294967295 → length (used_sources m) ≤ 4294967295
+  few_used_sources few =
+      let some = kept_once-few (shown_sources m) (map (λ t. t.src_id) m.tokens) in
+      let many : length (shown_sources m) ≡ length m.sources = length-map m.sources (shown m.root) in
+      subst (λ kept. length kept ≤ 4294967295) sources_used (omega (arith, some, many))
+
+  pub few_used_names : length m.names ≤ 4294967295 → length (used_names m) ≤ 4294967295
+  few_used_names few =
+      let some = kept_once-few m.names (map (λ t. t.name_id) m.tokens) in
+      subst (λ kept. length kept ≤ 4294967295) names_used (omega (arith, some))
+
+  same_numbers : (t : RawToken) → numbered_by (shown_sources m) (cond removal.with_names m.names [])
+      (kept_of (shown_sources m) (map (λ t. t.src_id) m.tokens)) (kept_of (cond removal.with_names m.names []) (map (λ t. t.name_id) m.tokens)) t ≡ renumbered removal m t
+  same_numbers t = λ i. record t {
+    src_id = number_in (sources_used i) (source_of m t.src_id);
+    name_id = (ap (λ kept. number_in kept (slice_get (cond removal.with_names m.names []) t.name_id)) names_kept
+        ∙ number_in-if removal.with_names (used_names m) m.names t.name_id) i;
+  }
+
+  module _ (p : RewrittenParts) (S N paths : List (List ℕ)) (same_sources : S ≡ shown_sources m) (same_names : N ≡ cond removal.with_names m.names [])
+      (same_paths : paths ≡ m.sources) (are : AreRewritten S N paths m.contents removal m.tokens p) where
+    due : AreRewritten (shown_sources m) (cond removal.with_names m.names []) m.sources m.contents removal m.tokens p
+    due = subst (λ xs. AreRewritten (shown_sources m) (cond removal.with_names m.names []) xs m.contents removal m.tokens p) same_paths
+        (subst (λ xs. AreRewritten (shown_sources m) xs paths m.contents removal m.tokens p) same_names
+        (subst (λ xs. AreRewritten xs N paths m.contents removal m.tokens p) same_sources are))
+
+    pub tokens-rewritten : p.tokens ≡ (rewritten removal m).tokens
+    tokens-rewritten = due.tokens_due ∙ (λ i. map (λ t. same_numbers t i) m.tokens)
+
+    pub names-rewritten : texts_of p.names ≡ (rewritten removal m).names
+    names-rewritten = due.names_due ∙ names_kept
+
+    pub sources-rewritten : texts_of p.sources ≡ (rewritten removal m).sources
+    sources-rewritten = due.sources_due ∙ ap (map (cut_by (cuts removal m))) sources_used
+
+    pub contents-rewritten : contents_in p.contents ≡ (rewritten removal m).contents
+    contents-rewritten = due.contents_kept ∙ ap (λ kept. cond removal.with_contents (map (contents_for m) kept) []) sources_used

@@ -1,0 +1,42 @@
+-- The record that a map is written as, and what is left of the map when that is read back.
+use Rattle.std.specs.Prelude.{◌≡◌, ℕ, ◌<◌, List, length, Option, Result, Ok, Err}
+use Rattle.sourcemap_errors.specs.declared.errors.Error.{Error}
+use Rattle.sourcemap_lists.specs.Tokens.{reduced}
+use Rattle.sourcemap_mappings.specs.Write.{IsWritten, IsRangeText}
+use Rattle.sourcemap_parts.specs.ToRecord.{record_with as parts_written}
+use Rattle.sourcemap_records.specs.Jsontypes.{Fields, Tree, plain, flat, IsFine}
+use Rattle.sourcemap_regular.specs.Map.{MapValue, IsWellFormed, MeansTheSame, contents_of}
+use Rattle.sourcemap_regular.specs.MapStored.{parts_in}
+use Rattle.sourcemap_regular.specs.Decode.{RecordDecodes}
+pub use Rattle.sourcemap_parts.specs.ToRecord.{written_contents, written_ids}
+
+-- the record of a map, where its tokens are written as these texts of mappings and of range bits
+abbrev pub record_with : MapValue → List ℕ → Option (List ℕ) → Fields
+record_with m mappings ranges = parts_written (parts_in m) mappings ranges
+
+-- a record that the map is written as
+abbrev pub IsRecordOf : MapValue → Tree → Type 0
+IsRecordOf m t =
+    (mappings : List ℕ) × (ranges : Option (List ℕ))
+    × IsWritten (length m.names) m.tokens mappings × IsRangeText m.tokens ranges
+    × (t ≡ plain (record_with m mappings ranges))
+
+-- what is kept of a map that is written and read back
+pub record KeepsParts (back m : MapValue) : Type 0 where
+  pub tokens : back.tokens ≡ reduced (length m.names) m.tokens
+  pub file : back.file ≡ m.file
+  pub root : back.root ≡ m.root
+  pub names : back.names ≡ m.names
+  pub sources : back.sources ≡ m.sources
+  pub contents : (id : ℕ) → id < length m.sources → contents_of back id ≡ contents_of m id
+  pub ignored : back.ignored ≡ m.ignored
+  pub debug_id : back.debug_id ≡ m.debug_id
+
+-- a record reads back as a map of the same meaning, with all parts kept
+abbrev pub ReadsBack : MapValue → Fields → Type 0
+ReadsBack m r = (back : MapValue) × RecordDecodes r (Ok back) × MeansTheSame back m × KeepsParts back m
+
+-- what a call that writes a map answers: a record that the map is written as, and that reads back; nothing but memory refuses
+abbrev pub RecordAnswer : MapValue → Result Tree Error → Type 0
+RecordAnswer m (Ok t) = IsRecordOf m t × IsFine t × (IsWellFormed m → ReadsBack m (flat t))
+RecordAnswer m (Err _) = ⊥

@@ -1,0 +1,77 @@
+//! A map rewritten with what its tokens use alone.
+ghost use Rattle.std.specs.Prelude.{◌≡◌, Ok, IfOk};
+ghost use Rattle.sourcemap_errors.specs.Answer.{Gives};
+ghost use Rattle.sourcemap_rewriting.specs.Options.{IsDefault, no_removal, removal_of};
+ghost use Rattle.sourcemap_rewriting.specs.declared.options.RewriteOptions.{RewriteOptions};
+ghost use Rattle.sourcemap_regular.specs.Map.{MapValue};
+ghost use Rattle.sourcemap_regular.specs.Rewrite.{IsFinal};
+
+use crate::map::SourceMap;
+use sourcemap_errors::errors::{Error, Result};
+use sourcemap_parts::contents::Contents;
+use sourcemap_parts::sources::Sources;
+pub use sourcemap_rewriting::options::RewriteOptions;
+use sourcemap_rewriting::rewritten::{RewrittenParts, names_if, rewritten_parts};
+use std::rt::Files;
+
+impl SourceMap {
+    ghost use Rattle.sourcemap_regular.specs.Map.{IsWellFormed};
+    ghost use Rattle.sourcemap_regular.specs.Rewrite.{rewrite_due, rewritten, MeansLess, SaysLess};
+
+    /// The map with each source and each name that a token uses once, in the order in which tokens
+    /// first use them. Sources are as they are shown behind the root, and the map has no root then.
+    /// A source has the contents of the first token whose source has this text and some contents.
+    /// The file and the debug id stay, and no source is passed over. Names and contents are left
+    /// out, and prefixes of sources cut, as the options say. `IncompatibleSourceMap` if contents
+    /// are to be read from files, else only `OutOfMemory`.
+    pub fn rewrite<F: Files>(self, _rt: &F, options: &RewriteOptions<'_>) -> Result<SourceMap>
+        ensures value { Gives (λ m. m) result (rewrite_due options.now self) }
+        // It answers at each position as before, less what the options take away.
+        ensures meaning { IfOk result (λ m. MeansLess (removal_of options.now) self m) }
+        ensures tokens { IfOk result (λ m. SaysLess (removal_of options.now) self m) }
+        ensures well_formed { IfOk result (λ m. IsWellFormed self → IsWellFormed m) }
+    {
+        if options.load_local_source_contents {
+            return Err(Error::IncompatibleSourceMap);
+        }
+        let map = self.rewritten(options)?;
+        Ok(map)
+    }
+
+    // The map rewritten, without contents from files.
+    fn rewritten(self, options: &RewriteOptions<'_>) -> Result<SourceMap>
+        ensures { Gives (λ m. m) result (Ok (rewritten (removal_of options.now) self)) }
+    {
+        let alloc = self.allocator();
+        let SourceMap {
+            heading,
+            tokens,
+            names,
+            sources,
+            contents,
+        } = self;
+        let names = names_if(alloc, names, options.with_names);
+        let (sources, shown) = sources.into_lists();
+        let contents = contents.into_list();
+        let parts = rewritten_parts(alloc, tokens, sources, shown, names, contents, options)?;
+        let RewrittenParts {
+            tokens,
+            names,
+            sources,
+            contents,
+        } = parts;
+        let heading = heading.without_ignored(alloc);
+        let sources = Sources::new(sources);
+        let contents = Contents::of_list(contents);
+        Ok(SourceMap::of_parts(
+            heading, tokens, names, sources, contents,
+        ))
+    }
+}
+
+// The options that are there by default take nothing away, and a map that is rewritten so is not
+// changed by the same again.
+fn default_rewriting_is_final()
+    ensures default { (options : RewriteOptions) → IsDefault options → removal_of options ≡ no_removal }
+    ensures twice { (m : MapValue) → IsFinal m }
+{}

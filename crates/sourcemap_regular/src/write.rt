@@ -1,0 +1,84 @@
+//! The compact JSON text of a map: to a writer, and as a data URL.
+ghost use Rattle.std.specs.Prelude.{◌≡◌, ◌⊎◌, ℕ, List, Err, OnOk, IfOk, IfErr, IsOkUnless, string_bytes};
+ghost use Rattle.std.specs.Io.KnownBytes.{Appends};
+ghost use Rattle.sourcemap_errors.specs.Answer.{UnlessMemory};
+ghost use Rattle.sourcemap_errors.specs.declared.errors.Error.TheVariants.{OutOfMemory};
+ghost use Rattle.sourcemap_headers.specs.DataUrl.{data_url_of, Holds};
+ghost use Rattle.sourcemap_regular.specs.Map.{MapValue, IsWellFormed};
+ghost use Rattle.sourcemap_regular.specs.Encode.{RecordAnswer};
+ghost use Rattle.sourcemap_regular.specs.Write.{IsEncoded, IsCompactTextOf, BytesReadBack, UrlReadsBack, IsIo};
+
+use crate::encode::Encodable;
+use crate::map::SourceMap;
+use sourcemap_errors::errors::Result;
+use sourcemap_headers::data_url::data_url;
+use std::alloc::Global;
+use std::io::Write;
+
+// The compact JSON text of the record that a map is written as.
+fn text_of<M: Encodable>(alloc: Global, map: &M) -> Result<Vec<u8>>
+    ensures text { IfOk result (λ text. IsEncoded (M.encodes map.now) text.items) }
+    ensures fault { IfErr result (λ e. UnlessMemory e (M.encodes map.now (Err e))) }
+{
+    let value = map.as_raw_sourcemap()?.into_value(alloc)?;
+    Ok(value.to_vec(alloc)?)
+}
+
+/// Writes the compact JSON text of the record that the map is written as, to a writer that is
+/// used again. The faults are those of making the record, want of memory, and `Io` for a write's;
+/// nothing is said of how much was written then.
+pub fn encode_to<M: Encodable, W: Write>(alloc: Global, map: &M, writer: &mut W) -> Result<()>
+    ensures written { OnOk result ((text : List ℕ) × IsEncoded (M.encodes map.now) text
+        × Appends (W.contents writer.old) (W.contents writer.new) text) }
+    ensures fault { IfErr result (λ e. UnlessMemory e (M.encodes map.now (Err e) ⊎ IsIo e)) }
+{
+    let text = text_of(alloc, map)?;
+    writer.write_all(text.as_slice())?;
+    Ok(())
+}
+
+/// Writes the compact JSON text of the record that the map is written as. The faults are those of
+/// making the record, want of memory, and `Io` for a write's; nothing is said of how much was
+/// written then.
+pub fn encode<M: Encodable, W: Write + Drop>(alloc: Global, map: &M, mut writer: W) -> Result<()>
+    ensures encoded { OnOk result ((text : List ℕ) × IsEncoded (M.encodes map.now) text) }
+    ensures fault { IfErr result (λ e. UnlessMemory e (M.encodes map.now (Err e) ⊎ IsIo e)) }
+{
+    encode_to(alloc, map, &mut writer)
+}
+
+impl SourceMap {
+    /// Writes the map's compact JSON text. A write's fault is `Io`, else only want of memory refuses.
+    pub fn to_writer<W: Write + Drop>(&self, writer: W) -> Result<()>
+        ensures encoded { OnOk result ((text : List ℕ) × IsEncoded (RecordAnswer self.now) text) }
+        ensures fault { IfErr result (λ e. UnlessMemory e (IsIo e)) }
+    {
+        encode(self.allocator(), self, writer)
+    }
+
+    /// The data URL of the map's compact JSON text. Only want of memory refuses.
+    pub fn to_data_url(&self) -> Result<String>
+        ensures url { IfOk result (λ url. (text : List ℕ) × IsEncoded (RecordAnswer self.now) text
+            × (string_bytes url ≡ data_url_of text) × Holds (string_bytes url) text) }
+        // Read back, a well-formed map means the same at every position, with all parts kept.
+        ensures reads_back { IfOk result (λ url. IsWellFormed self.now → UrlReadsBack self.now (string_bytes url)) }
+        ensures memory { IsOkUnless result OutOfMemory }
+    {
+        let alloc = self.allocator();
+        let text = text_of(alloc, self)?;
+        let url = data_url(alloc, text.as_slice())?;
+        Ok(url)
+    }
+}
+
+/// A law: the bytes that a map is written as are the compact text of its record's value, for no
+/// number in that has a fraction.
+pub fn written_maps_are_compact()
+    ensures { (m : MapValue) (text : List ℕ) → IsEncoded (RecordAnswer m) text → IsCompactTextOf m text }
+{}
+
+/// A law: the bytes that a well-formed map is written as stand for a map of the same meaning at
+/// every position, with all parts kept.
+pub fn written_maps_read_back()
+    ensures { (m : MapValue) (text : List ℕ) → IsEncoded (RecordAnswer m) text → IsWellFormed m → BytesReadBack m text }
+{}
