@@ -1,0 +1,6 @@
+-- The bytes are given as they are kept.
+use Rattle.std.proofs.Common.{rules}
+use Rattle.sourcemap_headers.proofs.debug_id.DebugId.uuid.Goals as goal
+
+pub returns-clause-value : goal.returns-clause-value
+returns-clause-value c = search rules
