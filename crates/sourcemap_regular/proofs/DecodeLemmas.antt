@@ -1,5 +1,5 @@
 -- A record, the parts that it is read as, and the map that it is decoded to.
-use Rattle.std.proofs.Common.{◌≡◌, ◌≤◌, length, Result, Ok, Err, Bool, true, false, sym, ap, subst, ◌∙◌, inl, inr, vec_len}
+use Rattle.std.proofs.Common.{◌≡◌, length, Result, Ok, Err, Bool, true, false, sym, ap, subst, ◌∙◌, inl, inr, vec_len}
 use Rattle.std.proofs.lemmas.List.{length-map}
 use Rattle.std.specs.Bool.{MatchBool}
 use Rattle.sourcemap_errors.specs.declared.errors.Error.{Error}

@@ -1,5 +1,5 @@
 -- A map, the record that it is written as, and what that record reads back as.
-use Rattle.std.proofs.Common.{◌≡◌, ℕ, zero, suc, ◌≤◌, ◌==◌, List, [], ◌∷◌, ◌++◌, length, map, fold, Option, Some, None, option_map, option_and_then, is_some, true, false, Result, Ok, Err, refl, sym, ap, subst, ◌∙◌, arith, inl, inr, slice_get, nat_lt, if◌then◌else◌, append_assoc, append-nil}
+use Rattle.std.proofs.Common.{◌≡◌, ℕ, zero, suc, ◌≤◌, ◌==◌, List, [], ◌∷◌, ◌++◌, length, map, fold, Option, Some, None, option_map, option_and_then, is_some, true, false, Result, Ok, Err, IfOk, refl, sym, ap, subst, ◌∙◌, arith, inl, inr, slice_get, nat_lt, if◌then◌else◌, append_assoc, append-nil}
 use Rattle.std.proofs.lemmas.Bool.{cases_Bool}
 use Rattle.std.proofs.lemmas.Bool.Decides.{nat_tests}
 use Rattle.std.specs.declared.cmp.Ordering.TheVariants.{Less, Greater}
@@ -18,7 +18,7 @@ use Rattle.sourcemap_lists.specs.Tokens.{destination, position_cmp, closest_toke
 use Rattle.sourcemap_mappings.specs.Read.{MappingsAnswer}
 use Rattle.sourcemap_lists.proofs.SearchLemmas.{item-closest}
 use Rattle.sourcemap_lists.proofs.TokensLemmas.{closest_item-reduced}
-use Rattle.sourcemap_records.specs.Jsontypes.{Fields, Tree, plain, flat, tree}
+use Rattle.sourcemap_records.specs.Jsontypes.{Fields, Tree, flat, tree}
 use Rattle.sourcemap_records.specs.declared.jsontypes.RawSourceMap.{RawSourceMap}
 use Rattle.sourcemap_parts.specs.Contents.{fitted}
 use Rattle.sourcemap_parts.specs.Sources.{shown}
@@ -170,13 +170,19 @@ reads_back m mappings ranges few_names few_sources up answer =
 pub answered : (m : MapValue) → length m.names ≤ 4294967295 → length m.sources ≤ 4294967295 → IsStrictlySortedBy nat_cmp m.ignored
     → (t : Tree) → PartsAnswer (parts_in m) (Ok t) → RecordAnswer m (Ok t)
 answered m few_names few_sources up t ((mappings, ranges, texts, is), fine) = (
-      (mappings, ranges, texts.text, texts.bits, is),
-      fine,
-      λ well. subst (ReadsBack m) (sym (ap flat is))
+  (mappings, ranges, texts.text, texts.bits, is),
+  fine,
+  λ well. subst (ReadsBack m) (sym (ap flat is))
       (reads_back m mappings ranges few_names few_sources up (texts.back (length m.sources) (omega arith) well)),
-    )
+)
 
 pub answered-if : (m : MapValue) → length m.names ≤ 4294967295 → length m.sources ≤ 4294967295 → IsStrictlySortedBy nat_cmp m.ignored
     → (result : Result RawSourceMap Error) → IsAnswer tree (PartsAnswer (parts_in m)) result → IsAnswer tree (RecordAnswer m) result
 answered-if m few_names few_sources up (Ok r) h = answered m few_names few_sources up (tree r) h
 answered-if m few_names few_sources up (Err e) h = h
+
+-- a record that is answered reads back
+pub back-if : (m : MapValue) (result : Result RawSourceMap Error) → IsAnswer tree (RecordAnswer m) result
+    → IfOk result (λ r. IsWellFormed m → ReadsBack m (flat (tree r)))
+back-if m (Ok r) h = h.2
+back-if m (Err e) h = tt

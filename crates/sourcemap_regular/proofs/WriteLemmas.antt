@@ -1,5 +1,5 @@
 -- The text of a regular map's record is shallow, has no fraction and no junk header, and so reads back.
-use Rattle.std.proofs.Common.{◌≡◌, inl, ℕ, ◌≤◌, List, [], ◌∷◌, map, Option, Some, None, option_map, Bool, true, false, ◌||◌, Ok, refl, sym, ap, ◌∙◌, subst, arith}
+use Rattle.std.proofs.Common.{◌≡◌, inl, ℕ, length, ◌≤◌, List, [], ◌∷◌, map, Option, Some, None, option_map, Bool, true, false, ◌||◌, Ok, refl, sym, ap, ◌∙◌, subst, arith}
 use Rattle.std.specs.Ordering.{nat_cmp, match_ordering}
 use Rattle.std.specs.Cmp.Lexicographic.{slice_cmp}
 use Rattle.std.specs.declared.cmp.Ordering.{Ordering}

@@ -1,8 +1,8 @@
 //! The iterators over what a map holds, and the calls of a map that give them.
 ghost use Rattle.std.specs.Prelude.{◌≡◌, ◌<◌, ◌≤◌, ◌^◌, length};
 
-use crate::token::Token;
 use crate::map::SourceMap;
+use crate::token::Token;
 use std::collections::btree_set;
 
 /// The tokens of a map, in order of line and column of the generated text.

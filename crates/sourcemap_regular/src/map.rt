@@ -80,9 +80,7 @@ impl SourceMap {
         let heading = Heading::new(alloc, file);
         let sources = Sources::new(sources);
         let contents = contents_if(alloc, sources_content);
-        Ok(SourceMap::of_parts(
-            heading, tokens, names, sources, contents,
-        ))
+        Ok(SourceMap::of_parts(heading, tokens, names, sources, contents))
     }
 
     /// The map of these parts, with at most 4294967295 names.

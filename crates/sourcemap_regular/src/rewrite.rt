@@ -31,6 +31,7 @@ impl SourceMap {
         ensures tokens { IfOk result (λ m. SaysLess (removal_of options.now) self m) }
         ensures well_formed { IfOk result (λ m. IsWellFormed self → IsWellFormed m) }
     {
+        let _ = self.sources.len();
         if options.load_local_source_contents {
             return Err(Error::IncompatibleSourceMap);
         }
@@ -63,9 +64,7 @@ impl SourceMap {
         let heading = heading.without_ignored(alloc);
         let sources = Sources::new(sources);
         let contents = Contents::of_list(contents);
-        Ok(SourceMap::of_parts(
-            heading, tokens, names, sources, contents,
-        ))
+        Ok(SourceMap::of_parts(heading, tokens, names, sources, contents))
     }
 }
 
