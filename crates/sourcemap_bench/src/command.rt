@@ -1,3 +1,4 @@
+//! The operations that can be timed, and the words that ask for them.
 ghost use Rattle.std.specs.Prelude.{◌≡◌, ◌≢◌, ◌∷◌, [], List, ℕ, IfSome, IfNone, MatchOption, map, string_bytes};
 ghost use Rattle.sourcemap_bench.specs.Command.{word_of, AskFor};
 

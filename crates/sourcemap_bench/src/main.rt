@@ -1,4 +1,4 @@
-// Repeats one operation on the source map on standard input, so that it can be timed, or writes it.
+//! Repeats one operation on the source map on standard input, so that it can be timed, or writes it.
 #![tactic(auto)]
 
 mod command;

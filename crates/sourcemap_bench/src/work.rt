@@ -1,15 +1,13 @@
 //! The operations that are repeated.
-ghost use Rattle.std.specs.Prelude.{◌≡◌, ℕ, ◌<◌, IfOk, MatchResult, length, min};
-ghost use Rattle.sourcemap.specs.Decoded.{map_value};
-ghost use Rattle.sourcemap.specs.Rewrite.{no_removal, rewritten};
-ghost use Rattle.sourcemap.specs.declared.errors.Error.TheVariants.{OutOfMemory};
+ghost use Rattle.std.specs.Prelude.{◌≡◌, ℕ, ◌<◌, IfOk, length, min};
 ghost use Rattle.sourcemap_bench.specs.Work.{RoundGives, RoundsGive};
 
 use crate::command::Operation;
 use crate::draws::drawn_positions;
 use crate::sums::{lookup_sum, mixed, token_sum};
 use sourcemap::encoder::encode_to;
-use sourcemap::{DecodedMap, Result, RewriteOptions, SourceMap, decode, decode_slice};
+use sourcemap::{Result, SourceMap, decode, decode_slice};
+use sourcemap_commands::regular::{regular_of, rewritten};
 use std::alloc::Global;
 use std::rt::Files;
 
@@ -30,34 +28,20 @@ pub enum Work {
     Rewrite(SourceMap),
 }
 
-fn regular(map: DecodedMap) -> SourceMap
-    ensures { result ≡ map_value map }
-{
-    let DecodedMap::Regular(map) = map;
-    map
-}
-
 /// What an operation works on, of a map's bytes.
 pub fn prepared(alloc: Global, operation: Operation, bytes: Vec<u8>) -> Result<Work> {
     match operation {
         Operation::Decode => Ok(Work::Decode(bytes)),
         Operation::DecodeReader => Ok(Work::DecodeReader(bytes)),
         Operation::Lookup => {
-            let map = regular(decode_slice(alloc, bytes.as_slice())?);
+            let map = regular_of(decode_slice(alloc, bytes.as_slice())?);
             let positions = drawn_positions(alloc, &map)?;
             Ok(Work::Lookup(map, positions))
         }
-        Operation::Tokens => Ok(Work::Tokens(regular(decode_slice(alloc, bytes.as_slice())?))),
-        Operation::Encode => Ok(Work::Encode(regular(decode_slice(alloc, bytes.as_slice())?))),
-        Operation::Rewrite => Ok(Work::Rewrite(regular(decode_slice(alloc, bytes.as_slice())?))),
+        Operation::Tokens => Ok(Work::Tokens(regular_of(decode_slice(alloc, bytes.as_slice())?))),
+        Operation::Encode => Ok(Work::Encode(regular_of(decode_slice(alloc, bytes.as_slice())?))),
+        Operation::Rewrite => Ok(Work::Rewrite(regular_of(decode_slice(alloc, bytes.as_slice())?))),
     }
-}
-
-// The map rewritten with default options.
-fn rewritten<F: Files>(rt: &F, map: SourceMap) -> Result<SourceMap>
-    ensures { MatchResult result (λ m. m ≡ rewritten no_removal map) (λ e. e ≡ OutOfMemory) }
-{
-    map.rewrite(rt, &RewriteOptions::default())
 }
 
 // The sum behind a round.
@@ -66,11 +50,11 @@ fn round<F: Files>(rt: &F, alloc: Global, work: &Work, sum: u32) -> Result<u32>
 {
     match work {
         Work::Decode(bytes) => {
-            let map = regular(decode_slice(alloc, bytes.as_slice())?);
+            let map = regular_of(decode_slice(alloc, bytes.as_slice())?);
             Ok(mixed(sum, map.get_token_count()))
         }
         Work::DecodeReader(bytes) => {
-            let map = regular(decode(alloc, bytes.as_slice())?);
+            let map = regular_of(decode(alloc, bytes.as_slice())?);
             Ok(mixed(sum, map.get_token_count()))
         }
         Work::Lookup(map, positions) => Ok(lookup_sum(map, positions.as_slice(), sum)),

@@ -17,18 +17,3 @@ pub fn write_map<W: Write>(alloc: Global, bytes: &[u8], output: &mut W) -> Resul
     let map = decode_slice(alloc, bytes)?;
     encode_to(alloc, &map, output)
 }
-
-#[cfg(test)]
-mod tests {
-    use super::write_map;
-    use std::test::Fail;
-
-    #[test]
-    fn maps_are_written_without_what_says_nothing(rt: HostRuntime) -> Result<(), Fail> {
-        let mut text = Vec::new(rt.alloc());
-        write_map(rt.alloc(), b"{\"mappings\":\"A,,C\"}", &mut text)?;
-        let want = b"{\"mappings\":\"A,C\",\"names\":[],\"sources\":[],\"version\":3}";
-        assert_eq!(rt; text.as_slice(), want.as_slice());
-        Ok(())
-    }
-}

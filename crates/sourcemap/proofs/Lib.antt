@@ -1,4 +1,0 @@
-pub mod DecoderLemmas
-pub mod DecodedLemmas
-pub mod WrittenLemmas
-pub mod RewriteLemmas

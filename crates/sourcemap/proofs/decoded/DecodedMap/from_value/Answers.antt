@@ -1,7 +1,0 @@
--- A value has one answer.
-use Rattle.serde_json.specs.View.{view}
-use Rattle.sourcemap.proofs.DecoderLemmas.{value_only}
-use Rattle.sourcemap.proofs.decoded.DecodedMap.from_value.Goals as goal
-
-pub returns-clause-only : goal.returns-clause-only
-returns-clause-only c = value_only (view c.args.value.now) c.decode_value.result c.decode_value.ensures.answer

@@ -1,5 +1,0 @@
-use Rattle.sourcemap.proofs.DecoderLemmas.{value_decodes_once, bytes_decode_once}
-use Rattle.sourcemap.proofs.decoder.answers_are_determined.Goals as goal
-
-pub returns : goal.returns
-returns c = record { values = value_decodes_once; bytes = bytes_decode_once }

@@ -1,0 +1,17 @@
+-- What the words of a run ask for.
+use Rattle.std.specs.Prelude.{◌≡◌, ℕ, ◌≤◌, List, [], ◌∷◌, codes}
+use Rattle.std.specs.Str.Parse.{IsNumeral, digits_value}
+use Rattle.sourcemap_commands.specs.declared.command.Command.{Command}
+use Rattle.sourcemap_commands.specs.declared.command.Command.TheVariants.{Lookup, Tokens, Rewrite}
+
+-- a word of one or more digits that is a number of 32 bits
+abbrev pub IsNumber : List ℕ → ℕ → Type 0
+IsNumber word n =
+    IsNumeral 10 word × (digits_value 10 word ≤ 4294967295) × (n ≡ digits_value 10 word)
+
+-- the words that ask for a command
+abbrev pub AskFor : List (List ℕ) → Command → Type 0
+AskFor words (Lookup line col) = (l c : List ℕ)
+    × (words ≡ codes "lookup" ∷ l ∷ c ∷ []) × IsNumber l line × IsNumber c col
+AskFor words Tokens = words ≡ codes "tokens" ∷ []
+AskFor words Rewrite = words ≡ codes "rewrite" ∷ []

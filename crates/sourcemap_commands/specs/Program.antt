@@ -1,0 +1,115 @@
+-- What a run prints, and the status that it ends with.
+use Rattle.std.specs.Prelude.{◌≡◌, ℕ, List, [], ◌∷◌, ◌++◌, codes, flat_map, if◌then◌else◌, Option, Some, None, IfSome, Result, Ok, Err, String, string_bytes, ◌⊎◌}
+use Rattle.std.specs.Fmt.{decimal}
+use Rattle.std.specs.Io.KnownBytes.{Appends}
+use Rattle.sourcemap.specs.Decoded.{IsTextOf}
+use Rattle.sourcemap.specs.Answer.{UnlessMemory}
+use Rattle.sourcemap.specs.Errors.{error_text, FromIo}
+use Rattle.sourcemap.specs.Decoder.{BytesDecode, Reading, UnlessRead}
+use Rattle.sourcemap.specs.Rewrite.{no_removal, rewritten}
+use Rattle.sourcemap.specs.Token.{lookup, token_text, tokens_from, says, TokenValue}
+use Rattle.sourcemap.specs.Types.{MapValue}
+use Rattle.sourcemap.specs.declared.errors.Error.{Error}
+use Rattle.sourcemap.specs.declared.errors.Error.TheVariants.{OutOfMemory}
+use Rattle.std.specs.declared.alloc.Global.{Global}
+use Rattle.std.specs.declared.io.Error.{Error as IoError}
+use Rattle.sourcemap_commands.specs.Command.{AskFor}
+use Rattle.sourcemap_commands.specs.declared.command.Command.{Command}
+use Rattle.sourcemap_commands.specs.declared.command.Command.TheVariants.{Lookup, Tokens, Rewrite}
+
+abbrev pub newline : List ℕ
+newline = 10 ∷ []
+
+abbrev pub usage_text : List ℕ
+usage_text = codes "usage: lookup LINE COL | tokens | rewrite | flatten | compose FILE" ++ newline
+
+-- a token's text, or that there is none
+abbrev pub found_text : Option TokenValue → List ℕ
+found_text (Some token) = token_text (says token)
+found_text None = codes "none"
+
+-- what tells a range token from another
+abbrev pub range_mark : TokenValue → List ℕ
+range_mark t = if t.raw.is_range then codes " range" else []
+
+-- the line of a token: its place in the generated text, its text, and whether it is a range token
+abbrev pub token_line : TokenValue → List ℕ
+token_line t =
+    decimal t.raw.dst_line ++ codes ":" ++ decimal t.raw.dst_col ++ codes " "
+    ++ token_text (says t) ++ range_mark t ++ newline
+
+-- the compact JSON text that a map is written as, and a newline
+abbrev pub IsJsonLine : MapValue → List ℕ → Type 0
+IsJsonLine m text = (json : List ℕ) × IsTextOf m json × (text ≡ json ++ newline)
+
+-- what a command says of a map
+abbrev pub Says : Command → MapValue → List ℕ → Type 0
+Says (Lookup line col) m text = text ≡ found_text (lookup m (line, col)) ++ newline
+Says Tokens m text = text ≡ flat_map token_line (tokens_from m 0)
+Says Rewrite m text = IsJsonLine (rewritten no_removal m) text
+
+-- the line of a refusal; std does not say what its own faults print
+abbrev pub IsRefusal : Error → List ℕ → Type 0
+IsRefusal e text =
+    (line : List ℕ) × IfSome (error_text e) (λ said. line ≡ said) × (text ≡ line ++ newline)
+
+-- how a run ends: with the text that was asked for, with a refusal, or with how to ask
+pub data Ending : Type 0 where
+  answered : List ℕ → Ending
+  refused : Error → Ending
+  misused : Ending
+
+abbrev pub status_of : Ending → ℕ
+status_of (answered _) = 0
+status_of (refused _) = 1
+status_of misused = 2
+
+abbrev pub Prints : Ending → List ℕ → Type 0
+Prints (answered text) printed = printed ≡ text
+Prints (refused e) printed = IsRefusal e printed
+Prints misused printed = printed ≡ usage_text
+
+-- what a command says of the map that bytes stand for, or why they stand for none
+abbrev pub CommandAnswers : Command → List ℕ → Result (List ℕ) Error → Type 0
+CommandAnswers command bytes (Ok text) =
+    (m : MapValue) × BytesDecode bytes (Ok m) × Says command m text
+CommandAnswers command bytes (Err e) = BytesDecode bytes (Err e)
+
+-- words that ask for no command
+abbrev pub AskForNone : List (List ℕ) → Type 0
+AskForNone words = (command : Command) → ¬ AskFor words command
+
+-- how a run of these words on these bytes may end; a read may fail, and memory may run out
+abbrev pub Ends : List (List ℕ) → List ℕ → Ending → Type 0
+Ends words bytes (answered text) =
+    (command : Command) × AskFor words command × CommandAnswers command bytes (Ok text)
+Ends words bytes (refused e) = UnlessMemory e
+    ((command : Command) × AskFor words command × UnlessRead e (CommandAnswers command bytes (Err e)))
+Ends words bytes misused = AskForNone words
+
+-- a run that ended so, with this status, printed what this ending prints
+abbrev pub EndedSo : Ending → ℕ → Option (List ℕ) → Option (List ℕ) → Type 0
+EndedSo ending status old new =
+    (status ≡ status_of ending)
+    × ((printed : List ℕ) × Prints ending printed × Appends old new printed)
+
+-- a refusal was printed, or, where memory ran out for its text, that it did
+abbrev pub PrintsRefusal : Error → Option (List ℕ) → Option (List ℕ) → Type 0
+PrintsRefusal e old new = (said : Error) × ((said ≡ e) ⊎ (said ≡ OutOfMemory))
+    × ((printed : List ℕ) × IsRefusal said printed × Appends old new printed)
+
+-- an answer was printed and the run ended with this status
+abbrev pub IsReported :
+    Result (String Global) Error → ℕ → Option (List ℕ) → Option (List ℕ) → Type 0
+IsReported (Ok text) status old new = (status ≡ 0) × Appends old new (string_bytes text)
+IsReported (Err e) status old new = (status ≡ 1) × PrintsRefusal e old new
+
+-- a fault of a writer
+abbrev pub IsWriteFault : Error → Type 0
+IsWriteFault e = (cause : IoError) × FromIo cause e
+
+-- what a run of these words on a reader's bytes did: a reader that does not tell its bytes has some
+abbrev pub Runs : List (List ℕ) → Option (List ℕ) → ℕ → Option (List ℕ) → Option (List ℕ) → Type 0
+Runs words input status old new =
+    Reading input
+    (λ bytes. (ending : Ending) × Ends words bytes ending × EndedSo ending status old new)

@@ -1,0 +1,74 @@
+//! The commands of the program, and the words that ask for them.
+ghost use Rattle.std.specs.Prelude.{◌≡◌, List, [], ◌∷◌, ℕ, map, string_bytes, MatchOption, MatchResult};
+ghost use Rattle.sourcemap.specs.declared.errors.Error.TheVariants.{OutOfMemory};
+ghost use Rattle.sourcemap_commands.specs.Command.{IsNumber, AskFor};
+
+use sourcemap::Result;
+use std::alloc::Global;
+
+/// What a run is asked for.
+#[derive(Clone, Copy, Debug, PartialEq, Eq)]
+pub enum Command {
+    /// `lookup LINE COL`: the closest token to a line and a column of the generated text.
+    Lookup(u32, u32),
+    /// `tokens`: a line for each token.
+    Tokens,
+    /// `rewrite`: the map rewritten with default options, as JSON text.
+    Rewrite,
+}
+
+// The number that a word of digits is. A sign, which `parse` would take, is none.
+fn number_of(word: &str) -> Option<u32>
+    ensures { MatchOption result ((n : ℕ) → ¬ IsNumber word.now n) (IsNumber word.now) }
+{
+    if word.starts_with('+') {
+        return None;
+    }
+    word.parse().ok()
+}
+
+// The command that a word alone asks for.
+fn lone(word: &str) -> Option<Command>
+    ensures { MatchOption result
+        ((command : _) → ¬ AskFor (word.now ∷ []) command)
+        (AskFor (word.now ∷ [])) }
+{
+    match word {
+        "tokens" => Some(Command::Tokens),
+        "rewrite" => Some(Command::Rewrite),
+        _ => None,
+    }
+}
+
+// The command that a word and two numbers ask for.
+fn placed(verb: &str, line: &str, col: &str) -> Option<Command>
+    ensures { MatchOption result
+        ((command : _) → ¬ AskFor (verb.now ∷ line.now ∷ col.now ∷ []) command)
+        (AskFor (verb.now ∷ line.now ∷ col.now ∷ [])) }
+{
+    if verb != "lookup" {
+        return None;
+    }
+    Some(Command::Lookup(number_of(line)?, number_of(col)?))
+}
+
+/// The command that the words ask for, none for other words. LINE and COL are decimal
+/// digits, at least one, of a number below 2^32. Only want of memory refuses.
+pub fn parse_words(_alloc: Global, words: &[String]) -> Result<Option<Command>>
+    ensures { MatchResult result
+        (λ found. MatchOption found
+        ((command : _) → ¬ AskFor (map string_bytes words.now) command)
+        (AskFor (map string_bytes words.now)))
+        (λ e. e ≡ OutOfMemory) }
+{
+    match words {
+        [word] => Ok(lone(word.as_str())),
+        [verb, line, col] => Ok(placed(verb.as_str(), line.as_str(), col.as_str())),
+        _ => Ok(None),
+    }
+}
+
+// Words ask for one command.
+fn words_are_determined()
+    ensures { (words : List (List ℕ)) (a b : _) → AskFor words a → AskFor words b → a ≡ b }
+{}

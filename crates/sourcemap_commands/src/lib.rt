@@ -1,0 +1,6 @@
+//! What the program does: the words that it is asked with, and what it prints of a map.
+#![tactic(auto)]
+
+pub mod command;
+pub mod program;
+pub mod regular;

@@ -1,0 +1,3 @@
+pub mod DecodeLemmas
+pub mod DecodedMapLemmas
+pub mod WrittenValueLemmas

@@ -1,0 +1,6 @@
+//! Tests of the program's runs, over the calls that it makes. This crate holds nothing else, so that
+//! no proof and no must-fail edit waits for it.
+#![tactic(auto)]
+
+#[cfg(test)]
+mod runs;
