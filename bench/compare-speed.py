@@ -161,10 +161,11 @@ def row(title, pair, unit, scale):
 
 
 def map_table(programs, path, rounds, counted):
-    size = os.path.getsize(path) / 1e3
+    kilobytes = os.path.getsize(path) / 1e3
+    size = f'{kilobytes / 1e3:.1f} MB' if kilobytes >= 100 else f'{kilobytes:.0f} kB'
     tokens = subprocess.run([programs.reference, 'stat'], stdin=open(path), capture_output=True,
                             text=True).stdout.split('\t')[1]
-    print(f'\n`{os.path.basename(path)}`, {f'{size / 1e3:.1f} MB' if size >= 100 else f'{size:.0f} kB'}, {int(tokens):,} tokens:\n')
+    print(f'\n`{os.path.basename(path)}`, {size}, {int(tokens):,} tokens:\n')
     print('| Operation | Here | Reference | Ratio |\n|---|---|---|---|')
     for operation in OPERATIONS:
         print(row(TITLES[operation], programs.times(path, operation, rounds), 'ms', 1e3), flush=True)
