@@ -3,14 +3,15 @@
 
     bench/compare-answers.py REFERENCE MAPS [--positions N]
 
-REFERENCE    a program over the Rust crate. It knows this program's words, and also `stat`,
-             `positions N SEED [wild]`, `batch FILE` and `dst FILE` (an answer for each position of a
-             file; the second with the token's place in the generated text)
+REFERENCE    bench/reference, which is then built, or a program over the Rust crate that knows this program's
+             words, and also `stat`, `positions N SEED [wild]`, `batch FILE` and `dst FILE` (an answer for
+             each position of a file; the second with the token's place in the generated text)
 MAPS         a folder with *.map files, at any depth
 --positions  positions of each map that are looked up (20): half of them beside tokens, half anywhere
 
-The program must be built (./sourcemap does that). Each difference is printed with its reason, or as
-UNEXPLAINED, and then the status is 1. A reason is given only where what was printed bears it out:
+The programs of this repository are built where they are missing; SOURCEMAP_TOOL and SOURCEMAP_BENCH in the
+environment name others in their place. Each difference is printed with its reason, or as UNEXPLAINED, and
+then the status is 1. A reason is given only where what was printed bears it out:
 
 - stable sort, range bits, panic: of records, see `reason_of_record` in comparing.py
 - stable sort: of `tokens`, the same tokens at the same places, in another order among those of one place; of
@@ -25,7 +26,8 @@ UNEXPLAINED, and then the status is 1. A reason is given only where what was pri
   as incompatible; to be taken out of this script once the program reads such maps
 """
 import argparse, json, re, tempfile
-from comparing import TOOL, answer, compare_all, is_reordered, kind_of, noted, reason_of_record
+from comparing import (TOOL, answer, build_missing, compare_all, is_reordered, kind_of, noted, reason_of_record,
+                       reference_program)
 
 WORDS = ['tokens', 'rewrite', 'flatten']
 JSON_FAULT = b'bad json: '
@@ -133,11 +135,13 @@ def main():
     words.add_argument('maps')
     words.add_argument('--positions', type=int, default=20)
     given = words.parse_args()
+    build_missing()
+    reference = reference_program(given.reference)
 
     def compare(name, data):
-        kind = kind_of(given.reference, data)
-        notes = [compare_word(given.reference, word, name, data, kind) for word in WORDS]
-        return notes + list(compare_lookups(given.reference, given.positions, name, data, kind))
+        kind = kind_of(reference, data)
+        notes = [compare_word(reference, word, name, data, kind) for word in WORDS]
+        return notes + list(compare_lookups(reference, given.positions, name, data, kind))
 
     compare_all(given.maps, compare)
 

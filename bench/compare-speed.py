@@ -1,32 +1,41 @@
 #!/usr/bin/env python3
 """Times this library and a reference program side by side, and writes the ratios as Markdown.
 
-    bench/compare-speed.py REFERENCE [MAP..] [--rounds N] [--growth N..] [--instructions]
+    bench/compare-speed.py REFERENCE [MAP..] [--rounds N] [--no-made] [--growth N..] [--instructions]
 
-REFERENCE       a program over the Rust crate, or the folder of its Cargo project, which is then built,
-                from the public registry if it needs one. It knows the words `bench OPERATION N`, `stat`
-                and `--raw lookup LINE COL`.
-MAP             maps to take, as files; without any, those that bench/get-maps.sh gathers
+REFERENCE       bench/reference, which is then built, from the public registry if it needs one; or a program
+                over the Rust crate that knows its words `bench OPERATION N`, `stat`, and `slice` and
+                `stream` before `lookup LINE COL` and `rewrite`
+MAP             maps to take, as files; without any, those that bench/get-maps.sh gathers, and small and odd
+                ones that bench/make-map.py makes
 --rounds        rounds of each figure, of which the least counts (7)
+--no-made       no small and odd maps
 --growth        tokens of the smallest of four made maps, each with twice the tokens of the one before;
                 a table for each such number (75000 250000), and none for 0
 --instructions  counts instructions with valgrind too, which is slow
 
-The two programs of this repository are built where they are missing.
+The two programs of this repository are built where they are missing. SOURCEMAP_TOOL and SOURCEMAP_BENCH in
+the environment name others in their place.
 
 An operation's time is that of a process that repeats it often, less that of one that does it once, by the
 number of repetitions between: so process start, the reading of the map, its first decoding and the drawing
 of positions fall out. The two programs take turns within a round; of each figure the least of the rounds
 counts, in processor time (user and system). Memory is the most that a process held, in one run.
-"""
-import argparse, os, pathlib, shutil, subprocess, sys, tempfile
 
-HERE = pathlib.Path(__file__).resolve().parent.parent
-BENCH = HERE / 'crates/sourcemap_bench/out/sourcemap_bench'
-TOOL = HERE / 'crates/sourcemap_tool/out/sourcemap_tool'
+The reference is taken at its strongest: its time is that of `slice`, which reads all input before it decodes
+it, and its memory is that of `stream`, which holds no more of the input than it decodes at a time. A checksum
+that the two programs do not share is told on standard error, and the status is then 1.
+"""
+import argparse, os, shutil, subprocess, sys, tempfile
+from comparing import BENCH, CRATES, TOOL, build_missing, reference_program
+
+SCRIPTS = CRATES.parent / 'bench'
 OPERATIONS = ['decode', 'decode-reader', 'lookup', 'tokens', 'encode', 'rewrite']
 TITLES = {'decode': 'decode a slice', 'decode-reader': 'decode a reader', 'lookup': '1,000,000 lookups',
           'tokens': 'all tokens', 'encode': 'encode', 'rewrite': 'copy and rewrite'}
+RUNS = (['lookup', '3', '100'], ['rewrite'])
+MADE = {'300-tokens': ['300'], '1000-tokens': ['1000'], '5000-tokens': ['5000'], '20000-tokens': ['20000'],
+        'short-lines': ['500000', '--line', '5'], 'contents': ['20000', '--contents', '10000000']}
 
 
 def run(command, path):
@@ -63,26 +72,33 @@ def instructions(command, path):
 
 
 def repetitions(path, operation):
-    """So many that a run takes some tenths of a second at least."""
+    """So many that most runs take some tenths of a second at least."""
+    size = os.path.getsize(path)
     if operation == 'lookup':
         return 2
     if operation == 'tokens':
-        return 100
-    return min(200, max(3, 30_000_000 // os.path.getsize(path)))
+        return max(100, 300_000_000 // size)
+    return max(3, 30_000_000 // size)
 
 
 class Pair:
-    """Both programs."""
+    """Both programs, and whether a checksum differed."""
 
     def __init__(self, reference):
-        self.commands = {'here': lambda op, n: [str(BENCH), op, str(n)],
+        self.commands = {'here': lambda op, n: [BENCH, op, str(n)],
                          'reference': lambda op, n: [reference, 'bench', op, str(n)]}
         self.reference = reference
+        self.is_different = False
+
+    def compare_sums(self, path, operation, sums):
+        if len(sums) > 1:
+            self.is_different = True
+            print(f'{path}, {operation}: the checksums differ, {sorted(sums)}', file=sys.stderr, flush=True)
 
     def times(self, path, operation, rounds):
         """Seconds of one operation, here and there; None where a program refuses."""
         more = repetitions(path, operation)
-        least = {}
+        least, sums = {}, set()
         for _ in range(rounds):
             for name, command in self.commands.items():
                 for n in (1, 1 + more):
@@ -90,6 +106,8 @@ class Pair:
                     if told is None:
                         return None
                     least[name, n] = min(least.get((name, n), told[0]), told[0])
+                    sums.add((n, told[1]))
+        self.compare_sums(path, operation, {text for n, text in sums if n > 1})
         return tuple((least[name, 1 + more] - least[name, 1]) / more for name in self.commands)
 
     def counts(self, path, operation):
@@ -101,7 +119,7 @@ class Pair:
         """Seconds of a whole run."""
         least = [9e9, 9e9]
         for _ in range(rounds):
-            for i, command in enumerate(([str(TOOL), *words], [self.reference, '--raw', *words])):
+            for i, command in enumerate(([TOOL, *words], [self.reference, 'slice', *words])):
                 told = run(command, path)
                 if told is None:
                     return None
@@ -109,58 +127,49 @@ class Pair:
         return tuple(least)
 
     def memory(self, path, words):
-        if run([str(TOOL), *words], path) is None:
+        """MB of a whole run."""
+        commands = [TOOL, *words], [self.reference, 'stream', *words]
+        if None in [run(command, path) for command in commands]:
             return None
-        return peak([str(TOOL), *words], path), peak([self.reference, '--raw', *words], path)
-
-
-def reference_program(given):
-    if not os.path.isdir(given):
-        return given
-    build = ['cargo', 'build', '--release']
-    if subprocess.run([*build, '--offline'], cwd=given, stdout=sys.stderr).returncode != 0:
-        subprocess.run(build, cwd=given, check=True, stdout=sys.stderr)
-    built = [p for p in pathlib.Path(given, 'target/release').iterdir()
-             if p.is_file() and os.access(p, os.X_OK) and p.suffix == '']
-    return str(built[0])
-
-
-def build_missing():
-    for program in (TOOL, BENCH):
-        if not program.exists():
-            subprocess.run(['rt', 'run'], cwd=program.parent.parent, stdin=subprocess.DEVNULL, stdout=sys.stderr)
-        if not program.exists():
-            sys.exit(f'{program} could not be built')
+        return tuple(peak(command, path) for command in commands)
 
 
 def gathered_maps(folder):
-    subprocess.run([HERE / 'bench/get-maps.sh', folder], check=True)
-    return sorted(map(str, pathlib.Path(folder, 'maps').iterdir()), key=os.path.getsize)
+    subprocess.run([SCRIPTS / 'get-maps.sh', folder], check=True)
+    maps = os.path.join(folder, 'maps')
+    return sorted((os.path.join(maps, name) for name in os.listdir(maps)), key=os.path.getsize)
 
 
-def made_map(tokens, folder):
-    path = os.path.join(folder, f'made-{tokens}.map')
+def made_map(words, folder, name):
+    path = os.path.join(folder, f'{name}.map')
     with open(path, 'w') as sink:
-        subprocess.run([sys.executable, HERE / 'bench/make-map.py', str(tokens)], stdout=sink, check=True)
+        subprocess.run([sys.executable, SCRIPTS / 'make-map.py', *words], stdout=sink, check=True)
     return path
+
+
+def shown(figure):
+    """A figure with three digits that count, or more before the point."""
+    places = next((n for n, least in enumerate((100, 10, 1, 0.1)) if figure >= least), 4)
+    return f'{figure:.{places}f}'
 
 
 def row(title, pair, unit, scale):
     if pair is None:
         return f'| {title} | | | not there |'
     here, there = pair
-    return f'| {title} | {here * scale:.1f} {unit} | {there * scale:.1f} {unit} | {here / there:.2f} |'
+    return f'| {title} | {shown(here * scale)} {unit} | {shown(there * scale)} {unit} | {here / there:.2f} |'
 
 
 def map_table(programs, path, rounds, counted):
-    size = os.path.getsize(path) / 1e6
+    kilobytes = os.path.getsize(path) / 1e3
+    size = f'{kilobytes / 1e3:.1f} MB' if kilobytes >= 100 else f'{kilobytes:.0f} kB'
     tokens = subprocess.run([programs.reference, 'stat'], stdin=open(path), capture_output=True,
                             text=True).stdout.split('\t')[1]
-    print(f'\n`{os.path.basename(path)}`, {size:.1f} MB, {int(tokens):,} tokens:\n')
+    print(f'\n`{os.path.basename(path)}`, {size}, {int(tokens):,} tokens:\n')
     print('| Operation | Here | Reference | Ratio |\n|---|---|---|---|')
     for operation in OPERATIONS:
         print(row(TITLES[operation], programs.times(path, operation, rounds), 'ms', 1e3), flush=True)
-    for words in (['lookup', '3', '100'], ['rewrite']):
+    for words in RUNS:
         print(row('run of `' + ' '.join(words) + '`', programs.whole(path, words, rounds), 'ms', 1e3), flush=True)
         print(row('its most memory', programs.memory(path, words), 'MB', 1), flush=True)
     if counted:
@@ -173,24 +182,24 @@ def growth_row(title, programs, figures):
     if None in figures:
         return
     for i, name in enumerate(programs.commands):
-        shown = ' | '.join(f'{f[i] / figures[0][i]:.2f}' for f in figures[1:])
-        print(f'| {title} | {name} | {figures[0][i] * 1e3:.1f} ms | {shown} |', flush=True)
+        growth = ' | '.join(f'{f[i] / figures[0][i]:.2f}' for f in figures[1:])
+        print(f'| {title} | {name} | {shown(figures[0][i] * 1e3)} ms | {growth} |', flush=True)
 
 
 def growth_table(programs, smallest, rounds):
     print(f'\nGrowth, on made maps: the figure on 2, 4 and 8 times the tokens, by that on a map of {smallest:,} tokens.\n')
     print('| Operation | Program | 1 | 2 | 4 | 8 |\n|---|---|---|---|---|---|')
     with tempfile.TemporaryDirectory() as folder:
-        paths = [made_map(smallest * k, folder) for k in (1, 2, 4, 8)]
+        paths = [made_map([str(smallest * k)], folder, smallest * k) for k in (1, 2, 4, 8)]
         for operation in OPERATIONS:
             if operation not in ('lookup', 'tokens'):
                 growth_row(TITLES[operation], programs, [programs.times(path, operation, rounds) for path in paths])
-        for words in (['lookup', '3', '100'], ['rewrite']):
+        for words in RUNS:
             growth_row('run of `' + ' '.join(words) + '`', programs, [programs.whole(path, words, rounds) for path in paths])
-        for i, program in enumerate(([str(TOOL)], [programs.reference, '--raw'])):
-            figures = [peak([*program, 'lookup', '3', '100'], path) for path in paths]
-            shown = ' | '.join(f'{f / figures[0]:.2f}' for f in figures[1:])
-            print(f'| most memory | {list(programs.commands)[i]} | {figures[0]:.1f} MB | {shown} |', flush=True)
+        figures = [programs.memory(path, RUNS[0]) for path in paths]
+        for i, name in enumerate(programs.commands):
+            growth = ' | '.join(f'{f[i] / figures[0][i]:.2f}' for f in figures[1:])
+            print(f'| most memory | {name} | {shown(figures[0][i])} MB | {growth} |', flush=True)
 
 
 def main():
@@ -198,17 +207,22 @@ def main():
     words.add_argument('reference')
     words.add_argument('maps', nargs='*')
     words.add_argument('--rounds', type=int, default=7)
+    words.add_argument('--no-made', action='store_true')
     words.add_argument('--growth', type=int, nargs='+', default=[75000, 250000])
     words.add_argument('--instructions', action='store_true')
     given = words.parse_args()
     build_missing()
     programs = Pair(reference_program(given.reference))
     with tempfile.TemporaryDirectory() as folder:
-        for path in given.maps or gathered_maps(folder):
+        paths = given.maps or gathered_maps(folder)
+        if not given.no_made:
+            paths += [made_map(made, folder, name) for name, made in MADE.items()]
+        for path in paths:
             map_table(programs, path, given.rounds, given.instructions)
     for smallest in given.growth:
         if smallest:
             growth_table(programs, smallest, given.rounds)
+    sys.exit(1 if programs.is_different else 0)
 
 
 main()

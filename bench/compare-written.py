@@ -4,15 +4,15 @@ regular map below a folder.
 
     bench/compare-written.py REFERENCE MAPS
 
-REFERENCE    a program over the Rust crate, which knows `stat`, this program's word `tokens`, and
-             `roundtrip`, which writes a map as it is
+REFERENCE    bench/reference, which is then built, or a program over the Rust crate that knows `stat`, this
+             program's word `tokens`, and `roundtrip`, which writes a map as it is
 MAPS         a folder with *.map files, at any depth
 
-Both programs must be built (./sourcemap does that for one; `rt run` in crates/sourcemap_bench for the
-other). Each map that the reference calls regular is written by `sourcemap_bench write`. The reference's
-`tokens` of that text must be its `tokens` of the map, and its own record of the map must be that text. Each
-difference is printed with its reason, or as UNEXPLAINED, and then the status is 1. A reason is given only
-where what was printed bears it out. Of tokens:
+The programs of this repository are built where they are missing; SOURCEMAP_TOOL and SOURCEMAP_BENCH in the
+environment name others in their place. Each map that the reference calls regular is written by
+`sourcemap_bench write`. The reference's `tokens` of that text must be its `tokens` of the map, and its own
+record of the map must be that text. Each difference is printed with its reason, or as UNEXPLAINED, and then
+the status is 1. A reason is given only where what was printed bears it out. Of tokens:
 
 - repeats: the same tokens, but that those which repeat the one before are left out
 - stable sort: the reference reads the map's own tokens in another order among those of one place, and the
@@ -22,8 +22,8 @@ where what was printed bears it out. Of tokens:
 Of records those of `reason_of_record` in comparing.py.
 """
 import argparse
-from comparing import (BENCH, answer, compare_all, is_reordered, kind_of, noted, reads_back, reason_of_record,
-                       tokens_here, without_marks, without_repeats)
+from comparing import (BENCH, answer, build_missing, compare_all, is_reordered, kind_of, noted, reads_back,
+                       reason_of_record, reference_program, tokens_here, without_marks, without_repeats)
 
 
 def reason_of_tokens(data, written, back, whole):
@@ -44,13 +44,15 @@ def main():
     words.add_argument('reference')
     words.add_argument('maps')
     given = words.parse_args()
+    build_missing()
+    reference = reference_program(given.reference)
 
     def compare(name, data):
-        if kind_of(given.reference, data) != 'regular':
+        if kind_of(reference, data) != 'regular':
             return []
         written = answer([BENCH, 'write'], data)
-        back, whole = (answer([given.reference, 'tokens'], text) for text in (written[1], data))
-        here, there = (written[0], written[1] + b'\n'), answer([given.reference, 'roundtrip'], data)
+        back, whole = (answer([reference, 'tokens'], text) for text in (written[1], data))
+        here, there = (written[0], written[1] + b'\n'), answer([reference, 'roundtrip'], data)
         return [noted(f'{name}, tokens', back, whole, lambda: reason_of_tokens(data, written, back, whole)),
                 noted(f'{name}, record', here, there, lambda: reason_of_record(data, here, there))]
 

@@ -1,9 +1,10 @@
-"""What the comparing scripts share: running programs, telling lists of tokens apart, and counting."""
-import collections, concurrent.futures, json, pathlib, subprocess, sys
+"""What the scripts share: the two programs of this repository, running programs, telling lists of tokens
+apart, and counting."""
+import collections, concurrent.futures, json, os, pathlib, subprocess, sys
 
 CRATES = pathlib.Path(__file__).resolve().parent.parent / 'crates'
-TOOL = str(CRATES / 'sourcemap_tool/out/sourcemap_tool')
-BENCH = str(CRATES / 'sourcemap_bench/out/sourcemap_bench')
+TOOL = os.environ.get('SOURCEMAP_TOOL', str(CRATES / 'sourcemap_tool/out/sourcemap_tool'))
+BENCH = os.environ.get('SOURCEMAP_BENCH', str(CRATES / 'sourcemap_bench/out/sourcemap_bench'))
 MAPS_AT_ONCE = 3
 MARK = b' range'
 
@@ -14,6 +15,28 @@ def answer(command, data):
     """The status of a program that is given these bytes, and what it prints."""
     told = subprocess.run(command, input=data, stdout=subprocess.PIPE, stderr=subprocess.DEVNULL)
     return told.returncode, told.stdout
+
+
+def build_missing():
+    """Proves and builds those of this repository's programs that are not there."""
+    for program in map(pathlib.Path, (TOOL, BENCH)):
+        if not program.exists():
+            print(f'{program} is not there: it is proved and built first', file=sys.stderr, flush=True)
+            subprocess.run(['rt', 'run'], cwd=program.parent.parent, stdin=subprocess.DEVNULL, stdout=sys.stderr)
+        if not program.exists():
+            sys.exit(f'{program} could not be built')
+
+
+def reference_program(given):
+    """The path of a reference program, which is built where the folder of its Cargo project is given."""
+    if not os.path.isdir(given):
+        return given
+    build = ['cargo', 'build', '--release']
+    if subprocess.run([*build, '--offline'], cwd=given, stdout=sys.stderr, stderr=subprocess.DEVNULL).returncode != 0:
+        subprocess.run(build, cwd=given, check=True, stdout=sys.stderr)
+    built = [p for p in pathlib.Path(given, 'target/release').iterdir()
+             if p.is_file() and os.access(p, os.X_OK) and p.suffix == '']
+    return str(built[0])
 
 
 def kind_of(reference, data):

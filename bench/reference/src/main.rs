@@ -1,0 +1,267 @@
+//! Answers, by the crate `sourcemap`, the words that the scripts in bench/ ask with.
+
+mod draws;
+mod repeat;
+
+use draws::Draws;
+use repeat::Operation;
+use serde_json::Value;
+use sourcemap::{
+    decode, decode_slice, DecodedMap, Error, Result, RewriteOptions, SourceMap, SourceMapHermes,
+    Token,
+};
+use std::fs::{self, File};
+use std::io::{self, BufWriter, Read, Write};
+use std::ops::Deref;
+use std::os::fd::AsFd;
+use std::process::ExitCode;
+
+const USAGE: &str = "usage, with a map on standard input: [slice | stream] (lookup LINE COL | tokens | rewrite)
+    | flatten | roundtrip | stat | batch FILE | dst FILE | positions N SEED [wild] | bench OPERATION N
+OPERATION: decode | decode-reader | lookup | tokens | encode | rewrite
+";
+
+/// How the map is read, and how JSON text is printed.
+#[derive(Clone, Copy, PartialEq)]
+enum Form {
+    /// Read as it is decoded. JSON texts have their keys in order, so that they can be compared.
+    Compared,
+    /// Read whole, then decoded; JSON text as the crate writes it. This takes the least time.
+    Slice,
+    /// Read as it is decoded; JSON text as the crate writes it. This takes the least memory.
+    Stream,
+}
+
+type Output = BufWriter<File>;
+
+fn input() -> io::Result<File> {
+    Ok(File::from(io::stdin().as_fd().try_clone_to_owned()?))
+}
+
+fn output() -> io::Result<Output> {
+    let file = File::from(io::stdout().as_fd().try_clone_to_owned()?);
+    Ok(BufWriter::with_capacity(1 << 16, file))
+}
+
+fn bytes() -> io::Result<Vec<u8>> {
+    let mut bytes = Vec::new();
+    input()?.read_to_end(&mut bytes)?;
+    Ok(bytes)
+}
+
+fn decoded(form: Form) -> Result<DecodedMap> {
+    match form {
+        Form::Slice => decode_slice(&bytes()?),
+        Form::Stream | Form::Compared => decode(input()?),
+    }
+}
+
+/// A map that is no index of others.
+enum Single {
+    Regular(SourceMap),
+    Hermes(SourceMapHermes),
+}
+
+impl Deref for Single {
+    type Target = SourceMap;
+
+    fn deref(&self) -> &SourceMap {
+        match self {
+            Single::Regular(map) => map,
+            Single::Hermes(map) => map,
+        }
+    }
+}
+
+fn single(map: DecodedMap) -> Result<Single> {
+    match map {
+        DecodedMap::Regular(map) => Ok(Single::Regular(map)),
+        DecodedMap::Hermes(map) => Ok(Single::Hermes(map)),
+        DecodedMap::Index(_) => Err(Error::IncompatibleSourceMap),
+    }
+}
+
+/// A map of any kind as one list of tokens.
+fn flat(map: DecodedMap) -> Result<Single> {
+    match map {
+        DecodedMap::Index(index) => Ok(Single::Regular(index.flatten()?)),
+        other => single(other),
+    }
+}
+
+fn regular(map: DecodedMap) -> Result<SourceMap> {
+    match map {
+        DecodedMap::Regular(map) => Ok(map),
+        _ => Err(Error::IncompatibleSourceMap),
+    }
+}
+
+fn write_json(map: &DecodedMap, form: Form, output: &mut Output) -> Result<()> {
+    if form == Form::Compared {
+        let mut text = Vec::new();
+        map.to_writer(&mut text)?;
+        let value: Value = serde_json::from_slice(&text)?;
+        serde_json::to_writer(&mut *output, &value)?;
+    } else {
+        map.to_writer(&mut *output)?;
+    }
+    Ok(writeln!(output)?)
+}
+
+fn write_tokens(map: &SourceMap, output: &mut Output) -> io::Result<()> {
+    for token in map.tokens() {
+        let mark = if token.is_range() { " range" } else { "" };
+        writeln!(
+            output,
+            "{}:{} {token}{mark}",
+            token.get_dst_line(),
+            token.get_dst_col()
+        )?;
+    }
+    Ok(())
+}
+
+/// A line of an answer to a lookup, with the token's place in the generated text if that is asked.
+fn write_answer(token: Option<Token<'_>>, is_placed: bool, output: &mut Output) -> io::Result<()> {
+    match token {
+        Some(token) if is_placed => writeln!(output, "{token:#}"),
+        Some(token) => writeln!(output, "{token}"),
+        None => writeln!(output, "none"),
+    }
+}
+
+fn write_answers(
+    map: &DecodedMap,
+    positions: &str,
+    is_placed: bool,
+    output: &mut Output,
+) -> Result<()> {
+    for position in positions.lines() {
+        let (line, column) = position.split_once(' ').unwrap_or_default();
+        match (line.parse(), column.parse()) {
+            (Ok(line), Ok(column)) => {
+                write_answer(map.lookup_token(line, column), is_placed, output)?
+            }
+            _ => return Err(io::Error::other(format!("no position: {position}")).into()),
+        }
+    }
+    Ok(())
+}
+
+fn write_positions(
+    map: &SourceMap,
+    mut draws: Draws,
+    count: u32,
+    is_wild: bool,
+    output: &mut Output,
+) -> io::Result<()> {
+    for _ in 0..count {
+        let (line, column) = if is_wild {
+            draws.anywhere(map)
+        } else {
+            draws.beside_token(map)
+        };
+        writeln!(output, "{line} {column}")?;
+    }
+    Ok(())
+}
+
+fn write_stat(map: DecodedMap, output: &mut Output) -> io::Result<()> {
+    let kind = match &map {
+        DecodedMap::Regular(_) => "regular",
+        DecodedMap::Index(_) => "index",
+        DecodedMap::Hermes(_) => "hermes",
+    };
+    let count = flat(map).map_or(0, |map| map.get_token_count());
+    writeln!(output, "{kind}\t{count}")
+}
+
+fn rewritten(map: Single) -> Result<DecodedMap> {
+    let options = RewriteOptions::default();
+    Ok(match map {
+        Single::Regular(map) => DecodedMap::Regular(map.rewrite(&options)?),
+        Single::Hermes(map) => DecodedMap::Hermes(map.rewrite(&options)?),
+    })
+}
+
+fn flattened(map: DecodedMap) -> Result<DecodedMap> {
+    match map {
+        DecodedMap::Index(index) => Ok(DecodedMap::Regular(index.flatten()?)),
+        _ => Err(Error::IncompatibleSourceMap),
+    }
+}
+
+/// Writes what the words ask for. None if they ask for nothing.
+fn answer(form: Form, words: &[&str], output: &mut Output) -> Option<Result<()>> {
+    let map = || decoded(form);
+    Some(match *words {
+        ["lookup", line, column] => {
+            let (line, column) = (line.parse().ok()?, column.parse().ok()?);
+            map().and_then(|map| Ok(write_answer(map.lookup_token(line, column), false, output)?))
+        }
+        ["tokens"] => map()
+            .and_then(single)
+            .and_then(|map| Ok(write_tokens(&map, output)?)),
+        ["rewrite"] => map()
+            .and_then(single)
+            .and_then(rewritten)
+            .and_then(|map| write_json(&map, form, output)),
+        _ if form != Form::Compared => return None,
+        ["flatten"] => map()
+            .and_then(flattened)
+            .and_then(|map| write_json(&map, form, output)),
+        ["roundtrip"] => map().and_then(|map| write_json(&map, form, output)),
+        ["stat"] => map().and_then(|map| Ok(write_stat(map, output)?)),
+        ["batch", file] => {
+            map().and_then(|map| write_answers(&map, &fs::read_to_string(file)?, false, output))
+        }
+        ["dst", file] => {
+            map().and_then(|map| write_answers(&map, &fs::read_to_string(file)?, true, output))
+        }
+        ["positions", count, seed, ref wild @ ..] if wild.is_empty() || wild == ["wild"] => {
+            let (count, seed) = (count.parse().ok()?, seed.parse().ok()?);
+            let draws = Draws::seeded(seed);
+            map().and_then(flat).and_then(|map| {
+                Ok(write_positions(
+                    &map,
+                    draws,
+                    count,
+                    !wild.is_empty(),
+                    output,
+                )?)
+            })
+        }
+        ["bench", operation, rounds] => {
+            let (operation, rounds) = (Operation::named(operation)?, rounds.parse().ok()?);
+            let sum = bytes()
+                .map_err(Error::from)
+                .and_then(|bytes| operation.repeated(&bytes, rounds));
+            sum.and_then(|sum| Ok(writeln!(output, "{sum}")?))
+        }
+        _ => return None,
+    })
+}
+
+fn main() -> io::Result<ExitCode> {
+    let words: Vec<String> = std::env::args().skip(1).collect();
+    let words: Vec<&str> = words.iter().map(String::as_str).collect();
+    let (form, rest) = match words.as_slice() {
+        ["slice", rest @ ..] => (Form::Slice, rest),
+        ["stream", rest @ ..] => (Form::Stream, rest),
+        rest => (Form::Compared, rest),
+    };
+    let mut output = output()?;
+    let status = match answer(form, rest, &mut output) {
+        Some(Ok(())) => 0,
+        Some(Err(error)) => {
+            writeln!(output, "{error}")?;
+            1
+        }
+        None => {
+            output.write_all(USAGE.as_bytes())?;
+            2
+        }
+    };
+    output.flush()?;
+    Ok(ExitCode::from(status))
+}

@@ -1,0 +1,106 @@
+//! Operations that are repeated so that they can be timed, and the checksums of what they gave.
+
+use crate::draws::Draws;
+use crate::regular;
+use sourcemap::{decode, decode_slice, Result, RewriteOptions, SourceMap, Token};
+
+const POSITIONS: usize = 1_000_000;
+
+#[derive(Clone, Copy)]
+pub enum Operation {
+    Decode,
+    DecodeReader,
+    Lookup,
+    Tokens,
+    Encode,
+    Rewrite,
+}
+
+fn mixed(sum: u32, number: u32) -> u32 {
+    sum.wrapping_mul(31).wrapping_add(number)
+}
+
+/// The number of an answer: 0 for none and for a token without a source.
+fn worth(token: Option<Token<'_>>) -> u32 {
+    match token {
+        Some(token) if token.has_source() => token
+            .get_src_line()
+            .wrapping_add(token.get_src_col().wrapping_mul(7))
+            .wrapping_add(1),
+        _ => 0,
+    }
+}
+
+fn length(text: &[u8]) -> u32 {
+    u32::try_from(text.len()).unwrap_or(u32::MAX)
+}
+
+fn drawn_positions(map: &SourceMap) -> Vec<(u32, u32)> {
+    let mut draws = Draws::seeded(1);
+    (0..POSITIONS).map(|_| draws.beside_token(map)).collect()
+}
+
+/// The sum of so many rounds, each of which takes the sum so far.
+fn rounds(count: u32, mut round: impl FnMut(u32) -> Result<u32>) -> Result<u32> {
+    (0..count).try_fold(0, |sum, _| round(sum))
+}
+
+impl Operation {
+    pub fn named(word: &str) -> Option<Operation> {
+        Some(match word {
+            "decode" => Operation::Decode,
+            "decode-reader" => Operation::DecodeReader,
+            "lookup" => Operation::Lookup,
+            "tokens" => Operation::Tokens,
+            "encode" => Operation::Encode,
+            "rewrite" => Operation::Rewrite,
+            _ => return None,
+        })
+    }
+
+    /// The checksum of so many rounds on the map in these bytes.
+    pub fn repeated(self, bytes: &[u8], count: u32) -> Result<u32> {
+        let map = || decode_slice(bytes).and_then(regular);
+        match self {
+            Operation::Decode => rounds(count, |sum| Ok(mixed(sum, map()?.get_token_count()))),
+            Operation::DecodeReader => rounds(count, |sum| {
+                let map = decode(bytes).and_then(regular)?;
+                Ok(mixed(sum, map.get_token_count()))
+            }),
+            Operation::Lookup => {
+                let map = map()?;
+                let positions = drawn_positions(&map);
+                rounds(count, |sum| {
+                    let answers = positions
+                        .iter()
+                        .map(|&(line, column)| worth(map.lookup_token(line, column)));
+                    Ok(answers.fold(sum, mixed))
+                })
+            }
+            Operation::Tokens => {
+                let map = map()?;
+                rounds(count, |sum| {
+                    Ok(map
+                        .tokens()
+                        .map(|token| worth(Some(token)))
+                        .fold(sum, mixed))
+                })
+            }
+            Operation::Encode => {
+                let map = map()?;
+                rounds(count, |sum| {
+                    let mut text = Vec::new();
+                    map.to_writer(&mut text)?;
+                    Ok(mixed(sum, length(&text)))
+                })
+            }
+            Operation::Rewrite => {
+                let map = map()?;
+                rounds(count, |sum| {
+                    let new = map.clone().rewrite(&RewriteOptions::default())?;
+                    Ok(mixed(sum, new.get_source_count()))
+                })
+            }
+        }
+    }
+}

@@ -1,0 +1,140 @@
+#!/usr/bin/env python3
+"""Tries the rows of docs/DIFFERENCES.md: runs both programs on the smallest input of each.
+
+    bench/try-differences.py REFERENCE
+
+REFERENCE    bench/reference, which is then built, or a program over the Rust crate that knows the words
+             `lookup`, `tokens`, `rewrite` and `stream rewrite`, and `roundtrip`, which writes a map as it is
+
+The programs of this repository are built where they are missing; SOURCEMAP_TOOL and SOURCEMAP_BENCH in the
+environment name others in their place. A row of the document whose last column names a word has a trial
+below, under the text of its first column; `none` there says that the row has no trial. A row that is not as
+it is told, a row without its trial and a trial without its row are printed, and then the status is 1.
+"""
+import argparse, collections, json, os, pty, subprocess, sys, tty
+from comparing import BENCH, CRATES, TOOL, build_missing, is_reordered, reference_program
+
+DOCUMENT = CRATES.parent / 'docs/DIFFERENCES.md'
+
+# What is asked with which input, and of each answer its status and a text that is in it.
+Trial = collections.namedtuple('Trial', 'word data here there')
+
+
+def record(mappings, **more):
+    return json.dumps({'version': 3, 'sources': ['a.js'], 'names': [], **more, 'mappings': mappings}).encode()
+
+
+def fails_behind(data):
+    """A reader that gives these bytes and then fails: a terminal that was hung up."""
+    ours, theirs = pty.openpty()
+    tty.setraw(theirs)
+    os.write(theirs, data)
+    os.close(theirs)
+    return ours
+
+
+PARTLY_READ = 'a JSON text of which a failing reader gave a part, as `{"version":3`'
+SORTED = 'a line of more than 32 segments, out of order, some at one column, as `CAAA` and then `DAAC,CAAC` 16 times'
+TRIALS = {
+    'segment `A!`': Trial(
+        'tokens', record('A!'), (1, 'invalid base64 character: !'), (1, 'leftover cur/shift')),
+    'segment of twelve `g`, then `I`': Trial(
+        'tokens', record('g' * 12 + 'I'), (1, 'vlq decode caused an overflow'), (0, '0:0 ')),
+    SORTED: Trial(
+        'tokens', record('CAAA' + ',DAAC,CAAC' * 16), (0, '0:1 a.js:0:0\n0:1 a.js:0:2\n0:1 a.js:0:4'), (0, is_reordered)),
+    PARTLY_READ: Trial(
+        'tokens', lambda: fails_behind(b'{"version":3'), (1, 'Input/output error'), (1, 'bad json: Input/output error')),
+    '`)]}x\\rA` as header': Trial(
+        'tokens', b')]}x\rA', (1, 'invalid data'), (1, 'bad json: expected newline')),
+    '`{"names":[1.5,-0,1e2,18446744073709551616],"mappings":""}`': Trial(
+        'write', b'{"names":[1.5,-0,1e2,18446744073709551616],"mappings":""}',
+        (0, '"names":["","","",""]'), (0, '"names":["1.5","-0.0","100.0","1.8446744073709552e19"]')),
+    '`{"version":3,"version":3,"mappings":""}`': Trial(
+        'rewrite', b'{"version":3,"version":3,"mappings":""}', (0, '"version":3'), (1, 'duplicate field')),
+    '`{"sections":[[[0,0],null,null]]}`': Trial(
+        'lookup 0 0', b'{"sections":[[[0,0],null,null]]}', (1, 'bad json: a field has the wrong type'), (0, 'none')),
+    '`{"debugId":"0123456789abcdef0123456789abcdef1","mappings":""}`': Trial(
+        'rewrite', b'{"debugId":"0123456789abcdef0123456789abcdef1","mappings":""}',
+        (1, 'bad json: a field has the wrong type'), (0, '"debugId":"01234567-89ab-cdef-0123-456789abcdef-1"')),
+    'JSON faults, as that of `{`': Trial(
+        'tokens', b'{', (1, 'bad json: the text is not JSON'), (1, 'bad json: EOF while parsing an object')),
+    '`{"version":"x"`': Trial(
+        'tokens', b'{"version":"x"', (1, 'bad json: the text is not JSON'), (1, 'bad json: invalid type: string "x"')),
+    'source `a.js`, mappings `AAAO`, range bits `B`, position (3,5)': Trial(
+        'lookup 3 5', record('AAAO', rangeMappings='B'), (0, 'a.js:0:7\n'), (0, 'a.js:0:12\n')),
+    'source `a.js`, mappings `KAAO`, range bits `B`, position (3,0)': Trial(
+        'lookup 3 0', record('KAAO', rangeMappings='B'), (0, 'a.js:0:7\n'), (0, 'a.js:0:4294967295\n')),
+    'a plain token at (0,0), a range token at (1,0)': Trial(
+        'write', record('A;A', rangeMappings=';B'), (0, '"rangeMappings":";B"'), (0, '"rangeMappings":"C;"')),
+    'a token twice, then a range token': Trial(
+        'write', record('A,A,C', rangeMappings='E'), (0, '"rangeMappings":"C"'), (0, '"rangeMappings":"E"')),
+    'sixteen plain tokens and then a range token in one line': Trial(
+        'write', record('A' + ',C' * 16, rangeMappings='AAQ'), (0, '"rangeMappings":"AAQ"'), (101, '')),
+    'JSON keys': Trial(
+        'rewrite', record('AAAA'), (0, '{"mappings":"AAAA","names":[],"sources":["a.js"],"version":3}\n'),
+        (0, '{"version":3,"sources":["a.js"],"names":[],"mappings":"AAAA"}\n')),
+}
+
+
+def rows():
+    """The first and the last column of each row of the tables that say by which word a row is tried."""
+    is_tried = False
+    for line in DOCUMENT.read_text().splitlines():
+        columns = [column.strip() for column in line.strip('|').split(' | ')]
+        if not line.startswith('|'):
+            is_tried = False
+        elif columns[-1] == 'Tried by':
+            is_tried = True
+        elif is_tried and set(line) != set('|-'):
+            yield columns[0], columns[-1].strip('`')
+
+
+def commands(word, title, reference):
+    """Both programs' words. JSON texts are compared with their keys in order, but where that is the row."""
+    if word == 'write':
+        return [BENCH, 'write'], [reference, 'roundtrip']
+    if title == 'JSON keys':
+        return [TOOL, word], [reference, 'stream', word]
+    return [TOOL, *word.split()], [reference, *word.split()]
+
+
+def answer(command, data):
+    given = {'stdin': data()} if callable(data) else {'input': data}
+    told = subprocess.run(command, stdout=subprocess.PIPE, stderr=subprocess.DEVNULL, **given)
+    if 'stdin' in given:
+        os.close(given['stdin'])
+    return told.returncode, told.stdout
+
+
+def is_told(due, status, text, other):
+    if callable(due[1]):
+        return status == due[0] and text != other and due[1](other, text)
+    return status == due[0] and due[1].encode() in text
+
+
+def wrong(title, trial, reference):
+    """What is not as the row tells, None if all is."""
+    here, there = (answer(command, trial.data) for command in commands(trial.word, title, reference))
+    if is_told(trial.here, *here, b'') and is_told(trial.there, *there, here[1]):
+        return None
+    return f'{title}\n    here  {here}\n    there {there}'
+
+
+def main():
+    words = argparse.ArgumentParser(usage=__doc__)
+    words.add_argument('reference')
+    given = words.parse_args()
+    build_missing()
+    reference = reference_program(given.reference)
+    told = dict(rows())
+    faults = [f'no trial by {word}: {title}' for title, word in told.items()
+              if word != 'none' and (title not in TRIALS or TRIALS[title].word.split()[0] != word)]
+    faults += [f'no row: {title}' for title in TRIALS if told.get(title, 'none') == 'none']
+    faults += filter(None, (wrong(title, trial, reference) for title, trial in TRIALS.items()))
+    for fault in faults:
+        print(fault)
+    print(f'{len(told)} rows, {len(TRIALS)} tried, {len(faults)} faults')
+    sys.exit(1 if faults else 0)
+
+
+main()
