@@ -1,0 +1,8 @@
+//! Maps, their tokens, and the iterators over what they hold.
+
+pub use sourcemap_regular::iterators::{
+    IgnoreListIter, NameIter, SourceContentsIter, SourceIter, TokenIter,
+};
+pub use sourcemap_regular::map::SourceMap;
+pub use sourcemap_regular::token::Token;
+pub use sourcemap_rewriting::options::RewriteOptions;
