@@ -1,3 +1,3 @@
-//! A map that is being built.
+//! Maps that are built token by token.
 
 pub use sourcemap_builder::builder::SourceMapBuilder;

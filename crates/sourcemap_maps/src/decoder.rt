@@ -1,3 +1,3 @@
-//! The regular map that a record stands for.
+//! Regular maps read from records.
 
 pub use sourcemap_regular::decode::decode_regular;

@@ -1,4 +1,4 @@
-//! The record that a map is written as, and its text.
+//! Maps written as records and as text.
 
 pub use sourcemap_regular::encode::Encodable;
 pub use sourcemap_regular::write::{

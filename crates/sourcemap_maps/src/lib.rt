@@ -1,5 +1,5 @@
-//! A door: regular maps, under the module names that users know. Behind it are the crates of
-//! regular maps and of the builder, and what rewriting does to lists alone.
+//! A door: regular maps, read, asked, changed, built and written, under the module names that users
+//! know. Behind it are the crates of regular maps and of their builder.
 #![tactic(auto)]
 
 pub mod builder;

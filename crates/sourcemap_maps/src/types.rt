@@ -1,4 +1,4 @@
-//! Maps, their tokens, and the iterators over what they hold.
+//! Regular maps, their tokens and iterators.
 
 pub use sourcemap_regular::iterators::{
     IgnoreListIter, NameIter, SourceContentsIter, SourceIter, TokenIter,
