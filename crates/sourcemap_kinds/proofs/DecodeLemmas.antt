@@ -1,13 +1,17 @@
 -- Bytes and values have one answer.
-use Rattle.std.proofs.Common.{◌≡◌, ℕ, List, Option, Result, IfSome}
+use Rattle.std.proofs.Common.{◌≡◌, ◌∙◌, refl, ap, ℕ, List, Option, Some, None, Result, Err, IfSome, MatchOption}
 use Rattle.serde_json.specs.Data.{Data}
 use Rattle.sourcemap_errors.specs.declared.errors.Error.{Error}
-use Rattle.sourcemap_errors.specs.Answer.{Gives, IsAnswer}
-use Rattle.sourcemap_errors.proofs.AnswerLemmas.{Gives-only}
-use Rattle.sourcemap_records.specs.Jsontypes.{Tree}
+use Rattle.sourcemap_errors.specs.declared.errors.Error.TheVariants.{BadJson}
+use Rattle.sourcemap_errors.specs.declared.errors.JsonFault.TheVariants.{Shape}
+use Rattle.sourcemap_errors.specs.Answer.{UnlessMemory, Gives, IsAnswer}
+use Rattle.sourcemap_errors.proofs.AnswerLemmas.{Gives-only, UnlessMemory-weaker}
+use Rattle.sourcemap_records.specs.Field.{due}
+use Rattle.sourcemap_records.specs.Jsontypes.{Tree, record_of}
 use Rattle.sourcemap_regular.specs.Map.{MapValue}
 use Rattle.sourcemap_records.proofs.BytesLemmas as reading
-use Rattle.sourcemap_records.proofs.BytesLemmas.{regular_decodes_once, value_once, bytes_once, url_once, answer_only}
+use Rattle.sourcemap_regular.proofs.DecodeLemmas.{regular_decodes_once}
+use Rattle.sourcemap_records.proofs.BytesLemmas.{value_once, bytes_once, url_once, answer_only}
 use Rattle.sourcemap_kinds.specs.DecodedMap.{map_value}
 use Rattle.sourcemap_kinds.specs.Decode.{TreeDecodes, ValueDecodes, BytesDecode, UrlDecodes, AreSame, IsAnswerRead}
 use Rattle.sourcemap_kinds.specs.declared.decoded_map.DecodedMap.{DecodedMap}
@@ -23,6 +27,15 @@ value_decodes_once = value_once TreeDecodes tree_decodes_once
 -- bytes have one answer
 pub bytes_decode_once : (bytes : List ℕ) (a b : Result MapValue Error) → BytesDecode bytes a → BytesDecode bytes b → AreSame a b
 bytes_decode_once = bytes_once TreeDecodes tree_decodes_once
+
+of_no_record : (found : Option Tree) (e : Error) (answer : Result MapValue Error) → answer ≡ Err e → due found ≡ Err e
+    → MatchOption found (answer ≡ Err (BadJson Shape)) (λ t. TreeDecodes t answer)
+of_no_record None e answer so is = let same : e ≡ BadJson Shape = cc in so ∙ ap Err same
+of_no_record (Some t) e answer so is = cc
+
+-- a value that stands for no record stands for no map
+pub fault_of_value : (d : Data) (e : Error) → UnlessMemory e (due (record_of d) ≡ Err e) → UnlessMemory e (ValueDecodes d (Err e))
+fault_of_value d e h = UnlessMemory-weaker e (of_no_record (record_of d) e (Err e) refl) h
 
 -- a value's answer is the only one
 pub value_only : (d : Data) (r : Result DecodedMap Error) → IsAnswer map_value (ValueDecodes d) r

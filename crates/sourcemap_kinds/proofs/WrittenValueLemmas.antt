@@ -6,7 +6,7 @@ use Rattle.sourcemap_mappings.proofs.WriteLaws.{IsWritten-same, IsRangeText-same
 use Rattle.sourcemap_records.specs.Jsontypes.{plain, written}
 use Rattle.sourcemap_regular.specs.Map.{MapValue}
 use Rattle.sourcemap_regular.specs.Encode.{record_with}
-use Rattle.sourcemap_regular.proofs.BytesLemmas.{record-whole}
+use Rattle.sourcemap_regular.proofs.WriteLemmas.{record-whole}
 use Rattle.sourcemap_kinds.specs.DecodedMap.{IsValueOf, IsTextOf}
 
 -- no number in what a map is written as has a fraction

@@ -1,7 +1,7 @@
 -- The bytes are the text that was written, and that reads back.
 use Rattle.std.proofs.Common.{◌≡◌, ◌∙◌, sym, ap, subst, ◌++◌}
 use Rattle.sourcemap_regular.specs.Write.{BytesReadBack}
-use Rattle.sourcemap_regular.proofs.BytesLemmas.{encoded-back}
+use Rattle.sourcemap_regular.proofs.WriteLemmas.{encoded-back}
 use Rattle.sourcemap_kinds.specs.DecodedMap.{map_value}
 use Rattle.sourcemap_kinds.proofs.DecodedMapLemmas.{bytes_kept}
 use Rattle.sourcemap_kinds.proofs.decoded_map.read_back_bytes.Goals as goal
