@@ -21,21 +21,6 @@ pub TokensAnswer-same : (r : Fields) (a b : Result (List RawToken) Error) → To
 TokensAnswer-same r a b h k =
     MappingsAnswer-same (listed r.mappings) (listed r.range_mappings) (record { sources = length (listed r.sources); names = length (listed r.names) }) a b h k
 
--- what a record is read as is determined
-pub PartsAnswer-same : (r : Fields) (a b : Result PartsValue Error) → PartsAnswer r a → PartsAnswer r b → a ≡ b
-PartsAnswer-same r (Ok m) (Ok n) h k =
-    let same = TokensAnswer-same r (Ok m.tokens) (Ok n.tokens) h.1 k.1 in
-    let tokens : m.tokens ≡ n.tokens = cc in
-    ap Ok (h.2 ∙ ap (parts_of r) tokens ∙ sym k.2)
-PartsAnswer-same r (Ok m) (Err e) h (inl k) = absurd (k.0 h.0)
-PartsAnswer-same r (Ok m) (Err e) h (inr k) = let same = TokensAnswer-same r (Ok m.tokens) (Err e) h.1 k.1 in cc
-PartsAnswer-same r (Err e) (Ok m) (inl h) k = absurd (h.0 k.0)
-PartsAnswer-same r (Err e) (Ok m) (inr h) k = let same = TokensAnswer-same r (Err e) (Ok m.tokens) h.1 k.1 in cc
-PartsAnswer-same r (Err e) (Err f) (inl h) (inl k) = ap Err (h.1 ∙ sym k.1)
-PartsAnswer-same r (Err e) (Err f) (inl h) (inr k) = absurd (h.0 k.0)
-PartsAnswer-same r (Err e) (Err f) (inr h) (inl k) = absurd (k.0 h.0)
-PartsAnswer-same r (Err e) (Err f) (inr h) (inr k) = let same = TokensAnswer-same r (Err e) (Err f) h.1 k.1 in cc
-
 module _ (r : Fields) (parts : RecordParts) (are : ArePartsIn r parts) where
   names_many : vec_len parts.lists.names ≡ length (listed r.names)
   names_many = parts.lists.names.ok.0 ∙ (rw length-map at (ap length are.lists.names))

@@ -1,5 +1,5 @@
 -- Equality of lists and options that are seen through a function, and that texts are equal where they test so.
-use Rattle.std.proofs.Common.{◌≡◌, ℕ, List, [], ◌∷◌, Bool, true, false, ◌&&◌, map, Option, Some, None, option_map, refl, ap}
+use Rattle.std.proofs.Common.{◌≡◌, ℕ, List, [], ◌∷◌, Bool, ◌&&◌, map, Option, Some, None, option_map, refl, ap}
 use Rattle.std.specs.Bool.{Decides}
 use Rattle.std.specs.Option.{option_eq}
 use Rattle.std.specs.Cmp.{unsigned_Decides}
@@ -20,17 +20,6 @@ module _ {A B : Type 0} where
   pointwise-map D E f same (x ∷ xs) (y ∷ ys) = λ i. same x y i && pointwise-map D E f same xs ys i
 
 -- Tests that decide whether values are equal.
-
-pub decides_both : {r s : Bool} {P Q : Type 0} → Decides r P → Decides s Q → Decides (r && s) (P × Q)
-decides_both {r} {s} p q = (both r s p.0 q.0, λ h. and_true r s (p.1 h.0) (q.1 h.1))
-  where
-    both : {P Q : Type 0} (r s : Bool) → (r ≡ true → P) → (s ≡ true → Q) → r && s ≡ true → P × Q
-    both true true p q h = (p refl, q refl)
-    both true false p q h = cc
-    both false s p q h = cc
-
-    and_true : (r s : Bool) → r ≡ true → s ≡ true → r && s ≡ true
-    and_true r s h k = rw (h, k) refl
 
 pub options_decide : {X : Type 0} {E : X → X → Bool} → ((x y : X) → Decides (E x y) (x ≡ y)) → (a b : Option X) → Decides (option_eq E a b) (a ≡ b)
 options_decide each None None = (λ h. refl, λ h. refl)
