@@ -30,7 +30,9 @@ pub enum Command {
 
 // The operation of a word.
 fn operation_of(word: &str) -> Option<Operation>
-    ensures { MatchOption result ((operation : _) → word.now ≢ word_of operation) (λ operation. word.now ≡ word_of operation) }
+    ensures { MatchOption result
+        ((operation : _) → word.now ≢ word_of operation)
+        (λ operation. word.now ≡ word_of operation) }
 {
     match word {
         "decode" => Some(Operation::Decode),

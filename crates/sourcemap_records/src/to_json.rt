@@ -141,7 +141,8 @@ fn give_section(alloc: Global, part: RawSection) -> Result<Value>
 
 #[cycle(to_json)]
 fn give_inner(alloc: Global, map: Option<Box<RawSourceMap>>) -> Result<Value>
-    ensures value { Makes view result (written_or_null written (option_map (λ b. tree b.value) map)) }
+    ensures value { Makes view result
+        (written_or_null written (option_map (λ b. tree b.value) map)) }
     ensures in_range { OnOk result (IfSome (option_map (λ b. tree b.value) map) IsInRange) }
 {
     match map {
