@@ -64,7 +64,8 @@ impl SourceMap {
     pub fn set_source_contents(&mut self, id: u32, contents: Option<&str>) -> Result<()>
         requires { id < length self.old.sources }
         ensures { Changes result self.old self.new (record self.old {
-          contents = slice_set (fitted (length self.old.sources) self.old.contents) id (option_copied contents.entry);
+          contents = slice_set (fitted (length self.old.sources) self.old.contents) id
+              (option_copied contents.entry);
         }) }
     {
         let alloc = *self.names.allocator();

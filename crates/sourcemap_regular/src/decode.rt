@@ -24,7 +24,8 @@ use std::io::Read;
 pub fn decode_regular(alloc: Global, rsm: RawSourceMap) -> Result<SourceMap>
     ensures answer { IsAnswer (λ m. m) (RecordDecodes (flat (tree rsm))) result }
     // What a record is decoded to is determined.
-    ensures only { (due : Result MapValue Error) → RecordDecodes (flat (tree rsm)) due → Gives (λ m. m) result due }
+    ensures only { (due : Result MapValue Error)
+        → RecordDecodes (flat (tree rsm)) due → Gives (λ m. m) result due }
     ensures well_formed { IfOk result IsWellFormed }
 {
     match parts_of_record(alloc, rsm) {

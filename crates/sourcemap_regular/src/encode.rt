@@ -36,7 +36,8 @@ impl Encodable for SourceMap {
     fn as_raw_sourcemap(&self) -> Result<RawSourceMap>
         ensures answer { IsAnswer tree (RecordAnswer self.now) result }
         ensures fine { IfOk result (λ r. IsFine (tree r)) }
-        ensures reads_back { IfOk result (λ r. IsWellFormed self.now → ReadsBack self.now (flat (tree r))) }
+        ensures reads_back { IfOk result
+            (λ r. IsWellFormed self.now → ReadsBack self.now (flat (tree r))) }
     {
         let _ = self.sources.len();
         let alloc = self.allocator();
@@ -56,8 +57,8 @@ impl SourceMap {
     ghost use Rattle.sourcemap_regular.specs.Encode.{RecordAnswer};
     ghost use Rattle.sourcemap_regular.specs.MapStored.{parts_in};
 
-    /// The same record of a map that is not needed any more: its texts are moved, and its tokens are
-    /// let go once they are written. Only want of memory refuses.
+    /// The same record of a map that is not needed any more: its texts are moved, and its tokens
+    /// are let go once they are written. Only want of memory refuses.
     pub fn into_raw_sourcemap(self) -> Result<RawSourceMap>
         ensures { IsAnswer tree (RecordAnswer self) result }
     {

@@ -71,9 +71,11 @@ impl SourceMap {
     ) -> Result<Self>
         requires few_names { vec_len names ≤ 4294967295 }
         requires few_sources { vec_len sources ≤ 4294967295 }
-        requires few_contents { ForSome sources_content (λ contents. vec_len contents ≤ 4294967295) }
+        requires few_contents { ForSome sources_content
+            (λ contents. vec_len contents ≤ 4294967295) }
         ensures { Gives (λ m. m) result (Ok (made_of (option_copied file.entry) tokens.items
-            (texts_of names) (texts_of sources) (unwrap_or (option_map contents_in sources_content) []))) }
+            (texts_of names) (texts_of sources)
+            (unwrap_or (option_map contents_in sources_content) []))) }
     {
         let file = owned(alloc, file)?;
         let tokens = TokenList::sorted(tokens)?;

@@ -71,6 +71,7 @@ impl SourceMap {
 // The options that are there by default take nothing away, and a map that is rewritten so is not
 // changed by the same again.
 fn default_rewriting_is_final()
-    ensures default { (options : RewriteOptions) → IsDefault options → removal_of options ≡ no_removal }
+    ensures default { (options : RewriteOptions)
+        → IsDefault options → removal_of options ≡ no_removal }
     ensures twice { (m : MapValue) → IsFinal m }
 {}

@@ -61,7 +61,8 @@ impl SourceMap {
         ensures url { IfOk result (λ url. (text : List ℕ) × IsEncoded (RecordAnswer self.now) text
             × (string_bytes url ≡ data_url_of text) × Holds (string_bytes url) text) }
         // Read back, a well-formed map means the same at every position, with all parts kept.
-        ensures reads_back { IfOk result (λ url. IsWellFormed self.now → UrlReadsBack self.now (string_bytes url)) }
+        ensures reads_back { IfOk result
+            (λ url. IsWellFormed self.now → UrlReadsBack self.now (string_bytes url)) }
         ensures memory { IsOkUnless result OutOfMemory }
     {
         let alloc = self.allocator();
@@ -74,11 +75,13 @@ impl SourceMap {
 /// A law: the bytes that a map is written as are the compact text of its record's value, for no
 /// number in that has a fraction.
 pub fn written_maps_are_compact()
-    ensures { (m : MapValue) (text : List ℕ) → IsEncoded (RecordAnswer m) text → IsCompactTextOf m text }
+    ensures { (m : MapValue) (text : List ℕ)
+        → IsEncoded (RecordAnswer m) text → IsCompactTextOf m text }
 {}
 
 /// A law: the bytes that a well-formed map is written as stand for a map of the same meaning at
 /// every position, with all parts kept.
 pub fn written_maps_read_back()
-    ensures { (m : MapValue) (text : List ℕ) → IsEncoded (RecordAnswer m) text → IsWellFormed m → BytesReadBack m text }
+    ensures { (m : MapValue) (text : List ℕ)
+        → IsEncoded (RecordAnswer m) text → IsWellFormed m → BytesReadBack m text }
 {}

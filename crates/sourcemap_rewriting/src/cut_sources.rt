@@ -20,14 +20,16 @@ const COMMON: &str = "~";
 
 // What the paths among texts have in common.
 fn common_of(alloc: Global, texts: &[String]) -> Result<Option<String>>
-    ensures { Gives (option_map string_bytes) result (Ok (common_prefix (map string_bytes texts.now))) }
+    ensures { Gives (option_map string_bytes) result
+        (Ok (common_prefix (map string_bytes texts.now))) }
 {
     find_common_prefix(alloc, texts.iter().map(|text| text.as_str()))
 }
 
 // Whether it is asked for.
 fn asks_for_common(prefixes: &[&str]) -> bool
-    ensures { result ≡ list_any (λ prefix. bytes_eq prefix (codes "~")) (map (λ prefix. prefix.now) prefixes.now) }
+    ensures { result
+        ≡ list_any (λ prefix. bytes_eq prefix (codes "~")) (map (λ prefix. prefix.now) prefixes.now) }
 {
     for prefix in prefixes {
         if *prefix == COMMON {
@@ -52,7 +54,8 @@ fn common_if_asked(alloc: Global, prefixes: &[&str], texts: &[String]) -> Result
 // The prefixes of a list that are given as they are.
 fn plain_prefixes(alloc: Global, prefixes: &[&str]) -> Result<Vec<String>>
     ensures { Gives texts_of result
-        (Ok (filter (λ prefix. not (bytes_eq prefix (codes "~"))) (map (λ prefix. prefix.now) prefixes.now))) }
+        (Ok (filter (λ prefix. not (bytes_eq prefix (codes "~")))
+        (map (λ prefix. prefix.now) prefixes.now))) }
 {
     let mut list = Vec::new(alloc);
     for prefix in prefixes {
@@ -76,7 +79,8 @@ fn with_one_more(mut texts: Vec<String>, text: Option<String>) -> Result<Vec<Str
 
 // Cuts a text in place.
 fn cut(alloc: Global, text: &mut String, prefixes: &[String]) -> Result<()>
-    ensures ok { OnOk result (string_bytes text.new ≡ cut_by (map string_bytes prefixes.now) (string_bytes text.old)) }
+    ensures ok { OnOk result
+        (string_bytes text.new ≡ cut_by (map string_bytes prefixes.now) (string_bytes text.old)) }
     ensures memory { IsOkUnless result OutOfMemory }
 {
     if let Some(rest) = cut_text(alloc, text.as_str(), None, prefixes)? {
@@ -86,7 +90,8 @@ fn cut(alloc: Global, text: &mut String, prefixes: &[String]) -> Result<()>
 }
 
 fn cut_all(alloc: Global, texts: &mut [String], prefixes: &[String]) -> Result<()>
-    ensures ok { OnOk result (map string_bytes texts.new ≡ map (cut_by (map string_bytes prefixes.now)) (map string_bytes texts.old)) }
+    ensures ok { OnOk result (map string_bytes texts.new
+        ≡ map (cut_by (map string_bytes prefixes.now)) (map string_bytes texts.old)) }
     ensures memory { IsOkUnless result OutOfMemory }
 {
     for text in texts.iter_mut() {
@@ -115,7 +120,8 @@ pub(crate) fn cut_sources(
     mut texts: Vec<String>,
     prefixes: &[String],
 ) -> Result<Vec<String>>
-    ensures { Gives texts_of result (Ok (map (cut_by (map string_bytes prefixes.now)) (texts_of texts))) }
+    ensures { Gives texts_of result
+        (Ok (map (cut_by (map string_bytes prefixes.now)) (texts_of texts))) }
 {
     cut_all(alloc, texts.as_mut_slice(), prefixes)?;
     Ok(texts)

@@ -56,7 +56,8 @@ pub(crate) fn kept_contents(
     count: usize,
 ) -> Result<Vec<Option<String>>>
     requires { AllByRecursion (IsPlaced numbers.now count) order.now }
-    ensures ok { IfOk result (λ kept. AreKept numbers.now order.now (contents_in contents) count (contents_in kept)) }
+    ensures ok { IfOk result
+        (λ kept. AreKept numbers.now order.now (contents_in contents) count (contents_in kept)) }
     ensures memory { IsOkUnless result OutOfMemory }
 {
     let mut kept = without_contents(alloc, count)?;

@@ -55,7 +55,8 @@ impl<'a> Numbering<'a> {
         ensures number { IfOk result (λ n. n
             ≡ number_in (met_texts (map string_bytes texts.now) self.new.met)
             (slice_get (map string_bytes texts.now) id)) }
-        ensures more { OnOk result (NumbersMore (map string_bytes texts.now) id self.old.met self.new.met) }
+        ensures more { OnOk result
+            (NumbersMore (map string_bytes texts.now) id self.old.met self.new.met) }
         ensures numbering { OnOk result (IsNumbering (map string_bytes texts.now) self.new) }
         ensures memory { IsOkUnless result OutOfMemory }
     {
@@ -74,7 +75,8 @@ impl<'a> Numbering<'a> {
     // Gives a number to an old one that was not met before.
     fn meet(&mut self, text: &'a str, id: u32) -> Result<u32>
         requires within { id < vec_len self.old.met.numbers }
-        requires room { id_of self.old.ids text.now ≡ None → hash_map_len self.old.ids < 4294967295 }
+        requires room { id_of self.old.ids text.now ≡ None
+            → hash_map_len self.old.ids < 4294967295 }
         ensures met { IfOk result (λ number. Meets text.now id number self.old self.new) }
         ensures memory { IsOkUnless result OutOfMemory }
     {
@@ -90,7 +92,8 @@ fn number_of<'a>(ids: &mut HashMap<&'a str, u32>, text: &'a str) -> Result<u32>
     requires room { id_of ids.old text.now ≡ None → hash_map_len ids.old < 4294967295 }
     ensures number { (texts : List (List ℕ)) → IsIndex texts ids.old
         → IfOk result (λ number. place_of text.now (with_text texts text.now) ≡ Some number) }
-    ensures index { (texts : List (List ℕ)) → IsIndex texts ids.old → OnOk result (IsIndex (with_text texts text.now) ids.new) }
+    ensures index { (texts : List (List ℕ)) → IsIndex texts ids.old
+        → OnOk result (IsIndex (with_text texts text.now) ids.new) }
     ensures memory { IsOkUnless result OutOfMemory }
 {
     if let Some(number) = ids.get(text) {

@@ -26,7 +26,8 @@ fn renumber_each(
     requires few_sources { length sources.now ≤ 4294967295 }
     requires few_names { length names.now ≤ 4294967295 }
     ensures ok { IfOk result
-        (λ r. IsRenumbered (map string_bytes sources.now) (map string_bytes names.now) tokens.old tokens.new r) }
+        (λ r. IsRenumbered (map string_bytes sources.now) (map string_bytes names.now)
+        tokens.old tokens.new r) }
     ensures memory { IsOkUnless result OutOfMemory }
 {
     let mut source_numbers = Numbering::new(alloc, sources.len())?;
@@ -51,7 +52,8 @@ pub(crate) fn renumber(
     requires few_sources { length sources.now ≤ 4294967295 }
     requires few_names { length names.now ≤ 4294967295 }
     ensures ok { IfOk result
-        (λ new. IsRenumbered (map string_bytes sources.now) (map string_bytes names.now) tokens new.0 new.1) }
+        (λ new. IsRenumbered (map string_bytes sources.now) (map string_bytes names.now)
+        tokens new.0 new.1) }
     ensures memory { IsOkUnless result OutOfMemory }
 {
     let mut tokens = tokens.into_vec();

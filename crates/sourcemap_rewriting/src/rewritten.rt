@@ -54,7 +54,8 @@ fn contents_if(
 ) -> Result<Vec<Option<String>>>
     requires { AllByRecursion (IsPlaced sources.now.numbers.items count) sources.now.order.items }
     ensures ok { IfOk result (λ kept. MatchBool with_contents
-        (AreKept sources.now.numbers.items sources.now.order.items (contents_in contents) count (contents_in kept))
+        (AreKept sources.now.numbers.items sources.now.order.items (contents_in contents) count
+        (contents_in kept))
         (contents_in kept ≡ [])) }
     ensures memory { IsOkUnless result OutOfMemory }
 {
@@ -93,8 +94,9 @@ pub fn rewritten_parts(
 ) -> Result<RewrittenParts>
     requires few_sources { vec_len (unwrap_or with_root sources) ≤ 4294967295 }
     requires few_names { vec_len names ≤ 4294967295 }
-    ensures parts { IfOk result (λ parts. AreRewritten (texts_of (unwrap_or with_root sources)) (texts_of names)
-        (texts_of sources) (contents_in contents) (removal_of options.now) tokens parts) }
+    ensures parts { IfOk result (λ parts. AreRewritten
+        (texts_of (unwrap_or with_root sources)) (texts_of names) (texts_of sources)
+        (contents_in contents) (removal_of options.now) tokens parts) }
     ensures few { IfOk result AreFew }
     ensures memory { IsOkUnless result OutOfMemory }
 {
