@@ -354,6 +354,7 @@ impl SourceMapBuilder {
         ensures { Gives (λ m. m) result (Ok (built self)) }
     {
         let alloc = *self.tokens.allocator();
+        // for the prover: there are at most 4294967295 names and sources
         let _ = self.names.len();
         let _ = self.interned.len();
         let SourceMapBuilder {

@@ -116,6 +116,7 @@ impl Heading {
         ensures ids { result.now.keys ≡ self.now.ignored }
         ensures rising { IsStrictlySortedBy nat_cmp self.now.ignored }
     {
+        // for the prover: the keys of a set rise
         let _ = self.ignored.iter();
         &self.ignored
     }

@@ -87,6 +87,7 @@ pub fn record_of(
     })) result }
     ensures rising { IsStrictlySortedBy nat_cmp heading.now.ignored }
 {
+    // for the prover: ignored ids rise
     let _ = heading.ignored();
     let texts = token_texts(alloc, tokens.as_slice(), names.len() as u32)?;
     let rest = Rest {

@@ -59,6 +59,7 @@ pub fn only_regular(alloc: Global, raw: RawSourceMap) -> Result<SourceMap>
     if raw.sections.is_some() || raw.x_facebook_sources.is_some() {
         return Err(Error::IncompatibleSourceMap);
     }
+    // in two steps for the prover: what a call answers is known behind its `?`
     let map = decode_regular(alloc, raw)?;
     Ok(map)
 }

@@ -39,6 +39,7 @@ impl Encodable for SourceMap {
         ensures reads_back { IfOk result
             (λ r. IsWellFormed self.now → ReadsBack self.now (flat (tree r))) }
     {
+        // for the prover: there are at most 4294967295 sources
         let _ = self.sources.len();
         let alloc = self.allocator();
         let names = self.names.as_slice();
@@ -62,6 +63,7 @@ impl SourceMap {
     pub fn into_raw_sourcemap(self) -> Result<RawSourceMap>
         ensures { IsAnswer tree (RecordAnswer self) result }
     {
+        // for the prover: there are at most 4294967295 sources, and ignored ids rise
         let _ = self.sources.len();
         let _ = self.heading.ignored();
         let alloc = self.allocator();

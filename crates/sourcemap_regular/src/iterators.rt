@@ -161,6 +161,7 @@ impl SourceMap {
         ensures rest { tokens_left result ≡ tokens_from self.now 0 }
         ensures bound { length (tokens_left result) < 2 ^ 64 }
     {
+        // for the prover: a list is shorter than 2^64
         let _ = self.tokens.len();
         TokenIter { map: self, next: 0 }
     }
@@ -190,6 +191,7 @@ impl SourceMap {
         ensures rest { contents_left result ≡ fitted (length self.now.sources) self.now.contents }
         ensures bound { length (contents_left result) ≤ 4294967295 }
     {
+        // for the prover: there are at most 4294967295 sources
         let _ = self.sources.len();
         SourceContentsIter { map: self, next: 0 }
     }

@@ -31,10 +31,12 @@ impl SourceMap {
         ensures tokens { IfOk result (λ m. SaysLess (removal_of options.now) self m) }
         ensures well_formed { IfOk result (λ m. IsWellFormed self → IsWellFormed m) }
     {
+        // for the prover: there are at most 4294967295 sources
         let _ = self.sources.len();
         if options.load_local_source_contents {
             return Err(Error::IncompatibleSourceMap);
         }
+        // in two steps for the prover: what a call answers is known behind its `?`
         let map = self.rewritten(options)?;
         Ok(map)
     }

@@ -2,7 +2,7 @@
 ghost use Rattle.std.specs.Prelude.{◌≡◌, ℕ, ◌+◌, ◌<◌, ◌^◌, Some, slice_get};
 
 use crate::map::SourceMap;
-use sourcemap_lists::tokens::RawToken;
+use sourcemap_lists::tokens::{NO_ID, RawToken};
 use std::fmt;
 
 /// A token of a map, with the map: it answers by texts what the raw token says by numbers.
@@ -91,7 +91,7 @@ impl<'a> Token<'a> {
     pub fn has_source(&self) -> bool
         ensures { result ≡ not (self.now.raw.src_id == 4294967295) }
     {
-        self.raw.src_id != u32::MAX
+        self.raw.src_id != NO_ID
     }
 
     /// The name, if there is one of that number.

@@ -67,6 +67,7 @@ impl SourceMap {
     {
         let alloc = self.allocator();
         let text = text_of(alloc, self)?;
+        // in two steps for the prover: what a call answers is known behind its `?`
         let url = data_url(alloc, text.as_slice())?;
         Ok(url)
     }

@@ -44,6 +44,7 @@ fn common_if_asked(alloc: Global, prefixes: &[&str], texts: &[String]) -> Result
         (Ok (common_if (map (λ prefix. prefix.now) prefixes.now) (map string_bytes texts.now))) }
 {
     if asks_for_common(prefixes) {
+        // in two steps for the prover: what a call answers is known behind its `?`
         let common = common_of(alloc, texts)?;
         Ok(common)
     } else {

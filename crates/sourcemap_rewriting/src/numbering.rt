@@ -7,11 +7,9 @@ ghost use Rattle.sourcemap_rewriting.specs.Kept.{number_in};
 ghost use Rattle.sourcemap_rewriting.specs.Numbering.{IsIndex, IsNumbering, NumbersMore, Meets, id_of, met_texts};
 
 use sourcemap_errors::errors::Result;
+use sourcemap_lists::tokens::NO_ID;
 use std::alloc::Global;
 use std::collections::HashMap;
-
-// No new number.
-const NONE: u32 = u32::MAX;
 
 // The new numbers of old ones.
 #[derive(Drop)]
@@ -41,7 +39,7 @@ impl<'a> Numbering<'a> {
     {
         Ok(Numbering {
             met: NewNumbers {
-                numbers: vec![in alloc; NONE; count]?,
+                numbers: vec![in alloc; NO_ID; count]?,
                 order: Vec::new(alloc),
             },
             ids: HashMap::new(alloc),
@@ -62,12 +60,13 @@ impl<'a> Numbering<'a> {
     {
         let place = id as usize;
         if place >= texts.len() {
-            return Ok(NONE);
+            return Ok(NO_ID);
         }
         let known = self.met.numbers[place];
-        if known != NONE {
+        if known != NO_ID {
             return Ok(known);
         }
+        // in two steps for the prover: what a call answers is known behind its `?`
         let number = self.meet(texts[place].as_str(), id)?;
         Ok(number)
     }

@@ -64,6 +64,7 @@ fn contents_if(
     }
     let order = sources.order.as_slice();
     let numbers = sources.numbers.as_slice();
+    // in two steps for the prover: what a call answers is known behind its `?`
     let kept = kept_contents(alloc, contents, order, numbers, count)?;
     Ok(kept)
 }
