@@ -17,9 +17,9 @@ def answer(command, data):
     return told.returncode, told.stdout
 
 
-def build_missing():
+def build_missing(programs=(TOOL, BENCH)):
     """Proves and builds those of this repository's programs that are not there."""
-    for program in map(pathlib.Path, (TOOL, BENCH)):
+    for program in map(pathlib.Path, programs):
         if not program.exists():
             print(f'{program} is not there: it is proved and built first', file=sys.stderr, flush=True)
             subprocess.run(['rt', 'run'], cwd=program.parent.parent, stdin=subprocess.DEVNULL, stdout=sys.stderr)

@@ -5,9 +5,10 @@
 #   bench/fail-each-allocation.sh --test CRATE TEST ALLOCATIONS
 #
 # The first form runs a lookup. It has to give the answer (the refused allocation was never asked
-# for), `out of memory` with status 1, or nothing with status 1 (refused before the run began).
+# for), or `out of memory` with status 1, on standard error where the run had not begun.
 # The second form runs one test of a crate, whose tests must be built. It has to pass, since what it
-# calls goes on as before or is called again, or to end with the error that memory ran out.
+# calls goes on as before or is called again, or to end with the error that memory ran out, as its
+# result or in the words of the assertion that stops it.
 # Anything else is a fault, and the status is then 1.
 #
 # Needs a C compiler, for an allocator that is put before the C library's.
@@ -46,20 +47,20 @@ if [ "$1" = --test ]; then
     run() { "$crates/$crate/out/${crate}_tests" "$test" 2>&1; }
     crate=$2 test=$3
 else
-    run() { "$crates/sourcemap_tool/out/sourcemap_tool" lookup "$line" "$column" < "$map" 2> /dev/null; }
+    run() { "$crates/sourcemap_tool/out/sourcemap_tool" lookup "$line" "$column" < "$map" 2>&1; }
     map=$1 line=$2 column=$3
 fi
 answer=$(run)
-answered=0 refused=0 silent=0 faults=0
+answered=0 refused=0 faults=0
 for ((n = 1; n <= most; n++)); do
     status=0
     text=$(export FAIL_AT=$n LD_PRELOAD=$work/failing.so; run) || status=$?
     case "$status $text" in
         "0 $answer") answered=$((answered + 1)) ;;
         "1 out of memory" | "101 error: OutOfMemory"* | "101 error: AllocError"*) refused=$((refused + 1)) ;;
-        "1 ") silent=$((silent + 1)) ;;
+        "134 "*OutOfMemory* | "134 "*"out of memory"*) refused=$((refused + 1)) ;;
         *) faults=$((faults + 1)); echo "allocation $n: status $status, $text" ;;
     esac
 done
-echo "$answered answered, $refused out of memory, $silent refused before the run, $faults faults"
+echo "$answered answered, $refused out of memory, $faults faults"
 [ "$faults" = 0 ]

@@ -1,10 +1,12 @@
 pub use Rattle.sourcemap_errors.specs.Answer
 pub use Rattle.sourcemap_errors.specs.Errors
+pub use Rattle.sourcemap_digits.specs.Bits
 pub use Rattle.sourcemap_digits.specs.Vlq
 pub use Rattle.sourcemap_lists.specs.Interner
 pub use Rattle.sourcemap_lists.specs.Search as Utils
 pub use Rattle.sourcemap_lists.specs.Tokens
 pub mod Mappings
+pub use Rattle.sourcemap_mappings.specs.Write as MappingsWritten
 pub use Rattle.sourcemap_texts.specs.Paths
 pub use Rattle.sourcemap_texts.specs.Prefixes
 pub use Rattle.sourcemap_texts.specs.Texts

@@ -3,6 +3,7 @@
 #![tactic(auto)]
 
 pub mod decoder;
+pub mod laws;
 pub mod types;
 
 pub use decoder::{decode, decode_data_url, decode_slice};

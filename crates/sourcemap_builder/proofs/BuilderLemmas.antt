@@ -1,6 +1,7 @@
 -- Texts with others in place of some.
-use Rattle.std.proofs.Common.{◌≡◌, ℕ, zero, suc, ◌+◌, ◌<◌, ◌≤◌, List, [], ◌∷◌, ◌++◌, length, take, replicate, map, Option, Some, None, unwrap_or, slice_get, slice_set, refl, ap, arith, option_and_then, is_some, cond, true, false, Result, Ok, Err, OnOk, add-one, sym, ◌∙◌}
+use Rattle.std.proofs.Common.{◌≡◌, ℕ, zero, suc, ◌+◌, ◌<◌, ◌≤◌, List, [], ◌∷◌, ◌++◌, length, take, replicate, map, Option, Some, None, unwrap_or, slice_get, slice_set, refl, ap, arith, option_and_then, is_some, cond, true, false, Result, Ok, Err, IfOk, OnOk, add-one, sym, ◌∙◌}
 use Rattle.std.proofs.lemmas.List.{length-map, take_all}
+use Rattle.std.proofs.lemmas.Option.{slice_get_within}
 use Rattle.std.specs.Option.{option_or}
 use Rattle.sourcemap_errors.specs.declared.errors.Error.{Error}
 use Rattle.sourcemap_lists.specs.Interner.{place_of, with_text}
@@ -64,6 +65,12 @@ changed_to-with_text cs ts t h =
 pub on_ok : {X E P Q : Type 0} (r : Result X E) → (P → Q) → OnOk r P → OnOk r Q
 on_ok (Ok x) f h = f h
 on_ok (Err e) f h = h
+
+-- the id of a text is below their count
+pub below-count : (r : Result ℕ Error) (texts : List (List ℕ)) (text : List ℕ) → IfOk r (λ id. slice_get texts id ≡ Some text)
+    → IfOk r (λ id. id < length texts)
+below-count (Ok id) texts text h = slice_get_within texts id text h
+below-count (Err e) texts text h = h
 
 -- nothing in place of the last
 pub changed_to-kept : (cs : List (Option (List ℕ))) (ts : List (List ℕ)) → changed_to cs ts ≡ changed_to (cs ++ None ∷ []) ts

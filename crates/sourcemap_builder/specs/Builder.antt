@@ -1,5 +1,5 @@
 -- A map that is being built: texts are kept once each, and what is shown of a source may change.
-use Rattle.std.specs.Prelude.{ℕ, Bool, cond, is_some, List, [], ◌∷◌, ◌++◌, Option, Some, None, unwrap_or, Result, Ok, Err}
+use Rattle.std.specs.Prelude.{ℕ, ◌<◌, ◌≢◌, ◌⊎◌, IsSome, length, Bool, cond, is_some, List, [], ◌∷◌, ◌++◌, Option, Some, None, unwrap_or, Result, Ok, Err}
 use Rattle.sourcemap_errors.specs.declared.errors.Error.{Error}
 use Rattle.sourcemap_lists.specs.declared.tokens.RawToken.{RawToken}
 use Rattle.sourcemap_lists.specs.Tokens.{in_order, no_id}
@@ -88,6 +88,14 @@ token_due token (Ok source) (Ok name) = Ok (record token { src_id = source; name
 -- the name in what a token says, if it is asked for
 abbrev pub name_if : Bool → Meaning → Option (List ℕ)
 name_if with_name says = cond with_name says.name None
+
+-- an id is a place in the list, where there is a text or the id is not the one that names nothing
+abbrev pub IsPlaceIf : List (List ℕ) → Option (List ℕ) → ℕ → Type 0
+IsPlaceIf texts text id = (IsSome text ⊎ (id ≢ no_id)) → id < length texts
+
+-- a token that was added for a source, if there is one, has its id
+abbrev pub HasSource : List (List ℕ) → Option (List ℕ) → RawToken → Type 0
+HasSource sources source token = IsPlaceIf sources source token.src_id
 
 -- with a token at the end
 abbrev pub with_token : BuilderValue → RawToken → BuilderValue

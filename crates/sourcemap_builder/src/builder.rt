@@ -3,12 +3,12 @@ ghost use Rattle.std.specs.Prelude.{◌≡◌, ◌≤◌, ◌<◌, ◌⊎◌, �
 ghost use Rattle.std.specs.Option.{option_copied};
 ghost use Rattle.sourcemap_errors.specs.Answer.{Gives, Changes};
 ghost use Rattle.sourcemap_lists.specs.Interner.{id_for, with_text};
-ghost use Rattle.sourcemap_lists.specs.Tokens.{no_id};
+ghost use Rattle.sourcemap_lists.specs.Tokens.{no_id, AllWithin};
 ghost use Rattle.sourcemap_texts.specs.Prefixes.{cut_by};
 ghost use Rattle.sourcemap_texts.specs.Texts.{contents_in, texts_of};
 ghost use Rattle.sourcemap_parts.specs.Contents.{fitted};
-ghost use Rattle.sourcemap_regular.specs.Map.{contents_of};
-ghost use Rattle.sourcemap_regular.specs.Token.{answers};
+ghost use Rattle.sourcemap_regular.specs.Map.{contents_of, IsWellFormed};
+ghost use Rattle.sourcemap_regular.specs.Token.{answers, token_value};
 ghost use Rattle.sourcemap_builder.specs.Builder.{changed_to, name_if, id_if};
 
 use sourcemap_errors::errors::Result;
@@ -59,7 +59,7 @@ impl Model for SourceMapBuilder {
 impl SourceMapBuilder {
     ghost use Rattle.std.specs.BTreeSet.{insert_key};
     ghost use Rattle.std.specs.Ordering.{nat_cmp};
-    ghost use Rattle.sourcemap_builder.specs.Builder.{empty_builder, with_source, with_name, with_source_if, with_name_if, with_texts, with_token, placed, token_due, built};
+    ghost use Rattle.sourcemap_builder.specs.Builder.{empty_builder, with_source, with_name, with_source_if, with_name_if, with_texts, with_token, placed, token_due, built, IsPlaceIf, HasSource};
 
     /// A builder of nothing but the name of the generated file. Only want of memory refuses.
     pub fn new(alloc: Global, file: Option<&str>) -> Result<Self>
@@ -127,6 +127,7 @@ impl SourceMapBuilder {
         ensures id { Gives (λ id. id) result (id_for self.old.interned source.now) }
         ensures ok { OnOk result (self.new ≡ with_source self.old source.now) }
         ensures err { OnErr result (self.new ≡ self.old) }
+        ensures there { IfOk result (λ id. id < length self.new.sources) }
     {
         self.interned.add(source)
     }
@@ -137,6 +138,7 @@ impl SourceMapBuilder {
         ensures id { Gives (λ id. id) result (id_for self.old.names name.now) }
         ensures ok { OnOk result (self.new ≡ with_name self.old name.now) }
         ensures err { OnErr result (self.new ≡ self.old) }
+        ensures there { IfOk result (λ id. id < length self.new.names) }
     {
         self.names.add(name)
     }
@@ -282,6 +284,8 @@ impl SourceMapBuilder {
             ⊎ (self.new ≡ with_source_if self.old (option_copied source.entry))
             ⊎ (self.new
             ≡ with_texts self.old (option_copied source.entry) (option_copied name.entry))) }
+        ensures there { IfOk result
+            (HasSource self.new.sources (option_copied source.entry)) }
     {
         let source = self.id_of_source(source)?;
         let name = self.id_of_name(name)?;
@@ -300,7 +304,7 @@ impl SourceMapBuilder {
     /// new token. It is refused as `add` is, and leaves the same behind.
     pub fn add_token(&mut self, token: &Token<'_>, with_name: bool) -> Result<RawToken>
         ensures token { Gives (λ added. added) result (token_due
-            (placed token.now.raw.dst_line token.now.raw.dst_col
+            (placed (token_value token.now).raw.dst_line (token_value token.now).raw.dst_col
             (answers token.now).line (answers token.now).column (answers token.now).is_range)
             (id_if self.old.interned (answers token.now).source)
             (id_if self.old.names (name_if with_name (answers token.now)))) }
@@ -311,6 +315,7 @@ impl SourceMapBuilder {
             ⊎ (self.new ≡ with_source_if self.old (answers token.now).source)
             ⊎ (self.new ≡ with_texts self.old (answers token.now).source
             (name_if with_name (answers token.now)))) }
+        ensures there { IfOk result (HasSource self.new.sources (answers token.now).source) }
     {
         self.add(
             token.get_dst_line(),
@@ -329,6 +334,8 @@ impl SourceMapBuilder {
             (id_if self.old.interned (option_copied source.entry)) }
         ensures ok { OnOk result (self.new ≡ with_source_if self.old (option_copied source.entry)) }
         ensures err { OnErr result (self.new ≡ self.old) }
+        ensures there { IfOk result
+            (IsPlaceIf self.new.sources (option_copied source.entry)) }
     {
         match source {
             None => Ok(NO_ID),
@@ -351,7 +358,9 @@ impl SourceMapBuilder {
     /// The map of what was added, its tokens sorted stably by line and column of the generated
     /// text. Only want of memory refuses.
     pub fn into_sourcemap(self) -> Result<SourceMap>
-        ensures { Gives (λ m. m) result (Ok (built self)) }
+        ensures value { Gives (λ m. m) result (Ok (built self)) }
+        ensures well_formed { AllWithin (length self.sources) (length self.names) self.tokens
+            → IfOk result IsWellFormed }
     {
         let alloc = *self.tokens.allocator();
         // for the prover: there are at most 4294967295 names and sources

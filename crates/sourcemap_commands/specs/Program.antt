@@ -1,5 +1,5 @@
 -- What a run prints, and the status that it ends with.
-use Rattle.std.specs.Prelude.{◌≡◌, ℕ, List, [], ◌∷◌, ◌++◌, codes, flat_map, if◌then◌else◌, Option, Some, None, IfSome, Result, Ok, Err, String, string_bytes, ◌⊎◌}
+use Rattle.std.specs.Prelude.{◌≡◌, ◌≢◌, ℕ, List, [], ◌∷◌, ◌++◌, codes, flat_map, if◌then◌else◌, Option, Some, None, IfSome, Result, Ok, Err, IsOkAnd, MatchResult, String, string_bytes, ◌⊎◌}
 use Rattle.std.specs.Fmt.{decimal}
 use Rattle.std.specs.Io.KnownBytes.{Appends}
 use Rattle.sourcemap.specs.Decoded.{IsTextOf}
@@ -16,6 +16,7 @@ use Rattle.std.specs.declared.io.Error.{Error as IoError}
 use Rattle.sourcemap_commands.specs.Command.{AskFor}
 use Rattle.sourcemap_commands.specs.declared.command.Command.{Command}
 use Rattle.sourcemap_commands.specs.declared.command.Command.TheVariants.{Lookup, Tokens, Rewrite}
+use Rattle.sourcemap_commands.specs.declared.program.Reply.{Reply}
 
 abbrev pub newline : List ℕ
 newline = 10 ∷ []
@@ -42,66 +43,82 @@ token_line t =
 abbrev pub IsJsonLine : MapValue → List ℕ → Type 0
 IsJsonLine m text = (json : List ℕ) × IsTextOf m json × (text ≡ json ++ newline)
 
--- what a command says of a map
-abbrev pub Says : Command → MapValue → List ℕ → Type 0
-Says (Lookup line col) m text = text ≡ found_text (lookup m (line, col)) ++ newline
-Says Tokens m text = text ≡ flat_map token_line (tokens_from m 0)
-Says Rewrite m text = IsJsonLine (rewritten no_removal m) text
+-- what a command says of a map: its text, or why it refuses
+abbrev pub Says : Command → MapValue → Result (List ℕ) Error → Type 0
+Says (Lookup line col) m answer = answer ≡ Ok (found_text (lookup m (line, col)) ++ newline)
+Says Tokens m answer = answer ≡ Ok (flat_map token_line (tokens_from m 0))
+Says Rewrite m answer = IsOkAnd answer (IsJsonLine (rewritten no_removal m))
+
+-- what a command says of the map that bytes stand for, or why they stand for none
+abbrev pub CommandAnswers : Command → List ℕ → Result (List ℕ) Error → Type 0
+CommandAnswers command bytes answer = (held : Result MapValue Error) × BytesDecode bytes held
+    × MatchResult held (λ m. Says command m answer) (λ e. answer ≡ Err e)
+
+-- Runs: words, and bytes that hold a map.
+
+-- words that ask for no command
+abbrev pub AskForNone : List (List ℕ) → Type 0
+AskForNone words = (command : Command) → ¬ AskFor words command
+
+-- how a run ends: with the answer to a command, or with how to ask for one
+pub data Ending : Type 0 where
+  answered : Result (List ℕ) Error → Ending
+  misused : Ending
+
+-- how a run of these words on these bytes ends
+abbrev pub Ends : List (List ℕ) → List ℕ → Ending → Type 0
+Ends words bytes (answered answer) =
+    (command : Command) × AskFor words command × CommandAnswers command bytes answer
+Ends words bytes misused = AskForNone words
 
 -- the line of a refusal; std does not say what its own faults print
 abbrev pub IsRefusal : Error → List ℕ → Type 0
 IsRefusal e text =
     (line : List ℕ) × IfSome (error_text e) (λ said. line ≡ said) × (text ≡ line ++ newline)
 
--- how a run ends: with the text that was asked for, with a refusal, or with how to ask
-pub data Ending : Type 0 where
-  answered : List ℕ → Ending
-  refused : Error → Ending
-  misused : Ending
-
 abbrev pub status_of : Ending → ℕ
-status_of (answered _) = 0
-status_of (refused _) = 1
+status_of (answered (Ok _)) = 0
+status_of (answered (Err _)) = 1
 status_of misused = 2
 
 abbrev pub Prints : Ending → List ℕ → Type 0
-Prints (answered text) printed = printed ≡ text
-Prints (refused e) printed = IsRefusal e printed
+Prints (answered (Ok text)) printed = printed ≡ text
+Prints (answered (Err e)) printed = IsRefusal e printed
 Prints misused printed = printed ≡ usage_text
 
--- what a command says of the map that bytes stand for, or why they stand for none
-abbrev pub CommandAnswers : Command → List ℕ → Result (List ℕ) Error → Type 0
-CommandAnswers command bytes (Ok text) =
-    (m : MapValue) × BytesDecode bytes (Ok m) × Says command m text
-CommandAnswers command bytes (Err e) = BytesDecode bytes (Err e)
+-- the text and the status of an ending
+abbrev pub IsReply : Ending → Reply → Type 0
+IsReply ending reply = Prints ending (string_bytes reply.text) × (reply.status ≡ status_of ending)
 
--- words that ask for no command
-abbrev pub AskForNone : List (List ℕ) → Type 0
-AskForNone words = (command : Command) → ¬ AskFor words command
+-- a reply to these words on these bytes
+abbrev pub IsReplyTo : List (List ℕ) → List ℕ → Reply → Type 0
+IsReplyTo words bytes reply = (ending : Ending) × Ends words bytes ending × IsReply ending reply
 
--- how a run of these words on these bytes may end; a read may fail, and memory may run out
-abbrev pub Ends : List (List ℕ) → List ℕ → Ending → Type 0
-Ends words bytes (answered text) =
-    (command : Command) × AskFor words command × CommandAnswers command bytes (Ok text)
-Ends words bytes (refused e) = UnlessMemory e
-    ((command : Command) × AskFor words command × UnlessRead e (CommandAnswers command bytes (Err e)))
-Ends words bytes misused = AskForNone words
+-- the reply to a command that was answered; want of memory has none
+abbrev pub IsReplyOf : Result (String Global) Error → Reply → Type 0
+IsReplyOf (Ok text) reply = IsReply (answered (Ok (string_bytes text))) reply
+IsReplyOf (Err e) reply = (e ≢ OutOfMemory) × IsReply (answered (Err e)) reply
 
--- a run that ended so, with this status, printed what this ending prints
-abbrev pub EndedSo : Ending → ℕ → Option (List ℕ) → Option (List ℕ) → Type 0
-EndedSo ending status old new =
-    (status ≡ status_of ending)
-    × ((printed : List ℕ) × Prints ending printed × Appends old new printed)
+-- Runs over a reader and a writer: a read may fail, and memory may run out.
+
+-- an error for which no reply is made: memory ran out, or words ask for a command and a read failed
+abbrev pub IsCutShort : List (List ℕ) → Error → Type 0
+IsCutShort words e = UnlessMemory e ((command : Command) × AskFor words command × UnlessRead e ⊥)
+
+-- how a run of these words on a reader's bytes may end
+abbrev pub MayEnd : List (List ℕ) → List ℕ → Ending → Type 0
+MayEnd words bytes (answered (Err e)) = Ends words bytes (answered (Err e)) ⊎ IsCutShort words e
+MayEnd words bytes ending = Ends words bytes ending
 
 -- a refusal was printed, or, where memory ran out for its text, that it did
 abbrev pub PrintsRefusal : Error → Option (List ℕ) → Option (List ℕ) → Type 0
 PrintsRefusal e old new = (said : Error) × ((said ≡ e) ⊎ (said ≡ OutOfMemory))
     × ((printed : List ℕ) × IsRefusal said printed × Appends old new printed)
 
--- an answer was printed and the run ended with this status
-abbrev pub IsReported :
-    Result (String Global) Error → ℕ → Option (List ℕ) → Option (List ℕ) → Type 0
-IsReported (Ok text) status old new = (status ≡ 0) × Appends old new (string_bytes text)
+-- a reply, or why there is none, was printed, and the run ended with this status
+abbrev pub IsReported : Result Reply Error → ℕ → Option (List ℕ) → Option (List ℕ) → Type 0
+IsReported (Ok reply) status old new =
+    (status ≡ reply.status) × Appends old new (string_bytes reply.text)
 IsReported (Err e) status old new = (status ≡ 1) × PrintsRefusal e old new
 
 -- a fault of a writer
@@ -110,6 +127,5 @@ IsWriteFault e = (cause : IoError) × FromIo cause e
 
 -- what a run of these words on a reader's bytes did: a reader that does not tell its bytes has some
 abbrev pub Runs : List (List ℕ) → Option (List ℕ) → ℕ → Option (List ℕ) → Option (List ℕ) → Type 0
-Runs words input status old new =
-    Reading input
-    (λ bytes. (ending : Ending) × Ends words bytes ending × EndedSo ending status old new)
+Runs words input status old new = Reading input (λ bytes. (ending : Ending) × MayEnd words bytes ending
+    × (status ≡ status_of ending) × ((printed : List ℕ) × Prints ending printed × Appends old new printed))

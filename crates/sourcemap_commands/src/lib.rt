@@ -4,3 +4,4 @@
 pub mod command;
 pub mod program;
 pub mod regular;
+pub mod system;

@@ -1,16 +1,20 @@
 //! What a command says of a map, and a whole run: words and input in, text and status out.
-ghost use Rattle.std.specs.Prelude.{◌≡◌, ◌++◌, ℕ, List, IsNone, IfOk, IfErr, MatchResult, map, string_bytes};
+ghost use Rattle.std.specs.Prelude.{◌≡◌, ◌++◌, ◌⊎◌, ℕ, List, IfErr, IfOk, IfSome, IsNone, MatchResult, map, string_bytes};
 ghost use Rattle.std.specs.Io.KnownBytes.{Appends};
+ghost use Rattle.sourcemap.specs.Answer.{IsAnswer};
 ghost use Rattle.sourcemap.specs.Decoded.{map_value};
-ghost use Rattle.sourcemap.specs.Decoder.{IsAnswerRead, Reading};
+ghost use Rattle.sourcemap.specs.Decoder.{Reading};
 ghost use Rattle.sourcemap.specs.Token.{token_value};
 ghost use Rattle.sourcemap.specs.declared.errors.Error.TheVariants.{OutOfMemory};
 ghost use Rattle.sourcemap_commands.specs.declared.command.Command.TheVariants.{Lookup, Tokens, Rewrite};
-ghost use Rattle.sourcemap_commands.specs.Program.{AskForNone, CommandAnswers, Ends, answered, IsRefusal, IsReported, IsWriteFault, PrintsRefusal, Runs, Says, IsJsonLine, range_mark, token_line};
+ghost use Rattle.sourcemap_commands.specs.declared.program.Reply.{Reply};
+ghost use Rattle.sourcemap_commands.specs.Program.{AskForNone, CommandAnswers, Ending, Ends, IsCutShort, IsJsonLine, IsRefusal, IsReply, IsReplyOf, IsReplyTo, IsReported, IsWriteFault, PrintsRefusal, Runs, Says, range_mark, token_line};
 
 use crate::command::{Command, parse_words};
 use crate::regular::{regular_of, rewritten};
-use sourcemap::{DecodedMap, Error, Result, SourceMap, Token, decode};
+use sourcemap::decoder::decode_vec;
+use sourcemap::{DecodedMap, Error, Result, SourceMap, Token};
+use sourcemap_records::bytes::read_all;
 use std::alloc::Global;
 use std::io::{Read, Write};
 use std::rt::Files;
@@ -18,6 +22,15 @@ use std::rt::Files;
 const USAGE: &str = "usage: lookup LINE COL | tokens | rewrite | flatten | compose FILE\n";
 
 const NO_MEMORY: &str = "out of memory\n";
+
+/// What a run prints, and the status that it ends with.
+#[derive(Debug, Drop)]
+pub struct Reply {
+    /// All that is printed, the newline at its end too.
+    pub text: String,
+    /// 0 after an answer, 1 after a refusal, 2 after words that ask for no command.
+    pub status: u8,
+}
 
 /// What a command says of a map: for `Lookup` the closest token's text or `none`, and a newline;
 /// for `Tokens` the tokens line by line, each with where it stands in the generated text, its own
@@ -32,9 +45,7 @@ pub fn apply<F: Files>(
     adjustment: Option<DecodedMap>,
 ) -> Result<String>
     requires { IsNone adjustment }
-    ensures { MatchResult result
-        (λ text. Says command.now (map_value map) (string_bytes text))
-        (λ e. e ≡ OutOfMemory) }
+    ensures { IsAnswer string_bytes (Says command.now (map_value map)) result }
 {
     match *command {
         Command::Lookup(line, col) => lookup_text(alloc, &map, line, col),
@@ -45,9 +56,7 @@ pub fn apply<F: Files>(
 
 // The text of the closest token to a place, or that there is none.
 fn lookup_text(alloc: Global, map: &DecodedMap, line: u32, col: u32) -> Result<String>
-    ensures { MatchResult result
-        (λ text. Says (Lookup line col) (map_value map.now) (string_bytes text))
-        (λ e. e ≡ OutOfMemory) }
+    ensures { IsAnswer string_bytes (Says (Lookup line col) (map_value map.now)) result }
 {
     match map.lookup_token(line, col) {
         Some(token) => Ok(format!(in alloc; "{token}\n")?),
@@ -57,9 +66,7 @@ fn lookup_text(alloc: Global, map: &DecodedMap, line: u32, col: u32) -> Result<S
 
 // The lines of all tokens.
 fn tokens_text(alloc: Global, map: &SourceMap) -> Result<String>
-    ensures { MatchResult result
-        (λ text. Says Tokens map.now (string_bytes text))
-        (λ e. e ≡ OutOfMemory) }
+    ensures { IsAnswer string_bytes (Says Tokens map.now) result }
 {
     let mut text = String::new(alloc);
     for token in map.tokens() {
@@ -90,9 +97,7 @@ fn range_mark(token: &Token<'_>) -> &'static str
 
 // The JSON text of the map rewritten with default options.
 fn rewritten_text<F: Files>(rt: &F, alloc: Global, map: SourceMap) -> Result<String>
-    ensures { MatchResult result
-        (λ text. Says Rewrite map (string_bytes text))
-        (λ e. e ≡ OutOfMemory) }
+    ensures { IsAnswer string_bytes (Says Rewrite map) result }
 {
     let rewritten = rewritten(rt, map)?;
     json_line(alloc, DecodedMap::Regular(rewritten))
@@ -121,6 +126,91 @@ fn refusal_text(alloc: Global, error: &Error) -> Result<String>
     Ok(text)
 }
 
+// What a command says of the map that bytes hold.
+fn answer<F: Files>(rt: &F, alloc: Global, command: &Command, bytes: Vec<u8>) -> Result<String>
+    ensures { IsAnswer string_bytes (CommandAnswers command.now bytes.items) result }
+{
+    let map = decode_vec(alloc, bytes)?;
+    apply(rt, alloc, command, map, None)
+}
+
+// The reply to a command that was answered or refused.
+fn reply_of(alloc: Global, answered: Result<String>) -> Result<Reply>
+    ensures { MatchResult result (IsReplyOf answered) (λ e. e ≡ OutOfMemory) }
+{
+    match answered {
+        Ok(text) => Ok(Reply { text, status: 0 }),
+        Err(Error::OutOfMemory) => Err(Error::OutOfMemory),
+        Err(error) => {
+            let text = refusal_text(alloc, &error)?;
+            Ok(Reply { text, status: 1 })
+        }
+    }
+}
+
+// The reply to words, on the bytes of a map.
+fn replied<F: Files>(rt: &F, alloc: Global, words: &[String], bytes: Vec<u8>) -> Result<Reply>
+    ensures { MatchResult result
+        (IsReplyTo (map string_bytes words.now) bytes.items)
+        (λ e. e ≡ OutOfMemory) }
+{
+    match parse_words(alloc, words)? {
+        Some(command) => {
+            let answered = answer(rt, alloc, &command, bytes);
+            reply_of(alloc, answered)
+        }
+        None => {
+            let text = String::from_str(alloc, USAGE)?;
+            Ok(Reply { text, status: 2 })
+        }
+    }
+}
+
+/// The reply to words, on the bytes of a map: with status 0 what the command that they ask for says
+/// of the map, as by `apply`. With status 1 the text of the refusal and a newline, where the bytes
+/// hold no map, as by `decode_slice`: `Io` for a faulty junk header alone. With status 2 the usage,
+/// whatever the bytes are, for words that ask for no command. Only want of memory refuses.
+pub fn reply_to<F: Files>(rt: &F, alloc: Global, words: &[String], bytes: Vec<u8>) -> Result<Reply>
+    ensures answer { MatchResult result
+        (IsReplyTo (map string_bytes words.now) bytes.items)
+        (λ e. e ≡ OutOfMemory) }
+    // No other reply is right.
+    ensures only { IfOk result (λ reply. (due : Ending)
+        → Ends (map string_bytes words.now) bytes.items due → IsReply due reply) }
+{
+    replied(rt, alloc, words, bytes)
+}
+
+// The bytes of an input, which is read only for words that ask for a command; else none.
+fn bytes_for<R: Read>(alloc: Global, words: &[String], input: &mut R) -> Result<Vec<u8>>
+    ensures bytes { MatchResult result
+        (λ bytes. AskForNone (map string_bytes words.now)
+        ⊎ IfSome (R.remaining input.old) (λ known. bytes.items ≡ known))
+        (IsCutShort (map string_bytes words.now)) }
+    ensures unread { AskForNone (map string_bytes words.now) → input.new ≡ input.old }
+{
+    match parse_words(alloc, words)? {
+        Some(_) => read_all(alloc, input),
+        None => Ok(Vec::new(alloc)),
+    }
+}
+
+// The reply to words, on the map that an input gives.
+fn reply_from<F: Files, R: Read>(
+    rt: &F,
+    alloc: Global,
+    words: &[String],
+    input: &mut R,
+) -> Result<Reply>
+    ensures answer { Reading (R.remaining input.old) (λ bytes. MatchResult result
+        (IsReplyTo (map string_bytes words.now) bytes)
+        (IsCutShort (map string_bytes words.now))) }
+    ensures unread { AskForNone (map string_bytes words.now) → input.new ≡ input.old }
+{
+    let bytes = bytes_for(alloc, words, input)?;
+    reply_to(rt, alloc, words, bytes)
+}
+
 // Writes all of a text.
 fn print<W: Write>(output: &mut W, text: &str) -> Result<()>
     ensures { MatchResult result
@@ -132,21 +222,7 @@ fn print<W: Write>(output: &mut W, text: &str) -> Result<()>
     Ok(())
 }
 
-// What a command says of the map that a reader gives.
-fn answer<F: Files, R: Read>(
-    rt: &F,
-    alloc: Global,
-    command: &Command,
-    input: &mut R,
-) -> Result<String>
-    ensures { Reading (R.remaining input.old)
-        (λ bytes. IsAnswerRead string_bytes (CommandAnswers command.now bytes) result) }
-{
-    let map = decode(alloc, input)?;
-    apply(rt, alloc, command, map, None)
-}
-
-// Prints why a run is refused; where memory runs out for that text, that it did.
+// Prints why there is no reply; where memory runs out for that text, that it did.
 fn print_refusal<W: Write>(alloc: Global, error: &Error, output: &mut W) -> Result<()>
     ensures { MatchResult result
         (λ _. PrintsRefusal error.now (W.contents output.old) (W.contents output.new))
@@ -164,16 +240,16 @@ fn print_refusal<W: Write>(alloc: Global, error: &Error, output: &mut W) -> Resu
     }
 }
 
-// Prints what was answered or refused, and answers the status.
-fn report<W: Write>(alloc: Global, answered: Result<String>, output: &mut W) -> Result<u8>
+// Prints a reply, or why there is none, and answers the status.
+fn report<W: Write>(alloc: Global, made: Result<Reply>, output: &mut W) -> Result<u8>
     ensures { MatchResult result
-        (λ status. IsReported answered status (W.contents output.old) (W.contents output.new))
+        (λ status. IsReported made status (W.contents output.old) (W.contents output.new))
         IsWriteFault }
 {
-    match answered {
-        Ok(text) => {
-            print(output, text.as_str())?;
-            Ok(0)
+    match made {
+        Ok(reply) => {
+            print(output, reply.text.as_str())?;
+            Ok(reply.status)
         }
         Err(error) => {
             print_refusal(alloc, &error, output)?;
@@ -182,10 +258,10 @@ fn report<W: Write>(alloc: Global, answered: Result<String>, output: &mut W) -> 
     }
 }
 
-/// Does what the words ask of the map that the input holds, prints the answer, and answers the
-/// status: 0, or 1 after a refusal, whose text is printed. Other words print the usage with status
-/// 2, and the input is not read. All text is made before the first byte of it is written. The only
-/// error is a write's fault.
+/// Prints the reply to words, on the map that an input gives, and answers its status: what `reply_to`
+/// makes of the words and of all bytes of the input, which is read only where the words ask for a
+/// command. A read's fault, and want of memory, are refused like a faulty map, with status 1. All
+/// text is made before the first byte of it is written. The only error is a write's fault.
 pub fn run<F: Files, R: Read, W: Write>(
     rt: &F,
     alloc: Global,
@@ -198,21 +274,14 @@ pub fn run<F: Files, R: Read, W: Write>(
     ensures unread { AskForNone (map string_bytes words.now) → input.new ≡ input.old }
     ensures fault { IfErr result IsWriteFault }
 {
-    match parse_words(alloc, words) {
-        Ok(Some(command)) => {
-            let answered = answer(rt, alloc, &command, input);
-            report(alloc, answered, output)
-        }
-        Ok(None) => {
-            print(output, USAGE)?;
-            Ok(2)
-        }
-        Err(error) => report(alloc, Err(error), output),
-    }
+    let made = reply_from(rt, alloc, words, input);
+    report(alloc, made, output)
 }
 
-// Words and bytes are answered with one text.
-fn answers_are_determined()
-    ensures { (words : List (List ℕ)) (bytes a b : List ℕ)
-        → Ends words bytes (answered a) → Ends words bytes (answered b) → a ≡ b }
+/// Words and bytes have one reply: what replies for one ending that is right does for each. Only the
+/// texts of a header's fault are not known to be one.
+pub fn replies_are_determined()
+    ensures { (words : List (List ℕ)) (bytes : List ℕ) (a b : Ending)
+        → Ends words bytes a → Ends words bytes b
+        → (reply : Reply) → IsReply a reply → IsReply b reply }
 {}

@@ -2,6 +2,7 @@
 //! are the crates of faults, digits, lists, mappings and texts.
 #![tactic(auto)]
 
+pub mod laws;
 pub mod mappings;
 pub mod utils;
 pub mod vlq;

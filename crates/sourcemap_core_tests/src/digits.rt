@@ -1,94 +1,116 @@
 //! Segments of numbers and texts of bits.
+use crate::checks::check;
 use sourcemap_core::bits::{decode_rmi, encode_rmi};
-use sourcemap_core::errors::Error;
+use sourcemap_core::errors::Result;
 use sourcemap_core::vlq::{generate_vlq_segment, parse_vlq_segment};
-use std::test::Fail;
+use std::alloc::Global;
 
-fn read(rt: &HostRuntime, segment: &str) -> std::result::Result<String, Fail> {
-    match parse_vlq_segment(rt.alloc(), segment) {
-        Ok(numbers) => Ok(format!(in rt.alloc(); "{numbers:?}")?),
-        Err(fault) => Ok(format!(in rt.alloc(); "{fault}")?),
+// A segment, and its numbers or its fault.
+const READ: [(&str, &str); 12] = [
+    ("AAAA", "[0, 0, 0, 0]"),
+    ("GAAIA", "[3, 0, 0, 4, 0]"),
+    ("B", "[0]"),
+    ("", "vlq decode did not produce any values"),
+    ("g", "leftover cur/shift in vlq decode"),
+    ("A!", "invalid base64 character: !"),
+    ("Aé", "invalid base64 character: Ã"),
+    ("ggggggggggggH", "[4035225266123964416]"),
+    ("ggggggggggggI", "vlq decode caused an overflow"),
+    ("gggggggggggggA", "vlq decode caused an overflow"),
+    ("00000000000000", "vlq decode caused an overflow"),
+    ("ggggggggggggg", "leftover cur/shift in vlq decode"),
+];
+
+fn read(alloc: Global, segment: &str) -> Result<String> {
+    match parse_vlq_segment(alloc, segment) {
+        Ok(numbers) => Ok(format!(in alloc; "{numbers:?}")?),
+        Err(fault) => Ok(format!(in alloc; "{fault}")?),
     }
 }
 
-fn written(rt: &HostRuntime, numbers: &[i64]) -> std::result::Result<String, Fail> {
-    match generate_vlq_segment(rt.alloc(), numbers) {
+#[test]
+fn reads_segments(rt: HostRuntime) {
+    for (segment, want) in READ.iter() {
+        check(&rt, segment, read(rt.alloc(), segment), want);
+    }
+}
+
+// Numbers, and their segment or their fault.
+const WRITTEN: [(&[i64], &str); 5] = [
+    (&[0, 0, 0, 0], "AAAA"),
+    (&[3, 0, 0, 4, 0], "GAAIA"),
+    (&[], ""),
+    (&[4611686018427387903], "+///////////H"),
+    (&[4611686018427387904], "vlq decode caused an overflow"),
+];
+
+fn written(alloc: Global, numbers: &[i64]) -> Result<String> {
+    match generate_vlq_segment(alloc, numbers) {
         Ok(text) => Ok(text),
-        Err(fault) => Ok(format!(in rt.alloc(); "{fault}")?),
+        Err(fault) => Ok(format!(in alloc; "{fault}")?),
     }
 }
 
 #[test]
-fn reads_segments(rt: HostRuntime) -> std::result::Result<(), Fail> {
-    let overflow = "vlq decode caused an overflow";
-    let leftover = "leftover cur/shift in vlq decode";
-    let rows = [
-        ("AAAA", "[0, 0, 0, 0]"),
-        ("GAAIA", "[3, 0, 0, 4, 0]"),
-        ("B", "[0]"),
-        ("", "vlq decode did not produce any values"),
-        ("g", leftover),
-        ("A!", "invalid base64 character: !"),
-        ("Aé", "invalid base64 character: Ã"),
-        ("ggggggggggggH", "[4035225266123964416]"),
-        ("ggggggggggggI", overflow),
-        ("gggggggggggggA", overflow),
-        ("00000000000000", overflow),
-        ("ggggggggggggg", leftover),
-    ];
-    for (segment, want) in rows {
-        let got = read(&rt, segment)?;
-        assert_eq!(rt; got.as_str(), want, "at {segment}");
+fn writes_segments(rt: HostRuntime) {
+    for (numbers, want) in WRITTEN.iter() {
+        check(&rt, want, written(rt.alloc(), numbers), want);
     }
-    Ok(())
+}
+
+// The places of the true bits among twenty, and their text.
+const BITS: [(&[usize], &str); 4] = [(&[12], "AAB"), (&[5], "g"), (&[0, 11], "Bg"), (&[], "")];
+
+fn bits(alloc: Global, places: &[usize]) -> Result<Vec<bool>> {
+    let mut bits = Vec::new(alloc);
+    for place in 0..20 {
+        bits.push(places.contains(&place))?;
+    }
+    Ok(bits)
+}
+
+fn bits_written(alloc: Global, places: &[usize]) -> Result<String> {
+    let bits = bits(alloc, places)?;
+    encode_rmi(alloc, bits.as_slice())
 }
 
 #[test]
-fn writes_segments(rt: HostRuntime) -> std::result::Result<(), Fail> {
-    assert_eq!(rt; written(&rt, &[0, 0, 0, 0])?.as_str(), "AAAA");
-    assert_eq!(rt; written(&rt, &[3, 0, 0, 4, 0])?.as_str(), "GAAIA");
-    assert_eq!(rt; written(&rt, &[])?.as_str(), "");
-    assert_eq!(rt;
-        written(&rt, &[4611686018427387903])?.as_str(),
-        "+///////////H"
-    );
-    assert_eq!(rt;
-        written(&rt, &[4611686018427387904])?.as_str(),
-        "vlq decode caused an overflow"
-    );
-    Ok(())
+fn writes_bits(rt: HostRuntime) {
+    for (places, want) in BITS.iter() {
+        check(&rt, want, bits_written(rt.alloc(), places), want);
+    }
 }
 
-#[test]
-fn bits_and_texts(rt: HostRuntime) -> std::result::Result<(), Fail> {
-    let rows: [(&str, &[usize]); 3] = [("AAB", &[12]), ("g", &[5]), ("Bg", &[0, 11])];
-    for (text, places) in rows {
-        let mut bits = vec![in rt.alloc(); false; 20]?;
-        for place in places {
-            if *place < bits.len() {
-                bits[*place] = true;
-            }
-        }
-        let written = encode_rmi(rt.alloc(), &bits)?;
-        assert_eq!(rt; written.as_str(), text);
-        let read = decode_rmi(rt.alloc(), text)?;
-        assert_eq!(rt; read.len(), 6 * text.len(), "{text}");
-        for (place, bit) in read.iter().enumerate() {
-            assert_eq!(rt; *bit, places.contains(&place), "{text} at {place}");
+// A text, and how many bits it has and the places of the true ones, or its fault.
+const TEXTS: [(&str, &str); 6] = [
+    ("AAB", "18: 12"),
+    ("g", "6: 5"),
+    ("Bg", "12: 0 11"),
+    ("", "0:"),
+    ("é", "invalid base64 character: Ã"),
+    ("AB=A", "invalid base64 character: ="),
+];
+
+fn places(alloc: Global, bits: &[bool]) -> Result<String> {
+    let mut told = format!(in alloc; "{}:", bits.len())?;
+    for (place, bit) in bits.iter().enumerate() {
+        if *bit {
+            write!(told, " {place}")?;
         }
     }
-    Ok(())
+    Ok(told)
+}
+
+fn bits_read(alloc: Global, text: &str) -> Result<String> {
+    match decode_rmi(alloc, text) {
+        Ok(bits) => places(alloc, bits.as_slice()),
+        Err(fault) => Ok(format!(in alloc; "{fault}")?),
+    }
 }
 
 #[test]
-fn other_bytes(rt: HostRuntime) -> std::result::Result<(), Fail> {
-    for (text, want) in [("é", 'Ã'), ("AB=A", '=')] {
-        let fault = match decode_rmi(rt.alloc(), text) {
-            Err(Error::InvalidBase64(byte)) => Some(byte),
-            _ => None,
-        };
-        assert_eq!(rt; fault, Some(want));
+fn reads_bits(rt: HostRuntime) {
+    for (text, want) in TEXTS.iter() {
+        check(&rt, text, bits_read(rt.alloc(), text), want);
     }
-    assert_eq!(rt; encode_rmi(rt.alloc(), &[false, false])?.as_str(), "");
-    Ok(())
 }

@@ -1,98 +1,192 @@
 //! Lists of tokens and of texts, and searches in them.
+use crate::checks::check;
+use sourcemap_core::errors::Result;
 use sourcemap_core::interner::Interner;
 use sourcemap_core::tokens::{NO_ID, RawToken, tokens_in_order};
 use sourcemap_core::utils::greatest_lower_bound;
 use sourcemap_lists::token_list::TokenList;
-use std::test::Fail;
+use std::alloc::Global;
 
-fn token(dst_line: u32, dst_col: u32, src_col: u32) -> RawToken {
-    RawToken {
-        dst_line,
-        dst_col,
-        src_line: 0,
-        src_col,
-        src_id: 0,
-        name_id: NO_ID,
-        is_range: false,
+// Places, whose tokens are known by their column in the source: 0, 1, 2 and 3.
+const PLACES: [(u32, u32); 4] = [(2, 5), (0, 3), (2, 5), (0, 3)];
+
+fn tokens(alloc: Global) -> Result<Vec<RawToken>> {
+    let mut tokens = Vec::new(alloc);
+    for (at, (dst_line, dst_col)) in PLACES.iter().enumerate() {
+        tokens.push(RawToken {
+            dst_line: *dst_line,
+            dst_col: *dst_col,
+            src_line: 0,
+            src_col: at as u32,
+            src_id: 0,
+            name_id: NO_ID,
+            is_range: false,
+        })?;
+    }
+    Ok(tokens)
+}
+
+fn list(alloc: Global) -> Result<TokenList> {
+    Ok(TokenList::sorted(tokens(alloc)?)?)
+}
+
+// A line, a column, and the closest token and its index.
+const CLOSEST: [(u32, u32, &str); 5] = [
+    (2, 4, "3 at 1"),
+    (1, 0, "3 at 1"),
+    (0, 2, "none"),
+    (0, 3, "1 at 0"),
+    (2, 5, "0 at 2"),
+];
+
+fn closest(alloc: Global, line: u32, col: u32) -> Result<String> {
+    match list(alloc)?.closest(line, col) {
+        None => Ok(String::from_str(alloc, "none")?),
+        Some((index, token)) => Ok(format!(in alloc; "{} at {index}", token.src_col)?),
     }
 }
 
 #[test]
-fn sorts_and_finds(rt: HostRuntime) -> std::result::Result<(), Fail> {
-    let places = [(2, 5), (0, 3), (2, 5), (0, 3)];
-    let mut tokens = Vec::new(rt.alloc());
-    for (at, (line, col)) in places.iter().enumerate() {
-        tokens.push(token(*line, *col, at as u32))?;
+fn finds_the_closest_token(rt: HostRuntime) {
+    for (line, col, want) in CLOSEST.iter() {
+        check(&rt, want, closest(rt.alloc(), *line, *col), want);
     }
-    assert!(rt; !tokens_in_order(tokens.as_slice()));
-    let list = TokenList::sorted(tokens).ok().ok_or("memory")?;
-    assert!(rt; tokens_in_order(list.as_slice()));
-    for (line, col, want) in [
-        (2, 4, Some(3)),
-        (1, 0, Some(3)),
-        (0, 2, None),
-        (0, 3, Some(1)),
-        (2, 5, Some(0)),
-    ] {
-        let found = list.closest(line, col);
-        assert_eq!(rt;
-            found.map(|(_, token)| token.src_col),
-            want,
-            "at {line}:{col}"
-        );
+}
+
+fn columns(alloc: Global, tokens: &[RawToken]) -> Result<String> {
+    let mut told = String::new(alloc);
+    for token in tokens {
+        write!(told, "{} ", token.src_col)?;
     }
-    assert_eq!(rt; list.get(1).map(|token| token.src_col), Some(3));
-    assert!(rt; list.get(list.len()).is_none());
-    let copy = list.clone().ok().ok_or("memory")?;
-    assert!(rt; copy == list);
+    Ok(told)
+}
+
+fn sorted(alloc: Global) -> Result<String> {
+    let list = list(alloc)?;
+    columns(alloc, list.as_slice())
+}
+
+#[test]
+fn sorts_tokens_stably(rt: HostRuntime) {
+    check(&rt, "sorted", sorted(rt.alloc()), "1 3 0 2 ");
+}
+
+fn orders(alloc: Global) -> Result<(bool, bool)> {
+    let is_before = tokens_in_order(tokens(alloc)?.as_slice());
+    Ok((is_before, tokens_in_order(list(alloc)?.as_slice())))
+}
+
+#[test]
+fn tells_whether_tokens_are_in_order(rt: HostRuntime) {
+    assert!(rt; matches!(orders(rt.alloc()), Ok((false, true))));
+}
+
+// Whether a list equals its copy, and that copy without its last token.
+fn compared(list: &TokenList) -> Result<(bool, bool)> {
+    let copy = list.clone()?;
+    let is_same = copy == *list;
     let mut fewer = copy.into_vec();
     let _last = fewer.pop();
-    assert!(rt; TokenList::of_ordered(fewer) != list);
-    Ok(())
+    Ok((is_same, TokenList::of_ordered(fewer) == *list))
+}
+
+fn ends(alloc: Global) -> Result<String> {
+    let list = list(alloc)?;
+    let is_second = list.get(1) == list.as_slice().get(1).copied();
+    let is_past = list.get(list.len()).is_none();
+    Ok(format!(in alloc; "{:?} {is_second} {is_past}", compared(&list)?)?)
 }
 
 #[test]
-fn finds_first_at_and_last_before(rt: HostRuntime) -> Result<(), Fail> {
-    let pairs = [(1, 10), (1, 11), (1, 12), (1, 13), (1, 14)];
-    for (n, last) in [(1, 10), (2, 11), (3, 12), (4, 13), (5, 14)] {
-        for (key, want) in [(1, Some((0, 10))), (2, Some((n - 1, last))), (0, None)] {
-            let found = greatest_lower_bound(&pairs[..n], &key, |pair| pair.0);
-            assert_eq!(rt;
-                found.map(|(at, pair)| (at, pair.1)),
-                want,
-                "key {key} of {n}"
-            );
-        }
+fn compares_and_ends(rt: HostRuntime) {
+    check(&rt, "list", ends(rt.alloc()), "(true, false) true true");
+}
+
+const PAIRS: [(u32, u32); 5] = [(1, 10), (1, 11), (1, 12), (1, 13), (1, 14)];
+
+// How many of the pairs are searched, by what key, and the pair that is found and its index.
+const BOUNDS: [(usize, u32, &str); 15] = [
+    (1, 0, "None"),
+    (1, 1, "Some((0, (1, 10)))"),
+    (1, 2, "Some((0, (1, 10)))"),
+    (2, 0, "None"),
+    (2, 1, "Some((0, (1, 10)))"),
+    (2, 2, "Some((1, (1, 11)))"),
+    (3, 0, "None"),
+    (3, 1, "Some((0, (1, 10)))"),
+    (3, 2, "Some((2, (1, 12)))"),
+    (4, 0, "None"),
+    (4, 1, "Some((0, (1, 10)))"),
+    (4, 2, "Some((3, (1, 13)))"),
+    (5, 0, "None"),
+    (5, 1, "Some((0, (1, 10)))"),
+    (5, 2, "Some((4, (1, 14)))"),
+];
+
+fn bound(alloc: Global, count: usize, key: u32) -> Result<String> {
+    let pairs = PAIRS.get(..count).unwrap_or(&[]);
+    let found = greatest_lower_bound(pairs, &key, |pair| pair.0);
+    Ok(format!(in alloc; "{found:?}")?)
+}
+
+#[test]
+fn finds_first_at_and_last_before(rt: HostRuntime) {
+    for (count, key, want) in BOUNDS.iter() {
+        check(&rt, want, bound(rt.alloc(), *count, *key), want);
+    }
+}
+
+const TEXTS: [&str; 7] = ["b", "a", "b", "", "a", "B", ""];
+
+fn push_ids(told: &mut String, interner: &mut Interner) -> Result<()> {
+    for text in TEXTS.iter() {
+        let id = interner.add(text)?;
+        write!(told, "{id} ")?;
     }
     Ok(())
 }
 
+fn ids(alloc: Global) -> Result<String> {
+    let mut told = String::new(alloc);
+    let mut interner = Interner::new(alloc);
+    push_ids(&mut told, &mut interner)?;
+    Ok(told)
+}
+
+fn filled(alloc: Global) -> Result<Interner> {
+    let mut interner = Interner::new(alloc);
+    for text in TEXTS.iter() {
+        interner.add(text)?;
+    }
+    Ok(interner)
+}
+
+fn texts_told(alloc: Global) -> Result<String> {
+    let interner = filled(alloc)?;
+    let texts = (
+        interner.get(0),
+        interner.get(2),
+        interner.get(4),
+        interner.get(NO_ID),
+    );
+    Ok(format!(in alloc; "{} {texts:?}", interner.len())?)
+}
+
+fn kept(alloc: Global) -> Result<String> {
+    let texts = filled(alloc)?.into_texts();
+    Ok(format!(in alloc; "{texts:?}")?)
+}
+
 #[test]
-fn equal_texts_have_one_number(rt: HostRuntime) -> std::result::Result<(), Fail> {
-    let mut interner = Interner::new(rt.alloc());
-    assert!(rt; interner.is_empty());
-    let rows = [
-        ("b", 0),
-        ("a", 1),
-        ("b", 0),
-        ("", 2),
-        ("a", 1),
-        ("B", 3),
-        ("", 2),
-    ];
-    for (text, id) in rows {
-        assert_eq!(rt; interner.add(text)?, id);
-    }
-    assert_eq!(rt; interner.len(), 4);
-    assert_eq!(rt; interner.get(0), Some("b"));
-    assert_eq!(rt; interner.get(2), Some(""));
-    assert_eq!(rt; interner.get(4), None);
-    assert_eq!(rt; interner.get(4294967295), None);
-    let texts = interner.into_texts();
-    let kept = ["b", "a", "", "B"];
-    assert_eq!(rt; texts.len(), 4);
-    for (text, want) in texts.iter().zip(kept) {
-        assert_eq!(rt; text.as_str(), want);
-    }
-    Ok(())
+fn equal_texts_have_one_number(rt: HostRuntime) {
+    let alloc = rt.alloc();
+    assert!(rt; Interner::new(alloc).is_empty());
+    check(&rt, "ids", ids(alloc), "0 1 0 2 1 3 2 ");
+    check(
+        &rt,
+        "texts",
+        texts_told(alloc),
+        r#"4 (Some("b"), Some(""), None, None)"#,
+    );
+    check(&rt, "all texts", kept(alloc), r#"["b", "a", "", "B"]"#);
 }

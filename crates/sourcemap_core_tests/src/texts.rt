@@ -1,28 +1,40 @@
 //! What paths have in common.
+use crate::checks::check;
+use sourcemap_core::errors::Result;
 use sourcemap_core::utils::find_common_prefix;
-use std::test::Fail;
+use std::alloc::Global;
+
+// Paths, and what they have in common.
+const PREFIXES: [(&[&str], &str); 11] = [
+    (&["/a/b", "C:/a/b", "/a/b/c"], "none"),
+    (&["/foo/bar/baz", "/foo/bar/baz/blah"], "/foo/bar/baz"),
+    (&["/foo/bar/baz", "/foo/bar/baz/blah", "/meh"], "none"),
+    (&["/foo/bar/baz", "/foo/bar/baz/blah", "/foo"], "/foo"),
+    (
+        &["/foo/bar/baz", "/foo/bar/baz/blah", "foo"],
+        "/foo/bar/baz",
+    ),
+    (
+        &["/foo/bar/baz", "/foo/bar/baz/blah", "/blah", "foo"],
+        "none",
+    ),
+    (&["/foo/bar", "/foo/baz"], "/foo"),
+    (&["C:\\é\\a", "x", "C:\\é/b"], "C:\\é"),
+    (&["C:/", "C:"], "none"),
+    (&["//a", "//b"], "none"),
+    (&[], "none"),
+];
+
+fn common(alloc: Global, texts: &[&str]) -> Result<String> {
+    match find_common_prefix(alloc, texts.iter().copied())? {
+        None => Ok(String::from_str(alloc, "none")?),
+        Some(text) => Ok(text),
+    }
+}
 
 #[test]
-fn common_prefixes(rt: HostRuntime) -> std::result::Result<(), Fail> {
-    let rows: [(&[&str], Option<&str>); 11] = [
-        (&["/a/b", "C:/a/b", "/a/b/c"], None),
-        (&["/foo/bar/baz", "/foo/bar/baz/blah"], Some("/foo/bar/baz")),
-        (&["/foo/bar/baz", "/foo/bar/baz/blah", "/meh"], None),
-        (&["/foo/bar/baz", "/foo/bar/baz/blah", "/foo"], Some("/foo")),
-        (
-            &["/foo/bar/baz", "/foo/bar/baz/blah", "foo"],
-            Some("/foo/bar/baz"),
-        ),
-        (&["/foo/bar/baz", "/foo/bar/baz/blah", "/blah", "foo"], None),
-        (&["/foo/bar", "/foo/baz"], Some("/foo")),
-        (&["C:\\é\\a", "x", "C:\\é/b"], Some("C:\\é")),
-        (&["C:/", "C:"], None),
-        (&["//a", "//b"], None),
-        (&[], None),
-    ];
-    for (texts, prefix) in rows {
-        let found = find_common_prefix(rt.alloc(), texts.iter().copied())?;
-        assert_eq!(rt; found.as_ref().map(|text| text.as_str()), prefix);
+fn common_prefixes(rt: HostRuntime) {
+    for (texts, want) in PREFIXES.iter() {
+        check(&rt, want, common(rt.alloc(), texts), want);
     }
-    Ok(())
 }

@@ -154,7 +154,7 @@ BeginsWith-last text n v h unfinished e last room =
     let fits' : FitsOneNumber (take (n + 1) text) = rw more fits in
     record {
       group = take (n + 1) text;
-      is_group = record { chain = rw more chain; few = fits'.few; small = fits'.small; value = refl };
+      is_group = record { chain = rw more chain; fits = fits'; value = refl };
       split = sym (take-append-drop (n + 1) text);
     }
 
@@ -315,8 +315,7 @@ scan-chain part (c ∷ d ∷ cs) rest chain small =
 
 scan-group : (group rest : List ℕ) (n : ℤ) → IsGroup group n → scan_from [] (group ++ rest) ≡ with_number n (scan_from [] rest)
 scan-group group rest n g =
-    let small : FitsOneNumber group = record { few = g.few; small = g.small } in
-    scan-chain [] group rest g.chain small ∙ ap (λ m. with_number m (scan_from [] rest)) (sym g.value)
+    scan-chain [] group rest g.chain g.fits ∙ ap (λ m. with_number m (scan_from [] rest)) (sym g.value)
 
 scan-reads : (front rest : List ℕ) (numbers : List ℤ) → Reads front numbers → scan_from [] (front ++ rest) ≡ with_numbers numbers (scan_from [] rest)
 unfolding with_numbers
@@ -538,7 +537,7 @@ total_of-zero n group g one = ap total_of (g.value ∙ ap number_of one)
 pub IsGroup-near : (group : List ℕ) (n : ℤ) → IsGroup group n → unsigned_abs n < 2 ^ 62
 IsGroup-near group n g =
     let abs : 2 * unsigned_abs n ≤ total_of n = total_of-abs n in
-    let small : raw_of group < 2 ^ 63 = g.small in
+    let small : raw_of group < 2 ^ 63 = g.fits.small in
     elim (IsGroup-raw group n g) [
       | inl one ↦ let zero : total_of n ≡ 0 = total_of-zero n group g one in omega arith
       | inr same ↦ omega arith
@@ -657,8 +656,7 @@ IsShortest-last part n left all low near e some =
     record {
       is_group = record {
         chain = IsChain-push part c all (IsLast-glyph left low);
-        few = few_digits (length part) (length (part ++ c ∷ [])) (total_of n) len small heavy;
-        small = rw raw small;
+        fits = record { few = few_digits (length part) (length (part ++ c ∷ [])) (total_of n) len small heavy; small = rw raw small };
         value = sym (ap number_of raw ∙ number_of-total n);
       };
       shortest = λ other g. no_shorter (length part) (length (part ++ c ∷ [])) n other g len heavy;

@@ -60,8 +60,7 @@ pub record FitsOneNumber (digits : List ℕ) : Type 0 where
 -- the digits of one number
 pub record IsGroup (digits : List ℕ) (number : ℤ) : Type 0 where
   pub chain : IsChain digits
-  pub few : length digits ≤ 13
-  pub small : raw_of digits < 2 ^ 63
+  pub fits : FitsOneNumber digits
   pub value : number ≡ number_of (raw_of digits)
 
 -- a text is a group for each number, put end to end

@@ -125,8 +125,9 @@ fn bit_from(bits: &[bool], place: usize) -> u8
     u8::from(bits.get(place).copied().unwrap_or(false))
 }
 
-// A text has one list of bits or one fault, and bits have one shortest text.
-fn bits_are_determined()
+/// A law: a text stands for one list of bits, six a digit, or for one fault, and bits have one
+/// shortest text.
+pub fn bits_are_determined()
     ensures one_answer { (text : List ℕ) (a b : Result (List Bool) Error) → BitAnswers text a
         → BitAnswers text b → a ≡ b }
     ensures one_text { (bits : List Bool) (a b : List ℕ) → IsBitText bits a → IsBitText bits b

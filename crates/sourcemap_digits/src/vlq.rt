@@ -195,9 +195,9 @@ pub fn generate_vlq_segment(alloc: Global, numbers: &[i64]) -> Result<String>
     Ok(text)
 }
 
-// A segment stands for one list of numbers or one fault, and numbers have one shortest text, which
-// stands for them.
-fn segments_are_determined()
+/// A law: the text of a segment stands for one list of numbers or for one fault. Numbers have one
+/// shortest text, and where there are any, that text stands for them again.
+pub fn segments_are_determined()
     ensures one_answer { (text : List ℕ) (a b : Result (List ℤ) Error) → SegmentAnswers text a
         → SegmentAnswers text b → a ≡ b }
     ensures one_text { (numbers : List ℤ) (a b : List ℕ) → Spells numbers a → Spells numbers b

@@ -88,9 +88,10 @@ pub enum Error {
     VlqLeftover,
     /// A segment has no number.
     VlqNoValues,
-    /// A number of a segment is too great.
+    /// A number of a segment is 2^62 or more from 0, or has more than thirteen digits.
     VlqOverflow,
-    /// A segment has this many numbers, which is none of 1, 4 and 5.
+    /// A segment has this many numbers, which is none of 1, 4 and 5. 4294967295 stands for itself
+    /// and for any greater count.
     BadSegmentSize(u32),
     /// A segment names this source, which does not exist.
     BadSourceReference(u32),

@@ -39,8 +39,10 @@ fn body(url: &[u8]) -> Option<&[u8]>
 }
 
 /// The bytes that a data URL of a source map holds: `data:application/json`, then `;charset=utf-8`,
-/// `;charset=utf8` or nothing, then `;base64,` and padded standard base64. `InvalidDataUrl` for any
-/// other text. Else only want of memory refuses.
+/// `;charset=utf8` or nothing, then `;base64,` and padded standard base64 in its canonical form: of
+/// all texts that could stand for some bytes the one that encoding them gives, with no white space,
+/// no padding left out, and no bits set behind the last byte. `InvalidDataUrl` for any other text,
+/// one with letters of another case included. Else only want of memory refuses.
 pub fn data_url_bytes(alloc: Global, url: &str) -> Result<Vec<u8>>
     ensures { IsAnswer (λ v. v.items) (DataUrlAnswer url.now) result }
 {

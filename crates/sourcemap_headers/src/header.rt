@@ -24,9 +24,11 @@ fn goes_on(bytes: &[u8]) -> bool
     }
 }
 
-/// The bytes behind a junk header, from the newline that ends it on; all bytes where there is no
-/// header, and none where it never ends. A carriage return in the header with another byte than a
-/// newline behind it is a fault of kind `InvalidData`.
+/// The bytes behind a junk header, from the newline that ends it on. A header is there if the first
+/// byte is `)`, `]`, `}` or `'`, and goes up to the first newline; where it never ends, no byte is
+/// left, and where there is none, all bytes are. A carriage return in the header with another byte
+/// than a newline behind it is a fault of kind `InvalidData`; one that is the last of all bytes is
+/// none. It takes no memory, and refuses nothing else.
 pub fn strip_junk_header(bytes: &[u8]) -> io::Result<&[u8]>
     ensures bytes { IfOk result (λ rest. behind_header bytes.now ≡ Some rest.now) }
     ensures fault { IfErr result (λ e. (behind_header bytes.now ≡ None)

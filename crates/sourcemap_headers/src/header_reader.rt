@@ -80,10 +80,15 @@ fn skip(place: Place, chunk: &[u8]) -> Skipped
     }
 }
 
-/// A reader that gives the bytes behind a junk header, without the newline that ends the header;
-/// all bytes where there is none. A carriage return in the header with another byte than a newline
-/// behind it is a fault of kind `InvalidData`, which each later read answers again, one into an
-/// empty buffer too. After a fault of the inner reader it goes on.
+/// A reader that gives the bytes behind a junk header, without the newline that ends the header. A
+/// header is there if the first byte is `)`, `]`, `}` or `'`, and goes up to the first newline;
+/// where it never ends, no byte is given, and where there is none, all bytes are.
+///
+/// A carriage return in the header with another byte than a newline behind it is a fault of kind
+/// `InvalidData`, which each later read answers again, one into an empty buffer too. Any other
+/// fault is the inner reader's as it was, which no clause says, and reading goes on where it was
+/// once that reader does. One read asks the inner reader at most 2^64 - 1 times for bytes; if it
+/// was given nothing but junk by then, it answers a fault of kind `Other`.
 #[derive(Debug, Drop)]
 pub struct StripHeaderReader<R> {
     reader: R,

@@ -1,8 +1,10 @@
 // Junk headers, with bytes that come one by one and reads that fail.
+use crate::checks::check;
+use sourcemap_errors::errors::Result;
 use sourcemap_json::decoder::{StripHeaderReader, strip_junk_header};
-use std::io;
+use std::alloc::Global;
 use std::io::{ErrorKind, Read};
-use std::test::Fail;
+use std::{io, str};
 
 // Gives one byte a read, and a fault in place of the read of each `!`.
 #[derive(Drop)]
@@ -25,50 +27,88 @@ impl Read for OneByOne<'_> {
     }
 }
 
-#[test]
-fn drops_the_header(rt: HostRuntime) -> Result<(), Fail> {
-    let cases: [(&[u8], &[u8]); 5] = [
-        (b")]}garbage\r\n[1, 2, 3]", b"[1, 2, 3]"),
-        (b")]}", b""),
-        (b")]}'\n", b""),
-        (b"'\r\n\n{}", b"\n{}"),
-        (b"{}\r[", b"{}\r["),
-    ];
-    for (text, behind) in cases {
-        let mut bytes = Vec::new(rt.alloc());
-        StripHeaderReader::new(OneByOne(text)).read_to_end(&mut bytes)?;
-        assert_eq!(rt; bytes.as_slice(), behind);
+// Bytes, and what stands behind their header, or the fault.
+const READ: [(&[u8], &str); 6] = [
+    (b")]}garbage\r\n[1, 2, 3]", "[1, 2, 3]"),
+    (b")]}", ""),
+    (b")]}'\n", ""),
+    (b"'\r\n\n{}", "\n{}"),
+    (b"{}\r[", "{}\r["),
+    (b")]}'\r[1, 2, 3]", "invalid data"),
+];
+
+fn text_or_fault(alloc: Global, bytes: &[u8], outcome: io::Result<usize>) -> Result<String> {
+    match outcome {
+        Ok(_) => Ok(String::from_str(alloc, str::from_utf8(bytes)?)?),
+        Err(fault) => Ok(format!(in alloc; "{fault}")?),
     }
-    assert_eq!(rt;
-        strip_junk_header(b")]}garbage\r\n[1, 2, 3]")?,
-        b"\n[1, 2, 3]".as_slice()
-    );
-    Ok(())
+}
+
+fn read(alloc: Global, text: &[u8]) -> Result<String> {
+    let mut bytes = Vec::new(alloc);
+    let outcome = StripHeaderReader::new(OneByOne(text)).read_to_end(&mut bytes);
+    text_or_fault(alloc, bytes.as_slice(), outcome)
 }
 
 #[test]
-fn faults(rt: HostRuntime) {
-    let mut buf = [0u8; 4];
-    let mut faulty = StripHeaderReader::new(OneByOne(b")]}'\r[1, 2, 3]"));
-    assert_eq!(rt; faulty.read(&mut []).map_err(|e| e.kind()), Ok(0));
-    for room in [4, 0, 4] {
-        assert_eq!(rt;
-            faulty.read(&mut buf[..room]).map_err(|e| e.kind()),
-            Err(ErrorKind::InvalidData)
-        );
+fn drops_the_header(rt: HostRuntime) {
+    for (text, want) in READ.iter() {
+        check(&rt, want, read(rt.alloc(), text), want);
     }
-    assert_eq!(rt;
-        strip_junk_header(b")]}'\r[1, 2, 3]").map_err(|e| e.kind()),
-        Err(ErrorKind::InvalidData)
-    );
-    let mut broken = StripHeaderReader::new(OneByOne(b")]}!x\nab"));
-    assert_eq!(rt;
-        broken.read(&mut buf).map_err(|e| e.kind()),
-        Err(ErrorKind::TimedOut)
-    );
-    assert_eq!(rt; broken.read(&mut buf).map_err(|e| e.kind()), Ok(1));
-    assert_eq!(rt; buf[0], b'a');
-    assert_eq!(rt; broken.read(&mut buf).map_err(|e| e.kind()), Ok(1));
-    assert_eq!(rt; buf[0], b'b');
-    assert_eq!(rt; broken.read(&mut buf).map_err(|e| e.kind()), Ok(0));
+}
+
+// Bytes, and what a slice keeps of them: of a line end of two bytes the second stays.
+const STRIPPED: [(&[u8], &str); 2] = [
+    (b")]}garbage\r\n[1, 2, 3]", "\n[1, 2, 3]"),
+    (b")]}'\r[1, 2, 3]", "invalid data"),
+];
+
+fn stripped(alloc: Global, text: &[u8]) -> Result<String> {
+    match strip_junk_header(text) {
+        Ok(bytes) => Ok(String::from_str(alloc, str::from_utf8(bytes)?)?),
+        Err(fault) => Ok(format!(in alloc; "{fault}")?),
+    }
+}
+
+#[test]
+fn strips_the_header(rt: HostRuntime) {
+    for (text, want) in STRIPPED.iter() {
+        check(&rt, want, stripped(rt.alloc(), text), want);
+    }
+}
+
+// Bytes, how much room each read has, and the byte that it gives: `.` for none, `?` for invalid
+// data, `~` for the fault of the inner reader.
+const FAULTY: [(&[u8], [usize; 4], &str); 2] = [
+    (b")]}'\r[1, 2, 3]", [0, 4, 0, 4], ".???"),
+    (b")]}!x\nab", [4, 4, 4, 4], "~ab."),
+];
+
+fn next(reader: &mut StripHeaderReader<OneByOne<'_>>, room: usize) -> char {
+    let mut buf = [0u8; 4];
+    match reader.read(&mut buf[..room.min(4)]) {
+        Ok(0) => '.',
+        Ok(_) => buf[0] as char,
+        Err(fault) => match fault.kind() {
+            ErrorKind::InvalidData => '?',
+            ErrorKind::TimedOut => '~',
+            _ => '!',
+        },
+    }
+}
+
+fn reads(alloc: Global, text: &[u8], rooms: [usize; 4]) -> Result<String> {
+    let mut reader = StripHeaderReader::new(OneByOne(text));
+    let mut told = String::new(alloc);
+    for room in rooms {
+        told.push(next(&mut reader, room))?;
+    }
+    Ok(told)
+}
+
+#[test]
+fn faults_come_where_they_stand(rt: HostRuntime) {
+    for (text, rooms, want) in FAULTY.iter() {
+        check(&rt, want, reads(rt.alloc(), text, *rooms), want);
+    }
 }

@@ -1,161 +1,189 @@
 // Records read from JSON texts and written as JSON texts, against the texts that they stand for.
+use crate::checks::check;
 use serde_json::Value;
-use sourcemap_errors::errors::{Error, JsonFault};
+use sourcemap_errors::errors::{Error, JsonFault, Result};
 use sourcemap_json::jsontypes::{DebugId, FacebookScopeMapping, MinimalRawSourceMap, RawSourceMap};
 use std::alloc::Global;
-use std::process::Abort;
-use std::test::Fail;
 
-fn read(alloc: Global, text: &str) -> Result<RawSourceMap, Error> {
+fn read(alloc: Global, text: &str) -> Result<RawSourceMap> {
     RawSourceMap::from_owned(alloc, Value::from_str(alloc, text)?)
 }
+
+const WRONG: [&str; 15] = [
+    r#"[]"#,
+    r#"null"#,
+    r#"{"version":4294967296}"#,
+    r#"{"version":-1}"#,
+    r#"{"version":1.0}"#,
+    r#"{"sources":[1]}"#,
+    r#"{"names":{}}"#,
+    r#"{"mappings":[]}"#,
+    r#"{"ignoreList":[null]}"#,
+    r#"{"x_facebook_offsets":["1"]}"#,
+    r#"{"x_facebook_sources":[[{"names":[]}]]}"#,
+    r#"{"sections":[{"offset":{"line":1}}]}"#,
+    r#"{"sections":[{"offset":{"line":1,"column":2},"map":[]}]}"#,
+    r#"{"debugId":"00000000-0000-0000-0000-000000000000-1"}"#,
+    r#"{"debugId":"00000000000000000000000000000000","debug_id":"x"}"#,
+];
 
 fn is_of_wrong_shape(alloc: Global, text: &str) -> bool {
     matches!(read(alloc, text), Err(Error::BadJson(JsonFault::Shape)))
 }
 
-// A record that is alive at a `?` makes the function dear to prove, so each step is its own.
-fn written(alloc: Global, text: &str) -> Result<Value, Error> {
-    let record = read(alloc, text)?;
-    record.to_value(alloc)
-}
-
-fn is_read_back(alloc: Global, written: &Value, text: &str) -> Result<bool, Error> {
-    let record = read(alloc, text)?;
-    is_read_as(alloc, written, &record)
-}
-
-fn is_read_as(alloc: Global, written: &Value, record: &RawSourceMap) -> Result<bool, Error> {
-    let again = RawSourceMap::from_value(alloc, written)?;
-    Ok(again == *record)
-}
-
-fn moved(alloc: Global, written: &Value) -> Result<Value, Error> {
-    RawSourceMap::from_value(alloc, written)?.into_value(alloc)
-}
-
-fn check_written(rt: &impl Abort, alloc: Global, text: &str, wanted: &str) -> Result<(), Fail> {
-    let written = written(alloc, text)?;
-    assert!(rt; is_read_back(alloc, &written, text)?, "{text}");
-    check_shown(rt, alloc, &written, wanted)?;
-    check_shown(rt, alloc, &moved(alloc, &written)?, wanted)
-}
-
-fn check_shown(rt: &impl Abort, alloc: Global, value: &Value, wanted: &str) -> Result<(), Fail> {
-    let shown = value.to_string(alloc)?;
-    assert_eq!(rt; shown.as_str(), wanted);
-    Ok(())
-}
-
 #[test]
-fn wrong_shapes(rt: HostRuntime) -> Result<(), Fail> {
-    let texts = [
-        "[]",
-        "null",
-        "{\"version\":4294967296}",
-        "{\"version\":-1}",
-        "{\"version\":1.0}",
-        "{\"sources\":[1]}",
-        "{\"names\":{}}",
-        "{\"mappings\":[]}",
-        "{\"ignoreList\":[null]}",
-        "{\"x_facebook_offsets\":[\"1\"]}",
-        "{\"x_facebook_sources\":[[{\"names\":[]}]]}",
-        "{\"sections\":[{\"offset\":{\"line\":1}}]}",
-        "{\"sections\":[{\"offset\":{\"line\":1,\"column\":2},\"map\":[]}]}",
-        "{\"debugId\":\"00000000-0000-0000-0000-000000000000-1\"}",
-        "{\"debugId\":\"00000000000000000000000000000000\",\"debug_id\":\"x\"}",
-    ];
-    for text in texts {
+fn wrong_shapes(rt: HostRuntime) {
+    for text in WRONG.iter() {
         assert!(rt; is_of_wrong_shape(rt.alloc(), text), "{text}");
     }
-    Ok(())
+}
+
+const NOTHING: &str = r#"{"sources":null,"version":null}"#;
+
+// A record, and what it is written as.
+const WRITTEN: [(&str, &str); 5] = [
+    ("{}", NOTHING),
+    (
+        r#"{"version":null,"file":null,"sections":null,"names":null,"debug_id":null,"unknown":1}"#,
+        NOTHING,
+    ),
+    (
+        r#"{"version":3,"file":"test.js","sections":[]}"#,
+        r#"{"file":"test.js","sections":[],"sources":null,"version":3}"#,
+    ),
+    (
+        r#"{"version":3,"sections":[{"offset":{"line":2,"column":3},"map":{"version":3,"sections":[{"offset":{"line":1,"column":0},"url":"u"}]}}]}"#,
+        r#"{"sections":[{"map":{"sections":[{"map":null,"offset":{"column":0,"line":1},"url":"u"}],"sources":null,"version":3},"offset":{"column":3,"line":2},"url":null}],"sources":null,"version":3}"#,
+    ),
+    (
+        r#"{"version":3,"file":7,"debug_id":"00000000000000000000000000000000","ignoreList":[1,3],"mappings":"A","names":[true,7,"a"],"rangeMappings":"B","sourceRoot":"r","sources":["a.js",null],"sourcesContent":[null,"x"],"x_facebook_offsets":[5,null],"x_facebook_sources":[null,[{"names":["<global>"],"mappings":"AAA"}]],"x_metro_module_paths":["p"]}"#,
+        r#"{"debugId":"00000000-0000-0000-0000-000000000000","file":7,"ignoreList":[1,3],"mappings":"A","names":[true,7,"a"],"rangeMappings":"B","sourceRoot":"r","sources":["a.js",null],"sourcesContent":[null,"x"],"version":3,"x_facebook_offsets":[5,null],"x_facebook_sources":[null,[{"mappings":"AAA","names":["<global>"]}]],"x_metro_module_paths":["p"]}"#,
+    ),
+];
+
+fn told(alloc: Global, value: Result<Value>) -> Result<String> {
+    Ok(value?.to_string(alloc)?)
+}
+
+fn by_reference(alloc: Global, text: &str) -> Result<Value> {
+    read(alloc, text)?.to_value(alloc)
+}
+
+fn by_moving(alloc: Global, text: &str) -> Result<Value> {
+    let value = Value::from_str(alloc, text)?;
+    RawSourceMap::from_value(alloc, &value)?.into_value(alloc)
+}
+
+fn is_that_of(alloc: Global, record: &RawSourceMap, text: &str) -> Result<bool> {
+    let other = read(alloc, text)?;
+    Ok(other == *record)
+}
+
+fn are_equal(alloc: Global, one: &str, other: &str) -> Result<bool> {
+    let record = read(alloc, one)?;
+    is_that_of(alloc, &record, other)
 }
 
 #[test]
-fn written_texts(rt: HostRuntime) -> Result<(), Fail> {
+fn written_texts(rt: HostRuntime) {
     let alloc = rt.alloc();
-    let nothing = "{\"sources\":null,\"version\":null}";
-    check_written(&rt, alloc, "{}", nothing)?;
-    check_written(
-        &rt,
-        alloc,
-        "{\"version\":null,\"file\":null,\"sections\":null,\"names\":null,\"debug_id\":null,\"unknown\":1}",
-        nothing,
-    )?;
-    let index = "{\"file\":\"test.js\",\"sections\":[],\"sources\":null,\"version\":3}";
-    check_written(&rt, alloc, index, index)?;
-    let nested =
-        "{\"sections\":[{\"map\":{\"sections\":[{\"map\":null,\"offset\":{\"column\":0,\"line\":1},\"url\":\"u\"}],\"sources\":null,\"version\":3},\"offset\":{\"column\":3,\"line\":2},\"url\":null}],\"sources\":null,\"version\":3}";
-    check_written(&rt, alloc, nested, nested)?;
-    let whole =
-        "{\"debugId\":\"00000000-0000-0000-0000-000000000000\",\"file\":7,\"ignoreList\":[1,3],\"mappings\":\"A\",\"names\":[true,7,\"a\"],\"rangeMappings\":\"B\",\"sourceRoot\":\"r\",\"sources\":[\"a.js\",null],\"sourcesContent\":[null,\"x\"],\"version\":3,\"x_facebook_offsets\":[5,null],\"x_facebook_sources\":[null,[{\"mappings\":\"AAA\",\"names\":[\"<global>\"]}]],\"x_metro_module_paths\":[\"p\"]}";
-    check_written(&rt, alloc, whole, whole)
+    for (text, want) in WRITTEN.iter() {
+        for text in [*text, *want] {
+            check(&rt, text, told(alloc, by_reference(alloc, text)), want);
+            check(&rt, text, told(alloc, by_moving(alloc, text)), want);
+            assert!(rt; matches!(are_equal(alloc, text, want), Ok(true)), "{text}");
+        }
+    }
 }
 
-fn id_in(alloc: Global, text: &str) -> Result<Option<DebugId>, Error> {
-    let record = read(alloc, text)?;
-    Ok(record.debug_id)
-}
-
-fn check_id(rt: &impl Abort, alloc: Global, id: DebugId, wanted: &str) -> Result<(), Fail> {
-    let shown = id.to_string(alloc)?;
-    assert_eq!(rt; shown.as_str(), wanted);
-    Ok(())
-}
-
-#[test]
-fn debug_ids(rt: HostRuntime) -> Result<(), Fail> {
-    let zeros = "00000000-0000-0000-0000-000000000000";
-    let first = id_in(
-        rt.alloc(),
-        "{\"debug_id\":\"11111111-1111-1111-1111-111111111111\",\"debugId\":\"00000000000000000000000000000000\"}",
-    )?;
-    let id = first.ok_or("no id")?;
-    check_id(&rt, rt.alloc(), id, zeros)?;
-    assert!(rt; DebugId::parse(zeros) == Some(DebugId::from_uuid(id.uuid())));
-    let upper = DebugId::parse("ABCDEFABCDEFABCDEFABCDEFABCDEFAB").ok_or("no id")?;
-    check_id(
-        &rt,
-        rt.alloc(),
-        upper,
+// A text, and the debug id that it stands for.
+const IDS: [(&str, &str); 4] = [
+    (
+        "00000000-0000-0000-0000-000000000000",
+        "00000000-0000-0000-0000-000000000000",
+    ),
+    (
+        "00000000000000000000000000000000",
+        "00000000-0000-0000-0000-000000000000",
+    ),
+    (
+        "ABCDEFABCDEFABCDEFABCDEFABCDEFAB",
         "abcdefab-cdef-abcd-efab-cdefabcdefab",
-    )?;
-    assert!(rt; DebugId::parse("{00000000-0000-0000-0000-000000000000}").is_none());
-    Ok(())
+    ),
+    ("{00000000-0000-0000-0000-000000000000}", "none"),
+];
+
+fn id_told(alloc: Global, id: Option<DebugId>) -> Result<String> {
+    match id {
+        None => Ok(String::from_str(alloc, "none")?),
+        Some(id) => Ok(format!(in alloc; "{}", DebugId::from_uuid(id.uuid()))?),
+    }
 }
 
-fn names_in(alloc: Global, value: &Value) -> Result<Option<Vec<Value>>, Error> {
-    let record = RawSourceMap::from_value(alloc, value)?;
-    Ok(record.names)
-}
-
-fn check_names(rt: &impl Abort, names: &[Value]) {
-    assert_eq!(rt; names.len(), 4);
-    assert!(rt; names[1] == Value::Bool(true));
-    assert!(rt; names[2] == Value::from(7u8));
-}
-
-#[test]
-fn names_and_keys(rt: HostRuntime) -> Result<(), Fail> {
-    let value = Value::from_str(
-        rt.alloc(),
-        "{\"names\":[1.5,true,7,\"a\"],\"mappings\":null,\"version\":3}",
-    )?;
-    let minimal = MinimalRawSourceMap::from_value(&value)?;
-    assert!(rt; minimal.names && !minimal.mappings && minimal.version == Some(3));
-    let names = names_in(rt.alloc(), &value)?.ok_or("no names")?;
-    check_names(&rt, &names);
-    Ok(())
+fn id_in(alloc: Global, text: &str) -> Result<String> {
+    id_told(alloc, read(alloc, text)?.debug_id)
 }
 
 #[test]
-fn scopes_are_copied(rt: HostRuntime) -> Result<(), Fail> {
+fn debug_ids(rt: HostRuntime) {
+    for (text, want) in IDS.iter() {
+        check(&rt, text, id_told(rt.alloc(), DebugId::parse(text)), want);
+    }
+    // of the two keys the newer one wins
+    let text =
+        r#"{"debug_id":"11111111-1111-1111-1111-111111111111","debugId":"00000000000000000000000000000000"}"#;
+    check(
+        &rt,
+        text,
+        id_in(rt.alloc(), text),
+        "00000000-0000-0000-0000-000000000000",
+    );
+}
+
+const NAMES: &str = r#"{"names":[1.5,true,7,"a"],"mappings":null,"version":3}"#;
+
+// The names but the first, which no text tells.
+fn names_told(alloc: Global, names: &[Value]) -> Result<String> {
+    let mut told = format!(in alloc; "{}", names.len())?;
+    for name in names.iter().skip(1) {
+        let name = name.to_string(alloc)?;
+        write!(told, " {}", name.as_str())?;
+    }
+    Ok(told)
+}
+
+fn names_in(alloc: Global, text: &str) -> Result<String> {
+    let names = read(alloc, text)?.names;
+    names_told(alloc, names.as_ref().map_or(&[], |names| names.as_slice()))
+}
+
+fn keys_in(alloc: Global, text: &str) -> Result<String> {
+    let value = Value::from_str(alloc, text)?;
+    let keys = MinimalRawSourceMap::from_value(&value)?;
+    Ok(format!(in alloc; "{:?} {} {}", keys.version, keys.names, keys.mappings)?)
+}
+
+#[test]
+fn names_and_keys(rt: HostRuntime) {
+    check(&rt, NAMES, names_in(rt.alloc(), NAMES), r#"4 true 7 "a""#);
+    check(&rt, NAMES, keys_in(rt.alloc(), NAMES), "Some(3) true false");
+}
+
+fn is_equal_to_copy(alloc: Global) -> Result<bool> {
+    let mappings = String::from_str(alloc, "AAA")?;
     let scopes = FacebookScopeMapping {
-        mappings: String::from_str(rt.alloc(), "AAA")?,
-        names: Vec::new(rt.alloc()),
+        mappings,
+        names: Vec::new(alloc),
     };
+    is_equal_copied(&scopes)
+}
+
+fn is_equal_copied(scopes: &FacebookScopeMapping) -> Result<bool> {
     let copy = scopes.clone()?;
-    assert!(rt; copy == scopes);
-    Ok(())
+    Ok(copy == *scopes)
+}
+
+#[test]
+fn scopes_are_copied(rt: HostRuntime) {
+    assert!(rt; matches!(is_equal_to_copy(rt.alloc()), Ok(true)));
 }

@@ -28,6 +28,10 @@ value_decodes_once = value_once TreeDecodes tree_decodes_once
 pub bytes_decode_once : (bytes : List ℕ) (a b : Result MapValue Error) → BytesDecode bytes a → BytesDecode bytes b → AreSame a b
 bytes_decode_once = bytes_once TreeDecodes tree_decodes_once
 
+-- a data URL has one answer
+pub url_decodes_once : (url : List ℕ) (a b : Result MapValue Error) → UrlDecodes url a → UrlDecodes url b → AreSame a b
+url_decodes_once = url_once TreeDecodes tree_decodes_once
+
 of_no_record : (found : Option Tree) (e : Error) (answer : Result MapValue Error) → answer ≡ Err e → due found ≡ Err e
     → MatchOption found (answer ≡ Err (BadJson Shape)) (λ t. TreeDecodes t answer)
 of_no_record None e answer so is = let same : e ≡ BadJson Shape = cc in so ∙ ap Err same
@@ -56,4 +60,4 @@ reader_only = reading.reader_only map_value TreeDecodes tree_decodes_once
 -- and of a data URL
 pub url_only : (url : List ℕ) (r : Result DecodedMap Error) → IsAnswer map_value (UrlDecodes url) r
     → (due : Result MapValue Error) → UrlDecodes url due → IsAnswer map_value (AreSame due) r
-url_only url = answer_only map_value (UrlDecodes url) AreSame (url_once TreeDecodes tree_decodes_once url)
+url_only url = answer_only map_value (UrlDecodes url) AreSame (url_decodes_once url)

@@ -1,42 +1,37 @@
--- From the two calls that write and read a value to the round trip.
-use Rattle.std.proofs.Common.{◌≡◌, ℕ, List, Result, Ok, Err, MatchResult, refl}
-use Rattle.serde_json.specs.Data.{Data}
+-- From the two calls that write and read a map to the round trip.
+use Rattle.std.proofs.Common.{◌≡◌, Result, Ok, Err, MatchResult, refl, subst}
 use Rattle.sourcemap_errors.specs.declared.errors.Error.{Error}
 use Rattle.sourcemap_errors.specs.declared.errors.Error.TheVariants.{OutOfMemory}
 use Rattle.sourcemap_errors.specs.Answer.{UnlessMemory, Gives, IsAnswer}
 use Rattle.sourcemap_errors.proofs.AnswerLemmas.{UnlessMemory-weaker}
-use Rattle.sourcemap_regular.specs.Map.{MapValue, MeansTheSame}
-use Rattle.sourcemap_regular.specs.Write.{BytesReadBack, UrlReadsBack, IsIo}
-use Rattle.sourcemap_regular.specs.Encode.{KeepsParts}
-use Rattle.sourcemap_kinds.specs.DecodedMap.{map_value, StandsFor}
-use Rattle.sourcemap_kinds.specs.Decode.{ValueDecodes, BytesDecode, UrlDecodes, AreSame}
-use Rattle.sourcemap_kinds.specs.declared.decoded_map.DecodedMap.{DecodedMap}
+use Rattle.sourcemap_regular.specs.Encode.{ReadsBack}
+use Rattle.sourcemap_kinds.specs.Decode.{AreSame}
 
 pub memory_alone : (e : Error) (P : Type 0) → ¬ P → UnlessMemory e P → e ≡ OutOfMemory
 memory_alone OutOfMemory P never h = refl
 memory_alone _ P never h = absurd (never h)
 
-means_from : (back m n : MapValue) → MeansTheSame back m → (r : Result MapValue Error) → r ≡ Ok back → r ≡ Ok n → MeansTheSame n m
-means_from back m n same r is also = let e : n ≡ back = cc in rw e same
+module _ {X Y : Type 0} (view : X → Y) where
+  -- a call that gives what is due answers the same
+  pub same_gives : (r : Result X Error) (back : Y) → Gives view r (Ok back) → IsAnswer view (AreSame (Ok back)) r
+  same_gives (Ok x) back gave = cc
+  same_gives (Err e) back gave = UnlessMemory-weaker e (λ wrong. cc) gave
 
--- what is read from a value that stands for a map means what the map does
-pub means_the_same : (d : Data) (m : MapValue) (r : Result DecodedMap Error) → StandsFor d m
-    → ((due : Result MapValue Error) → ValueDecodes d due → Gives map_value r due)
-    → MatchResult r (λ back. MeansTheSame (map_value back) m) (λ e. e ≡ OutOfMemory)
-means_the_same d m (Ok back) stands only = means_from stands.0 m (map_value back) stands.2 (Ok stands.0) refl (only (Ok stands.0) stands.1)
-means_the_same d m (Err e) stands only =
-    memory_alone e (Ok stands.0 ≡ Err e) (λ wrong. cc) (only (Ok stands.0) stands.1)
+  -- what is read is restored, where nothing is read but what reads back
+  pub restored : (Answers : Result Y Error → Type 0) (IsRestored : Y → Type 0) (r : Result X Error) → ReadsBack Answers IsRestored
+      → ((back : Y) → Answers (Ok back) → IsAnswer view (AreSame (Ok back)) r)
+      → MatchResult r (λ x. IsRestored (view x)) (λ e. UnlessMemory e ⊥)
+  restored Answers IsRestored (Ok x) back only = subst IsRestored (only back.0 back.1) back.2
+  restored Answers IsRestored (Err e) back only = only back.0 back.1
 
--- what is read from bytes that read back as a map means what the map does, and keeps its parts
-pub bytes_kept : (bytes : List ℕ) (m : MapValue) (r : Result DecodedMap Error) → BytesReadBack m bytes
-    → ((due : Result MapValue Error) → BytesDecode bytes due → IsAnswer map_value (AreSame due) r)
-    → MatchResult r (λ back. MeansTheSame (map_value back) m × KeepsParts (map_value back) m) (λ e. UnlessMemory e (IsIo e))
-bytes_kept bytes m (Ok back) stands only = rw (← (only (Ok stands.0) stands.1)) (stands.2, stands.3)
-bytes_kept bytes m (Err e) stands only = UnlessMemory-weaker e (λ never. absurd never) (only (Ok stands.0) stands.1)
+-- where a fault is none but want of memory
+pub but_for_memory : {X : Type 0} (P : X → Type 0) (r : Result X Error) → MatchResult r P (λ e. UnlessMemory e ⊥)
+    → MatchResult r P (λ e. e ≡ OutOfMemory)
+but_for_memory P (Ok x) h = h
+but_for_memory P (Err e) h = memory_alone e ⊥ (λ never. never) h
 
--- and so does what is read from a data URL
-pub url_kept : (url : List ℕ) (m : MapValue) (r : Result DecodedMap Error) → UrlReadsBack m url
-    → ((due : Result MapValue Error) → UrlDecodes url due → IsAnswer map_value (AreSame due) r)
-    → MatchResult r (λ back. MeansTheSame (map_value back) m × KeepsParts (map_value back) m) (λ e. e ≡ OutOfMemory)
-url_kept url m (Ok back) stands only = rw (← (only (Ok stands.0) stands.1)) (stands.2, stands.3)
-url_kept url m (Err e) stands only = memory_alone e ⊥ (λ never. never) (only (Ok stands.0) stands.1)
+-- or of a writer
+pub but_for : {X : Type 0} (P : X → Type 0) (Q : Error → Type 0) (r : Result X Error) → MatchResult r P (λ e. UnlessMemory e ⊥)
+    → MatchResult r P (λ e. UnlessMemory e (Q e))
+but_for P Q (Ok x) h = h
+but_for P Q (Err e) h = UnlessMemory-weaker e (λ never. absurd never) h

@@ -1,11 +1,10 @@
 -- A decoded map as contracts see it.
-use Rattle.std.specs.Prelude.{◌≡◌, ℕ, List, Ok}
+use Rattle.std.specs.Prelude.{◌≡◌, ℕ, List}
 use Rattle.serde_json.specs.Data.{Data}
 use Rattle.serde_json.specs.Written.{compact_text}
 use Rattle.sourcemap_records.specs.Jsontypes.{Tree, written}
-use Rattle.sourcemap_regular.specs.Map.{MapValue, MeansTheSame}
-use Rattle.sourcemap_regular.specs.Encode.{IsRecordOf, KeepsParts}
-use Rattle.sourcemap_kinds.specs.Decode.{ValueDecodes}
+use Rattle.sourcemap_regular.specs.Map.{MapValue}
+use Rattle.sourcemap_regular.specs.Encode.{IsRecordOf}
 use Rattle.sourcemap_kinds.specs.declared.decoded_map.DecodedMap.{DecodedMap}
 use Rattle.sourcemap_kinds.specs.declared.decoded_map.DecodedMap.TheVariants.{Regular}
 
@@ -20,7 +19,3 @@ IsValueOf m d = (t : Tree) × IsRecordOf m t × (d ≡ written t)
 -- the compact text of a value that a map is written as
 abbrev pub IsTextOf : MapValue → List ℕ → Type 0
 IsTextOf m text = (d : Data) × IsValueOf m d × (text ≡ compact_text d)
-
--- a value stands for a map of the same meaning as this one, with all parts kept
-abbrev pub StandsFor : Data → MapValue → Type 0
-StandsFor d m = (back : MapValue) × ValueDecodes d (Ok back) × MeansTheSame back m × KeepsParts back m

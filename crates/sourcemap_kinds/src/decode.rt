@@ -68,6 +68,18 @@ pub fn decode_slice(alloc: Global, bytes: &[u8]) -> Result<DecodedMap>
     decode_bytes(alloc, bytes)
 }
 
+/// The same map as by `decode_slice`, and the same faults. The bytes are let go as soon as their
+/// JSON value is read, before the map is made.
+pub fn decode_vec(alloc: Global, input: Vec<u8>) -> Result<DecodedMap>
+    ensures answer { IsAnswer map_value (BytesDecode input.items) result }
+    // No other answer is right.
+    ensures only { (due : Result MapValue Error) → BytesDecode input.items due
+        → IsAnswer map_value (AreSame due) result }
+    ensures well_formed { IfOk result (λ m. IsWellFormed (map_value m)) }
+{
+    decode_owned(alloc, input)
+}
+
 /// The map that a reader's bytes hold, as by `decode_slice`. The reader is read to its end first,
 /// and a read's fault is `Io`.
 pub fn decode<R: Read + Drop>(alloc: Global, reader: R) -> Result<DecodedMap>
@@ -102,10 +114,13 @@ pub fn decode_data_url(alloc: Global, url: &str) -> Result<DecodedMap>
     decode_url(alloc, url)
 }
 
-// A JSON value, and bytes, have one answer.
-fn answers_are_determined()
+/// A law: a JSON value, bytes and a data URL each stand for one map, or for none for one reason.
+/// Of a faulty header the kind of the fault is determined.
+pub fn answers_are_determined()
     ensures values { (d : Data) (a b : Result MapValue Error)
         → ValueDecodes d a → ValueDecodes d b → a ≡ b }
     ensures bytes { (bytes : List ℕ) (a b : Result MapValue Error)
         → BytesDecode bytes a → BytesDecode bytes b → AreSame a b }
+    ensures urls { (url : List ℕ) (a b : Result MapValue Error)
+        → UrlDecodes url a → UrlDecodes url b → AreSame a b }
 {}

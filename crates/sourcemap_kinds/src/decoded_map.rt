@@ -9,10 +9,10 @@ ghost use Rattle.sourcemap_errors.specs.declared.errors.Error.{Error};
 ghost use Rattle.sourcemap_errors.specs.declared.errors.Error.TheVariants.{OutOfMemory};
 ghost use Rattle.sourcemap_records.specs.Jsontypes.{tree};
 ghost use Rattle.sourcemap_regular.specs.Write.{IsEncoded, IsIo};
-ghost use Rattle.sourcemap_regular.specs.Encode.{RecordAnswer, KeepsParts};
+ghost use Rattle.sourcemap_regular.specs.Encode.{RecordAnswer, ReadsBack, Restores};
 ghost use Rattle.sourcemap_regular.specs.Equality.{same_map, same_map_equiv};
 ghost use Rattle.sourcemap_regular.specs.Token.{answers, lookup, token_value};
-ghost use Rattle.sourcemap_regular.specs.Map.{MapValue, IsWellFormed, MeansTheSame, meaning};
+ghost use Rattle.sourcemap_regular.specs.Map.{MapValue, IsWellFormed, meaning};
 ghost use Rattle.sourcemap_kinds.specs.DecodedMap.{map_value};
 
 use crate::decode::{decode, decode_data_url, decode_slice, decode_value};
@@ -34,7 +34,7 @@ pub enum DecodedMap {
 }
 
 impl DecodedMap {
-    ghost use Rattle.sourcemap_kinds.specs.DecodedMap.{IsValueOf, StandsFor};
+    ghost use Rattle.sourcemap_kinds.specs.DecodedMap.{IsValueOf};
     ghost use Rattle.sourcemap_kinds.specs.Decode.{ValueDecodes, BytesDecode, AreSame, IsAnswerRead, Reading};
 
     // The allocator that the map keeps.
@@ -60,9 +60,9 @@ impl DecodedMap {
     /// The map as a JSON value, its keys in the order of their bytes. Only want of memory refuses.
     pub fn to_value(&self) -> Result<Value>
         ensures written { IfOk result (λ v. IsValueOf (map_value self.now) (view v)) }
-        // Read back, a well-formed map means the same at every position.
+        // Read back, a well-formed map means the same at every position, with all parts kept.
         ensures reads_back { IfOk result (λ v. IsWellFormed (map_value self.now)
-            → StandsFor (view v) (map_value self.now)) }
+            → ReadsBack (ValueDecodes (view v)) (Restores (map_value self.now))) }
         ensures memory { IfErr result (λ e. e ≡ OutOfMemory) }
     {
         let raw = self.as_raw_sourcemap()?;
@@ -82,9 +82,9 @@ impl DecodedMap {
     /// refuses.
     pub fn into_value(self) -> Result<Value>
         ensures written { IfOk result (λ v. IsValueOf (map_value self) (view v)) }
-        // Read back, a well-formed map means the same at every position.
+        // Read back, a well-formed map means the same at every position, with all parts kept.
         ensures reads_back { IfOk result (λ v. IsWellFormed (map_value self)
-            → StandsFor (view v) (map_value self)) }
+            → ReadsBack (ValueDecodes (view v)) (Restores (map_value self))) }
         ensures memory { IfErr result (λ e. e ≡ OutOfMemory) }
     {
         let alloc = self.allocator();
@@ -115,7 +115,10 @@ impl DecodedMap {
         decode(alloc, reader)
     }
 
-    /// Writes the map's compact JSON text. A write's fault is `Io`, else only want of memory refuses.
+    /// Writes the map's compact JSON text. A write's fault is `Io`, else only want of memory
+    /// refuses. The clause says that such a text was made. That the writer, which is given away,
+    /// gets all of it and nothing else is tested; [`encode_to`] promises it of a writer that is
+    /// lent.
     pub fn to_writer<W: Write + Drop>(&self, writer: W) -> Result<()>
         ensures encoded { OnOk result ((text : List ℕ)
             × IsEncoded (RecordAnswer (map_value self.now)) text) }
@@ -176,7 +179,7 @@ impl PartialEq for DecodedMap {
 
 impl Encodable for DecodedMap {
     ghost use Rattle.sourcemap_records.specs.Jsontypes.{flat, IsFine};
-    ghost use Rattle.sourcemap_regular.specs.Encode.{RecordAnswer, ReadsBack};
+    ghost use Rattle.sourcemap_regular.specs.Decode.{RecordDecodes};
 
     ghost encodes = { λ m. RecordAnswer (map_value m) };
 
@@ -185,7 +188,7 @@ impl Encodable for DecodedMap {
         ensures answer { IsAnswer tree (RecordAnswer (map_value self.now)) result }
         ensures fine { IfOk result (λ r. IsFine (tree r)) }
         ensures reads_back { IfOk result (λ r. IsWellFormed (map_value self.now)
-            → ReadsBack (map_value self.now) (flat (tree r))) }
+            → ReadsBack (RecordDecodes (flat (tree r))) (Restores (map_value self.now))) }
     {
         match self {
             DecodedMap::Regular(map) => map.as_raw_sourcemap(),
@@ -193,22 +196,21 @@ impl Encodable for DecodedMap {
     }
 }
 
-// What is written and read back means the same: nothing but memory refuses.
+// What is written as a value and read back means the same, with all parts kept: nothing but memory
+// refuses.
 fn read_back(map: &DecodedMap) -> Result<DecodedMap>
     ensures { IsWellFormed (map_value map.now) → MatchResult result
-        (λ back. MeansTheSame (map_value back) (map_value map.now))
+        (λ back. Restores (map_value map.now) (map_value back))
         (λ e. e ≡ OutOfMemory) }
 {
     let value = map.to_value()?;
     DecodedMap::from_value(map.allocator(), &value)
 }
 
-// What is written as bytes and read back means the same, with all parts kept: nothing but memory and
-// the writing of bytes refuses.
+// So does what is written as bytes: nothing but memory and the writing of bytes refuses.
 fn read_back_bytes(map: &DecodedMap) -> Result<DecodedMap>
     ensures { IsWellFormed (map_value map.now) → MatchResult result
-        (λ back. MeansTheSame (map_value back) (map_value map.now)
-        × KeepsParts (map_value back) (map_value map.now))
+        (λ back. Restores (map_value map.now) (map_value back))
         (λ e. UnlessMemory e (IsIo e)) }
 {
     let alloc = map.allocator();
@@ -217,10 +219,10 @@ fn read_back_bytes(map: &DecodedMap) -> Result<DecodedMap>
     decode_slice(alloc, bytes.as_slice())
 }
 
-// And so does what is written as a data URL.
+// And what is written as a data URL.
 fn read_back_url(map: &SourceMap) -> Result<DecodedMap>
     ensures { IsWellFormed map.now → MatchResult result
-        (λ back. MeansTheSame (map_value back) map.now × KeepsParts (map_value back) map.now)
+        (λ back. Restores map.now (map_value back))
         (λ e. e ≡ OutOfMemory) }
 {
     let url = map.to_data_url()?;

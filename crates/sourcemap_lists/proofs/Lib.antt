@@ -1,3 +1,4 @@
+pub mod AllLemmas
 pub mod InternerLemmas
 pub mod SearchLemmas
 pub mod SortLemmas

@@ -15,6 +15,7 @@ use Rattle.sourcemap_lists.specs.declared.tokens.RawToken.{RawToken}
 use Rattle.sourcemap_lists.specs.Tokens.{position_cmp, destination, AreInOrder, in_order, AllWithin, IsWithin, are_same, changes_after, without_repeats, with_sound_name, reduced}
 use Rattle.sourcemap_lists.specs.Search.{find_last, closest_item}
 use Rattle.std.proofs.lemmas.List.Sorted.{ranks_by}
+use Rattle.sourcemap_lists.proofs.AllLemmas.{All-map, All-weaker}
 use Rattle.sourcemap_lists.proofs.SearchLemmas.{closest_item-change}
 use Rattle.sourcemap_lists.proofs.SortLemmas.{Rises, Rises-from_sorted, sorted_from_Rises, sorted_by-sorted, length-sorted_by, sorted-sorted_by, All-sorted_by, stably_sorted}
 
@@ -164,17 +165,9 @@ Rises-without_repeats : (lt : RawToken → RawToken → Bool) (ts : List RawToke
 Rises-without_repeats lt [] r = tt
 Rises-without_repeats lt (t ∷ ts) r = (All-changes_after (λ y. lt y t ≡ false) t ts r.0, Rises-changes_after lt t ts r.1)
 
-pub All-map-recursion : {X Y : Type 0} (P : Y → Type 0) (change : X → Y) (xs : List X) → AllByRecursion (λ x. P (change x)) xs → AllByRecursion P (map change xs)
-All-map-recursion P change [] all = tt
-All-map-recursion P change (x ∷ xs) all = (all.0, All-map-recursion P change xs all.1)
-
-pub All-weaker-recursion : {X : Type 0} (P Q : X → Type 0) (weaker : (x : X) → P x → Q x) (xs : List X) → AllByRecursion P xs → AllByRecursion Q xs
-All-weaker-recursion P Q weaker [] all = tt
-All-weaker-recursion P Q weaker (x ∷ xs) all = (weaker x all.0, All-weaker-recursion P Q weaker xs all.1)
-
 Rises-map : {X Y : Type 0} (lt : Y → Y → Bool) (change : X → Y) (xs : List X) → Rises (λ a b. lt (change a) (change b)) xs → Rises lt (map change xs)
 Rises-map lt change [] r = tt
-Rises-map lt change (x ∷ xs) r = (All-map-recursion (λ y. lt y (change x) ≡ false) change xs r.0, Rises-map lt change xs r.1)
+Rises-map lt change (x ∷ xs) r = (All-map (λ y. lt y (change x) ≡ false) change xs r.0, Rises-map lt change xs r.1)
 
 pub AreInOrder-without_repeats : (tokens : List RawToken) → AreInOrder tokens → AreInOrder (without_repeats tokens)
 AreInOrder-without_repeats tokens up =
@@ -196,8 +189,8 @@ sound_name_fits names id few out = grind (arith, nat_tests)
 -- and within the same bounds
 pub AllWithin-reduced : (sources names : ℕ) (tokens : List RawToken) → names ≤ 4294967295 → AllWithin sources names tokens → AllWithin sources names (reduced names tokens)
 AllWithin-reduced sources names tokens few all =
-    All-map-recursion (IsWithin sources names) (with_sound_name names) (without_repeats tokens)
-    (All-weaker-recursion (IsWithin sources names) (λ t. IsWithin sources names (with_sound_name names t))
+    All-map (IsWithin sources names) (with_sound_name names) (without_repeats tokens)
+    (All-weaker (IsWithin sources names) (λ t. IsWithin sources names (with_sound_name names t))
     (λ t within none. let bare = within none in (bare.0, bare.1, bare.2, sound_name_fits names t.name_id few bare.3))
     (without_repeats tokens) (All-without_repeats (IsWithin sources names) tokens all))
 

@@ -1,6 +1,5 @@
 -- Two texts of mappings and of range bits have one answer, and its tokens keep the bounds of the map.
-use Rattle.std.proofs.Common.{◌≡◌, ℕ, suc, ◌+◌, ◌≤◌, ◌==◌, ◌⊎◌, ℤ, List, [], ◌∷◌, ◌++◌, length, Some, None, Result, Ok, Err, IfOk, IfErr, sym, ap, ap₂, ◌∙◌, subst, inl, inr, append_assoc, append-nil, arith}
-use Rattle.std.specs.List.{slice_split}
+use Rattle.std.proofs.Common.{◌≡◌, ℕ, suc, ◌+◌, ◌≤◌, ◌⊎◌, ℤ, List, [], ◌∷◌, ◌++◌, length, Some, None, Result, Ok, Err, IfOk, IfErr, sym, ap, ap₂, ◌∙◌, subst, inl, inr, append_assoc, append-nil, arith}
 use Rattle.std.proofs.lemmas.Bool.Decides.{nat_tests}
 use Rattle.sourcemap_lists.specs.declared.tokens.RawToken.{RawToken}
 use Rattle.sourcemap_errors.specs.declared.errors.Error.{Error}
@@ -9,9 +8,10 @@ use Rattle.sourcemap_errors.specs.Answer.{IsAnswer, UnlessMemory}
 use Rattle.sourcemap_digits.specs.Bits.{first_foreign}
 use Rattle.sourcemap_digits.specs.Vlq.{Reads, HasFault, SegmentAnswers}
 use Rattle.sourcemap_lists.specs.Tokens.{in_order, IsWithin, AllWithin}
-use Rattle.sourcemap_mappings.specs.Segment.{Counts, Segment, field, token_of, segment_fault}
+use Rattle.sourcemap_mappings.specs.Segment.{Counts, Segment, field, token_of, segment_fault, parts_of}
 use Rattle.sourcemap_mappings.specs.Read.{Line, LineText, line_tokens, page_tokens, PartRead, PartFault, PartsRead, PartsFault, LineRead, LineFault, LinesRead, LinesFault, line_texts, MappingsAnswer}
 use Rattle.sourcemap_digits.proofs.VlqLemmas.{SegmentAnswers-same}
+use Rattle.sourcemap_lists.proofs.AllLemmas.{All-append}
 use Rattle.sourcemap_lists.proofs.TokensLemmas.{AllWithin-in_order}
 
 -- of the readings and the faults of one text there is one at most
@@ -119,8 +119,8 @@ Parts-one counts place before ((c ∷ cs) ∷ parts) =
 -- Lines.
 
 module _ (counts : Counts) (n : ℕ) (before : List Segment) (c : ℕ) (cs bits : List ℕ) where
-  parts_one : HasOneAnswer (PartsRead counts 0 before (slice_split (λ b. b == 44) (c ∷ cs))) (PartsFault counts 0 before (slice_split (λ b. b == 44) (c ∷ cs)))
-  parts_one = Parts-one counts 0 before (slice_split (λ b. b == 44) (c ∷ cs))
+  parts_one : HasOneAnswer (PartsRead counts 0 before (parts_of (c ∷ cs))) (PartsFault counts 0 before (parts_of (c ∷ cs)))
+  parts_one = Parts-one counts 0 before (parts_of (c ∷ cs))
 
   Line-same : (x y : Line) → LineRead counts n before (c ∷ cs, bits) x → LineRead counts n before (c ∷ cs, bits) y → x ≡ y
   Line-same x y h k =
@@ -197,23 +197,19 @@ AllWithin-line counts n place bits before here ((c ∷ cs) ∷ parts) (s ∷ seg
       AllWithin-line counts n (place + 1) bits before (here ++ s ∷ []) parts segments small (subst (λ all. PartsRead counts (place + 1) all parts segments) e h.1),
     )
 
-AllWithin-append : (sources names : ℕ) (xs ys : List RawToken) → AllWithin sources names xs → AllWithin sources names ys → AllWithin sources names (xs ++ ys)
-AllWithin-append sources names [] ys h k = k
-AllWithin-append sources names (x ∷ xs) ys h k = (h.0, AllWithin-append sources names xs ys h.1 k)
-
 AllWithin-text : (counts : Counts) (n : ℕ) (before : List Segment) (text : LineText) (line : Line) → counts.names ≤ 4294967295
     → LineRead counts n before text line → AllWithin counts.sources counts.names (line_tokens n line.bits before [] line.segments)
 AllWithin-text counts n before ([], bits) line small h = subst (λ l. AllWithin counts.sources counts.names (line_tokens n l.bits before [] l.segments)) (sym h) tt
 AllWithin-text counts n before (c ∷ cs, bits) line small h =
-    AllWithin-line counts n 0 line.bits before [] (slice_split (λ b. b == 44) (c ∷ cs)) line.segments small
-    (subst (λ all. PartsRead counts 0 all (slice_split (λ b. b == 44) (c ∷ cs)) line.segments) (sym (append-nil before)) h.3)
+    AllWithin-line counts n 0 line.bits before [] (parts_of (c ∷ cs)) line.segments small
+    (subst (λ all. PartsRead counts 0 all (parts_of (c ∷ cs)) line.segments) (sym (append-nil before)) h.3)
 
 pub AllWithin-page : (counts : Counts) (n : ℕ) (before : List Segment) (texts : List LineText) (page : List Line) → counts.names ≤ 4294967295
     → LinesRead counts n before texts page → AllWithin counts.sources counts.names (page_tokens n before page)
 AllWithin-page counts n before [] page small h = subst (λ p. AllWithin counts.sources counts.names (page_tokens n before p)) (sym h) tt
 AllWithin-page counts n before (text ∷ texts) [] small h = absurd h
 AllWithin-page counts n before (text ∷ texts) (line ∷ page) small h =
-    AllWithin-append counts.sources counts.names (line_tokens n line.bits before [] line.segments) (page_tokens (n + 1) (before ++ line.segments) page)
+    All-append (IsWithin counts.sources counts.names) (line_tokens n line.bits before [] line.segments) (page_tokens (n + 1) (before ++ line.segments) page)
     (AllWithin-text counts n before text line small h.0) (AllWithin-page counts (n + 1) (before ++ line.segments) texts page small h.1)
 
 -- From the tokens of a page to the answer.

@@ -2,7 +2,6 @@
 use Rattle.std.proofs.Common.{◌≡◌, ◌≢◌, ℕ, ◌+◌, ◌^◌, ◌<◌, ◌==◌, true, false, List, [], ◌∷◌, ◌++◌, length, get_or, All, Some, None, sym, ap, ◌∙◌, refl, subst, inl, inr, append_assoc, append-nil, length-append, ℤ, arith, eqb-true}
 use Rattle.sourcemap_errors.specs.Answer.{UnlessMemory}
 use Rattle.sourcemap_errors.proofs.AnswerLemmas.{UnlessMemory-weaker}
-use Rattle.std.specs.List.{slice_split}
 use Rattle.std.proofs.lemmas.List.Elements.{All-from_get_or}
 use Rattle.std.proofs.lemmas.Bool.Decides.{nat_tests}
 use Rattle.std.proofs.lemmas.List.Splits.{slice_split_none, slice_split_at}
@@ -11,7 +10,7 @@ use Rattle.sourcemap_mappings.specs.declared.segment.Sums.{Sums}
 use Rattle.sourcemap_mappings.specs.declared.segment.Spot.{Spot}
 use Rattle.sourcemap_errors.specs.declared.errors.Error.{Error}
 use Rattle.sourcemap_digits.specs.Bits.{first_foreign}
-use Rattle.sourcemap_mappings.specs.Segment.{Counts, Segment, token_of, segment_fault}
+use Rattle.sourcemap_mappings.specs.Segment.{Counts, Segment, token_of, segment_fault, semicolon, parts_of}
 use Rattle.sourcemap_mappings.specs.Read.{Line, LineText, line_tokens, page_tokens, PartsRead, PartsFault, LineFault, LinesRead, LinesFault, lines_of}
 use Rattle.sourcemap_mappings.specs.SegmentSteps.{AreTextSums, AreSums}
 use Rattle.sourcemap_mappings.specs.ReadSteps.{AddsParts, AddsLine}
@@ -20,14 +19,14 @@ use Rattle.sourcemap_digits.proofs.VlqLemmas.{IsGroup-nonempty}
 
 -- The lines of a text.
 
-no_semicolon : (xs : List ℕ) → ((i : ℕ) → i < length xs → get_or xs i 0 ≢ 59) → All (λ b. (b == 59) ≡ false) xs
-no_semicolon xs h = All-from_get_or (λ b. (b == 59) ≡ false) xs 0 (λ i lt. let ne = h i lt in grind (arith, nat_tests))
+no_semicolon : (xs : List ℕ) → ((i : ℕ) → i < length xs → get_or xs i 0 ≢ semicolon) → All (λ b. (b == semicolon) ≡ false) xs
+no_semicolon xs h = All-from_get_or (λ b. (b == semicolon) ≡ false) xs 0 (λ i lt. let ne = h i lt in grind (arith, nat_tests))
 
-pub lines_of-last : (text : List ℕ) → ((i : ℕ) → i < length text → get_or text i 0 ≢ 59) → lines_of text ≡ text ∷ []
-lines_of-last text h = slice_split_none (λ b. b == 59) text (no_semicolon text h)
+pub lines_of-last : (text : List ℕ) → ((i : ℕ) → i < length text → get_or text i 0 ≢ semicolon) → lines_of text ≡ text ∷ []
+lines_of-last text h = slice_split_none (λ b. b == semicolon) text (no_semicolon text h)
 
-pub lines_of-first : (text line behind : List ℕ) → text ≡ line ++ 59 ∷ behind → ((i : ℕ) → i < length line → get_or line i 0 ≢ 59) → lines_of text ≡ line ∷ lines_of behind
-lines_of-first text line behind e h = ap lines_of e ∙ slice_split_at (λ b. b == 59) line 59 behind (no_semicolon line h) refl
+pub lines_of-first : (text line behind : List ℕ) → text ≡ line ++ semicolon ∷ behind → ((i : ℕ) → i < length line → get_or line i 0 ≢ semicolon) → lines_of text ≡ line ∷ lines_of behind
+lines_of-first text line behind e h = ap lines_of e ∙ slice_split_at (λ b. b == semicolon) line semicolon behind (no_semicolon line h) refl
 
 -- Parts of a line.
 
@@ -256,12 +255,12 @@ AddsLine-none counts n before (c ∷ cs) bits old sums is h =
 -- a line that is not
 pub AddsLine-parts : (counts : Counts) (n : ℕ) (before : List Segment) (text bits : List ℕ) (old new : List RawToken) (sums : Sums) → (length text == 0) ≡ false
     → n < 2 ^ 32 → first_foreign bits ≡ None
-    → AddsParts counts (record { line = n; place = 0 }) bits before [] (slice_split (λ b. b == 44) text) old new sums
+    → AddsParts counts (record { line = n; place = 0 }) bits before [] (parts_of text) old new sums
     → AddsLine counts n before (text, bits) old new sums
 AddsLine-parts counts n before [] bits old new sums ne small digits adds = absurd cc
 AddsLine-parts counts n before (c ∷ cs) bits old new sums ne small digits adds = record {
   line = record { bits = bits; segments = adds.segments };
-  read = (small, digits, refl, subst (λ zs. PartsRead counts 0 zs (slice_split (λ b. b == 44) (c ∷ cs)) adds.segments) (append-nil before) adds.read);
+  read = (small, digits, refl, subst (λ zs. PartsRead counts 0 zs (parts_of (c ∷ cs)) adds.segments) (append-nil before) adds.read);
   tokens = adds.tokens;
   sums_after = adds.sums_after.text;
 }

@@ -1,6 +1,6 @@
 -- What the steps of the reader of segments come to.
 use Rattle.std.proofs.Common.{◌≡◌, ◌≢◌, ℕ, zero, suc, slice_index, ◌^◌, ◌==◌, true, false, List, [], ◌∷◌, ◌++◌, length, Option, Some, None, sym, ap, ◌∙◌, refl, subst, inl, inr, append_assoc, append-nil, length-append, ℤ, arith, eqb-true}
-use Rattle.std.specs.List.{slice_split, onto_first, AllByRecursion}
+use Rattle.std.specs.List.{onto_first, AllByRecursion}
 use Rattle.std.proofs.lemmas.Bool.{cases_Bool, cond-true, cond-false}
 use Rattle.std.specs.Borrow.{Bor}
 use Rattle.sourcemap_mappings.specs.declared.segment.Numbers.{Numbers}
@@ -9,7 +9,7 @@ use Rattle.sourcemap_errors.specs.declared.errors.Error.{Error}
 use Rattle.sourcemap_errors.specs.declared.errors.Error.TheVariants.{InvalidBase64, VlqLeftover, VlqOverflow}
 use Rattle.std.specs.Int.{int_rem_euclid}
 use Rattle.std.specs.Prelude.{unsigned_abs, pos}
-use Rattle.sourcemap_mappings.specs.Segment.{step}
+use Rattle.sourcemap_mappings.specs.Segment.{step, comma, parts_of}
 use Rattle.sourcemap_mappings.specs.SegmentSteps.{AreSteps, HasFirstPart, HasPartFault, fault_in_part, EndsPart, BeginsWithStep}
 use Rattle.sourcemap_digits.specs.Vlq.{digit_value, GoesOn, IsChain, IsUnfinished, GoesTo, NumberFault, BeginsWith, Reads, IsSound}
 use Rattle.sourcemap_digits.proofs.VlqLemmas.{HasFault-later, IsSound-more}
@@ -28,30 +28,30 @@ zero_steps (suc (suc (suc (suc (suc k))))) = refl
 
 -- a text without a `,`
 pub Lacks : List ℕ → Type 0
-Lacks text = AllByRecursion (λ b. (b == 44) ≡ false) text
+Lacks text = AllByRecursion (λ b. (b == comma) ≡ false) text
 
 pub Lacks-append : (xs ys : List ℕ) → Lacks xs → Lacks ys → Lacks (xs ++ ys)
 unfolding Lacks
 Lacks-append [] ys h k = k
 Lacks-append (x ∷ xs) ys h k = (h.0, Lacks-append xs ys h.1 k)
 
-comma_is_none : digit_value 44 ≡ None
+comma_is_none : digit_value comma ≡ None
 unfolding digit_value
 comma_is_none = refl
 
-comma_none : (v : ℕ) → digit_value 44 ≡ Some v → ⊥
+comma_none : (v : ℕ) → digit_value comma ≡ Some v → ⊥
 unfolding digit_value
 comma_none v e = cc
 
-digit_no_comma : (c : ℕ) → digit_value c ≢ None → (c == 44) ≡ false
-digit_no_comma c digit = elim (cases_Bool (c == 44)) [
-  | inl is ↦ absurd (digit (ap digit_value (eqb-true c 44 is) ∙ comma_is_none))
+digit_no_comma : (c : ℕ) → digit_value c ≢ None → (c == comma) ≡ false
+digit_no_comma c digit = elim (cases_Bool (c == comma)) [
+  | inl is ↦ absurd (digit (ap digit_value (eqb-true c comma is) ∙ comma_is_none))
   | inr differs ↦ differs
 ]
 
-no_comma : (c v : ℕ) → digit_value c ≡ Some v → (c == 44) ≡ false
-no_comma c v e = elim (cases_Bool (c == 44)) [
-  | inl is ↦ let at : c ≡ 44 = eqb-true c 44 is in let none : digit_value 44 ≡ Some v = subst (λ b. digit_value b ≡ Some v) at e in absurd (comma_none v none)
+no_comma : (c v : ℕ) → digit_value c ≡ Some v → (c == comma) ≡ false
+no_comma c v e = elim (cases_Bool (c == comma)) [
+  | inl is ↦ let at : c ≡ comma = eqb-true c comma is in let none : digit_value comma ≡ Some v = subst (λ b. digit_value b ≡ Some v) at e in absurd (comma_none v none)
   | inr differs ↦ differs
 ]
 
@@ -67,17 +67,17 @@ Lacks-goes_on [] h = tt
 Lacks-goes_on (c ∷ cs) ((v, e, on), h) = (no_comma c v e, Lacks-goes_on cs h)
 
 -- what stands before the first `,` of a text lengthens its first part
-slice_split_onto : (xs ys m : List ℕ) (ms : List (List ℕ)) → Lacks xs → slice_split (λ b. b == 44) ys ≡ m ∷ ms → slice_split (λ b. b == 44) (xs ++ ys) ≡ (xs ++ m) ∷ ms
+parts_of-onto : (xs ys m : List ℕ) (ms : List (List ℕ)) → Lacks xs → parts_of ys ≡ m ∷ ms → parts_of (xs ++ ys) ≡ (xs ++ m) ∷ ms
 unfolding Lacks
-slice_split_onto [] ys m ms h e = e
-slice_split_onto (x ∷ xs) ys m ms h e =
-    slice_split-cons_no (λ b. b == 44) x (xs ++ ys) h.0 ∙ ap (onto_first x) (slice_split_onto xs ys m ms h.1 e)
+parts_of-onto [] ys m ms h e = e
+parts_of-onto (x ∷ xs) ys m ms h e =
+    slice_split-cons_no (λ b. b == comma) x (xs ++ ys) h.0 ∙ ap (onto_first x) (parts_of-onto xs ys m ms h.1 e)
 
-slice_split_some : (xs : List ℕ) → (m : List ℕ) × (ms : List (List ℕ)) × (slice_split (λ b. b == 44) xs ≡ m ∷ ms)
-slice_split_some [] = ([], [], refl)
-slice_split_some (x ∷ xs) = elim (cases_Bool (x == 44)) [
-  | inl is ↦ ([], slice_split (λ b. b == 44) xs, slice_split-cons_yes (λ b. b == 44) x xs is)
-  | inr differs ↦ let rest = slice_split_some xs in (x ∷ rest.0, rest.1, slice_split-cons_no (λ b. b == 44) x xs differs ∙ ap (onto_first x) rest.2)
+parts_of-some : (xs : List ℕ) → (m : List ℕ) × (ms : List (List ℕ)) × (parts_of xs ≡ m ∷ ms)
+parts_of-some [] = ([], [], refl)
+parts_of-some (x ∷ xs) = elim (cases_Bool (x == comma)) [
+  | inl is ↦ ([], parts_of xs, slice_split-cons_yes (λ b. b == comma) x xs is)
+  | inr differs ↦ let rest = parts_of-some xs in (x ∷ rest.0, rest.1, slice_split-cons_no (λ b. b == comma) x xs differs ∙ ap (onto_first x) rest.2)
 ]
 
 append_some : (xs ys : List ℕ) → ys ≢ [] → xs ++ ys ≢ []
@@ -85,10 +85,10 @@ append_some [] ys some none = some none
 append_some (x ∷ xs) ys some none = absurd cc
 
 -- a fault at the byte c of an unfinished number, or of the number that ends there
-HasPartFault-at : (line front rest part : List ℕ) (numbers : List ℤ) (c : ℕ) (e : Error) → line ≡ front ++ rest → Reads front numbers → Lacks front → (c == 44) ≡ false
+HasPartFault-at : (line front rest part : List ℕ) (numbers : List ℤ) (c : ℕ) (e : Error) → line ≡ front ++ rest → Reads front numbers → Lacks front → (c == comma) ≡ false
     → (goes : GoesTo rest part c) → ((m : List ℕ) → GoesTo (part ++ c ∷ m) part c → NumberFault (part ++ c ∷ m) e) → HasPartFault line e
 HasPartFault-at line front rest part numbers c e whole reads lacks differs goes fault =
-    let behind = slice_split_some goes.more in
+    let behind = parts_of-some goes.more in
     let own : List ℕ = part ++ c ∷ behind.0 in
     let one : Lacks (c ∷ []) = unfold Lacks in (differs, tt) in
     let lacks_all : Lacks (front ++ (part ++ c ∷ [])) = Lacks-append front (part ++ c ∷ []) lacks (Lacks-append part (c ∷ []) (Lacks-goes_on part goes.unfinished.goes_on) one) in
@@ -100,14 +100,14 @@ HasPartFault-at line front rest part numbers c e whole reads lacks differs goes 
     record {
       part = front ++ own;
       parts = behind.1;
-      split = ap (slice_split (λ b. b == 44)) text ∙ slice_split_onto (front ++ (part ++ c ∷ [])) goes.more behind.0 behind.1 lacks_all behind.2 ∙ ap (λ p. p ∷ behind.1) cut;
+      split = ap parts_of text ∙ parts_of-onto (front ++ (part ++ c ∷ [])) goes.more behind.0 behind.1 lacks_all behind.2 ∙ ap (λ p. p ∷ behind.1) cut;
       some = append_some front own some;
       fault = HasFault-later (front ++ own) own (record { front = front; numbers = numbers; reads = reads; split = refl }) some e
           (fault behind.0 (record { more = behind.0; split = refl; unfinished = goes.unfinished }));
     }
 
 -- a number that the end of the part cuts off
-HasPartFault-cut : (line front rest part : List ℕ) (numbers : List ℤ) (parts : List (List ℕ)) → slice_split (λ b. b == 44) line ≡ (front ++ part) ∷ parts → Reads front numbers
+HasPartFault-cut : (line front rest part : List ℕ) (numbers : List ℤ) (parts : List (List ℕ)) → parts_of line ≡ (front ++ part) ∷ parts → Reads front numbers
     → part ≢ [] → IsUnfinished part → HasPartFault line VlqLeftover
 HasPartFault-cut line front rest part numbers parts split reads some unfinished = record {
   part = front ++ part;
@@ -118,29 +118,29 @@ HasPartFault-cut line front rest part numbers parts split reads some unfinished 
 }
 
 HasPartFault-comma : (line rest : List ℕ) (c : ℕ) (cs : List ℕ) (sound : IsSound line rest) (d : ℕ) (part : List ℕ) → GoesTo rest part d → Lacks sound.front → rest ≡ c ∷ cs
-    → (c == 44) ≡ false → (d == 44) ≡ true → HasPartFault line VlqLeftover
+    → (c == comma) ≡ false → (d == comma) ≡ true → HasPartFault line VlqLeftover
 HasPartFault-comma line rest c cs sound d [] goes lacks first ne is =
     absurd (let same : d ∷ goes.more ≡ c ∷ cs = sym goes.split ∙ first in cc)
 HasPartFault-comma line rest c cs sound d (x ∷ xs) goes lacks first ne is =
     let part : List ℕ = x ∷ xs in
-    let parts : List (List ℕ) = slice_split (λ b. b == 44) goes.more in
+    let parts : List (List ℕ) = parts_of goes.more in
     let front : List ℕ = sound.front in
     let lacks_all : Lacks (front ++ part) = Lacks-append front part lacks (Lacks-goes_on part goes.unfinished.goes_on) in
     let text : line ≡ (front ++ part) ++ d ∷ goes.more = sound.split ∙ ap (λ zs. front ++ zs) goes.split ∙ sym (append_assoc front part (d ∷ goes.more)) in
     HasPartFault-cut line front rest part sound.numbers parts
-    (ap (slice_split (λ b. b == 44)) text ∙ slice_split_onto (front ++ part) (d ∷ goes.more) [] parts lacks_all (slice_split-cons_yes (λ b. b == 44) d goes.more is)
+    (ap parts_of text ∙ parts_of-onto (front ++ part) (d ∷ goes.more) [] parts lacks_all (slice_split-cons_yes (λ b. b == comma) d goes.more is)
     ∙ ap (λ p. p ∷ parts) (append-nil (front ++ part)))
     sound.reads (λ none. cc) goes.unfinished
 
 -- the first fault of a line behind some numbers, where no `,` comes next
-pub HasPartFault-from : (line rest : List ℕ) (c : ℕ) (cs : List ℕ) (sound : IsSound line rest) (e : Error) → Lacks sound.front → rest ≡ c ∷ cs → (c == 44) ≡ false
+pub HasPartFault-from : (line rest : List ℕ) (c : ℕ) (cs : List ℕ) (sound : IsSound line rest) (e : Error) → Lacks sound.front → rest ≡ c ∷ cs → (c == comma) ≡ false
     → NumberFault rest e → HasPartFault line (fault_in_part e)
-HasPartFault-from line rest c cs sound (InvalidBase64 d) lacks first ne (part, goes, none) = elim (cases_Bool (d == 44)) [
+HasPartFault-from line rest c cs sound (InvalidBase64 d) lacks first ne (part, goes, none) = elim (cases_Bool (d == comma)) [
   | inl is ↦
-      subst (HasPartFault line) (sym (cond-true (d == 44) VlqLeftover (InvalidBase64 d) is))
+      subst (HasPartFault line) (sym (cond-true (d == comma) VlqLeftover (InvalidBase64 d) is))
       (HasPartFault-comma line rest c cs sound d part goes lacks first ne is)
   | inr differs ↦
-      subst (HasPartFault line) (sym (cond-false (d == 44) VlqLeftover (InvalidBase64 d) differs))
+      subst (HasPartFault line) (sym (cond-false (d == comma) VlqLeftover (InvalidBase64 d) differs))
       (HasPartFault-at line sound.front rest part sound.numbers d (InvalidBase64 d) sound.split sound.reads lacks differs goes (λ m at. (part, at, none)))
 ]
 HasPartFault-from line rest c cs sound VlqOverflow lacks first ne (part, d, goes, digit, great) =
@@ -149,7 +149,7 @@ HasPartFault-from line rest c cs sound VlqLeftover lacks first ne unfinished =
     let front : List ℕ = sound.front in
     let lacks_all : Lacks (front ++ rest) = Lacks-append front rest lacks (Lacks-goes_on rest unfinished.goes_on) in
     HasPartFault-cut line front rest rest sound.numbers []
-    (ap (slice_split (λ b. b == 44)) (sound.split ∙ sym (append-nil (front ++ rest))) ∙ slice_split_onto (front ++ rest) [] [] [] lacks_all refl
+    (ap parts_of (sound.split ∙ sym (append-nil (front ++ rest))) ∙ parts_of-onto (front ++ rest) [] [] [] lacks_all refl
     ∙ ap (λ p. p ∷ []) (append-nil (front ++ rest)))
     sound.reads (λ none. let same : c ∷ cs ≡ [] = sym first ∙ none in cc) unfinished
 HasPartFault-from line rest c cs sound _ lacks first ne fault = absurd fault
@@ -188,7 +188,7 @@ HasFirstPart-last line rest read sound lacks steps none =
       part = front;
       numbers = sound.numbers;
       split =
-          ap (slice_split (λ b. b == 44)) (sound.split ∙ ap (λ zs. front ++ zs) none) ∙ slice_split_onto front [] [] [] lacks refl ∙ ap (λ p. p ∷ []) (append-nil front);
+          ap parts_of (sound.split ∙ ap (λ zs. front ++ zs) none) ∙ parts_of-onto front [] [] [] lacks refl ∙ ap (λ p. p ∷ []) (append-nil front);
       shorter = tt;
       reads = sound.reads;
       steps = steps;
@@ -196,7 +196,7 @@ HasFirstPart-last line rest read sound lacks steps none =
 
 -- the end of the part
 pub HasFirstPart-comma : (line rest : List ℕ) (c : ℕ) (behind : Bor (List ℕ)) (read : Numbers) (sound : IsSound line rest) → Lacks sound.front → AreSteps sound.numbers read
-    → rest ≡ c ∷ behind.now → (c == 44) ≡ true → HasFirstPart line read (Some behind)
+    → rest ≡ c ∷ behind.now → (c == comma) ≡ true → HasFirstPart line read (Some behind)
 HasFirstPart-comma line rest c behind read sound lacks steps first is =
     let front : List ℕ = sound.front in
     let text : line ≡ front ++ c ∷ behind.now = sound.split ∙ ap (λ zs. front ++ zs) first in
@@ -204,9 +204,9 @@ HasFirstPart-comma line rest c behind read sound lacks steps first is =
       part = front;
       numbers = sound.numbers;
       split =
-          ap (slice_split (λ b. b == 44)) text
-          ∙ slice_split_onto front (c ∷ behind.now) [] (slice_split (λ b. b == 44) behind.now) lacks (slice_split-cons_yes (λ b. b == 44) c behind.now is)
-          ∙ ap (λ p. p ∷ slice_split (λ b. b == 44) behind.now) (append-nil front);
+          ap parts_of text
+          ∙ parts_of-onto front (c ∷ behind.now) [] (parts_of behind.now) lacks (slice_split-cons_yes (λ b. b == comma) c behind.now is)
+          ∙ ap (λ p. p ∷ parts_of behind.now) (append-nil front);
       shorter = let size = ap length text ∙ length-append front (c ∷ behind.now) in omega arith;
       reads = sound.reads;
       steps = steps;
@@ -219,7 +219,7 @@ ended : (line rest : List ℕ) (behind : Option (Bor (List ℕ))) (read : Number
 ended line rest None read numbers sound lacks are steps ends =
     HasFirstPart-last line rest read sound lacks (subst (λ (ns : List ℤ). AreSteps ns read) (sym are) steps) ends
 ended line rest (Some behind) read numbers sound lacks are steps ends =
-    HasFirstPart-comma line rest 44 behind read sound lacks (subst (λ (ns : List ℤ). AreSteps ns read) (sym are) steps) ends refl
+    HasFirstPart-comma line rest comma behind read sound lacks (subst (λ (ns : List ℤ). AreSteps ns read) (sym are) steps) ends refl
 
 abbrev IsStep : ℤ → ℕ → Type 0
 IsStep n s = s ≡ unsigned_abs (int_rem_euclid n (pos (2 ^ 32)))

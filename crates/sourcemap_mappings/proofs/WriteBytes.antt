@@ -8,6 +8,7 @@ use Rattle.std.proofs.lemmas.List.Splits.{slice_split_none, slice_split_at}
 use Rattle.sourcemap_digits.specs.Vlq.{digit_value, IsChain, Spells}
 use Rattle.sourcemap_digits.specs.Bits.{first_foreign}
 use Rattle.sourcemap_digits.proofs.VlqLemmas.{IsGroup-nonempty}
+use Rattle.sourcemap_mappings.specs.Segment.{comma, semicolon}
 
 -- the byte does not stand in the text
 abbrev pub IsFree : ℕ → List ℕ → Type 0
@@ -19,21 +20,21 @@ IsFree-append c (x ∷ xs) ys fx fy = (fx.0, IsFree-append c xs ys fx.1 fy)
 
 -- a byte between the parts, `,` or `;`
 abbrev pub IsMark : ℕ → Type 0
-IsMark c = (c ≡ 44) ⊎ (c ≡ 59)
+IsMark c = (c ≡ comma) ⊎ (c ≡ semicolon)
 
-digit_44 : digit_value 44 ≡ None
+comma_is_none : digit_value comma ≡ None
 unfolding digit_value
-digit_44 = refl
+comma_is_none = refl
 
-digit_59 : digit_value 59 ≡ None
+semicolon_is_none : digit_value semicolon ≡ None
 unfolding digit_value
-digit_59 = refl
+semicolon_is_none = refl
 
 no_mark : (c x v : ℕ) → IsMark c → digit_value x ≡ Some v → (x == c) ≡ false
 no_mark c x v mark digit = ⊎_elim
     (λ (same : x ≡ c). absurd (⊎_elim
-    (λ (e : c ≡ 44). let no : digit_value x ≡ None = ap digit_value (same ∙ e) ∙ digit_44 in cc)
-    (λ (e : c ≡ 59). let no : digit_value x ≡ None = ap digit_value (same ∙ e) ∙ digit_59 in cc)
+    (λ (e : c ≡ comma). let no : digit_value x ≡ None = ap digit_value (same ∙ e) ∙ comma_is_none in cc)
+    (λ (e : c ≡ semicolon). let no : digit_value x ≡ None = ap digit_value (same ∙ e) ∙ semicolon_is_none in cc)
     mark))
     (λ (off : x ≢ c). grind (arith, nat_tests))
     (cases_eq x c)

@@ -3,6 +3,7 @@ use Rattle.std.proofs.Common.{◌≡◌, ℕ, ◌+◌, List, [], ◌∷◌, ◌+
 use Rattle.std.specs.List.{join_with_byte}
 use Rattle.sourcemap_lists.specs.declared.tokens.RawToken.{RawToken}
 use Rattle.sourcemap_lists.specs.Tokens.{without_repeats}
+use Rattle.sourcemap_mappings.specs.Segment.{comma, semicolon}
 use Rattle.sourcemap_mappings.specs.Write.{is_on, is_above, base, numbers, AreSegments, IsLine, IsRangeLine, EachLine, LineByLine, IsWritten, IsRangeText}
 use Rattle.sourcemap_digits.proofs.VlqLemmas.{Spells-same}
 use Rattle.sourcemap_digits.proofs.BitLemmas.{IsBitText-same}
@@ -18,7 +19,7 @@ EachLine-same P one n (x ∷ xs) (y ∷ ys) len ex ey =
 LineByLine-same : (P : ℕ → List ℕ → Type 0) → ((m : ℕ) (a b : List ℕ) → P m a → P m b → a ≡ b)
     → (tokens : List RawToken) (a b : List ℕ) → LineByLine P tokens a → LineByLine P tokens b → a ≡ b
 LineByLine-same P one tokens a b x y =
-    x.3 ∙ ap (join_with_byte 59) (EachLine-same P one 0 x.0 y.0 (x.1 ∙ sym y.1) x.2 y.2) ∙ sym y.3
+    x.3 ∙ ap (join_with_byte semicolon) (EachLine-same P one 0 x.0 y.0 (x.1 ∙ sym y.1) x.2 y.2) ∙ sym y.3
 
 AreSegments-same : (names : ℕ) (before ts : List RawToken) (xs ys : List (List ℕ)) → AreSegments names before ts xs → AreSegments names before ts ys → xs ≡ ys
 AreSegments-same names before [] xs ys ax ay = ax ∙ sym ay
@@ -32,7 +33,7 @@ pub IsWritten-same : (names : ℕ) (tokens : List RawToken) (a b : List ℕ) →
 IsWritten-same names tokens a b x y =
     let ts = without_repeats tokens in
     LineByLine-same (IsLine names ts)
-    (λ m s t ls lt. ls.2 ∙ ap (join_with_byte 44) (AreSegments-same names (filter (is_above m) ts) (filter (is_on m) ts) ls.0 lt.0 ls.1 lt.1) ∙ sym lt.2)
+    (λ m s t ls lt. ls.2 ∙ ap (join_with_byte comma) (AreSegments-same names (filter (is_above m) ts) (filter (is_on m) ts) ls.0 lt.0 ls.1 lt.1) ∙ sym lt.2)
     tokens a b x y
 
 pub IsRangeText-same : (tokens : List RawToken) (a b : Option (List ℕ)) → IsRangeText tokens a → IsRangeText tokens b → a ≡ b

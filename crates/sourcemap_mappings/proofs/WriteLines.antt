@@ -4,6 +4,7 @@ use Rattle.std.specs.List.{join_with_byte}
 use Rattle.std.proofs.lemmas.Bool.{cases_lt}
 use Rattle.std.proofs.lemmas.List.{nil_from_length}
 use Rattle.sourcemap_lists.specs.declared.tokens.RawToken.{RawToken}
+use Rattle.sourcemap_mappings.specs.Segment.{semicolon}
 use Rattle.sourcemap_mappings.specs.Write.{EachLine, LineByLine, line_count}
 
 pub EachLine-push : (P : ℕ → List ℕ → Type 0) (n : ℕ) (parts : List (List ℕ)) (part : List ℕ)
@@ -21,18 +22,18 @@ EachLine-map P Q top n (p ∷ ps) f h each =
 -- each part with the end of its line
 ended : List (List ℕ) → List ℕ
 ended [] = []
-ended (part ∷ parts) = part ++ 59 ∷ ended parts
+ended (part ∷ parts) = part ++ semicolon ∷ ended parts
 
-ended_push : (parts : List (List ℕ)) (part : List ℕ) → ended (parts ++ part ∷ []) ≡ ended parts ++ (part ++ 59 ∷ [])
+ended_push : (parts : List (List ℕ)) (part : List ℕ) → ended (parts ++ part ∷ []) ≡ ended parts ++ (part ++ semicolon ∷ [])
 unfolding ended
 ended_push [] part = refl
-ended_push (p ∷ ps) part = ap (λ t. p ++ 59 ∷ t) (ended_push ps part) ∙ sym (append_assoc p (59 ∷ ended ps) (part ++ 59 ∷ []))
+ended_push (p ∷ ps) part = ap (λ t. p ++ semicolon ∷ t) (ended_push ps part) ∙ sym (append_assoc p (semicolon ∷ ended ps) (part ++ semicolon ∷ []))
 
-join_ended : (parts : List (List ℕ)) (last : List ℕ) → join_with_byte 59 (parts ++ last ∷ []) ≡ ended parts ++ last
+join_ended : (parts : List (List ℕ)) (last : List ℕ) → join_with_byte semicolon (parts ++ last ∷ []) ≡ ended parts ++ last
 unfolding ended
 join_ended [] last = refl
-join_ended (p ∷ []) last = sym (append_assoc p (59 ∷ []) last)
-join_ended (p ∷ q ∷ ps) last = ap (λ t. p ++ 59 ∷ t) (join_ended (q ∷ ps) last) ∙ sym (append_assoc p (59 ∷ ended (q ∷ ps)) last)
+join_ended (p ∷ []) last = sym (append_assoc p (semicolon ∷ []) last)
+join_ended (p ∷ q ∷ ps) last = ap (λ t. p ++ semicolon ∷ t) (join_ended (q ∷ ps) last) ∙ sym (append_assoc p (semicolon ∷ ended (q ∷ ps)) last)
 
 -- the text of the lines above this one, each with its end
 pub record Ended (P : ℕ → List ℕ → Type 0) (line : ℕ) (text : List ℕ) : Type 0 where
@@ -55,43 +56,43 @@ Ended-map P Q line text f e = record {
 }
 
 Ended-more : (P : ℕ → List ℕ → Type 0) (line : ℕ) (text part : List ℕ) → Ended P line text → P line part
-    → Ended P (line + 1) (text ++ (part ++ 59 ∷ []))
+    → Ended P (line + 1) (text ++ (part ++ semicolon ∷ []))
 Ended-more P line text part e p =
     let count : length e.parts ≡ line = e.count in
     record {
       parts = e.parts ++ part ∷ [];
       count = length-append e.parts (part ∷ []) ∙ ap (λ n. n + 1) count;
       each = EachLine-push P 0 e.parts part e.each (subst (λ (m : ℕ). P m part) (omega arith) p);
-      is = ap (λ t. t ++ (part ++ 59 ∷ [])) e.is ∙ sym (ended_push e.parts part);
+      is = ap (λ t. t ++ (part ++ semicolon ∷ [])) e.is ∙ sym (ended_push e.parts part);
     }
 
 Ended-blank : (P : ℕ → List ℕ → Type 0) (line k : ℕ) (text : List ℕ) → ((m : ℕ) → line ≤ m → P m []) → Ended P line text
-    → Ended P (line + k) (text ++ replicate k 59)
+    → Ended P (line + k) (text ++ replicate k semicolon)
 Ended-blank P line zero text blank e =
     subst (λ (t : List ℕ). Ended P (line + 0) t) (sym (append-nil text)) (subst (λ (m : ℕ). Ended P m text) (omega arith) e)
 Ended-blank P line (suc k) text blank e =
     let more = Ended-more P line text [] e (blank line (omega arith)) in
-    let rest = Ended-blank P (line + 1) k (text ++ 59 ∷ []) (λ m h. blank m (omega arith)) more in
-    subst (λ (t : List ℕ). Ended P (line + suc k) t) (append_assoc text (59 ∷ []) (replicate k 59))
-    (subst (λ (m : ℕ). Ended P m ((text ++ 59 ∷ []) ++ replicate k 59)) (omega arith) rest)
+    let rest = Ended-blank P (line + 1) k (text ++ semicolon ∷ []) (λ m h. blank m (omega arith)) more in
+    subst (λ (t : List ℕ). Ended P (line + suc k) t) (append_assoc text (semicolon ∷ []) (replicate k semicolon))
+    (subst (λ (m : ℕ). Ended P m ((text ++ semicolon ∷ []) ++ replicate k semicolon)) (omega arith) rest)
 
 -- past the part of this line, and then k blank lines
 Ended-turn_by : (P : ℕ → List ℕ → Type 0) (line k : ℕ) (text part : List ℕ) → ((m : ℕ) → line < m → P m [])
-    → Ended P line text → P line part → Ended P (line + 1 + k) ((text ++ part) ++ replicate (suc k) 59)
+    → Ended P line text → P line part → Ended P (line + 1 + k) ((text ++ part) ++ replicate (suc k) semicolon)
 Ended-turn_by P line k text part blank e p =
-    let rest = Ended-blank P (line + 1) k (text ++ (part ++ 59 ∷ [])) (λ m h. blank m (omega arith)) (Ended-more P line text part e p) in
+    let rest = Ended-blank P (line + 1) k (text ++ (part ++ semicolon ∷ [])) (λ m h. blank m (omega arith)) (Ended-more P line text part e p) in
     subst (λ (t : List ℕ). Ended P (line + 1 + k) t)
-    (ap (λ t. t ++ replicate k 59) (sym (append_assoc text part (59 ∷ []))) ∙ append_assoc (text ++ part) (59 ∷ []) (replicate k 59))
+    (ap (λ t. t ++ replicate k semicolon) (sym (append_assoc text part (semicolon ∷ []))) ∙ append_assoc (text ++ part) (semicolon ∷ []) (replicate k semicolon))
     rest
 
 -- past the part of this line to a later line
 pub Ended-turn : (P : ℕ → List ℕ → Type 0) (line n : ℕ) (text part : List ℕ) → line < n → ((m : ℕ) → line < m → P m [])
-    → Ended P line text → P line part → Ended P n ((text ++ part) ++ replicate (n - line) 59)
+    → Ended P line text → P line part → Ended P n ((text ++ part) ++ replicate (n - line) semicolon)
 Ended-turn P line n text part h blank e p =
     let at : line + 1 + (n - line - 1) ≡ n = omega arith in
     let lines : suc (n - line - 1) ≡ n - line = omega arith in
-    subst (λ (k : ℕ). Ended P n ((text ++ part) ++ replicate k 59)) lines
-    (subst (λ (m : ℕ). Ended P m ((text ++ part) ++ replicate (suc (n - line - 1)) 59)) at
+    subst (λ (k : ℕ). Ended P n ((text ++ part) ++ replicate k semicolon)) lines
+    (subst (λ (m : ℕ). Ended P m ((text ++ part) ++ replicate (suc (n - line - 1)) semicolon)) at
     (Ended-turn_by P line (n - line - 1) text part blank e p))
 
 -- with the part of the last line the text is whole
@@ -115,21 +116,21 @@ pub record Reached (P : ℕ → List ℕ → Type 0) (line : ℕ) (text : List �
   pub is : text ≡ above ++ here
 
 pub Reached-turn : (P : ℕ → List ℕ → Type 0) (line n : ℕ) (text : List ℕ) → line ≤ n → ((m : ℕ) → line < m → P m [])
-    → Reached P line text → Reached P n (text ++ replicate (n - line) 59)
+    → Reached P line text → Reached P n (text ++ replicate (n - line) semicolon)
 Reached-turn P line n text h blank r = ⊎_elim
     (λ (past : line < n). record {
-      above = text ++ replicate (n - line) 59;
+      above = text ++ replicate (n - line) semicolon;
       here = [];
-      ends = subst (λ (t : List ℕ). Ended P n (t ++ replicate (n - line) 59)) (sym r.is)
+      ends = subst (λ (t : List ℕ). Ended P n (t ++ replicate (n - line) semicolon)) (sym r.is)
           (Ended-turn P line n r.above r.here past blank r.ends r.on);
       on = blank n past;
-      is = sym (append-nil (text ++ replicate (n - line) 59));
+      is = sym (append-nil (text ++ replicate (n - line) semicolon));
     })
     (λ (not_past : n ≤ line).
     let same : line ≡ n = omega arith in
     let no_line : n - line ≡ 0 = omega arith in
-    let none : replicate (n - line) 59 ≡ [] = ap (λ (k : ℕ). replicate k 59) no_line in
-    let text_is : text ≡ text ++ replicate (n - line) 59 = sym (append-nil text) ∙ ap (λ t. text ++ t) (sym none) in
+    let none : replicate (n - line) semicolon ≡ [] = ap (λ (k : ℕ). replicate k semicolon) no_line in
+    let text_is : text ≡ text ++ replicate (n - line) semicolon = sym (append-nil text) ∙ ap (λ t. text ++ t) (sym none) in
     subst (λ (t : List ℕ). Reached P n t) text_is (subst (λ (m : ℕ). Reached P m text) same r))
     (cases_lt line n)
 

@@ -6,6 +6,7 @@ use Rattle.std.proofs.lemmas.Nat.Bits.{bit_at-zero}
 use Rattle.sourcemap_lists.specs.declared.tokens.RawToken.{RawToken}
 use Rattle.sourcemap_digits.specs.Bits.{bit_of, IsBitText}
 use Rattle.sourcemap_lists.specs.Tokens.{without_repeats}
+use Rattle.sourcemap_mappings.specs.Segment.{semicolon}
 use Rattle.sourcemap_mappings.specs.Write.{is_on, IsRangeLine, LineByLine}
 use Rattle.sourcemap_mappings.specs.WriteSteps.{repeats}
 use Rattle.sourcemap_digits.proofs.BitLemmas.{IsBitText-same}
@@ -37,7 +38,7 @@ Ranging-none = record { ended = Ended-none (IsRangeLine []); flags_are = refl }
 
 -- to a later line
 pub Ranging-turn : (line n : ℕ) (ts : List RawToken) (text bits : List ℕ) (flags : List Bool) → line < n → UpTo line ts
-    → IsBitText flags bits → Ranging line ts text flags → Ranging n ts ((text ++ bits) ++ replicate (n - line) 59) []
+    → IsBitText flags bits → Ranging line ts text flags → Ranging n ts ((text ++ bits) ++ replicate (n - line) semicolon) []
 Ranging-turn line n ts text bits flags h u is r = record {
   ended = Ended-turn (IsRangeLine ts) line n text bits h (λ m k. IsRangeLine-blank line m ts u k) r.ended
       (subst (λ (fs : List Bool). IsBitText fs bits) r.flags_are is);

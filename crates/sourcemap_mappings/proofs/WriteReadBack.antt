@@ -1,14 +1,14 @@
 -- What was written reads back.
-use Rattle.std.proofs.Common.{◌≡◌, ℕ, ◌+◌, ◌^◌, ◌||◌, ◌<◌, ◌≤◌, ◌==◌, suc, zero, Bool, true, false, cond, List, [], ◌∷◌, ◌++◌, length, map, filter, Option, Some, None, Ok, refl, sym, ap, subst, ◌∙◌, inl, inr, append_assoc, append-nil, arith, add-zero, zero-add}
-use Rattle.std.specs.List.{join_with_byte, slice_split, AllByRecursion, slice_index_or, last_or, list_any}
+use Rattle.std.proofs.Common.{◌≡◌, ℕ, ◌+◌, ◌^◌, ◌||◌, ◌<◌, ◌≤◌, suc, zero, Bool, true, false, cond, List, [], ◌∷◌, ◌++◌, length, map, filter, Option, Some, None, Ok, refl, sym, ap, subst, ◌∙◌, inl, inr, append_assoc, append-nil, arith, add-zero, zero-add}
+use Rattle.std.specs.List.{join_with_byte, AllByRecursion, slice_index_or, last_or, list_any}
 use Rattle.std.specs.Option.{option_map_or}
 use Rattle.std.proofs.lemmas.List.{map-append, nil_from_length}
 use Rattle.std.proofs.lemmas.Bool.Decides.{nat_tests}
 use Rattle.sourcemap_lists.specs.declared.tokens.RawToken.{RawToken}
 use Rattle.sourcemap_lists.specs.Tokens.{AreInOrder, AllWithin, IsWithin, with_sound_name, without_repeats, reduced, in_order}
 use Rattle.sourcemap_digits.specs.Bits.{bit_of, first_foreign}
-use Rattle.sourcemap_mappings.specs.Segment.{Segment, sum_at}
-use Rattle.sourcemap_mappings.specs.Read.{Line, LineText, line_tokens, page_tokens, PartsRead, LineRead, LinesRead, beside, line_texts, MappingsAnswer}
+use Rattle.sourcemap_mappings.specs.Segment.{Segment, sum_at, comma, semicolon, parts_of}
+use Rattle.sourcemap_mappings.specs.Read.{Line, LineText, line_tokens, page_tokens, PartsRead, LineRead, LinesRead, beside, line_texts, MappingsAnswer, lines_of}
 use Rattle.sourcemap_mappings.specs.Write.{is_on, is_above, last_field, base, numbers, AreSegments, IsLine, IsRangeLine, EachLine, LineByLine, line_count, IsWritten, IsRangeText}
 use Rattle.sourcemap_lists.proofs.TokensLemmas.{All-without_repeats, in_order-ordered, AreInOrder-reduced}
 use Rattle.sourcemap_digits.proofs.VlqLemmas.{Spells-Reads}
@@ -126,7 +126,7 @@ segments_free c names before (t ∷ ts) (p ∷ ps) mark are =
     (Spells-free c (numbers names (base names t.dst_line before) t) p mark are.0, segments_free c names (before ++ t ∷ []) ts ps mark are.1)
 
 -- an empty text has no segments
-empty_on : (names : ℕ) (before ts : List RawToken) (parts : List (List ℕ)) → AreSegments names before ts parts → [] ≡ join_with_byte 44 parts → ts ≡ []
+empty_on : (names : ℕ) (before ts : List RawToken) (parts : List (List ℕ)) → AreSegments names before ts parts → [] ≡ join_with_byte comma parts → ts ≡ []
 empty_on names before [] parts are e = refl
 empty_on names before (t ∷ ts) [] are e = absurd are
 empty_on names before (t ∷ ts) ([] ∷ ps) are e = absurd (Spells-nonempty _ _ are.0)
@@ -134,12 +134,12 @@ empty_on names before (t ∷ ts) ((x ∷ xs) ∷ []) are e = absurd cc
 empty_on names before (t ∷ ts) ((x ∷ xs) ∷ q ∷ qs) are e = absurd cc
 
 -- a text that is not empty has some
-some_on : (names : ℕ) (before ts : List RawToken) (parts : List (List ℕ)) (c : ℕ) (cs : List ℕ) → AreSegments names before ts parts → c ∷ cs ≡ join_with_byte 44 parts
-    → (slice_split (λ b. b == 44) (c ∷ cs) ≡ parts) × ((t : RawToken) × (us : List RawToken) × (ts ≡ t ∷ us))
-some_on names before [] parts c cs are e = absurd (let none = e ∙ ap (join_with_byte 44) are in cc)
+some_on : (names : ℕ) (before ts : List RawToken) (parts : List (List ℕ)) (c : ℕ) (cs : List ℕ) → AreSegments names before ts parts → c ∷ cs ≡ join_with_byte comma parts
+    → (parts_of (c ∷ cs) ≡ parts) × ((t : RawToken) × (us : List RawToken) × (ts ≡ t ∷ us))
+some_on names before [] parts c cs are e = absurd (let none = e ∙ ap (join_with_byte comma) are in cc)
 some_on names before (t ∷ ts) [] c cs are e = absurd are
 some_on names before (t ∷ ts) (p ∷ ps) c cs are e =
-    (ap (slice_split (λ b. b == 44)) e ∙ split_join 44 p ps (segments_free 44 names before (t ∷ ts) (p ∷ ps) (inl refl) are), (t, ts, refl))
+    (ap parts_of e ∙ split_join comma p ps (segments_free comma names before (t ∷ ts) (p ∷ ps) (inl refl) are), (t, ts, refl))
 
 -- the text of a line's range bits fits its tokens
 FitBits : List RawToken → ℕ → List ℕ → Type 0
@@ -271,21 +271,21 @@ each_line_all P Q n (p ∷ ps) f each = (f n p each.0, each_line_all P Q (n + 1)
 
 -- a text of lines, split at their ends
 lines_split : (P : ℕ → List ℕ → Type 0) (tokens : List RawToken) (text : List ℕ) → 0 < line_count tokens
-    → ((m : ℕ) (part : List ℕ) → P m part → IsFree 59 part) → LineByLine P tokens text
-    → (EachLine P 0 (slice_split (λ b. b == 59) text)) × (length (slice_split (λ b. b == 59) text) ≡ line_count tokens)
+    → ((m : ℕ) (part : List ℕ) → P m part → IsFree semicolon part) → LineByLine P tokens text
+    → (EachLine P 0 (lines_of text)) × (length (lines_of text) ≡ line_count tokens)
 lines_split P tokens text some free ([], count, each, is) = absurd (omega arith)
 lines_split P tokens text some free (p ∷ ps, count, each, is) =
-    let split : slice_split (λ b. b == 59) text ≡ p ∷ ps =
-    ap (slice_split (λ b. b == 59)) is ∙ split_join 59 p ps (each_line_all P (IsFree 59) 0 (p ∷ ps) free each) in
+    let split : lines_of text ≡ p ∷ ps =
+    ap lines_of is ∙ split_join semicolon p ps (each_line_all P (IsFree semicolon) 0 (p ∷ ps) free each) in
     (subst (λ (parts : List (List ℕ)). EachLine P 0 parts) (sym split) each, ap length split ∙ count)
 
-IsLine-free : (names : ℕ) (ts : List RawToken) (m : ℕ) (part : List ℕ) → IsLine names ts m part → IsFree 59 part
+IsLine-free : (names : ℕ) (ts : List RawToken) (m : ℕ) (part : List ℕ) → IsLine names ts m part → IsFree semicolon part
 IsLine-free names ts m part line =
-    subst (λ (t : List ℕ). IsFree 59 t) (sym line.2)
-    (join_free 59 44 line.0 refl (segments_free 59 names (filter (is_above m) ts) (filter (is_on m) ts) line.0 (inr refl) line.1))
+    subst (λ (t : List ℕ). IsFree semicolon t) (sym line.2)
+    (join_free semicolon comma line.0 refl (segments_free semicolon names (filter (is_above m) ts) (filter (is_on m) ts) line.0 (inr refl) line.1))
 
-IsRangeLine-free : (ts : List RawToken) (m : ℕ) (bits : List ℕ) → IsRangeLine ts m bits → IsFree 59 bits
-IsRangeLine-free ts m bits is = digits_free 59 bits (inr refl) is.digits
+IsRangeLine-free : (ts : List RawToken) (m : ℕ) (bits : List ℕ) → IsRangeLine ts m bits → IsFree semicolon bits
+IsRangeLine-free ts m bits is = digits_free semicolon bits (inr refl) is.digits
 
 fit_range : (ts : List RawToken) (m : ℕ) (bits : List ℕ) → IsRangeLine ts m bits → FitBits ts m bits
 unfolding FitBits Flags
@@ -323,13 +323,13 @@ texts_fit names tokens text None some written is =
     let ts = without_repeats tokens in
     let lines = lines_split (IsLine names ts) tokens text some (IsLine-free names ts) written in
     let none = fit_none ts (All-without_repeats (λ t. t.is_range ≡ false) tokens (none_any tokens is)) in
-    each_beside (IsLine names ts) (FitBits ts) 0 (slice_split (λ b. b == 59) text) ([] ∷ []) lines.0 (none 0, tt) (λ m h k. none m)
+    each_beside (IsLine names ts) (FitBits ts) 0 (lines_of text) ([] ∷ []) lines.0 (none 0, tt) (λ m h k. none m)
 texts_fit names tokens text (Some bits) some written is =
     let ts = without_repeats tokens in
     let lines = lines_split (IsLine names ts) tokens text some (IsLine-free names ts) written in
     let ranges = lines_split (IsRangeLine ts) tokens bits some (IsRangeLine-free ts) is.1 in
-    let fit = each_line_map (IsRangeLine ts) (FitBits ts) 0 (slice_split (λ b. b == 59) bits) (fit_range ts) ranges.0 in
-    each_beside (IsLine names ts) (FitBits ts) 0 (slice_split (λ b. b == 59) text) (slice_split (λ b. b == 59) bits) lines.0 fit
+    let fit = each_line_map (IsRangeLine ts) (FitBits ts) 0 (lines_of bits) (fit_range ts) ranges.0 in
+    each_beside (IsLine names ts) (FitBits ts) 0 (lines_of text) (lines_of bits) lines.0 fit
     (λ m h k. absurd (omega (arith, lines.1, ranges.1)))
 
 -- the texts of tokens in order stand for what is left of them
@@ -339,7 +339,7 @@ pub reads_back : (sources names : ℕ) (tokens : List RawToken) (text : List ℕ
     → IsWritten names tokens text → IsRangeText tokens ranges
     → MappingsAnswer text (range_text ranges) (record { sources = sources; names = names }) (Ok (reduced names tokens))
 reads_back sources names [] text None few few_names order within small rises upto written is =
-    let text_is : text ≡ [] = written.3 ∙ ap (join_with_byte 59) (nil_from_length written.0 written.1) in
+    let text_is : text ≡ [] = written.3 ∙ ap (join_with_byte semicolon) (nil_from_length written.0 written.1) in
     subst (λ (t : List ℕ). MappingsAnswer t [] (record { sources = sources; names = names }) (Ok [])) (sym text_is)
     (record { bits = []; segments = [] } ∷ [], (refl, refl), refl)
 reads_back sources names [] text (Some bits) few few_names order within small rises upto written is = absurd (let no = is.0 in cc)
@@ -353,7 +353,7 @@ reads_back sources names (t ∷ rest) text ranges few few_names order within sma
     let begun : Carries names (filter (is_above 0) ts) [] = subst (λ (us : List RawToken). Carries names us []) (sym (none_above_first ts)) (Carries-none names) in
     let back = page_back sources names 0 ts [] texts few few_names all_sound rises begun each in
     let lines = lines_split (IsLine names ts) tokens text some (IsLine-free names ts) written in
-    let count : 0 + length texts ≡ line_count tokens = zero-add (length texts) ∙ length_beside (slice_split (λ b. b == 59) text) (slice_split (λ b. b == 59) (range_text ranges)) ∙ lines.1 in
+    let count : 0 + length texts ≡ line_count tokens = zero-add (length texts) ∙ length_beside (lines_of text) (lines_of (range_text ranges)) ∙ lines.1 in
     let all_back : page_tokens 0 [] (page_of names ts 0 texts) ≡ reduced names tokens =
     ap (λ us. map (with_sound_name names) us ++ page_tokens 0 [] (page_of names ts 0 texts)) (sym (none_above_first ts))
     ∙ back ∙ ap (λ m. map (with_sound_name names) (filter (is_above m) ts)) count ∙ ap (map (with_sound_name names)) upto in (

@@ -6,6 +6,7 @@ use Rattle.std.proofs.lemmas.Bool.{cases_lt, cases_eq}
 use Rattle.sourcemap_lists.specs.declared.tokens.RawToken.{RawToken}
 use Rattle.sourcemap_lists.specs.Tokens.{without_repeats}
 use Rattle.sourcemap_digits.specs.Vlq.{Spells}
+use Rattle.sourcemap_mappings.specs.Segment.{comma, semicolon}
 use Rattle.sourcemap_mappings.specs.Write.{is_on, is_above, has_source, has_name, last_field, base, numbers, AreSegments, IsLine, IsWritten}
 use Rattle.sourcemap_mappings.specs.Buffer.{Adds}
 use Rattle.sourcemap_mappings.specs.WriteSteps.{repeats, gap, at_line, next_base}
@@ -79,17 +80,17 @@ AreSegments-push names before (u ∷ us) t (s ∷ segments) segment are spelled 
 )
 
 join_push : (segments : List (List ℕ)) (s segment : List ℕ)
-    → join_with_byte 44 (s ∷ segments ++ segment ∷ []) ≡ join_with_byte 44 (s ∷ segments) ++ 44 ∷ segment
+    → join_with_byte comma (s ∷ segments ++ segment ∷ []) ≡ join_with_byte comma (s ∷ segments) ++ comma ∷ segment
 join_push [] s segment = refl
-join_push (u ∷ us) s segment = ap (λ t. s ++ 44 ∷ t) (join_push us u segment) ∙ sym (append_assoc s (44 ∷ join_with_byte 44 (u ∷ us)) (44 ∷ segment))
+join_push (u ∷ us) s segment = ap (λ t. s ++ comma ∷ t) (join_push us u segment) ∙ sym (append_assoc s (comma ∷ join_with_byte comma (u ∷ us)) (comma ∷ segment))
 
 -- a comma where the line has tokens
 pub comma_behind : List RawToken → List ℕ
 comma_behind [] = []
-comma_behind (t ∷ ts) = 44 ∷ []
+comma_behind (t ∷ ts) = comma ∷ []
 
 joined_more : (names : ℕ) (before ts : List RawToken) (segments : List (List ℕ)) (segment : List ℕ) → AreSegments names before ts segments
-    → join_with_byte 44 (segments ++ segment ∷ []) ≡ join_with_byte 44 segments ++ (comma_behind ts ++ segment)
+    → join_with_byte comma (segments ++ segment ∷ []) ≡ join_with_byte comma segments ++ (comma_behind ts ++ segment)
 unfolding comma_behind
 joined_more names before [] [] segment are = refl
 joined_more names before [] (s ∷ segments) segment are = absurd cc
@@ -141,24 +142,24 @@ Writing-repeat names done previous against text t e w =
 
 -- the ends of the lines up to a token's own, and a comma where that line has tokens
 gap_is : (line : ℕ) (ts : List RawToken) (previous : Option RawToken) (t : RawToken) → line ≤ t.dst_line → UpTo line ts → Stands line ts previous
-    → gap previous line t ≡ replicate (t.dst_line - line) 59 ++ comma_behind (filter (is_on t.dst_line) ts)
+    → gap previous line t ≡ replicate (t.dst_line - line) semicolon ++ comma_behind (filter (is_on t.dst_line) ts)
 unfolding comma_behind
 gap_is line ts None t h u s =
-    sym (append-nil (replicate (t.dst_line - line) 59))
-    ∙ ap (λ (us : List RawToken). replicate (t.dst_line - line) 59 ++ comma_behind (filter (is_on t.dst_line) us)) (sym s.1)
+    sym (append-nil (replicate (t.dst_line - line) semicolon))
+    ∙ ap (λ (us : List RawToken). replicate (t.dst_line - line) semicolon ++ comma_behind (filter (is_on t.dst_line) us)) (sym s.1)
 gap_is line ts (Some p) t h u s = ⊎_elim
     (λ (same : p.dst_line ≡ t.dst_line).
     let no_line : t.dst_line - line ≡ 0 = (let on : p.dst_line ≡ line = s.0 in omega arith) in
     let is_line : line ≡ t.dst_line = sym s.0 ∙ same in
     let full : filter (is_on t.dst_line) ts ≡ s.1.0 ∷ s.1.1 = subst (λ (n : ℕ). filter (is_on n) ts ≡ s.1.0 ∷ s.1.1) is_line s.1.2 in
-    ap (λ b. cond b (44 ∷ []) (replicate (t.dst_line - line) 59)) (on_yes p.dst_line t.dst_line same)
+    ap (λ b. cond b (comma ∷ []) (replicate (t.dst_line - line) semicolon)) (on_yes p.dst_line t.dst_line same)
     ∙ ap (λ us. comma_behind us) (sym full)
-    ∙ ap (λ (k : ℕ). replicate k 59 ++ comma_behind (filter (is_on t.dst_line) ts)) (sym no_line))
+    ∙ ap (λ (k : ℕ). replicate k semicolon ++ comma_behind (filter (is_on t.dst_line) ts)) (sym no_line))
     (λ (off : p.dst_line ≢ t.dst_line).
     let past : line < t.dst_line = (let on : p.dst_line ≡ line = s.0 in omega arith) in
-    ap (λ b. cond b (44 ∷ []) (replicate (t.dst_line - line) 59)) (on_no p.dst_line t.dst_line off)
-    ∙ sym (append-nil (replicate (t.dst_line - line) 59))
-    ∙ ap (λ us. replicate (t.dst_line - line) 59 ++ comma_behind us) (sym (none_on line t.dst_line ts u past)))
+    ap (λ b. cond b (comma ∷ []) (replicate (t.dst_line - line) semicolon)) (on_no p.dst_line t.dst_line off)
+    ∙ sym (append-nil (replicate (t.dst_line - line) semicolon))
+    ∙ ap (λ us. replicate (t.dst_line - line) semicolon ++ comma_behind us) (sym (none_on line t.dst_line ts u past)))
     (cases_eq p.dst_line t.dst_line)
 
 -- a gap and the segment of a token added
@@ -168,7 +169,7 @@ grown : (names line : ℕ) (ts : List RawToken) (previous : Option RawToken) (t 
     → Reached (IsLine names (ts ++ t ∷ [])) t.dst_line ((text ++ gap previous line t) ++ digits)
 grown names line ts previous t text digits h rises u s spelled r =
     let n = t.dst_line in
-    let ends : List ℕ = replicate (n - line) 59 in
+    let ends : List ℕ = replicate (n - line) semicolon in
     let some_comma = comma_behind (filter (is_on n) ts) in
     let upto = upto_next line n ts h u in
     let turned = Reached-turn (IsLine names ts) line n text h (λ m k. IsLine-blank names line m ts u k) r in
@@ -210,7 +211,7 @@ Writing-more names done previous against text new t e h adds small w =
 nothing_yet : (names : ℕ) (line : ℕ) (ts : List RawToken) (text : List ℕ) → line ≡ 0 → ts ≡ [] → Reached (IsLine names ts) line text → text ≡ []
 nothing_yet names line ts text at none r =
     let line_is : IsLine names [] line r.here = subst (λ (us : List RawToken). IsLine names us line r.here) none r.on in
-    let here : r.here ≡ [] = line_is.2 ∙ ap (join_with_byte 44) line_is.1 in
+    let here : r.here ≡ [] = line_is.2 ∙ ap (join_with_byte comma) line_is.1 in
     let above : r.above ≡ [] = Ended-zero (IsLine names ts) line r.above at r.ends in
     r.is ∙ ap (λ x. x ++ r.here) above ∙ here
 

@@ -221,7 +221,7 @@ pub fn parse_mappings(
     sorted(tokens, rises)
 }
 
-/// Two texts, of mappings and of range bits, have one answer.
+/// A law: two texts, of mappings and of range bits, stand for one list of tokens or for one fault.
 pub fn mappings_determine_one_answer()
     ensures { (mappings ranges : List ℕ) (counts : Counts) (a b : Result (List RawToken) Error)
         → MappingsAnswer mappings ranges counts a → MappingsAnswer mappings ranges counts b

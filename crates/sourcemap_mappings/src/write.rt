@@ -214,9 +214,14 @@ fn put_token(
 }
 
 /// The text of mappings of some tokens in order, for a map of so many names: the lines from 0 to
-/// the last token's, and for each token a segment of the differences of its numbers to those
-/// written last. A token equal in all fields to the one before it is left out, and so is a name id
-/// that names none of the names. No tokens give the empty text. Only want of memory refuses.
+/// the last token's, with `;` between them, and on each line its tokens' segments, with `,` between
+/// them. A segment has one number, the column in the generated text, for a token without a source;
+/// four, that column, source id, line and column in the source, for one with a source; and a fifth,
+/// the name id, if it is below `names`. Each number is the plain difference to the one of its kind
+/// that was written last, 0 before the first, in its shortest digits; generated columns start anew
+/// on each line. A token equal in all fields to the one before it is left out. No tokens give the
+/// empty text. Range flags stand in the text of `write_range_mappings`; with both, a reader that
+/// knows as many sources and names gets the tokens back. Only want of memory refuses.
 pub fn write_mappings(alloc: Global, tokens: &[RawToken], names: u32) -> Result<String>
     requires { AreInOrder tokens.now }
     ensures text { IfOk result (λ s. IsWritten names tokens.now (string_bytes s)) }
@@ -298,8 +303,7 @@ fn range_text(alloc: Global, tokens: &[RawToken]) -> Result<String>
     Ok(text)
 }
 
-/// Says that the written texts are determined: tokens have one text of mappings for so many names,
-/// and one text of range bits.
+/// A law: tokens have one text of mappings for so many names, and one text of range bits.
 pub fn written_texts_are_determined()
     ensures one_text { (names : ℕ) (tokens : List RawToken) (a b : List ℕ)
         → IsWritten names tokens a → IsWritten names tokens b → a ≡ b }

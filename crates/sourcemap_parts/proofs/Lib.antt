@@ -3,5 +3,3 @@ pub mod FittingLemmas
 pub mod ContentsLemmas
 pub mod SourcesLemmas
 pub mod EqualityLemmas
-pub mod FromRecordLemmas
-pub mod ToRecordLemmas

@@ -3,8 +3,3 @@ pub mod Contents
 pub mod Sources
 pub mod SourcesStored
 pub mod Heading
-pub mod Parts
-pub mod FromRecord
-pub mod FromRecordSteps
-pub mod ToRecord
-pub mod ToRecordSteps

@@ -24,8 +24,8 @@ pub fn put(
     Ok(())
 }
 
-// Cuts or fills a list to this length.
-pub(crate) fn fit(texts: &mut Vec<Option<String>>, count: usize) -> Result<()>
+/// Cuts or fills a list to this length. Only want of memory refuses, and then the list is as it was.
+pub fn fit(texts: &mut Vec<Option<String>>, count: usize) -> Result<()>
     ensures ok { OnOk result (contents_in texts.new ≡ fitted count (contents_in texts.old)) }
     ensures len { OnOk result (vec_len texts.new ≡ count) }
     ensures err { OnErr result (texts.new.items ≡ texts.old.items) }

@@ -12,7 +12,7 @@ ghost use Rattle.sourcemap_parts.specs.Heading.{headed, same_heading, same_headi
 
 use crate::text_lists::{copy_text, same_maybe};
 use sourcemap_errors::errors::Result;
-use sourcemap_records::jsontypes::DebugId;
+use sourcemap_headers::debug_id::DebugId;
 use sourcemap_texts::copies::owned;
 use std::alloc::Global;
 use std::collections::BTreeSet;

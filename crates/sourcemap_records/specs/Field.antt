@@ -6,9 +6,9 @@ use Rattle.serde_json.specs.Data.{Data, null, number, array, unsigned, Items, no
 use Rattle.serde_json.specs.Find.{as_number, as_str, as_array, as_u64, get_member}
 use Rattle.serde_json.specs.View.{items_of}
 use Rattle.sourcemap_errors.specs.declared.errors.Error.{Error}
-use Rattle.sourcemap_errors.specs.declared.errors.Error.TheVariants.{BadJson, OutOfMemory}
+use Rattle.sourcemap_errors.specs.declared.errors.Error.TheVariants.{BadJson}
 use Rattle.sourcemap_errors.specs.declared.errors.JsonFault.TheVariants.{Shape}
-use Rattle.sourcemap_errors.specs.Answer.{UnlessMemory}
+use Rattle.sourcemap_errors.specs.Answer.{UnlessMemory, Gives}
 
 -- what is due of a reading: a value that has none is a fault
 abbrev pub due : {X : Type 0} → Option X → Result X Error
@@ -29,8 +29,7 @@ Reads see (Err e) reading = UnlessMemory e ((e ≡ BadJson Shape) × (reading �
 
 -- what was made, seen by `see`, is this; only memory may be wanting
 abbrev pub Makes : {X Y : Type 0} → (X → Y) → Result X Error → Y → Type 0
-Makes see (Ok x) seen = see x ≡ seen
-Makes see (Err e) _ = e ≡ OutOfMemory
+Makes see result seen = Gives see result (Ok seen)
 
 -- a bound that every value meets
 abbrev pub IsUnbounded : {X : Type 0} → X → Type 0

@@ -50,7 +50,8 @@ pub struct RawSection {
 pub struct RawSourceMap {
     /// The number of the format: 3, but none is refused here.
     pub version: Option<u32>,
-    /// The generated file: a text, or a value that names none.
+    /// The generated file: its name if this is a JSON text. Any other value names none, but stays
+    /// and is written as it is; a null that a caller puts here is read back as `None`.
     pub file: Option<Value>,
     /// The texts of the sources, without the root; `None` for one without a text.
     pub sources: Option<Vec<Option<String>>>,

@@ -6,10 +6,10 @@ use Rattle.sourcemap_errors.specs.declared.errors.Error.{Error}
 use Rattle.sourcemap_errors.specs.declared.errors.Error.TheVariants.{IncompatibleSourceMap}
 use Rattle.sourcemap_lists.specs.Tokens.{AllWithin}
 use Rattle.sourcemap_records.specs.Jsontypes.{Fields, Tree, flat}
-use Rattle.sourcemap_parts.proofs.FromRecordLemmas.{TokensAnswer-same}
-use Rattle.sourcemap_parts.specs.FromRecord.{PartsAnswer}
-use Rattle.sourcemap_parts.specs.Parts.{PartsValue, parts_view}
-use Rattle.sourcemap_parts.specs.declared.parts.Parts.{Parts}
+use Rattle.sourcemap_conversions.proofs.FromRecordLemmas.{TokensAnswer-same}
+use Rattle.sourcemap_conversions.specs.FromRecord.{PartsAnswer}
+use Rattle.sourcemap_conversions.specs.Parts.{PartsValue, parts_view}
+use Rattle.sourcemap_conversions.specs.declared.parts.Parts.{Parts}
 use Rattle.sourcemap_regular.specs.Map.{MapValue, IsWellFormed}
 use Rattle.sourcemap_regular.specs.MapStored.{map_in}
 use Rattle.sourcemap_regular.specs.Decode.{RecordDecodes, map_of, is_regular, RegularDecodes}

@@ -14,20 +14,20 @@ use Rattle.sourcemap_errors.specs.Answer.{IsAnswer}
 use Rattle.sourcemap_errors.specs.declared.errors.Error.{Error}
 use Rattle.sourcemap_lists.specs.declared.tokens.RawToken.{RawToken}
 use Rattle.sourcemap_lists.specs.Search.{closest_item}
-use Rattle.sourcemap_lists.specs.Tokens.{destination, position_cmp, closest_token, with_sound_name, reduced}
+use Rattle.sourcemap_lists.specs.Tokens.{destination, position_cmp, with_sound_name, reduced}
 use Rattle.sourcemap_mappings.specs.Read.{MappingsAnswer}
-use Rattle.sourcemap_lists.proofs.SearchLemmas.{item-closest}
 use Rattle.sourcemap_lists.proofs.TokensLemmas.{closest_item-reduced}
 use Rattle.sourcemap_records.specs.Jsontypes.{Fields, Tree, flat, tree}
 use Rattle.sourcemap_records.specs.declared.jsontypes.RawSourceMap.{RawSourceMap}
 use Rattle.sourcemap_parts.specs.Contents.{fitted}
 use Rattle.sourcemap_parts.specs.Sources.{shown}
-use Rattle.sourcemap_parts.specs.ToRecord.{RecordAnswer as PartsAnswer}
+use Rattle.sourcemap_conversions.specs.ToRecord.{RecordAnswer as PartsAnswer}
 use Rattle.sourcemap_parts.proofs.ContentsLemmas.{slice_get-fitted, length-fitted}
-use Rattle.sourcemap_regular.specs.Map.{MapValue, IsWellFormed, Meaning, meaning, meaning_of, MeansTheSame, distance, column_behind}
+use Rattle.sourcemap_regular.specs.Map.{MapValue, IsWellFormed, meaning_of, MeansTheSame, distance, column_behind}
 use Rattle.sourcemap_regular.specs.MapStored.{parts_in}
-use Rattle.sourcemap_regular.specs.Decode.{listed, name_read, source_read, file_read, rising, HasRoom, TokensAnswer, map_of}
-use Rattle.sourcemap_regular.specs.Encode.{KeepsParts, ReadsBack, RecordAnswer, record_with, written_ids}
+use Rattle.sourcemap_regular.specs.Decode.{listed, name_read, source_read, file_read, rising, HasRoom, TokensAnswer, map_of, RecordDecodes}
+use Rattle.sourcemap_regular.proofs.MapLemmas.{of_item, meaning-item}
+use Rattle.sourcemap_regular.specs.Encode.{KeepsParts, ReadsBack, Restores, RecordAnswer, record_with, written_ids}
 
 -- Ids that rise are put in order as they stand.
 
@@ -70,7 +70,7 @@ map-read_sources : (sources : List (List ℕ)) → map source_read (map Some sou
 map-read_sources [] = refl
 map-read_sources (s ∷ ss) = ap (λ rest. s ∷ rest) (map-read_sources ss)
 
-read_file : (file : Option (List ℕ)) → option_map file_read (option_map string file) ≡ file
+pub read_file : (file : Option (List ℕ)) → option_map file_read (option_map string file) ≡ file
 read_file None = refl
 read_file (Some f) = refl
 
@@ -106,18 +106,7 @@ sound_name names id few =
           rw above (slice_get_past names 4294967295 few ∙ sym (slice_get_past names id past))
     ]
 
--- Meaning by the item alone.
-
-of_item : MapValue → ℕ × ℕ → Option RawToken → Option Meaning
-of_item m p t = option_map (λ t. meaning_of m t (distance t p)) t
-
-meaning-item : (m : MapValue) (p : ℕ × ℕ) → meaning m p ≡ of_item m p (closest_item destination position_cmp m.tokens p)
-unfolding of_item
-meaning-item m p = rw (← item-closest destination position_cmp m.tokens p) (through (closest_token m.tokens p))
-  where
-    through : (o : Option (ℕ × RawToken)) → option_map (λ found. meaning_of m found.1 (distance found.1 p)) o ≡ option_map (λ t. meaning_of m t (distance t p)) (option_map (λ (e : ℕ × RawToken). e.1) o)
-    through None = refl
-    through (Some e) = refl
+-- Meaning.
 
 pub means_the_same : (back m : MapValue) → length m.names ≤ 4294967295 → KeepsParts back m → MeansTheSame back m
 unfolding of_item
@@ -143,7 +132,7 @@ means_the_same back m few kept p =
 pub reads_back : (m : MapValue) (mappings : List ℕ) (ranges : Option (List ℕ))
     → length m.names ≤ 4294967295 → length m.sources ≤ 4294967295 → IsStrictlySortedBy nat_cmp m.ignored
     → MappingsAnswer mappings (listed ranges) (record { sources = length m.sources; names = length m.names }) (Ok (reduced (length m.names) m.tokens))
-    → ReadsBack m (record_with m mappings ranges)
+    → ReadsBack (RecordDecodes (record_with m mappings ranges)) (Restores m)
 reads_back m mappings ranges few_names few_sources up answer =
     let r : Fields = record_with m mappings ranges in
     let back : MapValue = map_of r (reduced (length m.names) m.tokens) in
@@ -163,7 +152,7 @@ reads_back m mappings ranges few_names few_sources up answer =
       ignored = rw (read_ids m.ignored) (rising-sorted m.ignored up);
       debug_id = refl;
     } in
-    (back, (room, tokens, refl), means_the_same back m few_names kept, kept)
+    (back, (room, tokens, refl), (means_the_same back m few_names kept, kept))
 
 -- What is written of the parts of a map is what is written of the map.
 
@@ -172,7 +161,7 @@ pub answered : (m : MapValue) → length m.names ≤ 4294967295 → length m.sou
 answered m few_names few_sources up t ((mappings, ranges, texts, is), fine) = (
   (mappings, ranges, texts.text, texts.bits, is),
   fine,
-  λ well. subst (ReadsBack m) (sym (ap flat is))
+  λ well. subst (λ r. ReadsBack (RecordDecodes r) (Restores m)) (sym (ap flat is))
       (reads_back m mappings ranges few_names few_sources up (texts.back (length m.sources) (omega arith) well)),
 )
 
@@ -183,6 +172,6 @@ answered-if m few_names few_sources up (Err e) h = h
 
 -- a record that is answered reads back
 pub back-if : (m : MapValue) (result : Result RawSourceMap Error) → IsAnswer tree (RecordAnswer m) result
-    → IfOk result (λ r. IsWellFormed m → ReadsBack m (flat (tree r)))
+    → IfOk result (λ r. IsWellFormed m → ReadsBack (RecordDecodes (flat (tree r))) (Restores m))
 back-if m (Ok r) h = h.2
 back-if m (Err e) h = tt

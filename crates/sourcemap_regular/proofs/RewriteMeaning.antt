@@ -8,26 +8,19 @@ use Rattle.std.proofs.lemmas.Option.{slice_get-map, slice_get_past, slice_get_wi
 use Rattle.sourcemap_lists.specs.Interner.{place_of}
 use Rattle.sourcemap_lists.specs.declared.tokens.RawToken.{RawToken}
 use Rattle.sourcemap_lists.specs.Search.{closest_item, find_last}
-use Rattle.sourcemap_lists.specs.Tokens.{destination, position_cmp, closest_token, IsWithin}
+use Rattle.sourcemap_lists.specs.Tokens.{destination, position_cmp, IsWithin}
+use Rattle.sourcemap_lists.proofs.AllLemmas.{All-both, All-map, All-unmapped, All-weaker}
 use Rattle.sourcemap_lists.proofs.InternerLemmas.{slice_get-place_of}
-use Rattle.sourcemap_lists.proofs.SearchLemmas.{item-closest, closest_item-change}
-use Rattle.sourcemap_lists.proofs.TokensLemmas.{All-map-recursion}
+use Rattle.sourcemap_lists.proofs.SearchLemmas.{closest_item-change}
 use Rattle.sourcemap_texts.specs.Prefixes.{cut_by}
-use Rattle.sourcemap_regular.specs.Map.{MapValue, Meaning, IsWellFormed, shown_sources, source_of, name_of, meaning, meaning_of, distance, column_behind}
+use Rattle.sourcemap_regular.specs.Map.{MapValue, Meaning, IsWellFormed, shown_sources, source_of, name_of, meaning, meaning_of, MeansTheSame, distance, column_behind}
 use Rattle.sourcemap_parts.specs.Sources.{shown}
 use Rattle.sourcemap_rewriting.specs.Numbering.{HasPlace}
-use Rattle.sourcemap_regular.specs.Rewrite.{Removal, number_in, used_sources, used_names, kept_names, cuts, renumbered, rewritten, taken_away, MeansLess, SaysLess}
+use Rattle.sourcemap_regular.specs.Rewrite.{Removal, number_in, used_sources, used_names, kept_names, cuts, renumbered, rewritten, taken_away, all_prefixes, LeavesMeaning, MeansLess, SaysLess}
 use Rattle.sourcemap_parts.proofs.SourcesLemmas.{map-shown_behind_nothing}
-use Rattle.sourcemap_rewriting.proofs.NumberingLemmas.{used-kept, slice_get-number_in, All-weaker}
+use Rattle.sourcemap_rewriting.proofs.NumberingLemmas.{used-kept, slice_get-number_in}
+use Rattle.sourcemap_regular.proofs.MapLemmas.{of_item, meaning-item}
 use Rattle.sourcemap_regular.proofs.RewriteLemmas.{few_used_sources, few_used_names}
-
-All-unmapped : {X Y : Type 0} (P : Y → Type 0) (f : X → Y) (xs : List X) → AllByRecursion P (map f xs) → AllByRecursion (λ x. P (f x)) xs
-All-unmapped P f [] all = tt
-All-unmapped P f (x ∷ xs) all = (all.0, All-unmapped P f xs all.1)
-
-All-both : {X : Type 0} (P Q : X → Type 0) (xs : List X) → AllByRecursion P xs → AllByRecursion Q xs → AllByRecursion (λ x. P x × Q x) xs
-All-both P Q [] ps qs = tt
-All-both P Q (x ∷ xs) ps qs = ((ps.0, qs.0), All-both P Q xs ps.1 qs.1)
 
 -- a token whose texts are kept
 abbrev pub IsKept : MapValue → RawToken → Type 0
@@ -81,17 +74,6 @@ module _ (m : MapValue) (removal : Removal) (few_sources : length m.sources ≤ 
   }
 
   -- Meaning.
-
-  of_item : MapValue → ℕ × ℕ → Option RawToken → Option Meaning
-  of_item n p t = option_map (λ t. meaning_of n t (distance t p)) t
-
-  meaning-item : (n : MapValue) (p : ℕ × ℕ) → meaning n p ≡ of_item n p (closest_item destination position_cmp n.tokens p)
-  unfolding of_item
-  meaning-item n p = rw (← item-closest destination position_cmp n.tokens p) (through (closest_token n.tokens p))
-    where
-      through : (o : Option (ℕ × RawToken)) → option_map (λ found. meaning_of n found.1 (distance found.1 p)) o ≡ option_map (λ t. meaning_of n t (distance t p)) (option_map (λ (e : ℕ × RawToken). e.1) o)
-      through None = refl
-      through (Some e) = refl
 
   -- what holds of all tokens holds of the closest
   abbrev IfThere : (RawToken → Type 0) → Option RawToken → Type 0
@@ -179,6 +161,25 @@ module _ (m : MapValue) (removal : Removal) (few_sources : length m.sources ≤ 
 
   pub well_rewritten : IsWellFormed m → IsWellFormed (rewritten removal m)
   well_rewritten well =
-      All-map-recursion (IsWithin (length (rewritten removal m).sources) (length (rewritten removal m).names)) (renumbered removal m) m.tokens
+      All-map (IsWithin (length (rewritten removal m).sources) (length (rewritten removal m).names)) (renumbered removal m) m.tokens
       (All-weaker (λ t. IsKept m t × IsWithin (length m.sources) (length m.names) t) _ within-rewritten m.tokens
       (All-both (IsKept m) (IsWithin (length m.sources) (length m.names)) m.tokens (all_tokens_kept m) well))
+
+-- Where nothing is taken from a meaning.
+
+cut-nothing : (text : Option (List ℕ)) → option_map (cut_by []) text ≡ text
+cut-nothing None = refl
+cut-nothing (Some text) = refl
+
+nothing-taken : (removal : Removal) (m : MapValue) → LeavesMeaning removal → (o : Option Meaning) → option_map (taken_away removal m) o ≡ o
+nothing-taken removal m (names, prefixes) None = refl
+nothing-taken removal m (names, prefixes) (Some says) = ap Some (λ i. record {
+  source = (ap (λ ps. option_map (cut_by (all_prefixes ps m.sources)) says.source) prefixes ∙ cut-nothing says.source) i;
+  line = says.line;
+  column = says.column;
+  name = cond (names i) says.name None;
+  is_range = says.is_range;
+})
+
+pub means_the_same : (m new : MapValue) (removal : Removal) → LeavesMeaning removal → MeansLess removal m new → MeansTheSame new m
+means_the_same m new removal leaves less p = less p ∙ nothing-taken removal m leaves (meaning m p)

@@ -1,4 +1,4 @@
--- The text of a regular map's record is shallow, has no fraction and no junk header, and so reads back.
+-- A map is written as one record, whose text is shallow, has no fraction and no junk header, and so reads back.
 use Rattle.std.proofs.Common.{◌≡◌, inl, ℕ, length, ◌≤◌, List, [], ◌∷◌, map, Option, Some, None, option_map, Bool, true, false, ◌||◌, Ok, refl, sym, ap, ◌∙◌, subst, arith}
 use Rattle.std.specs.Ordering.{nat_cmp, match_ordering}
 use Rattle.std.specs.Cmp.Lexicographic.{slice_cmp}
@@ -11,14 +11,15 @@ use Rattle.serde_json.specs.Written.{compact_text, has_float, items_have_float, 
 use Rattle.sourcemap_headers.specs.Header.{behind_header}
 use Rattle.sourcemap_headers.specs.DataUrl.{Holds}
 use Rattle.sourcemap_headers.specs.DebugId.{debug_id_text}
+use Rattle.sourcemap_mappings.proofs.WriteLaws.{IsWritten-same, IsRangeText-same}
 use Rattle.sourcemap_records.specs.Field.{written_number, written_or_null, written_list, put_if, put_all}
 use Rattle.sourcemap_records.specs.Jsontypes.{Fields, Tree, plain, flat, entries, written, written_fields, IsFine}
 use Rattle.sourcemap_records.proofs.ReadBackLemmas.{record-back}
 use Rattle.sourcemap_regular.specs.Map.{MapValue, IsWellFormed}
-use Rattle.sourcemap_regular.specs.Encode.{IsRecordOf, RecordAnswer, ReadsBack, record_with, written_contents, written_ids}
-use Rattle.sourcemap_records.specs.Bytes.{HoldJson}
-use Rattle.sourcemap_regular.specs.Decode.{RegularDecodes}
-use Rattle.sourcemap_regular.specs.Write.{IsText, IsEncoded, IsCompactTextOf, BytesReadBack, UrlReadsBack}
+use Rattle.sourcemap_regular.specs.Encode.{IsRecordOf, RecordAnswer, ReadsBack, Restores, record_with, written_contents, written_ids}
+use Rattle.sourcemap_records.specs.Bytes.{HoldJson, BytesStandFor, UrlStandsFor}
+use Rattle.sourcemap_regular.specs.Decode.{RecordDecodes, RegularDecodes}
+use Rattle.sourcemap_regular.specs.Write.{IsText, IsEncoded, IsCompactTextOf}
 use Rattle.sourcemap_records.proofs.BytesLemmas.{value_of_record}
 
 -- at most one level, and no fraction
@@ -175,6 +176,13 @@ shallow m mappings ranges = let p = (flat_written m mappings ranges).0 in omega 
 no_fraction : (m : MapValue) (mappings : List ℕ) (ranges : Option (List ℕ)) → has_float (written (plain (record_with m mappings ranges))) ≡ false
 no_fraction m mappings ranges = (flat_written m mappings ranges).1
 
+-- a map is written as one record
+pub record_once : (m : MapValue) (a b : Tree) → IsRecordOf m a → IsRecordOf m b → a ≡ b
+record_once m a b (mappings, ranges, of_mappings, of_ranges, is) (mappings', ranges', of_mappings', of_ranges', is') =
+    let one : mappings ≡ mappings' = IsWritten-same (length m.names) m.tokens mappings mappings' of_mappings of_mappings' in
+    let range : ranges ≡ ranges' = IsRangeText-same m.tokens ranges ranges' of_ranges of_ranges' in
+    is ∙ ap (λ r. plain (record_with m r ranges)) one ∙ ap (λ r. plain (record_with m mappings' r)) range ∙ sym is'
+
 -- no number in what a map is written as has a fraction
 pub record-whole : (m : MapValue) (t : Tree) → IsRecordOf m t → has_float (written t) ≡ false
 record-whole m t (mappings, ranges, of_mappings, of_ranges, is) = ap (λ t. has_float (written t)) is ∙ no_fraction m mappings ranges
@@ -189,23 +197,27 @@ no_header text ms is = ap behind_header is ∙ ap Some (sym is)
 
 -- the text of a map's record reads back
 text_back : (m : MapValue) (mappings : List ℕ) (ranges : Option (List ℕ)) (text : List ℕ)
-    → IsFine (plain (record_with m mappings ranges)) → ReadsBack m (record_with m mappings ranges)
-    → IsText (plain (record_with m mappings ranges)) text → BytesReadBack m text
+    → IsFine (plain (record_with m mappings ranges)) → ReadsBack (RecordDecodes (record_with m mappings ranges)) (Restores m)
+    → IsText (plain (record_with m mappings ranges)) text → ReadsBack (BytesStandFor RegularDecodes text) (Restores m)
 text_back m mappings ranges text fine back is =
     let t : Tree = plain (record_with m mappings ranges) in
     let bare = no_header text (written_fields (record_with m mappings ranges)) (is.compact (no_fraction m mappings ranges)) in
     let holds : HoldJson text (written t) = (text, bare, is.reads_back (shallow m mappings ranges)) in
-    (back.0, inl (written t, holds, value_of_record RegularDecodes (written t) t (record-back t fine.0 fine.1) (Ok back.0) back.1), back.2, back.3)
+    (back.0, inl (written t, holds, value_of_record RegularDecodes (written t) t (record-back t fine.0 fine.1) (Ok back.0) back.1), back.2)
 
 -- what a map is written as reads back
-pub encoded-back : (m : MapValue) (text : List ℕ) → IsEncoded (RecordAnswer m) text → IsWellFormed m → BytesReadBack m text
+pub encoded-back : (m : MapValue) (text : List ℕ) → IsEncoded (RecordAnswer m) text → IsWellFormed m
+    → ReadsBack (BytesStandFor RegularDecodes text) (Restores m)
 encoded-back m text h well = by h.0 h.1.0 h.1.1 (h.1.2 well) h.2
   where
-    by : (t : Tree) → IsRecordOf m t → IsFine t → ReadsBack m (flat t) → IsText t text → BytesReadBack m text
+    by : (t : Tree) → IsRecordOf m t → IsFine t → ReadsBack (RecordDecodes (flat t)) (Restores m) → IsText t text
+        → ReadsBack (BytesStandFor RegularDecodes text) (Restores m)
     by t r fine back is =
-        text_back m r.0 r.1 text (subst IsFine r.4 fine) (subst (λ (t : Tree). ReadsBack m (flat t)) r.4 back)
+        text_back m r.0 r.1 text (subst IsFine r.4 fine)
+        (subst (λ (t : Tree). ReadsBack (RecordDecodes (flat t)) (Restores m)) r.4 back)
         (subst (λ (t : Tree). IsText t text) r.4 is)
 
 -- and so does a data URL of it
-pub url-back : (m : MapValue) (url text : List ℕ) → Holds url text → BytesReadBack m text → UrlReadsBack m url
-url-back m url text holds back = (back.0, inl (text, holds, back.1), back.2, back.3)
+pub url-back : (m : MapValue) (url text : List ℕ) → Holds url text → ReadsBack (BytesStandFor RegularDecodes text) (Restores m)
+    → ReadsBack (UrlStandsFor RegularDecodes url) (Restores m)
+url-back m url text holds back = (back.0, inl (text, holds, back.1), back.2)

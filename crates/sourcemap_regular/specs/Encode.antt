@@ -3,12 +3,12 @@ use Rattle.std.specs.Prelude.{◌≡◌, ℕ, ◌<◌, List, length, Option, Res
 use Rattle.sourcemap_errors.specs.declared.errors.Error.{Error}
 use Rattle.sourcemap_lists.specs.Tokens.{reduced}
 use Rattle.sourcemap_mappings.specs.Write.{IsWritten, IsRangeText}
-use Rattle.sourcemap_parts.specs.ToRecord.{record_with as parts_written}
+use Rattle.sourcemap_conversions.specs.ToRecord.{record_with as parts_written}
 use Rattle.sourcemap_records.specs.Jsontypes.{Fields, Tree, plain, flat, IsFine}
 use Rattle.sourcemap_regular.specs.Map.{MapValue, IsWellFormed, MeansTheSame, contents_of}
 use Rattle.sourcemap_regular.specs.MapStored.{parts_in}
 use Rattle.sourcemap_regular.specs.Decode.{RecordDecodes}
-pub use Rattle.sourcemap_parts.specs.ToRecord.{written_contents, written_ids}
+pub use Rattle.sourcemap_conversions.specs.ToRecord.{written_contents, written_ids}
 
 -- the record of a map, where its tokens are written as these texts of mappings and of range bits
 abbrev pub record_with : MapValue → List ℕ → Option (List ℕ) → Fields
@@ -32,11 +32,16 @@ pub record KeepsParts (back m : MapValue) : Type 0 where
   pub ignored : back.ignored ≡ m.ignored
   pub debug_id : back.debug_id ≡ m.debug_id
 
--- a record reads back as a map of the same meaning, with all parts kept
-abbrev pub ReadsBack : MapValue → Fields → Type 0
-ReadsBack m r = (back : MapValue) × RecordDecodes r (Ok back) × MeansTheSame back m × KeepsParts back m
+-- a map that restores another has the same meaning at every position, and all its parts
+abbrev pub Restores : (m back : MapValue) → Type 0
+Restores m back = MeansTheSame back m × KeepsParts back m
+
+-- what stands for a map by these answers, be it a record, a value, bytes or a URL, stands for one
+-- that restores what was written
+abbrev pub ReadsBack : {Y : Type 0} → (Result Y Error → Type 0) → (Y → Type 0) → Type 0
+ReadsBack Answers IsRestored = (back : _) × Answers (Ok back) × IsRestored back
 
 -- what a call that writes a map answers: a record that the map is written as, and that reads back; nothing but memory refuses
 abbrev pub RecordAnswer : MapValue → Result Tree Error → Type 0
-RecordAnswer m (Ok t) = IsRecordOf m t × IsFine t × (IsWellFormed m → ReadsBack m (flat t))
+RecordAnswer m (Ok t) = IsRecordOf m t × IsFine t × (IsWellFormed m → ReadsBack (RecordDecodes (flat t)) (Restores m))
 RecordAnswer m (Err _) = ⊥

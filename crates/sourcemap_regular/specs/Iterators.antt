@@ -2,6 +2,7 @@
 use Rattle.std.specs.Prelude.{◌≡◌, ℕ, ◌+◌, List, length, drop, map, Bool, true, false, Option, Some, None, string_bytes}
 use Rattle.std.specs.Iterator.{YieldsFirstBy}
 use Rattle.sourcemap_parts.specs.Contents.{fitted}
+use Rattle.sourcemap_regular.specs.Map.{MapValue}
 use Rattle.sourcemap_regular.specs.Token.{TokenValue, lookup, token_value, tokens_from}
 use Rattle.sourcemap_regular.specs.declared.iterators.IgnoreListIter.{IgnoreListIter}
 use Rattle.sourcemap_regular.specs.declared.iterators.TokenIter.{TokenIter}
@@ -9,6 +10,10 @@ use Rattle.sourcemap_regular.specs.declared.token.Token.{Token}
 use Rattle.sourcemap_regular.specs.declared.iterators.NameIter.{NameIter}
 use Rattle.sourcemap_regular.specs.declared.iterators.SourceIter.{SourceIter}
 use Rattle.sourcemap_regular.specs.declared.iterators.SourceContentsIter.{SourceContentsIter}
+
+-- the map whose tokens are given
+abbrev pub tokens_map : TokenIter → MapValue
+tokens_map it = it.map.now
 
 abbrev pub tokens_left : TokenIter → List TokenValue
 tokens_left it = tokens_from it.map.now it.next

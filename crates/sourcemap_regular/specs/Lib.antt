@@ -2,6 +2,7 @@ pub mod Decode
 pub mod Encode
 pub mod Equality
 pub mod Iterators
+pub mod Lists
 pub mod Map
 pub mod MapStored
 pub mod Rewrite

@@ -78,9 +78,27 @@ meaning_of m token behind = record {
   is_range = token.is_range;
 }
 
--- the meaning of a position: what the closest token says of it
+-- a token of a map: its fields, its place in the list, and how far the position asked for stands
+-- behind it
+pub record TokenValue : Type 0 where
+  pub map_of : MapValue
+  pub raw : RawToken
+  pub index : ℕ
+  pub behind : ℕ
+
+-- what a token says
+abbrev pub says : TokenValue → Meaning
+says t = meaning_of t.map_of t.raw t.behind
+
+-- the closest token to a position, with its own index
+abbrev pub lookup : MapValue → ℕ × ℕ → Option TokenValue
+lookup m p = option_map
+    (λ found. record { map_of = m; raw = found.1; index = found.0; behind = distance found.1 p })
+    (closest_token m.tokens p)
+
+-- the meaning of a position: what the closest token says
 abbrev pub meaning : MapValue → ℕ × ℕ → Option Meaning
-meaning m p = option_map (λ found. meaning_of m found.1 (distance found.1 p)) (closest_token m.tokens p)
+meaning m p = option_map says (lookup m p)
 
 -- the same meaning at every position
 abbrev pub MeansTheSame : MapValue → MapValue → Type 0

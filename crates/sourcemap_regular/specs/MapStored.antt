@@ -2,7 +2,7 @@
 use Rattle.std.specs.Prelude.{ℕ, ◌≤◌, List, Option, length}
 use Rattle.sourcemap_lists.specs.declared.tokens.RawToken.{RawToken}
 use Rattle.sourcemap_parts.specs.Heading.{HeadingValue}
-use Rattle.sourcemap_parts.specs.Parts.{PartsValue}
+use Rattle.sourcemap_conversions.specs.Parts.{PartsValue}
 use Rattle.sourcemap_parts.specs.Sources.{SourcesValue}
 use Rattle.sourcemap_texts.specs.Texts.{texts_of}
 use Rattle.sourcemap_regular.specs.Map.{MapValue}

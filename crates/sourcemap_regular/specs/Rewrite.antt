@@ -1,6 +1,6 @@
 -- A map rewritten: what no token uses falls away, with the root and the ignore list, and what the
 -- options take.
-use Rattle.std.specs.Prelude.{length, ◌≤◌, ◌≡◌, ℕ, cond, List, [], map, slice_get, Option, None, option_map, option_and_then, Result, Ok, Err, if◌then◌else◌}
+use Rattle.std.specs.Prelude.{length, ◌≤◌, ◌≡◌, ℕ, true, cond, List, [], map, slice_get, Option, None, option_map, option_and_then, Result, Ok, Err, if◌then◌else◌}
 use Rattle.std.specs.Str.{bytes_eq}
 use Rattle.sourcemap_errors.specs.declared.errors.Error.{Error}
 use Rattle.sourcemap_errors.specs.declared.errors.Error.TheVariants.{IncompatibleSourceMap}
@@ -71,6 +71,10 @@ taken_away removal m says = record says {
   source = option_map (cut_by (cuts removal m)) says.source;
   name = cond removal.with_names says.name None;
 }
+
+-- what takes nothing from a meaning: names are kept, and no prefix is cut
+abbrev pub LeavesMeaning : Removal → Type 0
+LeavesMeaning removal = (removal.with_names ≡ true) × (removal.prefixes ≡ [])
 
 -- the map answers at each position as the old one does, less what is taken away
 abbrev pub MeansLess : Removal → (old new : MapValue) → Type 0

@@ -1,35 +1,18 @@
--- A token as contracts see it, and what lookups and iterators answer.
+-- A token as contracts see it, and what getters and iterators answer of it.
 use Rattle.std.specs.Prelude.{ℕ, List, [], ◌++◌, drop, map, codes, slice_get, Option, option_map, unwrap_or}
 use Rattle.std.specs.List.{enumerate_from}
 use Rattle.std.specs.Fmt.{decimal}
 use Rattle.sourcemap_lists.specs.declared.tokens.RawToken.{RawToken}
-use Rattle.sourcemap_lists.specs.Tokens.{closest_token}
-use Rattle.sourcemap_regular.specs.Map.{MapValue, Meaning, meaning_of, distance}
+use Rattle.sourcemap_regular.specs.Map.{MapValue, Meaning}
 use Rattle.sourcemap_regular.specs.declared.token.Token.{Token}
-
--- a token of a map: its fields, its place in the list, and how far the position asked for stands behind it
-pub record TokenValue : Type 0 where
-  pub map_of : MapValue
-  pub raw : RawToken
-  pub index : ℕ
-  pub behind : ℕ
+pub use Rattle.sourcemap_regular.specs.Map.{TokenValue, says, lookup}
 
 abbrev pub token_value : Token → TokenValue
 token_value t = record { map_of = t.map.now; raw = t.raw; index = t.index; behind = t.behind }
 
--- what a token says
-abbrev pub says : TokenValue → Meaning
-says t = meaning_of t.map_of t.raw t.behind
-
 -- what a token says, by its getters
 abbrev pub answers : Token → Meaning
 answers t = says (token_value t)
-
--- the closest token to a position, with its own index
-abbrev pub lookup : MapValue → ℕ × ℕ → Option TokenValue
-lookup m p = option_map
-    (λ found. record { map_of = m; raw = found.1; index = found.0; behind = distance found.1 p })
-    (closest_token m.tokens p)
 
 -- the token at an index, where no position is asked for
 abbrev pub token_at : MapValue → ℕ → Option TokenValue

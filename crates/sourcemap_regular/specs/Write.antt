@@ -1,4 +1,4 @@
--- The bytes that a map is written as, and what they read back as.
+-- The bytes that a map is written as.
 use Rattle.std.specs.Prelude.{◌≡◌, ◌≤◌, ℕ, List, false, Result, Ok}
 use Rattle.serde_json.specs.Data.{depth}
 use Rattle.serde_json.specs.Read.{max_depth}
@@ -6,10 +6,9 @@ use Rattle.serde_json.specs.Written.{compact_text, has_float}
 use Rattle.sourcemap_errors.specs.declared.errors.Error.{Error}
 use Rattle.sourcemap_errors.specs.declared.errors.Error.TheVariants.{Io}
 use Rattle.sourcemap_records.specs.Jsontypes.{Tree, written}
-use Rattle.sourcemap_regular.specs.Map.{MapValue, MeansTheSame}
-use Rattle.sourcemap_regular.specs.Encode.{IsRecordOf, KeepsParts}
-use Rattle.sourcemap_records.specs.Bytes.{IsJson, BytesStandFor, UrlStandsFor}
-use Rattle.sourcemap_regular.specs.Decode.{RegularDecodes}
+use Rattle.sourcemap_regular.specs.Map.{MapValue}
+use Rattle.sourcemap_regular.specs.Encode.{IsRecordOf}
+use Rattle.sourcemap_records.specs.Bytes.{IsJson}
 
 -- the compact text of a record's value, but for the digits of a fraction in it, which are not said; a text
 -- of at most 127 levels reads back as the value
@@ -24,16 +23,6 @@ IsEncoded Encodes text = (t : Tree) × Encodes (Ok t) × IsText t text
 -- the compact text of the value of a record that a map is written as
 abbrev pub IsCompactTextOf : MapValue → List ℕ → Type 0
 IsCompactTextOf m text = (t : Tree) × IsRecordOf m t × (text ≡ compact_text (written t))
-
--- bytes that stand for a regular map of the same meaning as this one, with all parts kept
-abbrev pub BytesReadBack : MapValue → List ℕ → Type 0
-BytesReadBack m bytes =
-    (back : MapValue) × BytesStandFor RegularDecodes bytes (Ok back) × MeansTheSame back m × KeepsParts back m
-
--- a data URL that does
-abbrev pub UrlReadsBack : MapValue → List ℕ → Type 0
-UrlReadsBack m url =
-    (back : MapValue) × UrlStandsFor RegularDecodes url (Ok back) × MeansTheSame back m × KeepsParts back m
 
 -- a fault of a writer
 abbrev pub IsIo : Error → Type 0

@@ -2,7 +2,7 @@
 ghost use Rattle.std.specs.Prelude.{◌≡◌, ◌<◌, [], length, slice_set};
 ghost use Rattle.std.specs.Option.{option_copied};
 ghost use Rattle.sourcemap_errors.specs.Answer.{Changes};
-ghost use Rattle.sourcemap_regular.specs.Map.{fitted};
+ghost use Rattle.sourcemap_regular.specs.Map.{fitted, IsWellFormed};
 
 use crate::map::SourceMap;
 use sourcemap_errors::errors::Result;
@@ -44,7 +44,8 @@ impl SourceMap {
 
     /// Takes all names away. Ids of names in the tokens then name nothing.
     pub fn remove_names(&mut self)
-        ensures { self.new ≡ record self.old { names = [] } }
+        ensures value { self.new ≡ record self.old { names = [] } }
+        ensures well_formed { IsWellFormed self.old → IsWellFormed self.new }
     {
         self.names.clear();
     }
@@ -79,8 +80,9 @@ impl SourceMap {
     /// the root. Only want of memory refuses.
     pub fn set_source(&mut self, id: u32, source: &str) -> Result<()>
         requires { id < length self.old.sources }
-        ensures { Changes result self.old self.new
+        ensures value { Changes result self.old self.new
             (record self.old { sources = slice_set self.old.sources id source.now }) }
+        ensures well_formed { IsWellFormed self.old → IsWellFormed self.new }
     {
         self.sources.set(id, source)?;
         Ok(())

@@ -2,7 +2,7 @@
 ghost use Rattle.std.specs.Prelude.{◌≡◌, ◌≤◌, Result, IfOk, IfSome, vec_len};
 ghost use Rattle.sourcemap_errors.specs.Answer.{IsAnswer, Gives};
 ghost use Rattle.sourcemap_errors.specs.declared.errors.Error.{Error};
-ghost use Rattle.sourcemap_parts.specs.Parts.{parts_view};
+ghost use Rattle.sourcemap_conversions.specs.Parts.{parts_view};
 ghost use Rattle.sourcemap_records.specs.Bytes.{BytesStandFor, AreSame, IsAnswerRead, Reading};
 ghost use Rattle.sourcemap_records.specs.Jsontypes.{tree, flat};
 ghost use Rattle.sourcemap_regular.specs.Map.{MapValue, IsWellFormed};
@@ -10,9 +10,9 @@ ghost use Rattle.sourcemap_regular.specs.MapStored.{map_in};
 ghost use Rattle.sourcemap_regular.specs.Decode.{RecordDecodes, RegularDecodes};
 
 use crate::map::SourceMap;
+use sourcemap_conversions::from_record::parts_of_record;
+use sourcemap_conversions::parts::Parts;
 use sourcemap_errors::errors::{Error, Result};
-use sourcemap_parts::from_record::parts_of_record;
-use sourcemap_parts::parts::Parts;
 use sourcemap_records::bytes::{read_all, read_record, read_record_owned};
 use sourcemap_records::jsontypes::RawSourceMap;
 use std::alloc::Global;

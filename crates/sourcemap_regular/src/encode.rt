@@ -1,13 +1,15 @@
 //! The record that a map is written as.
 ghost use Rattle.std.specs.Prelude.{◌≡◌, ◌≤◌, IfOk, vec_len};
 ghost use Rattle.sourcemap_errors.specs.Answer.{IsAnswer};
-ghost use Rattle.sourcemap_parts.specs.Parts.{parts_view};
-ghost use Rattle.sourcemap_records.specs.Jsontypes.{tree, flat, IsFine};
+ghost use Rattle.sourcemap_conversions.specs.Parts.{parts_view};
+ghost use Rattle.sourcemap_records.specs.Jsontypes.{tree, flat, Tree, IsFine};
+ghost use Rattle.sourcemap_regular.specs.Map.{MapValue};
+ghost use Rattle.sourcemap_regular.specs.Encode.{IsRecordOf};
 
 use crate::map::SourceMap;
+use sourcemap_conversions::parts::Parts;
+use sourcemap_conversions::to_record::{into_record, record_of};
 use sourcemap_errors::errors::Result;
-use sourcemap_parts::parts::Parts;
-use sourcemap_parts::to_record::{into_record, record_of};
 use sourcemap_records::jsontypes::RawSourceMap;
 
 /// A map that can be written as a record.
@@ -26,7 +28,8 @@ pub trait Encodable {
 
 impl Encodable for SourceMap {
     ghost use Rattle.sourcemap_regular.specs.Map.{IsWellFormed};
-    ghost use Rattle.sourcemap_regular.specs.Encode.{RecordAnswer, ReadsBack};
+    ghost use Rattle.sourcemap_regular.specs.Decode.{RecordDecodes};
+    ghost use Rattle.sourcemap_regular.specs.Encode.{RecordAnswer, ReadsBack, Restores};
 
     ghost encodes = { RecordAnswer };
 
@@ -36,8 +39,9 @@ impl Encodable for SourceMap {
     fn as_raw_sourcemap(&self) -> Result<RawSourceMap>
         ensures answer { IsAnswer tree (RecordAnswer self.now) result }
         ensures fine { IfOk result (λ r. IsFine (tree r)) }
-        ensures reads_back { IfOk result
-            (λ r. IsWellFormed self.now → ReadsBack self.now (flat (tree r))) }
+        // Read back, a well-formed map means the same at every position, with all parts kept.
+        ensures reads_back { IfOk result (λ r. IsWellFormed self.now
+            → ReadsBack (RecordDecodes (flat (tree r))) (Restores self.now)) }
     {
         // for the prover: there are at most 4294967295 sources
         let _ = self.sources.len();
@@ -91,3 +95,8 @@ impl SourceMap {
         }
     }
 }
+
+/// A law: a map is written as one record.
+pub fn written_records_are_determined()
+    ensures { (m : MapValue) (a b : Tree) → IsRecordOf m a → IsRecordOf m b → a ≡ b }
+{}

@@ -152,17 +152,19 @@ impl SourceMap {
     ghost use Rattle.std.specs.List.Sorted.{IsStrictlySortedBy};
     ghost use Rattle.std.specs.Ordering.{nat_cmp};
     ghost use Rattle.sourcemap_regular.specs.Map.{shown_sources, fitted};
-    ghost use Rattle.sourcemap_regular.specs.Iterators.{tokens_left, names_left, sources_left, contents_left, ids_left};
+    ghost use Rattle.sourcemap_lists.specs.Tokens.{AreInOrder};
+    ghost use Rattle.sourcemap_regular.specs.Iterators.{tokens_map, tokens_left, names_left, sources_left, contents_left, ids_left};
     ghost use Rattle.sourcemap_regular.specs.Token.{tokens_from};
 
     /// The tokens, in order of line and column of the generated text.
     pub fn tokens(&self) -> TokenIter<'_>
-        ensures map { result.map.now ≡ self.now }
+        ensures map { tokens_map result ≡ self.now }
         ensures rest { tokens_left result ≡ tokens_from self.now 0 }
         ensures bound { length (tokens_left result) < 2 ^ 64 }
+        ensures in_order { AreInOrder self.now.tokens }
     {
-        // for the prover: a list is shorter than 2^64
-        let _ = self.tokens.len();
+        // for the prover: tokens are in order, and a list is shorter than 2^64
+        let _ = self.tokens.as_slice().len();
         TokenIter { map: self, next: 0 }
     }
 
@@ -190,9 +192,11 @@ impl SourceMap {
     pub fn source_contents(&self) -> SourceContentsIter<'_>
         ensures rest { contents_left result ≡ fitted (length self.now.sources) self.now.contents }
         ensures bound { length (contents_left result) ≤ 4294967295 }
+        ensures few { length self.now.contents ≤ 4294967295 }
     {
-        // for the prover: there are at most 4294967295 sources
+        // for the prover: there are at most 4294967295 sources and contents
         let _ = self.sources.len();
+        let _ = self.contents.as_slice();
         SourceContentsIter { map: self, next: 0 }
     }
 

@@ -8,6 +8,7 @@ pub mod decode;
 pub mod encode;
 mod equality;
 pub mod iterators;
+pub mod lists;
 pub mod map;
 pub mod rewrite;
 pub mod token;

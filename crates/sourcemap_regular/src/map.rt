@@ -1,5 +1,5 @@
 //! A regular map over its parts: its getters, and the lookup of a position.
-ghost use Rattle.std.specs.Prelude.{◌≡◌, ◌==◌, not, ◌≤◌, [], Ok, length, min, option_map, unwrap_or, vec_len};
+ghost use Rattle.std.specs.Prelude.{◌≡◌, ◌==◌, not, ◌≤◌, [], IfOk, Ok, length, min, option_map, unwrap_or, vec_len};
 ghost use Rattle.std.specs.Option.{option_copied, ForSome};
 ghost use Rattle.sourcemap_errors.specs.Answer.{Gives};
 ghost use Rattle.sourcemap_texts.specs.Texts.{texts_of, contents_in};
@@ -52,7 +52,8 @@ fn distance(token: RawToken, line: u32, col: u32) -> u32
 }
 
 impl SourceMap {
-    ghost use Rattle.sourcemap_regular.specs.Map.{made_of, meaning, name_of, source_of, contents_of};
+    ghost use Rattle.sourcemap_lists.specs.Tokens.{AllWithin};
+    ghost use Rattle.sourcemap_regular.specs.Map.{IsWellFormed, made_of, meaning, name_of, source_of, contents_of};
     ghost use Rattle.sourcemap_regular.specs.MapStored.{map_over};
     ghost use Rattle.sourcemap_regular.specs.Token.{answers, lookup, token_at, token_value};
 
@@ -73,9 +74,11 @@ impl SourceMap {
         requires few_sources { vec_len sources ≤ 4294967295 }
         requires few_contents { ForSome sources_content
             (λ contents. vec_len contents ≤ 4294967295) }
-        ensures { Gives (λ m. m) result (Ok (made_of (option_copied file.entry) tokens.items
+        ensures value { Gives (λ m. m) result (Ok (made_of (option_copied file.entry) tokens.items
             (texts_of names) (texts_of sources)
             (unwrap_or (option_map contents_in sources_content) []))) }
+        ensures well_formed { AllWithin (vec_len sources) (vec_len names) tokens.items
+            → IfOk result IsWellFormed }
     {
         let file = owned(alloc, file)?;
         let tokens = TokenList::sorted(tokens)?;

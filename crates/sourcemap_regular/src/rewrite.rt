@@ -15,8 +15,8 @@ use sourcemap_rewriting::rewritten::{RewrittenParts, names_if, rewritten_parts};
 use std::rt::Files;
 
 impl SourceMap {
-    ghost use Rattle.sourcemap_regular.specs.Map.{IsWellFormed};
-    ghost use Rattle.sourcemap_regular.specs.Rewrite.{rewrite_due, rewritten, MeansLess, SaysLess};
+    ghost use Rattle.sourcemap_regular.specs.Map.{IsWellFormed, MeansTheSame};
+    ghost use Rattle.sourcemap_regular.specs.Rewrite.{rewrite_due, rewritten, LeavesMeaning, MeansLess, SaysLess};
 
     /// The map with each source and each name that a token uses once, in the order in which tokens
     /// first use them. Sources are as they are shown behind the root, and the map has no root then.
@@ -29,6 +29,9 @@ impl SourceMap {
         // It answers at each position as before, less what the options take away.
         ensures meaning { IfOk result (λ m. MeansLess (removal_of options.now) self m) }
         ensures tokens { IfOk result (λ m. SaysLess (removal_of options.now) self m) }
+        // Where names are kept and no prefix is cut, that is the same meaning.
+        ensures same { LeavesMeaning (removal_of options.now)
+            → IfOk result (λ m. MeansTheSame m self) }
         ensures well_formed { IfOk result (λ m. IsWellFormed self → IsWellFormed m) }
     {
         // for the prover: there are at most 4294967295 sources
@@ -70,9 +73,9 @@ impl SourceMap {
     }
 }
 
-// The options that are there by default take nothing away, and a map that is rewritten so is not
-// changed by the same again.
-fn default_rewriting_is_final()
+/// A law: the options that are there by default take nothing away, and a map that is rewritten so
+/// is not changed by the same again.
+pub fn default_rewriting_is_final()
     ensures default { (options : RewriteOptions)
         → IsDefault options → removal_of options ≡ no_removal }
     ensures twice { (m : MapValue) → IsFinal m }

@@ -20,32 +20,33 @@ pub struct Token<'a> {
 impl<'a> Token<'a> {
     ghost use Rattle.std.specs.Prelude.{◌≢◌, ◌==◌, not, [], IsTrue, IsSome, ◌↔◌, option_map, is_some, unwrap_or};
     ghost use Rattle.std.specs.Option.{option_copied};
-    ghost use Rattle.sourcemap_regular.specs.Token.{answers};
+    ghost use Rattle.sourcemap_regular.specs.Token.{answers, token_value};
 
     /// The map that the token is of.
     pub fn sourcemap(&self) -> &'a SourceMap
-        ensures { result.now ≡ self.now.map.now }
+        ensures { result.now ≡ (token_value self.now).map_of }
     {
         self.map
     }
 
     /// The token's line in the generated text.
     pub fn get_dst_line(&self) -> u32
-        ensures { result ≡ self.now.raw.dst_line }
+        ensures { result ≡ (token_value self.now).raw.dst_line }
     {
         self.raw.dst_line
     }
 
     /// The token's column in the generated text, in UTF-16 units.
     pub fn get_dst_col(&self) -> u32
-        ensures { result ≡ self.now.raw.dst_col }
+        ensures { result ≡ (token_value self.now).raw.dst_col }
     {
         self.raw.dst_col
     }
 
     /// The token's line and column in the generated text.
     pub fn get_dst(&self) -> (u32, u32)
-        ensures { result ≡ (self.now.raw.dst_line, self.now.raw.dst_col) }
+        ensures { result
+            ≡ ((token_value self.now).raw.dst_line, (token_value self.now).raw.dst_col) }
     {
         (self.raw.dst_line, self.raw.dst_col)
     }
@@ -75,7 +76,7 @@ impl<'a> Token<'a> {
 
     /// The number of the source, 4294967295 for none.
     pub fn get_src_id(&self) -> u32
-        ensures { result ≡ self.now.raw.src_id }
+        ensures { result ≡ (token_value self.now).raw.src_id }
     {
         self.raw.src_id
     }
@@ -89,7 +90,7 @@ impl<'a> Token<'a> {
 
     /// Whether the token names a source by a number other than 4294967295.
     pub fn has_source(&self) -> bool
-        ensures { result ≡ not (self.now.raw.src_id == 4294967295) }
+        ensures { result ≡ not ((token_value self.now).raw.src_id == 4294967295) }
     {
         self.raw.src_id != NO_ID
     }
@@ -110,7 +111,7 @@ impl<'a> Token<'a> {
 
     /// The number of the name, 4294967295 for none.
     pub fn get_name_id(&self) -> u32
-        ensures { result ≡ self.now.raw.name_id }
+        ensures { result ≡ (token_value self.now).raw.name_id }
     {
         self.raw.name_id
     }
@@ -132,7 +133,7 @@ impl<'a> Token<'a> {
 
     /// The token by numbers, without the columns that a lookup adds.
     pub fn get_raw_token(&self) -> RawToken
-        ensures { result ≡ self.now.raw }
+        ensures { result ≡ (token_value self.now).raw }
     {
         self.raw
     }

@@ -75,7 +75,8 @@ impl Ord for Token<'_> {
 impl PartialOrd for Token<'_> {
     ghost partial_cmp = { as_partial_cmp token_cmp };
 
-    ghost laws = { partial_order_from_own_ties (Prim.search (comparing, rules) depth 12) (Prim.search (comparing, rules) depth 12) };
+    ghost laws = { partial_order_from_own_ties (Prim.search (comparing, rules) depth 12)
+        (Prim.search (comparing, rules) depth 12) };
 
     fn partial_cmp(&self, other: &Self) -> Option<Ordering> {
         Some(compare(self, other))

@@ -5,8 +5,10 @@ ghost use Rattle.sourcemap_errors.specs.Answer.{UnlessMemory};
 ghost use Rattle.sourcemap_errors.specs.declared.errors.Error.TheVariants.{OutOfMemory};
 ghost use Rattle.sourcemap_headers.specs.DataUrl.{data_url_of, Holds};
 ghost use Rattle.sourcemap_regular.specs.Map.{MapValue, IsWellFormed};
-ghost use Rattle.sourcemap_regular.specs.Encode.{RecordAnswer};
-ghost use Rattle.sourcemap_regular.specs.Write.{IsEncoded, IsCompactTextOf, BytesReadBack, UrlReadsBack, IsIo};
+ghost use Rattle.sourcemap_records.specs.Bytes.{BytesStandFor, UrlStandsFor};
+ghost use Rattle.sourcemap_regular.specs.Decode.{RegularDecodes};
+ghost use Rattle.sourcemap_regular.specs.Encode.{RecordAnswer, ReadsBack, Restores};
+ghost use Rattle.sourcemap_regular.specs.Write.{IsEncoded, IsCompactTextOf, IsIo};
 
 use crate::encode::Encodable;
 use crate::map::SourceMap;
@@ -39,7 +41,8 @@ pub fn encode_to<M: Encodable, W: Write>(alloc: Global, map: &M, writer: &mut W)
 
 /// Writes the compact JSON text of the record that the map is written as. The faults are those of
 /// making the record, want of memory, and `Io` for a write's; nothing is said of how much was
-/// written then.
+/// written then. The clause says that such a text was made. That the writer, which is given away,
+/// gets all of it and nothing else is tested; [`encode_to`] promises it of a writer that is lent.
 pub fn encode<M: Encodable, W: Write + Drop>(alloc: Global, map: &M, mut writer: W) -> Result<()>
     ensures encoded { OnOk result ((text : List ℕ) × IsEncoded (M.encodes map.now) text) }
     ensures fault { IfErr result (λ e. UnlessMemory e (M.encodes map.now (Err e) ⊎ IsIo e)) }
@@ -48,7 +51,10 @@ pub fn encode<M: Encodable, W: Write + Drop>(alloc: Global, map: &M, mut writer:
 }
 
 impl SourceMap {
-    /// Writes the map's compact JSON text. A write's fault is `Io`, else only want of memory refuses.
+    /// Writes the map's compact JSON text. A write's fault is `Io`, else only want of memory
+    /// refuses. The clause says that such a text was made. That the writer, which is given away,
+    /// gets all of it and nothing else is tested; [`encode_to`] promises it of a writer that is
+    /// lent.
     pub fn to_writer<W: Write + Drop>(&self, writer: W) -> Result<()>
         ensures encoded { OnOk result ((text : List ℕ) × IsEncoded (RecordAnswer self.now) text) }
         ensures fault { IfErr result (λ e. UnlessMemory e (IsIo e)) }
@@ -61,8 +67,8 @@ impl SourceMap {
         ensures url { IfOk result (λ url. (text : List ℕ) × IsEncoded (RecordAnswer self.now) text
             × (string_bytes url ≡ data_url_of text) × Holds (string_bytes url) text) }
         // Read back, a well-formed map means the same at every position, with all parts kept.
-        ensures reads_back { IfOk result
-            (λ url. IsWellFormed self.now → UrlReadsBack self.now (string_bytes url)) }
+        ensures reads_back { IfOk result (λ url. IsWellFormed self.now
+            → ReadsBack (UrlStandsFor RegularDecodes (string_bytes url)) (Restores self.now)) }
         ensures memory { IsOkUnless result OutOfMemory }
     {
         let alloc = self.allocator();
@@ -84,5 +90,6 @@ pub fn written_maps_are_compact()
 /// every position, with all parts kept.
 pub fn written_maps_read_back()
     ensures { (m : MapValue) (text : List ℕ)
-        → IsEncoded (RecordAnswer m) text → IsWellFormed m → BytesReadBack m text }
+        → IsEncoded (RecordAnswer m) text → IsWellFormed m
+        → ReadsBack (BytesStandFor RegularDecodes text) (Restores m) }
 {}

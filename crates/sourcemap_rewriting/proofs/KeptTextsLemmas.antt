@@ -7,7 +7,8 @@ use Rattle.sourcemap_lists.specs.Interner.{place_of, with_text}
 use Rattle.sourcemap_lists.proofs.InternerLemmas.{place_of-last, slice_get-place_of}
 use Rattle.sourcemap_rewriting.specs.Numbering.{with_text_if, kept_of, met_texts, IsMet, AreNumbered}
 use Rattle.sourcemap_rewriting.specs.declared.numbering.NewNumbers.{NewNumbers}
-use Rattle.sourcemap_rewriting.proofs.NumberingLemmas.{All-at, kept_of-push, place_of-with_text, place_of-kept_of, slice_get-set_other}
+use Rattle.sourcemap_lists.proofs.AllLemmas.{All-at}
+use Rattle.sourcemap_rewriting.proofs.NumberingLemmas.{kept_of-push, place_of-with_text, place_of-kept_of, slice_get-set_other}
 
 -- texts are where they were, or among those that were moved
 abbrev pub AreThere : (old now moved : List (List ℕ)) → Type 0

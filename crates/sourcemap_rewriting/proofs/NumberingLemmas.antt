@@ -12,6 +12,7 @@ use Rattle.std.proofs.lemmas.List.Sums.{fold-append}
 use Rattle.std.proofs.lemmas.List.{map_push, length_push, append-nil, length-set, length-replicate}
 use Rattle.std.proofs.lemmas.Option.{slice_get_within, slice_get_past, slice_get-map, slice_get_read}
 use Rattle.sourcemap_lists.specs.Interner.{place_of, with_text, AreDistinct}
+use Rattle.sourcemap_lists.proofs.AllLemmas.{All-append, All-at, All-weaker}
 use Rattle.sourcemap_lists.proofs.InternerLemmas.{AreDistinct-append, place_of-append, place_of-last, slice_get-place_of}
 use Rattle.sourcemap_rewriting.specs.Kept.{present, kept_once, number_in}
 use Rattle.sourcemap_rewriting.specs.Numbering.{with_text_if, first_some, HasPlace, kept_of, met_texts, IsMet, IsMetOrNot, NumbersMore, id_of, IsIndex, IsNumbering, Meets}
@@ -82,12 +83,15 @@ AreDistinct-with_text texts text distinct = by_case (place_of text texts) refl
     by_case (Some n) e = rw e distinct
 
 -- texts that are kept once are distinct
-pub distinct-kept_of : (texts : List (List ℕ)) (ids : List ℕ) → AreDistinct (kept_of texts ids)
-distinct-kept_of texts ids = after [] (present (map (slice_get texts) ids)) (λ text id e. cc)
+pub distinct-kept_once : (texts : List (List ℕ)) → AreDistinct (kept_once texts)
+distinct-kept_once texts = after [] texts (λ text id e. cc)
   where
     after : (kept us : List (List ℕ)) → AreDistinct kept → AreDistinct (fold with_text kept us)
     after kept [] distinct = distinct
     after kept (u ∷ us) distinct = after (with_text kept u) us (AreDistinct-with_text kept u distinct)
+
+pub distinct-kept_of : (texts : List (List ℕ)) (ids : List ℕ) → AreDistinct (kept_of texts ids)
+distinct-kept_of texts ids = distinct-kept_once (present (map (slice_get texts) ids))
 
 -- What the first gives.
 
@@ -101,14 +105,14 @@ first_some-push f (y ∷ ys) x =
     option_or-assoc (Some x) b c = refl
 
 -- a text that was added has a place
-place_of-added : (texts : List (List ℕ)) (text : List ℕ) → (n : ℕ) × (place_of text (with_text texts text) ≡ Some n)
+pub place_of-added : (texts : List (List ℕ)) (text : List ℕ) → (n : ℕ) × (place_of text (with_text texts text) ≡ Some n)
 place_of-added texts text = by_case (place_of text texts) refl
   where
     by_case : (o : Option ℕ) → place_of text texts ≡ o → (n : ℕ) × (place_of text (with_text texts text) ≡ Some n)
     by_case None e = (length texts, rw e (place_of-last texts text (length texts) refl e))
     by_case (Some n) e = (n, rw e e)
 
-place_of-fold : (us : List (List ℕ)) (texts : List (List ℕ)) (text : List ℕ) (n : ℕ) → place_of text texts ≡ Some n → place_of text (fold with_text texts us) ≡ Some n
+pub place_of-fold : (us : List (List ℕ)) (texts : List (List ℕ)) (text : List ℕ) (n : ℕ) → place_of text texts ≡ Some n → place_of text (fold with_text texts us) ≡ Some n
 place_of-fold [] texts text n e = e
 place_of-fold (u ∷ us) texts text n e = place_of-fold us (with_text texts u) text n (place_of-with_text texts u text n e)
 
@@ -247,19 +251,6 @@ module _ {X : Type 0} where
   slice_get-replicate (suc n) x zero h = refl
   slice_get-replicate (suc n) x (suc i) h = slice_get-replicate n x i (omega arith)
 
-  pub All-at : (P : X → Type 0) (xs : List X) (k : ℕ) (x : X) → slice_get xs k ≡ Some x → AllByRecursion P xs → P x
-  All-at P [] k x e all = cc
-  All-at P (y ∷ ys) zero x e all = let same : y ≡ x = cc in subst P same all.0
-  All-at P (y ∷ ys) (suc k) x e all = All-at P ys k x e all.1
-
-  All-pushed : (P : X → Type 0) (xs : List X) (x : X) → AllByRecursion P xs → P x → AllByRecursion P (xs ++ x ∷ [])
-  All-pushed P [] x all h = (h, tt)
-  All-pushed P (y ∷ ys) x all h = (all.0, All-pushed P ys x all.1 h)
-
-  pub All-weaker : (P Q : X → Type 0) → ((x : X) → P x → Q x) → (xs : List X) → AllByRecursion P xs → AllByRecursion Q xs
-  All-weaker P Q weaker [] all = tt
-  All-weaker P Q weaker (x ∷ xs) all = (weaker x all.0, All-weaker P Q weaker xs all.1)
-
 pub text-at : (texts : List (String Global)) (i : ℕ) (s : String Global) → i < length texts → s ≡ get_or texts i s → slice_get (map string_bytes texts) i ≡ Some (string_bytes s)
 text-at texts i s within read = slice_get-map string_bytes texts i ∙ ap (option_map string_bytes) (slice_get_read texts (length texts) i s refl within read)
 
@@ -377,7 +368,7 @@ module _ (texts : List (List ℕ)) (n : Numbering) (id : ℕ) (text : List ℕ) 
       numbered = record {
         many = ap length meets.numbers ∙ length-set n.met.numbers.items id number ∙ is.numbered.many;
         met = subst (AllByRecursion (IsMet texts next.met)) (sym meets.order)
-            (All-pushed (IsMet texts next.met) n.met.order.items id (All-weaker (IsMet texts n.met) (IsMet texts next.met) still_met n.met.order.items is.numbered.met) here_met);
+            (All-append (IsMet texts next.met) n.met.order.items (id ∷ []) (All-weaker (IsMet texts n.met) (IsMet texts next.met) still_met n.met.order.items is.numbered.met) (here_met, tt));
         others = other_or_met;
       };
       index = subst (λ kept. IsIndex kept next.ids) (sym kept_new) (meets.index (met_texts texts n.met) is.index);

@@ -4,6 +4,7 @@ use Rattle.std.specs.List.{AllByRecursion}
 use Rattle.std.specs.Option.{option_or}
 use Rattle.std.specs.Ordering.{is_lt}
 use Rattle.std.proofs.lemmas.List.{get_or-map, map_push, drop_more, take_more, take_all, drop_all, set_at, get_or_at, length-map, length-take-le, append-nil}
+use Rattle.sourcemap_lists.proofs.AllLemmas.{All-unmapped}
 use Rattle.sourcemap_lists.specs.declared.tokens.RawToken.{RawToken}
 use Rattle.sourcemap_lists.specs.Tokens.{AreInOrder, destination, position_cmp}
 use Rattle.sourcemap_rewriting.specs.Numbering.{with_text_if, first_some, HasPlace, kept_of, met_texts, NumbersMore, AreMet, numbered_by, numbered_with}
@@ -27,10 +28,6 @@ module _ (S N : List (List ℕ)) where
     first = λ f none. more_s.met f (none t.src_id) ∙ ap (λ o. option_or o (f t.src_id)) (met.first f none)
         ∙ sym (ap (first_some f) (map_push (λ (u : RawToken). u.src_id) ts t) ∙ first_some-push f (map (λ u. u.src_id) ts) t.src_id);
   }
-
-  All-unmapped : {X Y : Type 0} (P : Y → Type 0) (f : X → Y) (xs : List X) → AllByRecursion P (map f xs) → AllByRecursion (λ x. P (f x)) xs
-  All-unmapped P f [] all = tt
-  All-unmapped P f (x ∷ xs) all = (all.0, All-unmapped P f xs all.1)
 
   -- what was numbered keeps its numbers
   numbered-kept : (ks kn : List (List ℕ)) (os on : Option (List ℕ)) (ts : List RawToken)

@@ -21,7 +21,8 @@ use Rattle.sourcemap_rewriting.specs.KeptContents.{given, given_to, IsPlaced, Ar
 use Rattle.sourcemap_rewriting.specs.Rewritten.{contents_among, contents_due, sources_used, names_used, AreFew, AreRewritten}
 use Rattle.sourcemap_rewriting.specs.declared.rewritten.RewrittenParts.{RewrittenParts}
 use Rattle.sourcemap_rewriting.specs.declared.numbering.NewNumbers.{NewNumbers}
-use Rattle.sourcemap_rewriting.proofs.NumberingLemmas.{All-weaker, kept_once-few, distinct-kept_of}
+use Rattle.sourcemap_lists.proofs.AllLemmas.{All-weaker}
+use Rattle.sourcemap_rewriting.proofs.NumberingLemmas.{kept_once-few, distinct-kept_of}
 
 -- each old number that was met has a new one
 pub all_placed : (S : List (List ℕ)) (s : NewNumbers) → AreNumbered S s → AllByRecursion (IsPlaced s.numbers.items (length (met_texts S s))) s.order.items

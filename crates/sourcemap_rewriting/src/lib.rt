@@ -6,7 +6,7 @@
 mod cut_sources;
 mod kept_contents;
 mod kept_texts;
-mod numbering;
+pub mod numbering;
 pub mod options;
 mod renumbering;
 pub mod rewritten;

@@ -86,8 +86,9 @@ impl<'a> Numbering<'a> {
     }
 }
 
-// The number of a text, the next one where it has none.
-fn number_of<'a>(ids: &mut HashMap<&'a str, u32>, text: &'a str) -> Result<u32>
+/// The number of a text among those that have one, the next one where it has none. Of such a text
+/// there are to be fewer than 4294967295 others. Only want of memory refuses.
+pub fn number_of<'a>(ids: &mut HashMap<&'a str, u32>, text: &'a str) -> Result<u32>
     requires room { id_of ids.old text.now ≡ None → hash_map_len ids.old < 4294967295 }
     ensures number { (texts : List (List ℕ)) → IsIndex texts ids.old
         → IfOk result (λ number. place_of text.now (with_text texts text.now) ≡ Some number) }

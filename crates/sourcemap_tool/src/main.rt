@@ -3,14 +3,29 @@
 
 use sourcemap::Result;
 use sourcemap_commands::program::run;
-use std::io::BufWriter;
+use sourcemap_commands::system::{tell, words};
+use std::io;
 use std::process::ExitCode;
-use std::{env, io};
 
-fn main(rt: HostRuntime) -> Result<ExitCode> {
-    let alloc = rt.alloc();
-    let words: Vec<String> = env::args(&rt)?.skip(1).collect(alloc)?;
-    let mut output = BufWriter::new(alloc, io::writer(&rt))?;
-    let status = run(&rt, alloc, words.as_slice(), &mut rt.reader(), &mut output)?;
-    Ok(ExitCode::from(status))
+// Reads the words and runs them on standard input and output.
+fn ran(rt: &HostRuntime) -> Result<u8> {
+    let words = words(rt)?;
+    run(
+        rt,
+        rt.alloc(),
+        words.as_slice(),
+        &mut rt.reader(),
+        &mut io::writer(rt),
+    )
+}
+
+fn main(rt: HostRuntime) -> ExitCode {
+    match ran(&rt) {
+        Ok(status) => ExitCode::from(status),
+        Err(error) => {
+            // Where standard error fails too, the status alone is left to say so.
+            let _told = tell(&error, &mut rt.stderr());
+            ExitCode::FAILURE
+        }
+    }
 }

@@ -1,11 +1,15 @@
--- What kept the input from being a map.
-use Rattle.std.proofs.Common.{Err, ◌∙◌, ap}
+-- What is said of the map, or what kept the bytes from being one.
 use Rattle.std.proofs.lemmas.Result.{err_from_is_err_and}
-use Rattle.sourcemap_commands.proofs.ProgramLemmas.{answer_refused}
+use Rattle.sourcemap.specs.Decoded.{map_value}
+use Rattle.sourcemap_commands.proofs.ProgramLemmas.{answer_of_map, answer_of_fault}
 use Rattle.sourcemap_commands.proofs.program.answer.Goals as goal
+
+pub returns : goal.returns
+returns g c =
+    answer_of_map c.args.command.now c.args.bytes.items (map_value c.in_ok-map.map) c.apply.result
+    c.in_ok-map.ensures.answer c.apply.ensures
 
 pub returns-in_err-map : goal.returns-in_err-map
 returns-in_err-map g c =
     let p = err_from_is_err_and c.from_residual.result c.from_residual.ensures.1 in
-    answer_refused (g.R.Read.remaining c.args.input.now) c.args.command.now c.from_residual.result _
-    (p.1 ∙ ap Err p.2) c.in_err-map.ensures.answer
+    rw (p.1, p.2) (answer_of_fault c.args.command.now c.args.bytes.items _ c.in_err-map.ensures.answer)

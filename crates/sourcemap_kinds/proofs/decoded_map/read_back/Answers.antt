@@ -1,9 +1,15 @@
+-- The value that was written reads back.
+use Rattle.std.proofs.Common.{Ok}
 use Rattle.serde_json.specs.View.{view}
+use Rattle.sourcemap_regular.specs.Encode.{Restores}
+use Rattle.sourcemap_kinds.specs.Decode.{ValueDecodes}
 use Rattle.sourcemap_kinds.specs.DecodedMap.{map_value}
-use Rattle.sourcemap_kinds.proofs.DecodedMapLemmas.{means_the_same}
+use Rattle.sourcemap_kinds.proofs.DecodedMapLemmas.{restored, same_gives, but_for_memory}
 use Rattle.sourcemap_kinds.proofs.decoded_map.read_back.Goals as goal
 
 pub returns : goal.returns
-returns c = λ fine.
-    means_the_same (view c.in_ok-value.value) (map_value c.args.map.now) c.from_value.result
-    (c.in_ok-value.ensures.reads_back fine) c.from_value.ensures.only
+returns c = λ well.
+    let m = map_value c.args.map.now in
+    but_for_memory (λ back. Restores m (map_value back)) c.from_value.result
+    (restored map_value (ValueDecodes (view c.in_ok-value.value)) (Restores m) c.from_value.result (c.in_ok-value.ensures.reads_back well)
+    (λ back is. same_gives map_value c.from_value.result back (c.from_value.ensures.only (Ok back) is)))

@@ -1,6 +1,5 @@
-use Rattle.std.proofs.Common.{length, ◌+◌, ◌≤◌, ◌==◌}
-use Rattle.std.specs.List.{slice_split}
-use Rattle.sourcemap_mappings.specs.Segment.{Segment}
+use Rattle.std.proofs.Common.{length, ◌+◌, ◌≤◌}
+use Rattle.sourcemap_mappings.specs.Segment.{Segment, parts_of}
 use Rattle.sourcemap_mappings.specs.SegmentSteps.{AreTextSums, counts_of}
 use Rattle.sourcemap_mappings.specs.ReadSteps.{AreInOrderTo}
 use Rattle.sourcemap_mappings.proofs.ReadLemmas.{PartsSoFar}
@@ -11,7 +10,7 @@ abbrev pub invariant-loop-read : goal.invariant-loop-read
 invariant-loop-read l = record {
   places : l.place + length l.rest ≤ length l.text;
   so_far : (before : List Segment) → AreTextSums before l.fn.sums
-      → PartsSoFar (counts_of l.limits) l.line l.bits before (slice_split (λ b. b == 44) l.text) l.place (slice_split (λ b. b == 44) l.rest) l.initial.tokens.items l.tokens.items l.sums;
+      → PartsSoFar (counts_of l.limits) l.line l.bits before (parts_of l.text) l.place (parts_of l.rest) l.initial.tokens.items l.tokens.items l.sums;
   order : AreInOrderTo l.line (record l.fn.sums { column = 0 }) l.initial.tokens.items → AreInOrderTo l.line l.sums l.tokens.items;
 }
 

@@ -3,6 +3,7 @@ use Rattle.std.proofs.lemmas.List.{nil_from_length}
 use Rattle.std.proofs.lemmas.Bool.Decides.{nat_tests}
 use Rattle.std.proofs.lemmas.Int.{to_z-of_z}
 use mir.Syntax.{w64}
+use Rattle.sourcemap_mappings.specs.Segment.{comma}
 use Rattle.sourcemap_mappings.proofs.SegmentLemmas.{read_none, read_more, HasFirstPart-last, HasFirstPart-comma, HasPartFault-from}
 use Rattle.sourcemap_mappings.proofs.segment.any_part.Goals as goal
 
@@ -12,7 +13,7 @@ loop-first-init c = read_none c.args.line.now
 pub returns-then-first-eq44-clause-read : goal.returns-then-first-eq44-clause-read
 returns-then-first-eq44-clause-read c =
     let so_far = c.loop-first.invariant in
-    let is : (c.in-Some.first.now == 44) ≡ true = grind (arith, nat_tests) in
+    let is : (c.in-Some.first.now == comma) ≡ true = grind (arith, nat_tests) in
     HasFirstPart-comma _ _ c.in-Some.first.now c.in-Some.behind _ so_far.0 so_far.1 so_far.2 c.in-Some.ensures.cases.0 is
 
 pub loop-first-preserved : goal.loop-first-preserved
@@ -24,7 +25,7 @@ loop-first-preserved c =
 pub returns-in-Err-clause-fault : goal.returns-in-Err-clause-fault
 returns-in-Err-clause-fault c =
     let so_far = c.loop-first.invariant in
-    let differs : (c.in-Some.first.now == 44) ≡ false = grind (arith, nat_tests) in
+    let differs : (c.in-Some.first.now == comma) ≡ false = grind (arith, nat_tests) in
     rw c.in_part.ensures
     (HasPartFault-from _ _ c.in-Some.first.now c.in-Some.behind.now so_far.0 c.in-Err.fault so_far.1 c.in-Some.ensures.cases.0 differs c.in-Err.ensures.fault)
 

@@ -3,6 +3,7 @@ use Rattle.std.proofs.lemmas.List.{take_more, take_all}
 use Rattle.sourcemap_lists.specs.declared.tokens.RawToken.{RawToken}
 use Rattle.sourcemap_digits.specs.Bits.{IsBitText}
 use Rattle.sourcemap_lists.specs.Tokens.{without_repeats}
+use Rattle.sourcemap_mappings.specs.Segment.{semicolon}
 use Rattle.sourcemap_mappings.specs.Write.{base, LineByLine, IsRangeLine}
 use Rattle.sourcemap_mappings.specs.WriteSteps.{repeats}
 use Rattle.sourcemap_mappings.proofs.WriteWalk.{Walked, Walked-none, Walked-repeat_here, Walked-more, next_line}
@@ -53,9 +54,9 @@ loop-token-preserved c =
       | then-line-token+in_ok-push_bits+in_ok-push_line_ends w ↦
           let written = w.in_ok-push_bits.ensures.written in
           let past : c.loop-token.line < token.dst_line = omega arith in
-          carried token.dst_line token.dst_line (without_repeats done) ((text ++ written.0) ++ replicate (token.dst_line - c.loop-token.line) 59)
+          carried token.dst_line token.dst_line (without_repeats done) ((text ++ written.0) ++ replicate (token.dst_line - c.loop-token.line) semicolon)
           (string_bytes c.if-line-token.text) [] c.if-line-token.flags.items refl
-          (ap string_bytes w.text-is ∙ w.in_ok-push_line_ends.ensures.text ∙ ap (λ (t : List ℕ). t ++ replicate (token.dst_line - c.loop-token.line) 59) written.2)
+          (ap string_bytes w.text-is ∙ w.in_ok-push_line_ends.ensures.text ∙ ap (λ (t : List ℕ). t ++ replicate (token.dst_line - c.loop-token.line) semicolon) written.2)
           (ap (λ v. v.items) w.flags-is ∙ w.clear.ensures.items)
           (Ranging-turn c.loop-token.line token.dst_line (without_repeats done) text written.0 flags past walked.upto
           (subst (λ (fs : List Bool). IsBitText fs written.0) w.as_slice.ensures.value written.1) c.loop-token.invariant.ranging)

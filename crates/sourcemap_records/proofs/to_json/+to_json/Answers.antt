@@ -1,4 +1,4 @@
-use Rattle.std.proofs.Common.{◌≡◌, ◌∙◌, ap, sym, subst, map, option_map, codes, Option, Some, IfSome, Vec, Global}
+use Rattle.std.proofs.Common.{◌≡◌, ◌∙◌, ap, sym, subst, map, option_map, codes, Option, Some, Ok, IfSome, Vec, Global}
 use Rattle.std.specs.List.{AllByRecursion}
 use Rattle.std.proofs.lemmas.Iterator.Adapters.{option_map_id}
 use Rattle.serde_json.proofs.Views.{view-Object, view-Array}
@@ -24,11 +24,11 @@ give_map-returns-clause-value t c =
       | give_map-in-None w ↦
           ap (option_map view) w.listed-is ∙ ap (option_map of_list) (sym w.in-None.is ∙ c.take.ensures.value)
     ] in
-    view-Object c.put_field.new.members
+    ap Ok (sym (view-Object c.put_field.new.members
     ∙ ap object (c.in_ok-put_field.ensures.ok
     ∙ ap (λ v. put_if (codes "sections") v (members_view c.in_ok-members.members.entries)) (option_map_id _ ∙ listed)
     ∙ ap (put_if (codes "sections") _) (c.in_ok-members.ensures.ok ∙ ap written_fields (flat-roll _)))
-    ∙ sym (written-tree c.args.map)
+    ∙ sym (written-tree c.args.map)))
 
 pub give_map-returns-clause-in_range : goal.give_map-returns-clause-in_range
 give_map-returns-clause-in_range t c =

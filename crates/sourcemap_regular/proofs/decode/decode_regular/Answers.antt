@@ -1,6 +1,6 @@
 use Rattle.std.proofs.Common.{Ok, Err}
 use Rattle.sourcemap_errors.proofs.AnswerLemmas.{Gives-only}
-use Rattle.sourcemap_parts.specs.Parts.{parts_view}
+use Rattle.sourcemap_conversions.specs.Parts.{parts_view}
 use Rattle.sourcemap_records.specs.Jsontypes.{flat, tree}
 use Rattle.sourcemap_regular.specs.Map.{MapValue}
 use Rattle.sourcemap_regular.specs.Decode.{RecordDecodes}

@@ -3,7 +3,7 @@ use Rattle.std.proofs.lemmas.List.{take_more}
 use Rattle.std.proofs.lemmas.Option.{slice_get-get_or, get_or_from_slice_get}
 use Rattle.sourcemap_texts.specs.Texts.{contents_in}
 use Rattle.sourcemap_rewriting.specs.KeptContents.{AreKept, IsPlaced}
-use Rattle.sourcemap_rewriting.proofs.NumberingLemmas.{All-at}
+use Rattle.sourcemap_lists.proofs.AllLemmas.{All-at}
 use Rattle.sourcemap_rewriting.proofs.KeptContentsLemmas.{kept-more, left-more}
 use Rattle.sourcemap_rewriting.proofs.kept_contents.kept_contents.Goals as goal
 

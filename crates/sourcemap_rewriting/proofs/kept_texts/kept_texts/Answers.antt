@@ -4,7 +4,7 @@ use Rattle.std.proofs.lemmas.List.{length-map, length-set, map_push}
 use Rattle.std.proofs.lemmas.Option.{slice_get-get_or, slice_get_read, slice_get_within}
 use Rattle.sourcemap_texts.specs.Texts.{texts_of}
 use Rattle.sourcemap_rewriting.specs.Numbering.{kept_of, IsMet}
-use Rattle.sourcemap_rewriting.proofs.NumberingLemmas.{All-at}
+use Rattle.sourcemap_lists.proofs.AllLemmas.{All-at}
 use Rattle.sourcemap_rewriting.proofs.KeptTextsLemmas.{AreThere, moved-more, there-more, moved-same, there-same}
 use Rattle.sourcemap_rewriting.proofs.kept_texts.kept_texts.Goals as goal
 use Rattle.sourcemap_rewriting.proofs.kept_texts.kept_texts.Goals.{then-index-len+in_ok-push, else-index-len}

@@ -1,4 +1,3 @@
-use Rattle.std.proofs.Common.{◌∙◌}
 use Rattle.sourcemap_lists.proofs.TokenListLemmas.{tokens_decide}
 use Rattle.sourcemap_lists.proofs.token_list.TokenListPartialEq.eq.Goals as goal
 

@@ -1,7 +1,7 @@
 use Rattle.std.proofs.Common.{◌≤◌, length, map, string_bytes, subst, arith}
 use Rattle.std.specs.declared.alloc.Global.{Global}
 use Rattle.sourcemap_errors.specs.Answer.{IsAnswer}
-use Rattle.sourcemap_parts.specs.ToRecord.{RecordAnswer as PartsAnswer}
+use Rattle.sourcemap_conversions.specs.ToRecord.{RecordAnswer as PartsAnswer}
 use Rattle.sourcemap_records.specs.Jsontypes.{tree}
 use Rattle.sourcemap_regular.specs.Map.{MapValue}
 use Rattle.sourcemap_regular.specs.MapStored.{parts_in, value_of}

@@ -2,8 +2,8 @@ use Rattle.std.proofs.Common.{◌≤◌, length, subst, arith}
 use Rattle.std.specs.List.Sorted.{IsStrictlySortedBy}
 use Rattle.std.specs.Ordering.{nat_cmp}
 use Rattle.sourcemap_errors.specs.Answer.{IsAnswer}
-use Rattle.sourcemap_parts.specs.Parts.{PartsValue}
-use Rattle.sourcemap_parts.specs.ToRecord.{RecordAnswer as PartsAnswer}
+use Rattle.sourcemap_conversions.specs.Parts.{PartsValue}
+use Rattle.sourcemap_conversions.specs.ToRecord.{RecordAnswer as PartsAnswer}
 use Rattle.sourcemap_records.specs.Jsontypes.{tree}
 use Rattle.sourcemap_regular.specs.Map.{MapValue}
 use Rattle.sourcemap_regular.proofs.EncodeLemmas.{answered-if}

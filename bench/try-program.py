@@ -1,0 +1,87 @@
+#!/usr/bin/env python3
+"""Tries how the program meets its surroundings: words that are no text, a reader of its output that goes
+away, outputs and inputs that fail, and the wrapper `sourcemap` through a link and from another folder.
+
+    bench/try-program.py
+
+The program is built where it is missing; SOURCEMAP_TOOL in the environment names another in its place,
+which the wrapper does not know. Each trial that does not end as it should is printed, and then the status is 1.
+"""
+import os, pathlib, subprocess, sys, tempfile
+from comparing import CRATES, TOOL, build_missing
+
+HOME = CRATES.parent
+MAP = HOME / 'examples/readme.map'
+USAGE = b'usage: lookup LINE COL | tokens | rewrite | flatten | compose FILE\n'
+ANSWER = b'coolstuff.js:0:4 name=x\n'
+LOOKUP = [b'lookup', b'0', b'5']
+
+
+def ended(command, **more):
+    """The status of a run on the map, what it printed, and what it told of faults."""
+    with open(MAP, 'rb') as given:
+        streams = {'stdin': given, 'stdout': subprocess.PIPE, 'stderr': subprocess.PIPE, **more}
+        told = subprocess.run(command, timeout=600, **streams)
+    return told.returncode, told.stdout or b'', told.stderr or b''
+
+
+def without_reader(words):
+    """A run whose output nobody reads."""
+    reader, writer = os.pipe()
+    os.close(reader)
+    try:
+        return ended([TOOL, *words], stdout=writer)
+    finally:
+        os.close(writer)
+
+
+def on_full_device(words):
+    with open('/dev/full', 'wb') as full:
+        return ended([TOOL, *words], stdout=full)
+
+
+def on_closed(words, streams):
+    return ended(['bash', '-c', f'exec "$0" "$@" {streams}', TOOL, *words])
+
+
+def through_link(words):
+    """A run of the wrapper, through a link and in another folder, on a map named from there."""
+    with tempfile.TemporaryDirectory() as folder:
+        link = pathlib.Path(folder, 'link')
+        link.symlink_to(HOME / 'sourcemap')
+        pathlib.Path(folder, 'here.map').write_bytes(MAP.read_bytes())
+        pathlib.Path(folder, 'inner').mkdir()
+        return ended(['bash', '-c', 'exec ../link "$@" < ../here.map', 'bash', *words], cwd=f'{folder}/inner')
+
+
+# What is tried, how, and how it should end.
+TRIALS = [
+    ('an answer', lambda: ended([TOOL, *LOOKUP]), (0, ANSWER, b'')),
+    ('a word that is not UTF-8', lambda: ended([TOOL, b'lookup', b'0', b'\xff']), (2, USAGE, b'')),
+    ('no words', lambda: ended([TOOL]), (2, USAGE, b'')),
+    ('a reader that has gone away', lambda: without_reader([b'tokens']), (1, b'', b'')),
+    ('the same at the usage', lambda: without_reader([b'tokens', b'0']), (1, b'', b'')),
+    ('a full device', lambda: on_full_device(LOOKUP), (1, b'', b'No space left on device (os error 28)\n')),
+    ('a closed output', lambda: on_closed(LOOKUP, '>&-'), (1, b'', b'Bad file descriptor (os error 9)\n')),
+    ('all outputs closed', lambda: on_closed(LOOKUP, '>&- 2>&-'), (1, b'', b'')),
+    ('a closed input', lambda: on_closed(LOOKUP, '<&-'), (1, b'Bad file descriptor (os error 9)\n', b'')),
+    ('a folder as input', lambda: on_closed(LOOKUP, '< /'), (1, b'Is a directory (os error 21)\n', b'')),
+    ('the wrapper through a link', lambda: through_link(LOOKUP), (0, ANSWER, b'')),
+    ('a word that is not UTF-8 through it', lambda: through_link([b'lookup', b'0', b'\xff']), (2, USAGE, b'')),
+]
+
+
+def main():
+    build_missing([TOOL])
+    faults = 0
+    for name, run, want in TRIALS:
+        told = run()
+        if told != want:
+            faults += 1
+            print(f'{name}: {told}, and not {want}')
+    print(f'{len(TRIALS) - faults} as they should be, {faults} not')
+    return 1 if faults else 0
+
+
+if __name__ == '__main__':
+    sys.exit(main())

@@ -1,0 +1,382 @@
+// Maps that are built step by step.
+use crate::checks::check;
+use sourcemap::builder::SourceMapBuilder;
+use sourcemap::encoder::Encodable;
+use sourcemap::errors::{Error, Result};
+use sourcemap::jsontypes::DebugId;
+use sourcemap::types::{RawToken, SourceMap};
+use std::alloc::Global;
+
+// What a builder is asked to do, by the call's name where it is not told.
+#[derive(Clone, Copy)]
+enum Step<'a> {
+    File(&'a str),
+    Root(&'a str),
+    DebugId(&'a str),
+    Ignore(u32),
+    Strip(&'a str),
+    // `set_source` and `set_source_contents` of a source that is there
+    Show(u32, &'a str),
+    Contents(u32, Option<&'a str>),
+    Source(&'a str),
+    Name(&'a str),
+    // `add`: place, line and column of the source, source, name
+    Token((u32, u32), (u32, u32), &'a str, Option<&'a str>),
+    // `add_raw`: the same with the number of a source and no name, and whether it is a range token
+    Raw((u32, u32), (u32, u32), Option<u32>, bool),
+    // `add_token`: the token that the map of this text has at this column of line 0, and whether
+    // its name is wanted
+    Found(&'a str, u32, bool),
+}
+
+// What a step answers.
+#[derive(Clone, Copy)]
+enum Answer {
+    Done,
+    Id(u32),
+    Token(RawToken),
+}
+
+fn take(alloc: Global, builder: &mut SourceMapBuilder, step: &Step<'_>) -> Result<Answer> {
+    match *step {
+        Step::File(file) => done(builder.set_file(Some(file))),
+        Step::Root(root) => done(builder.set_source_root(Some(root))),
+        Step::DebugId(text) => {
+            builder.set_debug_id(DebugId::parse(text));
+            Ok(Answer::Done)
+        }
+        Step::Ignore(id) => done(builder.add_to_ignore_list(id)),
+        Step::Strip(prefix) => done(strip(alloc, builder, prefix)),
+        Step::Show(id, text) => done(show(builder, id, text)),
+        Step::Contents(id, text) => done(set_contents(builder, id, text)),
+        Step::Source(text) => id(builder.add_source(text)),
+        Step::Name(text) => id(builder.add_name(text)),
+        Step::Token(dst, src, source, name) => token(builder.add(
+            dst.0,
+            dst.1,
+            src.0,
+            src.1,
+            Some(source),
+            name,
+            false,
+        )),
+        Step::Raw(dst, src, source, is_range) => token(builder.add_raw(
+            dst.0, dst.1, src.0, src.1, source, None, is_range,
+        )),
+        Step::Found(text, col, with_name) => token(found(alloc, builder, text, col, with_name)),
+    }
+}
+
+fn done(outcome: Result<()>) -> Result<Answer> {
+    outcome?;
+    Ok(Answer::Done)
+}
+
+fn id(outcome: Result<u32>) -> Result<Answer> {
+    Ok(Answer::Id(outcome?))
+}
+
+fn token(outcome: Result<RawToken>) -> Result<Answer> {
+    Ok(Answer::Token(outcome?))
+}
+
+fn strip(alloc: Global, builder: &mut SourceMapBuilder, prefix: &str) -> Result<()> {
+    let prefix = String::from_str(alloc, prefix)?;
+    builder.strip_prefixes(&[prefix])
+}
+
+fn show(builder: &mut SourceMapBuilder, id: u32, text: &str) -> Result<()> {
+    match builder.get_source(id) {
+        None => Err(Error::BadSourceReference(id)),
+        Some(_) => builder.set_source(id, text),
+    }
+}
+
+fn set_contents(builder: &mut SourceMapBuilder, id: u32, text: Option<&str>) -> Result<()> {
+    match builder.get_source(id) {
+        None => Err(Error::BadSourceReference(id)),
+        Some(_) => builder.set_source_contents(id, text),
+    }
+}
+
+fn found(
+    alloc: Global,
+    builder: &mut SourceMapBuilder,
+    text: &str,
+    col: u32,
+    with_name: bool,
+) -> Result<RawToken> {
+    let map = SourceMap::from_slice(alloc, text.as_bytes())?;
+    match map.lookup_token(0, col) {
+        None => Err(Error::VlqNoValues),
+        Some(token) => builder.add_token(&token, with_name),
+    }
+}
+
+// Where memory runs out, the same step is taken again.
+fn take_twice(alloc: Global, builder: &mut SourceMapBuilder, step: &Step<'_>) -> Result<Answer> {
+    match take(alloc, builder, step) {
+        Err(Error::OutOfMemory) => take(alloc, builder, step),
+        outcome => outcome,
+    }
+}
+
+fn take_all(alloc: Global, builder: &mut SourceMapBuilder, steps: &[Step<'_>]) -> Result<()> {
+    for step in steps {
+        take_twice(alloc, builder, step)?;
+    }
+    Ok(())
+}
+
+// The builder of the file f that took these steps.
+fn built(alloc: Global, steps: &[Step<'_>]) -> Result<SourceMapBuilder> {
+    let mut builder = SourceMapBuilder::new(alloc, Some("f"))?;
+    take_all(alloc, &mut builder, steps)?;
+    Ok(builder)
+}
+
+// An id as itself, a token as `0:5=1:1:4#0`: place, source, name, and `+` for a range token.
+fn push_answer(told: &mut String, answer: Answer) -> Result<()> {
+    match answer {
+        Answer::Done => told.push('-')?,
+        Answer::Id(id) => write!(told, "{id}")?,
+        Answer::Token(token) => push_token(told, &token)?,
+    }
+    told.push(' ')?;
+    Ok(())
+}
+
+fn push_token(told: &mut String, token: &RawToken) -> Result<()> {
+    write!(told, "{}:{}", token.dst_line, token.dst_col)?;
+    write!(
+        told,
+        "={}:{}:{}",
+        token.src_id, token.src_line, token.src_col
+    )?;
+    write!(
+        told,
+        "#{}{}",
+        token.name_id,
+        if token.is_range { "+" } else { "" }
+    )?;
+    Ok(())
+}
+
+fn push_answers(
+    told: &mut String,
+    builder: &mut SourceMapBuilder,
+    steps: &[Step<'_>],
+) -> Result<()> {
+    let alloc = *told.allocator();
+    for step in steps {
+        push_answer(told, take(alloc, builder, step)?)?;
+    }
+    Ok(())
+}
+
+fn answers(alloc: Global, steps: &[Step<'_>]) -> Result<String> {
+    let mut builder = SourceMapBuilder::new(alloc, None)?;
+    let mut told = String::new(alloc);
+    push_answers(&mut told, &mut builder, steps)?;
+    Ok(told)
+}
+
+fn written(alloc: Global, builder: Result<SourceMapBuilder>) -> Result<String> {
+    let record = builder?.into_sourcemap()?.into_raw_sourcemap()?;
+    Ok(record.into_value(alloc)?.to_string(alloc)?)
+}
+
+// What is tried with a builder of the file f.
+#[derive(Clone, Copy)]
+struct Row {
+    steps: &'static [Step<'static>],
+    // what the steps answer
+    answers: &'static str,
+    // what the builder then answers
+    told: &'static str,
+    written: &'static str,
+}
+
+const OTHER: &str = r#"{"sources":["a.js"],"names":["x"],"mappings":"AAAOA","rangeMappings":"B"}"#;
+
+const RANGE: &str = r#"{"sources":["a.js"],"names":["n"],"mappings":"KACEA","rangeMappings":"B"}"#;
+
+const ROWS: [Row; 7] = [
+    // A text that was first given keeps its id, whatever is shown.
+    Row {
+        steps: &[
+            Step::Source("/a/x.js"),
+            Step::Show(0, "x.js"),
+            Step::Source("/a/x.js"),
+            Step::Source("x.js"),
+            Step::Token((1, 2), (3, 4), "y.js", Some("n")),
+            Step::Raw((0, 2), (3, 4), None, true),
+            Step::Root("r"),
+        ],
+        answers: "0 - 0 1 1:2=2:3:4#0 0:2=4294967295:3:4#4294967295+ - ",
+        told: r#"(Some("f"), Some("r")) (Some("x.js"), Some("y.js")) (false, None)"#,
+        written: r#"{"file":"f","mappings":"E;EEGIA","names":["n"],"rangeMappings":"B;","sourceRoot":"r","sources":["x.js","x.js","y.js"],"version":3}"#,
+    },
+    Row {
+        steps: &[
+            Step::Source("/a/x.js"),
+            Step::Strip("/a"),
+            Step::Source("/a/x.js"),
+            Step::Source("x.js"),
+        ],
+        answers: "0 - 0 1 ",
+        told: r#"(Some("f"), None) (Some("x.js"), None) (false, None)"#,
+        written: r#"{"file":"f","mappings":"","names":[],"sources":["x.js","x.js"],"version":3}"#,
+    },
+    Row {
+        steps: &[
+            Step::File("out.js"),
+            Step::Root("r"),
+            Step::DebugId("00000000-0000-0000-0000-000000000000"),
+            Step::Name("a"),
+            Step::Source("a"),
+            Step::Name("b"),
+            Step::Source("b"),
+            Step::Name("a"),
+            Step::Source("a"),
+            Step::Ignore(1),
+        ],
+        answers: "- - - 0 0 1 1 0 0 - ",
+        told: r#"(Some("out.js"), Some("r")) (Some("a"), None) (false, None)"#,
+        written: r#"{"debugId":"00000000-0000-0000-0000-000000000000","file":"out.js","ignoreList":[1],"mappings":"","names":["a","b"],"sourceRoot":"r","sources":["a","b"],"version":3}"#,
+    },
+    // Every call.
+    Row {
+        steps: &[
+            Step::DebugId("0123456789abcdef0123456789abcdef"),
+            Step::File("out.js"),
+            Step::Root("r"),
+            Step::Name("n"),
+            Step::Source("a.js"),
+            Step::Ignore(1),
+            Step::Found(OTHER, 5, true),
+            Step::Found(OTHER, 0, false),
+            Step::Token((1, 2), (3, 4), "b.js", None),
+            Step::Raw((1, 5), (3, 4), Some(1), false),
+            Step::Show(0, "/p/c.js"),
+            Step::Contents(0, Some("text")),
+            Step::Strip("/p"),
+        ],
+        answers: "- - - 0 0 - 0:0=0:0:12#1+ 0:0=0:0:7#4294967295+ 1:2=1:3:4#4294967295 1:5=1:3:4#4294967295 - - - ",
+        told: r#"(Some("out.js"), Some("r")) (Some("c.js"), None) (true, Some("text"))"#,
+        written: r#"{"debugId":"01234567-89ab-cdef-0123-456789abcdef","file":"out.js","ignoreList":[1],"mappings":"AAAYC,AAAL;ECGH,GAAA","names":["n","x"],"rangeMappings":"D;","sourceRoot":"r","sources":["c.js","b.js"],"sourcesContent":["text",null],"version":3}"#,
+    },
+    // A token is added as it answers where it was found, and by texts.
+    Row {
+        steps: &[
+            Step::Source("b.js"),
+            Step::Found(RANGE, 7, false),
+            Step::Found(RANGE, 7, true),
+        ],
+        answers: "0 0:5=1:1:4#4294967295+ 0:5=1:1:4#0+ ",
+        told: r#"(Some("f"), None) (Some("b.js"), None) (false, None)"#,
+        written: r#"{"file":"f","mappings":"KCCI,AAAAA","names":["n"],"rangeMappings":"D","sources":["b.js","a.js"],"version":3}"#,
+    },
+    // Contents are taken back.
+    Row {
+        steps: &[
+            Step::Source("a"),
+            Step::Contents(0, Some("text")),
+            Step::Contents(0, None),
+        ],
+        answers: "0 - - ",
+        told: r#"(Some("f"), None) (Some("a"), None) (false, None)"#,
+        written: r#"{"file":"f","mappings":"","names":[],"sources":["a"],"version":3}"#,
+    },
+    Row {
+        steps: &[],
+        answers: "",
+        told: r#"(Some("f"), None) (None, None) (false, None)"#,
+        written: r#"{"file":"f","mappings":"","names":[],"sources":[],"version":3}"#,
+    },
+];
+
+// The file and the root, the sources 0 and 2, and the contents of source 0.
+fn told(alloc: Global, builder: Result<SourceMapBuilder>) -> Result<String> {
+    let builder = builder?;
+    let head = (builder.get_file(), builder.get_source_root());
+    let sources = (builder.get_source(0), builder.get_source(2));
+    let contents = (
+        builder.has_source_contents(0),
+        builder.get_source_contents(0),
+    );
+    Ok(format!(in alloc; "{head:?} {sources:?} {contents:?}")?)
+}
+
+#[test]
+fn builders_answer_and_are_written(rt: HostRuntime) {
+    let alloc = rt.alloc();
+    for row in ROWS.iter() {
+        check(&rt, row.written, answers(alloc, row.steps), row.answers);
+        check(
+            &rt,
+            row.written,
+            told(alloc, built(alloc, row.steps)),
+            row.told,
+        );
+        check(
+            &rt,
+            row.written,
+            written(alloc, built(alloc, row.steps)),
+            row.written,
+        );
+    }
+}
+
+fn shown(alloc: Global, builder: Result<SourceMapBuilder>) -> Result<String> {
+    let map = builder?.into_sourcemap()?;
+    let sources = (map.get_source(0), map.get_source(1), map.get_source(2));
+    Ok(format!(in alloc; "{sources:?} {}", map.get_token_count())?)
+}
+
+#[test]
+fn sources_are_shown_behind_the_root(rt: HostRuntime) {
+    let want = r#"(Some("r/x.js"), Some("r/x.js"), Some("r/y.js")) 2"#;
+    check(
+        &rt,
+        want,
+        shown(rt.alloc(), built(rt.alloc(), ROWS[0].steps)),
+        want,
+    );
+}
+
+// Prefixes, a source, and what is left of it.
+const PREFIXES: [(&[&str], &str, &str); 9] = [
+    (&["/a/"], "/a/x.js", "x.js"),
+    (&["/a"], "/ab/x.js", "/ab/x.js"),
+    (&["/a"], "/a", "/a"),
+    (&["/a"], "/a/a/x.js", "a/x.js"),
+    (&["/b", "/a", "/a/b"], "/a/b/x.js", "b/x.js"),
+    (&["/b", "/a/b", "/a"], "/a/b/x.js", "x.js"),
+    (&["~"], "~/x.js", "x.js"),
+    (&[""], "/x.js", "x.js"),
+    (&[], "/x.js", "/x.js"),
+];
+
+fn cut<'a>(
+    builder: &'a mut SourceMapBuilder,
+    prefixes: &[&str],
+    source: &str,
+) -> Result<Option<&'a str>> {
+    let id = builder.add_source(source)?;
+    builder.strip_prefixes(prefixes)?;
+    Ok(builder.get_source(id))
+}
+
+fn left(alloc: Global, prefixes: &[&str], source: &str) -> Result<String> {
+    let mut builder = SourceMapBuilder::new(alloc, None)?;
+    let left = cut(&mut builder, prefixes, source)?;
+    Ok(String::from_str(alloc, left.unwrap_or("none"))?)
+}
+
+#[test]
+fn prefixes_are_cut(rt: HostRuntime) {
+    for (prefixes, source, want) in PREFIXES.iter() {
+        check(&rt, source, left(rt.alloc(), prefixes, source), want);
+    }
+}

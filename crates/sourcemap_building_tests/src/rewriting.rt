@@ -1,0 +1,164 @@
+// Maps that are rewritten.
+use crate::checks::check;
+use sourcemap::errors::{Error, Result};
+use sourcemap::jsontypes::RawSourceMap;
+use sourcemap::types::{RewriteOptions, SourceMap};
+use std::alloc::Global;
+use std::rt::Files;
+
+fn rewritten<F: Files>(
+    rt: &F,
+    alloc: Global,
+    text: &str,
+    options: &RewriteOptions<'_>,
+) -> Result<String> {
+    let map = SourceMap::from_slice(alloc, text.as_bytes())?;
+    written(alloc, map.rewrite(rt, options))
+}
+
+fn written(alloc: Global, map: Result<SourceMap>) -> Result<String> {
+    match map {
+        Ok(map) => record_written(alloc, map.into_raw_sourcemap()),
+        Err(Error::OutOfMemory) => Err(Error::OutOfMemory),
+        Err(fault) => Ok(format!(in alloc; "{fault}")?),
+    }
+}
+
+fn record_written(alloc: Global, record: Result<RawSourceMap>) -> Result<String> {
+    Ok(record?.into_value(alloc)?.to_string(alloc)?)
+}
+
+const TWO_SOURCES: &str =
+    r#"{"mappings":"ACAA","sources":["a.js","b.js"],"sourcesContent":["x","y"]}"#;
+
+// A map, and what it is written as when it is rewritten by default.
+const DEFAULT: [(&str, &str); 4] = [
+    (
+        TWO_SOURCES,
+        r#"{"mappings":"AAAA","names":[],"sources":["b.js"],"sourcesContent":["y"],"version":3}"#,
+    ),
+    (
+        r#"{"mappings":"AAAA,GAAIA,GAAI,EACR,IAAIA,GAAK,EAAG,CACVC,MAAM","names":["x","alert"],"sourceRoot":"r","sources":["coolstuff.js"]}"#,
+        r#"{"mappings":"AAAA,GAAIA,GAAI,EACR,IAAIA,GAAK,EAAG,CACVC,MAAM","names":["x","alert"],"sources":["r/coolstuff.js"],"version":3}"#,
+    ),
+    // Tokens of the sources 1, 2 and 1 and of the names 1, 1 and 0, where sources 1 and 2 have one
+    // text.
+    (
+        r#"{"ignoreList":[1],"mappings":"ACAAC,CCAAA,CDAAD","names":["m","n"],"sources":["a.js","b.js","b.js"],"sourcesContent":["x",null,"y"]}"#,
+        r#"{"mappings":"AAAAA,CAAAA,CAAAC","names":["n","m"],"sources":["b.js"],"sourcesContent":["y"],"version":3}"#,
+    ),
+    // A range token, and a token without a source.
+    (
+        r#"{"file":"out.js","mappings":"AAAO,E","rangeMappings":"B","sources":["a.js"]}"#,
+        r#"{"file":"out.js","mappings":"AAAO,E","names":[],"rangeMappings":"B","sources":["a.js"],"version":3}"#,
+    ),
+];
+
+#[test]
+fn what_is_used_is_kept(rt: HostRuntime) {
+    let options = RewriteOptions::default();
+    for (text, want) in DEFAULT.iter() {
+        check(&rt, text, rewritten(&rt, rt.alloc(), text, &options), want);
+    }
+}
+
+const PATHS: &str = r#"{"mappings":"AAAA,CCAA","sources":["/a/b/x.js","/a/b/y.js"]}"#;
+
+const UNDER_ROOT: &str = r#"{"mappings":"AAAA","sourceRoot":"/r","sources":["x.js"]}"#;
+
+// A map, the prefixes to be cut, and what it is written as.
+const CUT: [(&str, &[&str], &str); 6] = [
+    (
+        PATHS,
+        &["~"],
+        r#"{"mappings":"AAAA,CCAA","names":[],"sources":["x.js","y.js"],"version":3}"#,
+    ),
+    (
+        PATHS,
+        &["~", "/b", "/a"],
+        r#"{"mappings":"AAAA,CCAA","names":[],"sources":["b/x.js","b/y.js"],"version":3}"#,
+    ),
+    // A source that no token uses counts for what the paths have in common.
+    (
+        r#"{"mappings":"AAAA","sources":["/a/b/x.js","/a/c/y.js"]}"#,
+        &["~"],
+        r#"{"mappings":"AAAA","names":[],"sources":["b/x.js"],"version":3}"#,
+    ),
+    // Paths have something in common as they stand without the root.
+    (
+        UNDER_ROOT,
+        &["~"],
+        r#"{"mappings":"AAAA","names":[],"sources":["/r/x.js"],"version":3}"#,
+    ),
+    (
+        UNDER_ROOT,
+        &["/r"],
+        r#"{"mappings":"AAAA","names":[],"sources":["x.js"],"version":3}"#,
+    ),
+    // A tilde asks for what the paths have in common, and is no prefix itself.
+    (
+        r#"{"mappings":"AAAA","sources":["~/x.js"]}"#,
+        &["~"],
+        r#"{"mappings":"AAAA","names":[],"sources":["~/x.js"],"version":3}"#,
+    ),
+];
+
+#[test]
+fn prefixes_are_cut(rt: HostRuntime) {
+    for (text, prefixes, want) in CUT.iter() {
+        let options = RewriteOptions {
+            strip_prefixes: prefixes,
+            ..RewriteOptions::default()
+        };
+        check(&rt, text, rewritten(&rt, rt.alloc(), text, &options), want);
+    }
+}
+
+const TWO_NAMES: &str =
+    r#"{"debug_id":"11111111-1111-1111-1111-111111111111","mappings":"ACAAA,CDAAC","names":["m","n"],"sources":["a.js","b.js"],"sourcesContent":["x","y"]}"#;
+
+// A map, whether names and contents are kept, and what it is written as.
+const LESS: [(&str, (bool, bool), &str); 4] = [
+    (
+        r#"{"debugId":"00000000-0000-0000-0000-000000000000","mappings":"AAAA,GAAIA,GAAI,EACR,IAAIA,GAAK,EAAG,CACVC,MAAM","names":["x","alert"],"sources":["coolstuff.js"]}"#,
+        (false, false),
+        r#"{"debugId":"00000000-0000-0000-0000-000000000000","mappings":"AAAA,GAAI,GAAI,EACR,IAAI,GAAK,EAAG,CACV,MAAM","names":[],"sources":["coolstuff.js"],"version":3}"#,
+    ),
+    (
+        TWO_SOURCES,
+        (false, false),
+        r#"{"mappings":"AAAA","names":[],"sources":["b.js"],"version":3}"#,
+    ),
+    (
+        TWO_NAMES,
+        (false, true),
+        r#"{"debugId":"11111111-1111-1111-1111-111111111111","mappings":"AAAA,CCAA","names":[],"sources":["b.js","a.js"],"sourcesContent":["y","x"],"version":3}"#,
+    ),
+    (
+        TWO_NAMES,
+        (true, false),
+        r#"{"debugId":"11111111-1111-1111-1111-111111111111","mappings":"AAAAA,CCAAC","names":["m","n"],"sources":["b.js","a.js"],"version":3}"#,
+    ),
+];
+
+#[test]
+fn names_and_contents_are_left_out(rt: HostRuntime) {
+    for (text, (with_names, with_source_contents), want) in LESS.iter() {
+        let options = RewriteOptions {
+            with_names: *with_names,
+            with_source_contents: *with_source_contents,
+            ..RewriteOptions::default()
+        };
+        check(&rt, text, rewritten(&rt, rt.alloc(), text, &options), want);
+    }
+}
+
+#[test]
+fn files_are_not_read(rt: HostRuntime) {
+    let options = RewriteOptions {
+        load_local_source_contents: true,
+        ..RewriteOptions::default()
+    };
+    let want = "encountered incompatible sourcemap format";
+    check(&rt, want, rewritten(&rt, rt.alloc(), PATHS, &options), want);
+}

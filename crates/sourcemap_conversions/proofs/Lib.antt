@@ -1,0 +1,2 @@
+pub mod FromRecordLemmas
+pub mod ToRecordLemmas

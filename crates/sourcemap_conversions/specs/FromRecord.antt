@@ -1,0 +1,74 @@
+-- The parts of a map that a record stands for, read as a regular map.
+use Rattle.std.specs.Prelude.{◌≡◌, ℕ, ◌≤◌, ◌⊎◌, List, [], length, map, fold, codes, Option, option_map, unwrap_or, Result, Ok, Err}
+use Rattle.std.specs.Ordering.{nat_cmp}
+use Rattle.std.specs.BTreeSet.{insert_key}
+use Rattle.std.specs.Fmt.{decimal, signed_decimal}
+use Rattle.serde_json.specs.Data.{Data, number, string, Num, unsigned, negative, float}
+use Rattle.sourcemap_lists.specs.declared.tokens.RawToken.{RawToken}
+use Rattle.sourcemap_errors.specs.declared.errors.Error.{Error}
+use Rattle.sourcemap_errors.specs.declared.errors.Error.TheVariants.{IncompatibleSourceMap}
+use Rattle.sourcemap_mappings.specs.Read.{MappingsAnswer}
+use Rattle.sourcemap_records.specs.Jsontypes.{Fields}
+use Rattle.sourcemap_conversions.specs.Parts.{PartsValue}
+
+-- a missing list is empty
+abbrev pub listed : {X : Type 0} → Option (List X) → List X
+listed xs = unwrap_or xs []
+
+-- a number as a name: whole ones by their digits
+abbrev pub number_read : Num → List ℕ
+number_read (unsigned n) = decimal n
+number_read (negative z) = signed_decimal z
+number_read (float _) = []
+
+-- a value as a name: texts and whole numbers, all else is the empty text
+abbrev pub name_read : Data → List ℕ
+name_read (number n) = number_read n
+name_read (string s) = s
+name_read _ = []
+
+-- a value as the name of a file
+abbrev pub file_read : Data → List ℕ
+file_read (string s) = s
+file_read _ = codes "<invalid>"
+
+-- a source that is null is the empty text
+abbrev pub source_read : Option (List ℕ) → List ℕ
+source_read source = unwrap_or source []
+
+-- ids in rising order, each once
+abbrev pub rising : List ℕ → List ℕ
+rising ids = fold (insert_key nat_cmp) [] ids
+
+-- no list is longer than ids go
+pub record HasRoom (r : Fields) : Type 0 where
+  pub sources : length (listed r.sources) ≤ 4294967295
+  pub names : length (listed r.names) ≤ 4294967295
+  pub contents : length (listed r.sources_content) ≤ 4294967295
+
+-- what the mappings of a record stand for
+abbrev pub TokensAnswer : Fields → Result (List RawToken) Error → Type 0
+TokensAnswer r answer = MappingsAnswer (listed r.mappings) (listed r.range_mappings)
+    (record { sources = length (listed r.sources); names = length (listed r.names) }) answer
+
+-- the parts of a record whose mappings stand for these tokens
+abbrev pub parts_of : Fields → List RawToken → PartsValue
+parts_of r tokens = record {
+  heading = record {
+    file = option_map file_read r.file;
+    ignored = rising (listed r.ignore_list);
+    debug_id = r.debug_id;
+  };
+  tokens = tokens;
+  names = map name_read (listed r.names);
+  sources = record {
+    root = r.source_root;
+    texts = map source_read (listed r.sources);
+  };
+  contents = listed r.sources_content;
+}
+
+-- what a record is read as: a list too long comes first, then the first fault of the mappings
+abbrev pub PartsAnswer : Fields → Result PartsValue Error → Type 0
+PartsAnswer r (Ok p) = HasRoom r × TokensAnswer r (Ok p.tokens) × (p ≡ parts_of r p.tokens)
+PartsAnswer r (Err e) = ((¬ HasRoom r) × (e ≡ IncompatibleSourceMap)) ⊎ (HasRoom r × TokensAnswer r (Err e))

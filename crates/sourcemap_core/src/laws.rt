@@ -1,0 +1,8 @@
+//! Laws: what follows from the definitions that contracts cite. A proof has one at hand where its
+//! function calls it; the call does nothing when it runs.
+
+pub use sourcemap_digits::bits::bits_are_determined;
+pub use sourcemap_digits::vlq::segments_are_determined;
+pub use sourcemap_lists::tokens::{one_stable_order, reduced_answers_alike};
+pub use sourcemap_mappings::read::mappings_determine_one_answer;
+pub use sourcemap_mappings::write::written_texts_are_determined;

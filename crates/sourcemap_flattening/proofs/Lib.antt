@@ -1,0 +1,5 @@
+mod TableLemmas
+mod EntriesLemmas
+mod MovingLemmas
+mod GatheringLemmas
+mod FlatLemmas

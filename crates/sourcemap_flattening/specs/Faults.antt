@@ -1,0 +1,18 @@
+-- Refusals to make maps one, by their text.
+use Rattle.std.specs.Prelude.{◌≡◌, ℕ, List, Bool, true, string_bytes}
+use Rattle.sourcemap_errors.specs.Answer.{UnlessMemory}
+use Rattle.sourcemap_errors.specs.declared.errors.Error.{Error}
+use Rattle.sourcemap_errors.specs.declared.errors.Error.TheVariants.{CannotFlatten}
+
+-- the error gives this reason
+abbrev pub Says : List ℕ → Error → Type 0
+Says reason (CannotFlatten text) = string_bytes text ≡ reason
+Says reason _ = ⊥
+
+-- it does, or memory ran out
+abbrev pub Refuses : List ℕ → Error → Type 0
+Refuses reason e = UnlessMemory e (Says reason e)
+
+-- it does, and the reason holds, or memory ran out
+abbrev pub RefusesBy : Bool → List ℕ → Error → Type 0
+RefusesBy holds reason e = UnlessMemory e ((holds ≡ true) × Says reason e)

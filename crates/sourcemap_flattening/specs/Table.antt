@@ -1,0 +1,64 @@
+-- Texts that are entered with contents, and what a table of them holds.
+use Rattle.std.specs.Prelude.{◌≡◌, ◌≤◌, ℕ, Bool, ◌&&◌, cond, nat_lt, List, [], ◌∷◌, ◌++◌, length, map, slice_set, Option, Some, is_some, option_and_then}
+use Rattle.std.specs.Option.{option_copied}
+use Rattle.std.specs.Str.{bytes_eq}
+use Rattle.sourcemap_lists.specs.Interner.{place_of}
+use Rattle.sourcemap_lists.specs.Search.{find_last}
+use Rattle.sourcemap_rewriting.specs.Kept.{kept_once, number_in}
+use Rattle.sourcemap_rewriting.specs.Numbering.{IsIndex}
+use Rattle.sourcemap_flattening.specs.declared.table.Entry.{Entry}
+use Rattle.sourcemap_flattening.specs.declared.table.Table.{Table}
+
+-- a text, and contents for it where there are some
+abbrev pub TextEntry : Type 0
+TextEntry = List ℕ × Option (List ℕ)
+
+abbrev pub entry_value : Entry → TextEntry
+entry_value e = (e.text.now, option_copied e.contents)
+
+abbrev pub entry_values : List Entry → List TextEntry
+entry_values entries = map entry_value entries
+
+-- the texts of what was entered, each once
+abbrev pub texts_entered : List TextEntry → List (List ℕ)
+texts_entered entered = kept_once (map (λ e. e.0) entered)
+
+-- the contents that were given last for a text
+abbrev pub contents_entered : List TextEntry → List ℕ → Option (List ℕ)
+contents_entered entered text =
+    option_and_then (λ e. e.1) (find_last (λ e. bytes_eq e.0 text && is_some e.1) entered)
+
+-- each text once, with the contents that were given last for it
+abbrev pub entries_kept : List TextEntry → List TextEntry
+entries_kept entered = map (λ text. (text, contents_entered entered text)) (texts_entered entered)
+
+-- the numbers of these texts among all that were entered
+abbrev pub numbers_among : List TextEntry → List TextEntry → List ℕ
+numbers_among entered entries = map (λ e. number_in (texts_entered entered) (Some e.0)) entries
+
+-- more than have an id
+abbrev pub are_too_many : List (List ℕ) → Bool
+are_too_many texts = nat_lt 4294967295 (length texts)
+
+-- the table of what was entered
+pub record IsTable (entered : List TextEntry) (t : Table) : Type 0 where
+  pub index : IsIndex (texts_entered entered) t.ids
+  pub kept : entry_values t.entries.items ≡ entries_kept entered
+  pub few : length (texts_entered entered) ≤ 4294967295
+
+-- and the number of the text that was entered last
+pub record IsEntered (entered : List TextEntry) (text : List ℕ) (number : ℕ) (t : Table) : Type 0 where
+  pub table : IsTable entered t
+  pub place : place_of text (texts_entered entered) ≡ Some number
+
+-- and the numbers of these
+pub record AreEntered (entered entries : List TextEntry) (numbers : List ℕ) (t : Table) : Type 0 where
+  pub table : IsTable entered t
+  pub each : numbers ≡ numbers_among entered entries
+
+-- an entry put to its number: behind the others, or in place of contents that were given before
+abbrev pub put_at : ℕ → TextEntry → List TextEntry → List TextEntry
+put_at number e entries =
+    cond (nat_lt number (length entries))
+    (cond (is_some e.1) (slice_set entries number e) entries)
+    (entries ++ e ∷ [])

@@ -1,0 +1,158 @@
+//! Maps that are put beside one another, each from its offset on, and made one.
+ghost use Rattle.std.specs.Prelude.{◌≡◌, ◌≤◌, ℕ, List, Option, Ok, [], IfErr, IfOk, OnOk, IsOkUnless, length, map, option_map, string_bytes};
+ghost use Rattle.std.specs.Option.{option_copied};
+ghost use Rattle.sourcemap_errors.specs.Answer.{Gives};
+ghost use Rattle.sourcemap_errors.specs.declared.errors.Error.TheVariants.{OutOfMemory};
+ghost use Rattle.sourcemap_texts.specs.Texts.{texts_of, contents_in};
+ghost use Rattle.sourcemap_regular.specs.Map.{MapValue};
+ghost use Rattle.sourcemap_regular.specs.Lists.{AreListsOf};
+ghost use Rattle.sourcemap_trees.specs.Flat.{Piece, merged};
+ghost use Rattle.sourcemap_flattening.specs.Gathering.{Gathers, GathersMore, HasFewTexts, IsFlat, IsPartOf, RefusesPiece};
+
+use crate::entries::{contents_of, names_of, sources_of, texts_of};
+use crate::moving::{Move, move_all, pass_over};
+use crate::table::{Entry, Table};
+use sourcemap_errors::errors::Result;
+use sourcemap_lists::token_list::TokenList;
+use sourcemap_lists::tokens::RawToken;
+use sourcemap_parts::contents::Contents;
+use sourcemap_parts::heading::Heading;
+use sourcemap_parts::sources::Sources;
+use sourcemap_regular::lists::MapLists;
+use sourcemap_regular::map::SourceMap;
+use sourcemap_texts::copies::owned;
+use std::alloc::Global;
+use std::collections::BTreeSet;
+
+// The lists of a map that is added.
+#[derive(Clone, Copy)]
+pub(crate) struct Part<'b, 'a> {
+    pub(crate) tokens: &'b [RawToken],
+    pub(crate) ignored: &'b BTreeSet<u32>,
+    pub(crate) sources: &'b [Entry<'a>],
+    pub(crate) names: &'b [Entry<'a>],
+}
+
+/// What was gathered of maps so far. Texts are borrowed from them.
+#[derive(Drop)]
+pub struct Gathering<'a> {
+    sources: Table<'a>,
+    names: Table<'a>,
+    tokens: Vec<RawToken>,
+    ignored: BTreeSet<u32>,
+}
+
+/// A map that was made of others, but for the name of its file. Texts are borrowed from those.
+#[derive(Drop)]
+pub struct FlatMap<'a> {
+    tokens: TokenList,
+    ignored: BTreeSet<u32>,
+    sources: Vec<Entry<'a>>,
+    names: Vec<Entry<'a>>,
+}
+
+impl<'a> Gathering<'a> {
+    /// Nothing yet. It takes no memory.
+    pub fn new(alloc: Global) -> Self
+        ensures { Gathers [] result }
+    {
+        Gathering {
+            sources: Table::new(alloc),
+            names: Table::new(alloc),
+            tokens: Vec::new(alloc),
+            ignored: BTreeSet::new(alloc),
+        }
+    }
+
+    /// Puts the map of these lists beside the others, from this line and column on; on its first
+    /// line alone columns move. `CannotFlatten` if there are more than 4294967295 sources or names
+    /// then, or else if a token would pass the last line or column, 4294967295. Else only want of
+    /// memory refuses.
+    pub fn add(&mut self, alloc: Global, line: u32, col: u32, map: &MapLists<'a>) -> Result<()>
+        ensures ok { (before : List Piece) (m : MapValue) → Gathers before self.old
+            → AreListsOf m map.now → OnOk result (GathersMore before ((line, col), m) self.new) }
+        ensures refused { (before : List Piece) (m : MapValue) → Gathers before self.old
+            → AreListsOf m map.now → IfErr result (RefusesPiece before ((line, col), m)) }
+    {
+        let sources = sources_of(alloc, map.sources, map.contents)?;
+        let names = names_of(alloc, map.names)?;
+        let part = Part {
+            tokens: map.tokens,
+            ignored: map.ignored,
+            sources: sources.as_slice(),
+            names: names.as_slice(),
+        };
+        self.add_part(alloc, line, col, part)
+    }
+
+    /// The same of a map that was made of others.
+    pub fn add_flat(&mut self, alloc: Global, line: u32, col: u32, map: &FlatMap<'a>) -> Result<()>
+        ensures ok { (before inner : List Piece) (file : Option (List ℕ)) → Gathers before self.old
+            → IsFlat inner map.now
+            → OnOk result (GathersMore before ((line, col), merged file inner) self.new) }
+        ensures refused { (before inner : List Piece) (file : Option (List ℕ)) → Gathers before self.old
+            → IsFlat inner map.now
+            → IfErr result (RefusesPiece before ((line, col), merged file inner)) }
+    {
+        let part = Part {
+            tokens: map.tokens.as_slice(),
+            ignored: &map.ignored,
+            sources: map.sources.as_slice(),
+            names: map.names.as_slice(),
+        };
+        self.add_part(alloc, line, col, part)
+    }
+
+    fn add_part(&mut self, alloc: Global, line: u32, col: u32, part: Part<'_, 'a>) -> Result<()>
+        ensures ok { (before : List Piece) (m : MapValue) → Gathers before self.old
+            → IsPartOf m part.entry → OnOk result (GathersMore before ((line, col), m) self.new) }
+        ensures refused { (before : List Piece) (m : MapValue) → Gathers before self.old
+            → IsPartOf m part.entry → IfErr result (RefusesPiece before ((line, col), m)) }
+    {
+        let sources = self.sources.enter_all(alloc, part.sources)?;
+        let names = self.names.enter_all(alloc, part.names)?;
+        let to = Move {
+            line,
+            col,
+            sources: sources.as_slice(),
+            names: names.as_slice(),
+        };
+        move_all(alloc, &mut self.tokens, part.tokens, to)?;
+        pass_over(&mut self.ignored, part.tokens, part.ignored, to.sources)?;
+        Ok(())
+    }
+
+    /// The map of what was gathered, its tokens sorted stably by their place. Only want of memory
+    /// refuses.
+    pub fn finish(self) -> Result<FlatMap<'a>>
+        ensures ok { (pieces : List Piece) → Gathers pieces self.entry → IfOk result (IsFlat pieces) }
+        ensures memory { IsOkUnless result OutOfMemory }
+    {
+        let tokens = TokenList::sorted(self.tokens)?;
+        Ok(FlatMap {
+            tokens,
+            ignored: self.ignored,
+            sources: self.sources.into_entries(),
+            names: self.names.into_entries(),
+        })
+    }
+}
+
+impl FlatMap<'_> {
+    /// The map with copies of its texts, under the name of its file. It has no root and no debug id.
+    /// Only want of memory refuses.
+    pub fn into_map(self, alloc: Global, file: Option<&str>) -> Result<SourceMap>
+        requires { HasFewTexts self }
+        ensures { (pieces : List Piece) → IsFlat pieces self.entry
+            → Gives (λ m. m) result (Ok (merged (option_copied file.entry) pieces)) }
+    {
+        let file = owned(alloc, file)?;
+        let names = texts_of(alloc, self.names.as_slice())?;
+        let sources = texts_of(alloc, self.sources.as_slice())?;
+        let contents = contents_of(alloc, self.sources.as_slice())?;
+        let heading = Heading::with(file, self.ignored, None);
+        let sources = Sources::new(sources);
+        let contents = Contents::of_list(contents);
+        Ok(SourceMap::of_parts(heading, self.tokens, names, sources, contents))
+    }
+}

@@ -1,0 +1,182 @@
+-- Sections are decoded one by one.
+use Rattle.std.proofs.Common.{◌≡◌, refl, sym, ap, subst, ◌∙◌, ℕ, ◌+◌, ◌≤◌, arith, List, [], ◌∷◌, ◌++◌, map, length, Option, Some, None, Bool, true, false, nat_lt, Result, Ok, Err, IfOk, MatchOption, option_map, ◌<◌, Vec, Global, inl, inr}
+use Rattle.std.proofs.lemmas.Bool.Decides.{nat_tests}
+use Rattle.std.specs.Bool.{MatchBool}
+use Rattle.std.proofs.lemmas.List.{append_assoc}
+use Rattle.sourcemap_errors.specs.declared.errors.Error.{Error}
+use Rattle.sourcemap_errors.specs.declared.errors.Error.TheVariants.{IncompatibleSourceMap}
+use Rattle.sourcemap_errors.specs.Answer.{UnlessMemory, Gives, IsAnswer}
+use Rattle.sourcemap_errors.proofs.AnswerLemmas.{UnlessMemory-weaker}
+use Rattle.sourcemap_records.specs.Jsontypes.{Fields, Place, Tree, plain, indexed, Section, Sections, no_more, bare, mapped, section_with, section, sections_from, tree, tree_with, fields_view}
+use Rattle.sourcemap_records.specs.declared.jsontypes.RawSection.{RawSection}
+use Rattle.sourcemap_records.specs.declared.jsontypes.RawSourceMap.{RawSourceMap, out-RawSourceMap, roll-RawSourceMap}
+use Rattle.sourcemap_records.proofs.JsontypesLemmas.{tree-out, tree-roll}
+use Rattle.sourcemap_regular.specs.Decode.{RegularDecodes}
+use Rattle.sourcemap_regular.specs.Map.{MapValue}
+use Rattle.sourcemap_trees.specs.MapTree.{MapTree, regular, MapSection, IndexValue, index_tree}
+use Rattle.sourcemap_trees.specs.Decode.{Then, TreeDecodes, SectionsDecode, count, by_offset, index_parts}
+use Rattle.sourcemap_trees.specs.WellFormed.{IsWellFormed}
+use Rattle.sourcemap_trees.proofs.WellFormedLemmas.{decoded_well}
+use Rattle.sourcemap_index.specs.Family.{index_value, map_tree}
+use Rattle.sourcemap_index.specs.declared.family.DecodedMap.{DecodedMap}
+use Rattle.sourcemap_index.specs.declared.family.SourceMapIndex.{SourceMapIndex}
+use Rattle.sourcemap_index.specs.Decode.{SectionDecodes, PartsDecode, index_in, index_with}
+
+-- ---- how far a record goes down
+
+abbrev mutual
+  pub sections_below : Tree → ℕ
+  sections_below (plain fields) = 0
+  sections_below (indexed fields ss) = 1 + sections_among ss
+
+  pub sections_among : Sections → ℕ
+  sections_among no_more = 0
+  sections_among (bare place rest) = 1 + sections_among rest
+  sections_among (mapped place t rest) = 1 + sections_below t + sections_among rest
+
+abbrev pub sections_at : Option Tree → ℕ
+sections_at None = 0
+sections_at (Some t) = sections_below t
+
+pub among_with : (s : Section) (rest : Sections) → sections_among (section_with s.place s.map rest) ≡ 1 + sections_at s.map + sections_among rest
+among_with s rest = by_case s.map
+  where
+    by_case : (m : Option Tree) → sections_among (section_with s.place m rest) ≡ 1 + sections_at m + sections_among rest
+    by_case None = refl
+    by_case (Some t) = refl
+
+pub count-from : (ss : List Section) → count (sections_from ss) ≡ length ss
+count-from [] = refl
+count-from (s ∷ ss) = let rest = count-from ss in by_case s.map ∙ omega (arith, rest)
+  where
+    by_case : (m : Option Tree) → count (section_with s.place m (sections_from ss)) ≡ 1 + count (sections_from ss)
+    by_case None = refl
+    by_case (Some t) = refl
+
+-- ---- answers
+
+-- the answer of sections that stand behind these
+abbrev pub behind : List MapSection → Result (List MapSection) Error → Result (List MapSection) Error
+behind done (Ok ss) = Ok (done ++ ss)
+behind done (Err e) = Err e
+
+-- a section that is decoded stands before those that come after it
+pub one_more : (s : Section) (rest : Sections) (v : MapSection) (a : Result (List MapSection) Error) → SectionDecodes s (Ok v) → SectionsDecode rest a
+    → SectionsDecode (section_with s.place s.map rest) (behind (v ∷ []) a)
+one_more s rest v a = by_case s.map a
+  where
+    by_case : (m : Option Tree) (a : Result (List MapSection) Error) → SectionDecodes (record { place = s.place; map = m }) (Ok v) → SectionsDecode rest a
+        → SectionsDecode (section_with s.place m rest) (behind (v ∷ []) a)
+    by_case None (Ok ss) h k = inl (ss, k, (let same : v ≡ record { place = s.place; map = None } = cc in ap (λ v. Ok (v ∷ ss)) same))
+    by_case None (Err e) h k = inr k
+    by_case (Some t) (Ok ss) (inl (m, f, n)) k = inl (m, f, inl (ss, k, (let same : v ≡ record { place = s.place; map = Some m } = cc in ap (λ v. Ok (v ∷ ss)) same)))
+    by_case (Some t) (Err e) (inl (m, f, n)) k = inl (m, f, inr k)
+    by_case (Some t) a (inr h) k = absurd h
+
+-- a section that is refused is the first fault
+pub one_refused : (s : Section) (rest : Sections) (e : Error) → SectionDecodes s (Err e) → SectionsDecode (section_with s.place s.map rest) (Err e)
+one_refused s rest e = by_case s.map
+  where
+    by_case : (m : Option Tree) → SectionDecodes (record { place = s.place; map = m }) (Err e) → SectionsDecode (section_with s.place m rest) (Err e)
+    by_case None h = cc
+    by_case (Some t) (inl (m, f, n)) = cc
+    by_case (Some t) (inr h) = inr h
+
+pub behind-more : (done : List MapSection) (v : MapSection) (a : Result (List MapSection) Error) → behind done (behind (v ∷ []) a) ≡ behind (done ++ v ∷ []) a
+behind-more done v (Ok ss) = ap Ok (sym (append_assoc done (v ∷ []) ss))
+behind-more done v (Err e) = refl
+
+-- ---- the kinds
+
+pub regular_decodes : (fields : Fields) (m : MapValue) → RegularDecodes (plain fields) (Ok m) → TreeDecodes (plain fields) (Ok (regular m))
+regular_decodes fields m h = inl (m, h, refl)
+
+pub regular_refused : (fields : Fields) (e : Error) → UnlessMemory e (RegularDecodes (plain fields) (Err e)) → UnlessMemory e (TreeDecodes (plain fields) (Err e))
+regular_refused fields e h = UnlessMemory-weaker e (λ h. inr h) h
+
+pub index_decodes : (fields : Fields) (ss : Sections) (v : IndexValue) → PartsDecode fields ss (Ok v) → TreeDecodes (indexed fields ss) (Ok (index_tree v))
+index_decodes fields ss v = by_case (nat_lt 4294967295 (count ss))
+  where
+    by_case : (b : Bool) → MatchBool b (◌≡◌ {A = Result IndexValue Error} (Ok v) (Err IncompatibleSourceMap)) (Then (λ a. SectionsDecode ss a) (λ ss a. a ≡ Ok (index_in fields ss)) (Ok v))
+        → MatchBool b (◌≡◌ {A = Result MapTree Error} (Ok (index_tree v)) (Err IncompatibleSourceMap)) (Then (λ a. SectionsDecode ss a) (λ ss a. a ≡ Ok (index_tree (index_in fields ss))) (Ok (index_tree v)))
+    by_case true h = cc
+    by_case false (inl (xs, f, n)) = inl (xs, f, (let same : v ≡ index_in fields xs = cc in ap (λ v. Ok (index_tree v)) same))
+    by_case false (inr h) = absurd h
+
+pub index_refused : (fields : Fields) (ss : Sections) (e : Error) → UnlessMemory e (PartsDecode fields ss (Err e)) → UnlessMemory e (TreeDecodes (indexed fields ss) (Err e))
+index_refused fields ss e h = UnlessMemory-weaker e (by_case (nat_lt 4294967295 (count ss))) h
+  where
+    by_case : (b : Bool) → MatchBool b (◌≡◌ {A = Result IndexValue Error} (Err e) (Err IncompatibleSourceMap)) (Then (λ a. SectionsDecode ss a) (λ ss a. a ≡ Ok (index_in fields ss)) (Err e))
+        → MatchBool b (◌≡◌ {A = Result MapTree Error} (Err e) (Err IncompatibleSourceMap)) (Then (λ a. SectionsDecode ss a) (λ ss a. a ≡ Ok (index_tree (index_in fields ss))) (Err e))
+    by_case true h = let same : e ≡ IncompatibleSourceMap = cc in ap Err same
+    by_case false (inl (xs, f, n)) = cc
+    by_case false (inr h) = inr h
+
+-- ---- want of memory
+
+never_refused : {X Y : Type 0} (x : X) (y : Y) (e : Error) → ◌≡◌ {A = Result X Error} (Ok x) (Err e) → ◌≡◌ {A = Result Y Error} (Ok y) (Err e)
+never_refused x y e h = cc
+
+-- what only memory refuses, only memory refuses seen as something else
+pub still_due : {X Y : Type 0} (x : X) (y : Y) (e : Error) → UnlessMemory e (◌≡◌ {A = Result X Error} (Ok x) (Err e)) → UnlessMemory e (◌≡◌ {A = Result Y Error} (Ok y) (Err e))
+still_due x y e h = UnlessMemory-weaker e (never_refused x y e) h
+
+-- ---- the steps of the decoder
+
+short : (ss : List Section) → length ss ≤ 4294967295 → nat_lt 4294967295 (count (sections_from ss)) ≡ false
+short ss few = rw (count-from ss) (grind (arith, nat_tests))
+
+long : (ss : List Section) → 4294967295 < length ss → nat_lt 4294967295 (count (sections_from ss)) ≡ true
+long ss many = rw (count-from ss) (grind (arith, nat_tests))
+
+pub too_many : (fields : Fields) (ss : List Section) → 4294967295 < length ss → PartsDecode fields (sections_from ss) (Err IncompatibleSourceMap)
+too_many fields ss many =
+    subst (λ b. MatchBool b (◌≡◌ {A = Result IndexValue Error} (Err IncompatibleSourceMap) (Err IncompatibleSourceMap)) (Then (λ a. SectionsDecode (sections_from ss) a) (λ ss a. a ≡ Ok (index_in fields ss)) (Err IncompatibleSourceMap)))
+    (sym (long ss many)) refl
+
+pub parts_refused : (fields : Fields) (ss : List Section) (e : Error) → length ss ≤ 4294967295 → UnlessMemory e (SectionsDecode (sections_from ss) (Err e))
+    → UnlessMemory e (PartsDecode fields (sections_from ss) (Err e))
+parts_refused fields ss e few h = UnlessMemory-weaker e (λ h.
+    subst (λ b. MatchBool b (◌≡◌ {A = Result IndexValue Error} (Err e) (Err IncompatibleSourceMap)) (Then (λ a. SectionsDecode (sections_from ss) a) (λ ss a. a ≡ Ok (index_in fields ss)) (Err e)))
+    (sym (short ss few)) (inr h)) h
+
+parts_made : (fields : Fields) (ss : List Section) (decoded : List MapSection) (v : IndexValue) → length ss ≤ 4294967295 → SectionsDecode (sections_from ss) (Ok decoded)
+    → v ≡ index_in fields decoded → PartsDecode fields (sections_from ss) (Ok v)
+parts_made fields ss decoded v few h is =
+    subst (λ b. MatchBool b (◌≡◌ {A = Result IndexValue Error} (Ok v) (Err IncompatibleSourceMap)) (Then (λ a. SectionsDecode (sections_from ss) a) (λ ss a. a ≡ Ok (index_in fields ss)) (Ok v)))
+    (sym (short ss few)) (inl (decoded, h, ap Ok is))
+
+pub parts_decoded : (fields : Fields) (ss : List Section) (decoded sorted : List MapSection) (r : Result SourceMapIndex Error) → length ss ≤ 4294967295
+    → SectionsDecode (sections_from ss) (Ok decoded) → sorted ≡ by_offset decoded → Gives index_value r (Ok (index_with (index_parts fields) sorted))
+    → IsAnswer index_value (PartsDecode fields (sections_from ss)) r
+parts_decoded fields ss decoded sorted (Ok i) few h up made =
+    let same : index_with (index_parts fields) sorted ≡ index_value i = cc in
+    parts_made fields ss decoded (index_value i) few h (sym same ∙ ap (index_with (index_parts fields)) up)
+parts_decoded fields ss decoded sorted (Err e) few h up made =
+    UnlessMemory-weaker e (λ (h : ◌≡◌ {A = Result IndexValue Error} (Ok (index_with (index_parts fields) sorted)) (Err e)). cc) made
+
+-- a record that has no sections, before and after they are taken
+plain_tree : (r : RawSourceMap) → (out-RawSourceMap r).sections ≡ None → tree r ≡ plain (fields_view (out-RawSourceMap r))
+plain_tree r none = tree-out r ∙ ap (λ v. tree_with (fields_view (out-RawSourceMap r)) (option_map (λ v. sections_from (map section v.items)) v)) none
+
+taken_tree : (r : RawSourceMap) (left : Option (Vec RawSection Global)) → left ≡ None → tree (roll-RawSourceMap (record (out-RawSourceMap r) { sections = left })) ≡ plain (fields_view (out-RawSourceMap r))
+taken_tree r left none =
+    tree-roll (record (out-RawSourceMap r) { sections = left })
+    ∙ ap (λ v. tree_with (fields_view (out-RawSourceMap r)) (option_map (λ v. sections_from (map section v.items)) v)) none
+
+pub plain_decodes : (r : RawSourceMap) (left : Option (Vec RawSection Global)) (m : MapValue) → (out-RawSourceMap r).sections ≡ None → left ≡ None
+    → RegularDecodes (tree (roll-RawSourceMap (record (out-RawSourceMap r) { sections = left }))) (Ok m) → TreeDecodes (tree r) (Ok (regular m))
+plain_decodes r left m none gone h =
+    subst (λ t. TreeDecodes t (Ok (regular m))) (sym (plain_tree r none))
+    (regular_decodes (fields_view (out-RawSourceMap r)) m (subst (λ t. RegularDecodes t (Ok m)) (taken_tree r left gone) h))
+
+pub plain_refused : (r : RawSourceMap) (left : Option (Vec RawSection Global)) (e : Error) → (out-RawSourceMap r).sections ≡ None → left ≡ None
+    → UnlessMemory e (RegularDecodes (tree (roll-RawSourceMap (record (out-RawSourceMap r) { sections = left }))) (Err e)) → UnlessMemory e (TreeDecodes (tree r) (Err e))
+plain_refused r left e none gone h =
+    subst (λ t. UnlessMemory e (TreeDecodes t (Err e))) (sym (plain_tree r none))
+    (regular_refused (fields_view (out-RawSourceMap r)) e (subst (λ t. UnlessMemory e (RegularDecodes t (Err e))) (taken_tree r left gone) h))
+
+-- what is decoded is well-formed
+pub well_formed_answer : (t : Tree) (r : Result DecodedMap Error) → IsAnswer map_tree (TreeDecodes t) r → IfOk r (λ m. IsWellFormed (map_tree m))
+well_formed_answer t (Ok m) h = decoded_well t (map_tree m) h
+well_formed_answer t (Err e) h = tt

@@ -1,0 +1,9 @@
+pub mod EqualityLemmas
+pub mod DecodeIndexLemmas
+pub mod DecodeLemmas
+pub mod DecodedMapLemmas
+pub mod EncodeLemmas
+pub mod FamilyLemmas
+pub mod FlattenLemmas
+pub mod LookupLemmas
+pub mod RowsLemmas

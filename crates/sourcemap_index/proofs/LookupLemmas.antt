@@ -1,0 +1,134 @@
+-- What an index answers is what its closest section answers.
+use Rattle.std.proofs.Common.{◌≡◌, refl, sym, ap, subst, ◌∙◌, ℕ, ◌+◌, ◌<◌, ◌≤◌, arith, zero, suc, List, [], ◌∷◌, map, Option, Some, None, option_map, IfSome, slice_get, IsSortedByKey}
+use Rattle.std.specs.Prelude.{option_and_then}
+use Rattle.std.specs.List.{AllByRecursion}
+use Rattle.std.specs.declared.cmp.Ordering.{Ordering}
+use Rattle.std.proofs.lemmas.List.{get_or-map, length-map}
+use Rattle.sourcemap_lists.specs.Search.{closest, closest_item}
+use Rattle.sourcemap_lists.specs.Tokens.{position_cmp}
+use Rattle.sourcemap_lists.proofs.SearchLemmas.{closest_item-has, closest_item-change, item-closest}
+use Rattle.sourcemap_records.specs.Jsontypes.{Place}
+use Rattle.sourcemap_regular.specs.Map.{MapValue}
+use Rattle.sourcemap_regular.specs.Token.{TokenValue, answers, says, token_value}
+use Rattle.sourcemap_regular.specs.declared.token.Token.{Token}
+use Rattle.sourcemap_trees.specs.MapTree.{MapTree, regular, index, MapSections, no_sections, hollow, filled, MapSection, IndexValue, index_tree, offset_of, section_offset, section_list, section_with, sections_from, InEachSection}
+use Rattle.sourcemap_trees.specs.Meaning.{lowered, lookup, lookups, meaning, closest_answer}
+use Rattle.sourcemap_trees.specs.WellFormed.{IsInOrder, AreSectionsInOrder}
+use Rattle.sourcemap_trees.proofs.MapTreeLemmas.{InSection, section_list-from}
+use Rattle.sourcemap_index.specs.Lookup.{IsAmong}
+
+-- ---- how far a map goes down
+
+-- the indexes in a map, it itself among them
+abbrev mutual
+  pub indexes : MapTree → ℕ
+  indexes (regular m) = 0
+  indexes (index parts ss) = 1 + indexes_in ss
+
+  pub indexes_in : MapSections → ℕ
+  indexes_in no_sections = 0
+  indexes_in (hollow place rest) = indexes_in rest
+  indexes_in (filled place t rest) = indexes t + indexes_in rest
+
+indexes_with : (place : Place) (map : Option MapTree) (rest : MapSections) → indexes_in rest ≤ indexes_in (section_with place map rest)
+indexes_with place None rest = omega arith
+indexes_with place (Some t) rest = omega arith
+
+indexes_at : (ss : List MapSection) (k : ℕ) (s : MapSection) (t : MapTree) → slice_get ss k ≡ Some s → s.map ≡ Some t → indexes t ≤ indexes_in (sections_from ss)
+indexes_at [] k s t at is = cc
+indexes_at (s' ∷ ss) zero s t at is =
+    let same : s' ≡ s = cc in
+    subst (λ m. indexes t ≤ indexes_in (section_with s'.place m (sections_from ss))) (sym (ap (λ (s : MapSection). s.map) same ∙ is)) (omega arith)
+indexes_at (s' ∷ ss) (suc k) s t at is =
+    let less = indexes_at ss k s t at is in
+    let more = indexes_with s'.place s'.map (sections_from ss) in
+    omega (arith, less, more)
+
+-- the map of a section holds less than the index
+pub indexes_below : (v : IndexValue) (s : MapSection) (t : MapTree) → IsAmong v.sections s → s.map ≡ Some t → indexes t < indexes (index_tree v)
+indexes_below v s t (k, at) is = let less = indexes_at v.sections k s t at is in omega (arith, less)
+
+-- ---- what a section answers
+
+abbrev pub answer_of : Option MapTree → ℕ × ℕ → Option TokenValue
+answer_of None p = None
+answer_of (Some t) p = lookup t p
+
+abbrev entry : MapSection → (ℕ × ℕ) × (ℕ × ℕ → Option TokenValue)
+entry s = (section_offset s, λ p. answer_of s.map p)
+
+lookups-from : (ss : List MapSection) → lookups (sections_from ss) ≡ map entry ss
+lookups-from [] = refl
+lookups-from (s ∷ ss) = by_case s.map ∙ ap (λ rest. entry s ∷ rest) (lookups-from ss)
+  where
+    by_case : (m : Option MapTree) → lookups (section_with s.place m (sections_from ss)) ≡ (offset_of s.place, λ p. answer_of m p) ∷ lookups (sections_from ss)
+    by_case None = refl
+    by_case (Some t) = refl
+
+-- what the closest section answers
+abbrev pub found_answer : Option MapSection → ℕ × ℕ → Option TokenValue
+found_answer found p = option_and_then (λ s. answer_of s.map (lowered (section_offset s) p)) found
+
+lookup-index : (v : IndexValue) (p : ℕ × ℕ) → lookup (index_tree v) p ≡ found_answer (closest_item {K = ℕ × ℕ} section_offset position_cmp v.sections p) p
+lookup-index v p =
+    ap (λ xs. closest_answer xs p) (lookups-from v.sections)
+    ∙ ap (option_and_then (λ section. section.1 (lowered section.0 p))) (closest_item-change section_offset (λ e. e.0) position_cmp entry (λ s. refl) v.sections p)
+    ∙ by_case (closest_item {K = ℕ × ℕ} section_offset position_cmp v.sections p)
+  where
+    by_case : (found : Option MapSection) → option_and_then (λ section. section.1 (lowered section.0 p)) (option_map entry found) ≡ found_answer found p
+    by_case None = refl
+    by_case (Some s) = refl
+
+-- ---- what is in order
+
+each_in_order : (ss : List MapSection) → InEachSection (λ m. Unit {0}) AreSectionsInOrder (sections_from ss)
+    → AllByRecursion (InSection (λ m. Unit {0}) AreSectionsInOrder) ss
+each_in_order [] h = tt
+each_in_order (s ∷ ss) h = let both = by_case s.map h in (both.0, each_in_order ss both.1)
+  where
+    by_case : (m : Option MapTree) → InEachSection (λ m. Unit {0}) AreSectionsInOrder (section_with s.place m (sections_from ss))
+        → IfSome m (λ t. IsInOrder t) × InEachSection (λ m. Unit {0}) AreSectionsInOrder (sections_from ss)
+    by_case None h = (tt, h)
+    by_case (Some t) h = h
+
+-- an index answers what the closest section answers that was found
+pub index_answers : (v : IndexValue) (p : ℕ × ℕ) (found : Option MapSection) (answer : Option TokenValue)
+    → (IsSortedByKey {K = ℕ × ℕ} section_offset position_cmp v.sections → found ≡ closest_item {K = ℕ × ℕ} section_offset position_cmp v.sections p)
+    → (IfSome found (λ s. IfSome s.map IsInOrder) → answer ≡ found_answer found p)
+    → IsInOrder (index_tree v) → answer ≡ lookup (index_tree v) p
+index_answers v p found answer is due ordered =
+    let sorted = subst (λ ss. IsSortedByKey {K = ℕ × ℕ} section_offset position_cmp ss) (section_list-from v.sections) ordered.0 in
+    let same = is sorted in
+    let inner = closest_item-has section_offset position_cmp (InSection (λ m. Unit {0}) AreSectionsInOrder) v.sections p (each_in_order v.sections ordered.1) in
+    due (subst (λ found. IfSome found (λ s. IfSome s.map IsInOrder)) (sym same) inner)
+    ∙ ap (λ found. found_answer found p) same ∙ sym (lookup-index v p)
+
+-- ---- the section that a search found
+
+sorted_before : {X Y K : Type 0} (f : X → Y) (key : Y → K) (cmp : K → K → Ordering) (xs : List X) → IsSortedByKey key cmp (map f xs) → IsSortedByKey (λ x. key (f x)) cmp xs
+sorted_before f key cmp xs sorted k d l m =
+    let many = length-map xs f in
+    let up = sorted k (f d) (omega arith) (omega arith) in
+    rw (sym (get_or-map f xs (k + 1) d (f d) (omega arith)), sym (get_or-map f xs k d (f d) (omega arith))) up
+
+-- the closest item, seen by a function
+pub closest_seen : {X Y K : Type 0} (f : X → Y) (key : Y → K) (cmp : K → K → Ordering) (xs : List X) (p : K) (found : Option (ℕ × X))
+    → (IsSortedByKey (λ x. key (f x)) cmp xs → found ≡ closest (λ x. key (f x)) cmp xs p)
+    → IsSortedByKey key cmp (map f xs) → option_map (λ e. f e.1) found ≡ closest_item key cmp (map f xs) p
+closest_seen {X} f key cmp xs p found is sorted =
+    ap (option_map (λ e. f e.1)) (is (sorted_before f key cmp xs sorted))
+    ∙ both (closest (λ x. key (f x)) cmp xs p)
+    ∙ ap (option_map f) (item-closest (λ x. key (f x)) cmp xs p)
+    ∙ sym (closest_item-change (λ x. key (f x)) key cmp f (λ x. refl) xs p)
+  where
+    both : (o : Option (ℕ × X)) → option_map (λ e. f e.1) o ≡ option_map f (option_map (λ e. e.1) o)
+    both None = refl
+    both (Some e) = refl
+
+-- the token that was found means what the position does
+pub meaning_found : (t : MapTree) (p : ℕ × ℕ) (found : Option Token) → option_map token_value found ≡ lookup t p → option_map answers found ≡ meaning t p
+meaning_found t p found is = both found ∙ ap (option_map says) is
+  where
+    both : (found : Option Token) → option_map answers found ≡ option_map says (option_map token_value found)
+    both None = refl
+    both (Some token) = refl

@@ -1,0 +1,48 @@
+-- The closest section's map answers for the index.
+use Rattle.std.proofs.Common.{◌≡◌, ◌∙◌, sym, ap, subst, ℕ, arith, None, Some, Option, option_map, IfSome}
+use Rattle.sourcemap_regular.specs.Token.{token_value}
+use Rattle.sourcemap_trees.specs.MapTree.{MapTree, section_offset}
+use Rattle.sourcemap_trees.specs.Meaning.{lookup, lowered}
+use Rattle.sourcemap_trees.specs.WellFormed.{IsInOrder}
+use Rattle.sourcemap_index.specs.Family.{index_value, map_tree, section_value}
+use Rattle.sourcemap_index.proofs.FamilyLemmas.{section_map, section_at}
+use Rattle.sourcemap_index.proofs.LookupLemmas.{index_answers, indexes_below, answer_of}
+use Rattle.sourcemap_index.proofs.family.+lookup.Goals as goal
+
+pub SourceMapIndex::closest_token-returns-in_err-section :
+    goal.SourceMapIndex::closest_token-returns-in_err-section
+SourceMapIndex::closest_token-returns-in_err-section t c =
+    index_answers (index_value c.args.self.now) (c.args.line, c.args.col) None (option_map token_value c.from_residual.result)
+    c.in_err-section.ensures.closest (λ _. ap (option_map token_value) c.from_residual.ensures)
+
+pub SourceMapIndex::closest_token-closest_token-requires :
+    goal.SourceMapIndex::closest_token-closest_token-requires
+SourceMapIndex::closest_token-closest_token-requires t c =
+    let s = c.in_ok-section.section.now in
+    let is : (section_value s).map ≡ Some (map_tree c.deref.result.now) =
+    section_map s ∙ ap (option_map (λ b. map_tree b.value)) c.in-Some.is ∙ ap (λ m. Some (map_tree m)) (sym c.deref.ensures) in
+    let less = indexes_below (index_value c.args.self.now) (section_value s) (map_tree c.deref.result.now) c.in_ok-section.ensures.own is in
+    (omega (arith, less), tt)
+
+pub SourceMapIndex::closest_token-returns-in-Some :
+    goal.SourceMapIndex::closest_token-returns-in-Some
+SourceMapIndex::closest_token-returns-in-Some t c =
+    let s = c.in_ok-section.section.now in
+    let p : ℕ × ℕ = (c.args.line, c.args.col) in
+    let is : (section_value s).map ≡ Some (map_tree c.deref.result.now) =
+    section_map s ∙ ap (option_map (λ b. map_tree b.value)) c.in-Some.is ∙ ap (λ m. Some (map_tree m)) (sym c.deref.ensures) in
+    index_answers (index_value c.args.self.now) p (Some (section_value s)) (option_map token_value c.closest_token.result)
+    c.in_ok-section.ensures.closest
+    (λ inner.
+    c.closest_token.ensures (subst (λ m. IfSome m IsInOrder) is inner)
+    ∙ ap (lookup (map_tree c.deref.result.now)) (c.lowered-line.ensures ∙ ap (λ o. lowered o p) (sym (section_at s)))
+    ∙ ap (λ m. answer_of m (lowered (section_offset (section_value s)) p)) (sym is))
+
+pub SourceMapIndex::closest_token-returns-in-None :
+    goal.SourceMapIndex::closest_token-returns-in-None
+SourceMapIndex::closest_token-returns-in-None t c =
+    let s = c.in_ok-section.section.now in
+    let is : (section_value s).map ≡ None = section_map s ∙ ap (option_map (λ b. map_tree b.value)) c.in-None.is in
+    index_answers (index_value c.args.self.now) (c.args.line, c.args.col) (Some (section_value s)) None
+    c.in_ok-section.ensures.closest
+    (λ _. ap (λ m. answer_of m (lowered (section_offset (section_value s)) (c.args.line, c.args.col))) (sym is))

@@ -1,0 +1,24 @@
+-- What a map of any kind answers by its kind, and which values and texts it is written as.
+use Rattle.std.specs.Prelude.{◌≡◌, ℕ, List, Option}
+use Rattle.serde_json.specs.Data.{Data}
+use Rattle.serde_json.specs.Written.{compact_text}
+use Rattle.sourcemap_records.specs.Jsontypes.{Tree, written}
+use Rattle.sourcemap_trees.specs.Encode.{IsRecordOf}
+use Rattle.sourcemap_trees.specs.MapTree.{MapTree, regular, index}
+
+-- the identifier that ties a map to its file
+abbrev pub debug_id_of : MapTree → Option (List ℕ)
+debug_id_of (regular m) = m.debug_id
+debug_id_of (index parts ss) = parts.debug_id
+
+abbrev pub with_debug_id : MapTree → Option (List ℕ) → MapTree
+with_debug_id (regular m) id = regular (record m { debug_id = id })
+with_debug_id (index parts ss) id = index (record parts { debug_id = id }) ss
+
+-- a value that a map is written as
+abbrev pub IsValueOf : MapTree → Data → Type 0
+IsValueOf t d = (r : Tree) × IsRecordOf t r × (d ≡ written r)
+
+-- the compact text of a value that a map is written as
+abbrev pub IsTextOf : MapTree → List ℕ → Type 0
+IsTextOf t text = (d : Data) × IsValueOf t d × (text ≡ compact_text d)

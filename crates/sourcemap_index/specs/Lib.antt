@@ -1,0 +1,10 @@
+pub mod Decode
+pub mod DecodedMap
+pub mod Encode
+pub mod Equality
+pub mod Family
+pub mod Flatten
+pub mod Index
+pub mod Lookup
+pub mod Rows
+pub mod Section

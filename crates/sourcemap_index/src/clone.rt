@@ -1,0 +1,101 @@
+//! Copies of a map of any kind, of an index map and of a section.
+ghost use Rattle.std.specs.Prelude.{Ok, map, option_map, string_bytes};
+ghost use Rattle.sourcemap_errors.specs.Answer.{Gives};
+ghost use Rattle.sourcemap_index.specs.Family.{index_value, map_tree, section_value};
+
+use crate::family::{DecodedMap, SourceMapIndex, SourceMapSection};
+use sourcemap_errors::errors::Result;
+use sourcemap_parts::text_lists::{copy_text, copy_texts};
+use std::alloc::Global;
+
+// The same lines, where there is a list of them.
+fn copy_lines(alloc: Global, lines: &Option<Vec<Option<u32>>>) -> Result<Option<Vec<Option<u32>>>>
+    ensures { Gives (option_map (λ v. v.items)) result (Ok (option_map (λ v. v.items) lines.now)) }
+{
+    match lines {
+        None => Ok(None),
+        Some(lines) => {
+            let mut copies = Vec::with_capacity(alloc, lines.len())?;
+            copies.extend_from_slice(lines.as_slice())?;
+            Ok(Some(copies))
+        }
+    }
+}
+
+// The same paths, where there is a list of them.
+fn copy_paths(alloc: Global, paths: &Option<Vec<String>>) -> Result<Option<Vec<String>>>
+    ensures { Gives (option_map (λ v. map string_bytes v.items)) result
+        (Ok (option_map (λ v. map string_bytes v.items) paths.now)) }
+{
+    match paths {
+        None => Ok(None),
+        Some(paths) => Ok(Some(copy_texts(alloc, paths.as_slice())?)),
+    }
+}
+
+impl SourceMapSection {
+    /// A section equal to this one, its map with it. Only want of memory refuses.
+    #[cycle(clone)]
+    pub fn clone(&self) -> Result<Self>
+        ensures { Gives section_value result (Ok (section_value self.now)) }
+    {
+        let map = match &self.map {
+            Some(map) => Some(Box::new(self.alloc, (**map).clone()?)?),
+            None => None,
+        };
+        let url = copy_text(self.alloc, &self.url)?;
+        Ok(SourceMapSection {
+            offset: self.offset,
+            url,
+            map,
+            alloc: self.alloc,
+        })
+    }
+}
+
+// The same sections, in their order.
+#[cycle(clone)]
+fn copy_sections(alloc: Global, sections: &Vec<SourceMapSection>) -> Result<Vec<SourceMapSection>>
+    ensures { Gives (λ v. map section_value v.items) result
+        (Ok (map section_value sections.now.items)) }
+{
+    let mut copies = Vec::with_capacity(alloc, sections.len())?;
+    for section in sections {
+        copies.push(section.clone()?)?;
+    }
+    Ok(copies)
+}
+
+impl SourceMapIndex {
+    /// An index equal to this one, its sections and their maps with it. Only want of memory refuses.
+    #[cycle(clone)]
+    pub fn clone(&self) -> Result<Self>
+        ensures { Gives index_value result (Ok (index_value self.now)) }
+    {
+        let file = copy_text(self.alloc, &self.file)?;
+        let sections = copy_sections(self.alloc, &self.sections)?;
+        let x_facebook_offsets = copy_lines(self.alloc, &self.x_facebook_offsets)?;
+        let x_metro_module_paths = copy_paths(self.alloc, &self.x_metro_module_paths)?;
+        Ok(SourceMapIndex {
+            file,
+            debug_id: self.debug_id,
+            sections,
+            x_facebook_offsets,
+            x_metro_module_paths,
+            alloc: self.alloc,
+        })
+    }
+}
+
+impl DecodedMap {
+    /// A map equal to this one, of the same kind. Only want of memory refuses.
+    #[cycle(clone)]
+    pub fn clone(&self) -> Result<Self>
+        ensures { Gives map_tree result (Ok (map_tree self.now)) }
+    {
+        match self {
+            DecodedMap::Regular(map) => Ok(DecodedMap::Regular(map.clone()?)),
+            DecodedMap::Index(index) => Ok(DecodedMap::Index(index.clone()?)),
+        }
+    }
+}

@@ -1,0 +1,122 @@
+//! Which map of any kind records, JSON values, bytes and data URLs hold.
+ghost use Rattle.std.specs.Prelude.{◌≡◌, ℕ, List, IfOk, IfSome, Result};
+ghost use Rattle.serde_json.specs.Data.{Data};
+ghost use Rattle.serde_json.specs.View.{view};
+ghost use Rattle.sourcemap_errors.specs.Answer.{IsAnswer};
+ghost use Rattle.sourcemap_errors.specs.declared.errors.Error.{Error};
+ghost use Rattle.sourcemap_records.specs.Jsontypes.{tree};
+ghost use Rattle.sourcemap_trees.specs.MapTree.{MapTree};
+ghost use Rattle.sourcemap_trees.specs.WellFormed.{IsWellFormed};
+ghost use Rattle.sourcemap_trees.specs.Decode.{TreeDecodes};
+ghost use Rattle.sourcemap_index.specs.Family.{map_tree};
+ghost use Rattle.sourcemap_index.specs.Decode.{ValueDecodes, BytesDecode, UrlDecodes, AreSame, IsAnswerRead, Reading};
+
+use crate::decode_index::decode_map;
+use crate::family::DecodedMap;
+use serde_json::Value;
+use sourcemap_errors::errors::Result;
+use sourcemap_headers::data_url::data_url_bytes;
+use sourcemap_records::bytes::{read_all, read_record, read_record_owned};
+use sourcemap_records::jsontypes::RawSourceMap;
+use std::alloc::Global;
+use std::io::Read;
+
+// The map of a JSON value.
+pub(crate) fn decode_value(alloc: Global, value: &Value) -> Result<DecodedMap>
+    ensures answer { IsAnswer map_tree (ValueDecodes (view value.now)) result }
+    ensures well_formed { IfOk result (λ m. IsWellFormed (map_tree m)) }
+{
+    let raw = RawSourceMap::from_value(alloc, value)?;
+    decode_map(alloc, raw)
+}
+
+// The map of bytes.
+fn decode_bytes(alloc: Global, bytes: &[u8]) -> Result<DecodedMap>
+    ensures answer { IsAnswer map_tree (BytesDecode bytes.now) result }
+    ensures well_formed { IfOk result (λ m. IsWellFormed (map_tree m)) }
+{
+    let raw = read_record(alloc, bytes)?;
+    decode_map(alloc, raw)
+}
+
+// The map of bytes, which are let go once their JSON value is read.
+fn decode_owned(alloc: Global, bytes: Vec<u8>) -> Result<DecodedMap>
+    ensures answer { IsAnswer map_tree (BytesDecode bytes.items) result }
+    ensures well_formed { IfOk result (λ m. IsWellFormed (map_tree m)) }
+{
+    let raw = read_record_owned(alloc, bytes)?;
+    decode_map(alloc, raw)
+}
+
+/// The map that bytes hold, behind a junk header or behind none. A faulty header is `Io` of kind
+/// `InvalidData`, bytes that are not JSON behind it are `BadJson(Parse)`. JSON that is no record is
+/// `BadJson(Shape)`. Then come the faults of the record: those of `decode_regular` for a map without
+/// sections. For one with sections more than 4294967295 of them are `IncompatibleSourceMap` before
+/// anything in them is looked at, and then comes the first fault of their maps, in the order of the
+/// text. A map without sections, but with function names, is `IncompatibleSourceMap`.
+pub fn decode_slice(alloc: Global, bytes: &[u8]) -> Result<DecodedMap>
+    ensures answer { IsAnswer map_tree (BytesDecode bytes.now) result }
+    // No other answer is right.
+    ensures only { (due : Result MapTree Error) → BytesDecode bytes.now due
+        → IsAnswer map_tree (AreSame due) result }
+    ensures well_formed { IfOk result (λ m. IsWellFormed (map_tree m)) }
+{
+    decode_bytes(alloc, bytes)
+}
+
+/// The same map as by `decode_slice`, and the same faults. The bytes are let go as soon as their
+/// JSON value is read, before the map is made.
+pub fn decode_vec(alloc: Global, input: Vec<u8>) -> Result<DecodedMap>
+    ensures answer { IsAnswer map_tree (BytesDecode input.items) result }
+    // No other answer is right.
+    ensures only { (due : Result MapTree Error) → BytesDecode input.items due
+        → IsAnswer map_tree (AreSame due) result }
+    ensures well_formed { IfOk result (λ m. IsWellFormed (map_tree m)) }
+{
+    decode_owned(alloc, input)
+}
+
+/// The map that a reader's bytes hold, as by `decode_slice`. The reader is read to its end first,
+/// and a read's fault is `Io`.
+pub fn decode<R: Read + Drop>(alloc: Global, reader: R) -> Result<DecodedMap>
+    ensures answer { Reading (R.remaining reader)
+        (λ bytes. IsAnswerRead map_tree (BytesDecode bytes) result) }
+    ensures only { IfSome (R.remaining reader) (λ bytes. (due : Result MapTree Error)
+        → BytesDecode bytes due → IsAnswerRead map_tree (AreSame due) result) }
+    ensures well_formed { IfOk result (λ m. IsWellFormed (map_tree m)) }
+{
+    let bytes = read_all(alloc, reader)?;
+    decode_owned(alloc, bytes)
+}
+
+// The map of a data URL.
+fn decode_url(alloc: Global, url: &str) -> Result<DecodedMap>
+    ensures answer { IsAnswer map_tree (UrlDecodes url.now) result }
+    ensures well_formed { IfOk result (λ m. IsWellFormed (map_tree m)) }
+{
+    let held = data_url_bytes(alloc, url)?;
+    decode_owned(alloc, held)
+}
+
+/// The map that a data URL holds: `InvalidDataUrl` if the text is none, else as by `decode_slice`
+/// of the bytes in it.
+pub fn decode_data_url(alloc: Global, url: &str) -> Result<DecodedMap>
+    ensures answer { IsAnswer map_tree (UrlDecodes url.now) result }
+    // No other answer is right.
+    ensures only { (due : Result MapTree Error) → UrlDecodes url.now due
+        → IsAnswer map_tree (AreSame due) result }
+    ensures well_formed { IfOk result (λ m. IsWellFormed (map_tree m)) }
+{
+    decode_url(alloc, url)
+}
+
+/// A law: a JSON value, bytes and a data URL each stand for one map, or for none for one reason.
+/// Of a faulty header the kind of the fault is determined.
+pub fn answers_are_determined()
+    ensures values { (d : Data) (a b : Result MapTree Error)
+        → ValueDecodes d a → ValueDecodes d b → a ≡ b }
+    ensures bytes { (bytes : List ℕ) (a b : Result MapTree Error)
+        → BytesDecode bytes a → BytesDecode bytes b → AreSame a b }
+    ensures urls { (url : List ℕ) (a b : Result MapTree Error)
+        → UrlDecodes url a → UrlDecodes url b → AreSame a b }
+{}

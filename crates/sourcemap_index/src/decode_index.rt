@@ -1,0 +1,130 @@
+//! Which map of any kind a record stands for, section by section.
+ghost use Rattle.std.specs.Prelude.{◌≡◌, Ok, OnOk, IfErr, IfOk, map};
+ghost use Rattle.sourcemap_errors.specs.Answer.{IsAnswer, Gives};
+ghost use Rattle.sourcemap_errors.specs.declared.errors.Error.TheVariants.{OutOfMemory};
+ghost use Rattle.sourcemap_records.specs.Jsontypes.{flat, tree, section, sections_from};
+ghost use Rattle.sourcemap_trees.specs.Decode.{TreeDecodes, SectionsDecode, by_offset, index_parts};
+ghost use Rattle.sourcemap_trees.specs.WellFormed.{IsWellFormed};
+ghost use Rattle.sourcemap_index.specs.Family.{index_value, map_tree, section_value};
+ghost use Rattle.sourcemap_index.specs.Decode.{SectionDecodes, IndexDecodes, PartsDecode, index_with};
+
+use crate::family::{DecodedMap, SourceMapIndex, SourceMapSection};
+use sourcemap_conversions::from_record::file_in;
+use sourcemap_errors::errors::{Error, Result};
+use sourcemap_records::jsontypes::{RawSection, RawSourceMap};
+use sourcemap_regular::decode::only_regular;
+use std::alloc::Global;
+
+// The most sections that an index may have.
+const SECTION_LIMIT: usize = 4294967295;
+
+/// The map that a record stands for, as by `decode_slice`.
+pub(crate) fn decode_map(alloc: Global, raw: RawSourceMap) -> Result<DecodedMap>
+    ensures answer { IsAnswer map_tree (TreeDecodes (tree raw)) result }
+    ensures well_formed { IfOk result (λ m. IsWellFormed (map_tree m)) }
+{
+    decode_record(alloc, raw)
+}
+
+/// The index that a record stands for: a record without sections is `IncompatibleSourceMap` before
+/// anything of it is looked at.
+pub(crate) fn only_index(alloc: Global, mut raw: RawSourceMap) -> Result<SourceMapIndex>
+    ensures { IsAnswer index_value (IndexDecodes (tree raw)) result }
+{
+    match raw.sections.take() {
+        Some(sections) => decode_parts(alloc, raw, sections),
+        None => Err(Error::IncompatibleSourceMap),
+    }
+}
+
+#[cycle(decode)]
+fn decode_record(alloc: Global, mut raw: RawSourceMap) -> Result<DecodedMap>
+    ensures { IsAnswer map_tree (TreeDecodes (tree raw)) result }
+{
+    match raw.sections.take() {
+        Some(sections) => Ok(DecodedMap::Index(decode_parts(alloc, raw, sections)?)),
+        None => Ok(DecodedMap::Regular(only_regular(alloc, raw)?)),
+    }
+}
+
+// The index of a record's keys and of sections, which are decoded in their order and then sorted.
+#[cycle(decode)]
+fn decode_parts(
+    alloc: Global,
+    raw: RawSourceMap,
+    sections: Vec<RawSection>,
+) -> Result<SourceMapIndex>
+    ensures { IsAnswer index_value (PartsDecode (flat (tree raw))
+        (sections_from (map section sections.items))) result }
+{
+    if sections.len() > SECTION_LIMIT {
+        return Err(Error::IncompatibleSourceMap);
+    }
+    let mut decoded = decode_sections(alloc, sections)?;
+    sort_sections(&mut decoded)?;
+    index_of(alloc, raw, decoded)
+}
+
+#[cycle(decode)]
+fn decode_sections(alloc: Global, sections: Vec<RawSection>) -> Result<Vec<SourceMapSection>>
+    ensures { IsAnswer (λ v. map section_value v.items)
+        (SectionsDecode (sections_from (map section sections.items))) result }
+{
+    let mut decoded = Vec::with_capacity(alloc, sections.len())?;
+    for part in sections {
+        decoded.push(decode_section(alloc, part)?)?;
+    }
+    Ok(decoded)
+}
+
+#[cycle(decode)]
+fn decode_section(alloc: Global, part: RawSection) -> Result<SourceMapSection>
+    ensures { IsAnswer section_value (SectionDecodes (section part)) result }
+{
+    let RawSection { offset, url, map } = part;
+    let offset = (offset.line, offset.column);
+    match map {
+        None => SourceMapSection::new(alloc, offset, url, None),
+        Some(raw) => {
+            let map = decode_record(alloc, Box::into_inner(raw))?;
+            SourceMapSection::new(alloc, offset, url, Some(map))
+        }
+    }
+}
+
+// Sorts sections by their offsets, those of one offset as they stood.
+fn sort_sections(sections: &mut Vec<SourceMapSection>) -> Result<()>
+    ensures sorted { OnOk result (map section_value sections.new.items
+        ≡ by_offset (map section_value sections.old.items)) }
+    ensures memory { IfErr result (λ e. e ≡ OutOfMemory) }
+{
+    sections.sort_by_key(SourceMapSection::get_offset)?;
+    Ok(())
+}
+
+// The index of a record's keys and of these sections.
+fn index_of(
+    alloc: Global,
+    raw: RawSourceMap,
+    sections: Vec<SourceMapSection>,
+) -> Result<SourceMapIndex>
+    ensures { Gives index_value result (Ok (index_with (index_parts (flat (tree raw)))
+        (map section_value sections.items))) }
+{
+    let RawSourceMap {
+        file,
+        debug_id,
+        x_facebook_offsets,
+        x_metro_module_paths,
+        ..
+    } = raw;
+    let file = file_in(alloc, file)?;
+    Ok(SourceMapIndex {
+        file,
+        debug_id,
+        sections,
+        x_facebook_offsets,
+        x_metro_module_paths,
+        alloc,
+    })
+}

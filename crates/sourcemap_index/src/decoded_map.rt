@@ -1,0 +1,136 @@
+//! A map of any kind, and the calls that it answers by its kind.
+ghost use Rattle.std.specs.Prelude.{◌≡◌, ℕ, List, Result, IfOk, IfErr, IfSome, OnOk, MatchResult};
+ghost use Rattle.serde_json.specs.View.{view};
+ghost use Rattle.sourcemap_errors.specs.Answer.{UnlessMemory, Gives, IsAnswer};
+ghost use Rattle.sourcemap_errors.specs.declared.errors.Error.{Error};
+ghost use Rattle.sourcemap_errors.specs.declared.errors.Error.TheVariants.{OutOfMemory};
+ghost use Rattle.sourcemap_records.specs.Jsontypes.{tree};
+ghost use Rattle.sourcemap_regular.specs.Encode.{ReadsBack};
+ghost use Rattle.sourcemap_regular.specs.Write.{IsEncoded, IsIo};
+ghost use Rattle.sourcemap_trees.specs.Encode.{RecordAnswer, Restores};
+ghost use Rattle.sourcemap_trees.specs.MapTree.{MapTree};
+ghost use Rattle.sourcemap_trees.specs.WellFormed.{IsWellFormed};
+ghost use Rattle.sourcemap_index.specs.Family.{map_tree};
+
+use crate::decode::{decode, decode_value};
+use crate::family::DecodedMap;
+use serde_json::Value;
+use sourcemap_errors::errors::Result;
+use sourcemap_records::jsontypes::{DebugId, RawSourceMap};
+use sourcemap_regular::encode::Encodable;
+use sourcemap_regular::write::encode;
+use std::alloc::Global;
+use std::io::{Read, Write};
+
+impl DecodedMap {
+    ghost use Rattle.sourcemap_index.specs.DecodedMap.{IsValueOf, debug_id_of, with_debug_id};
+    ghost use Rattle.sourcemap_index.specs.Decode.{ValueDecodes, BytesDecode, AreSame, IsAnswerRead, Reading};
+
+    // The allocator that the map keeps.
+    pub(crate) fn allocator(&self) -> Global {
+        match self {
+            DecodedMap::Regular(map) => map.allocator(),
+            DecodedMap::Index(index) => index.alloc,
+        }
+    }
+
+    /// The identifier that ties the map to its file.
+    pub fn debug_id(&self) -> Option<DebugId>
+        ensures { result ≡ debug_id_of (map_tree self.now) }
+    {
+        match self {
+            DecodedMap::Regular(map) => map.get_debug_id(),
+            DecodedMap::Index(index) => index.debug_id(),
+        }
+    }
+
+    /// Sets the identifier that ties the map to its file.
+    pub fn set_debug_id(&mut self, debug_id: Option<DebugId>)
+        ensures { map_tree self.new ≡ with_debug_id (map_tree self.old) debug_id }
+    {
+        match self {
+            DecodedMap::Regular(map) => map.set_debug_id(debug_id),
+            DecodedMap::Index(index) => index.set_debug_id(debug_id),
+        }
+    }
+
+    /// The map as a JSON value, its keys in the order of their bytes. Only want of memory refuses.
+    pub fn to_value(&self) -> Result<Value>
+        ensures written { IfOk result (λ v. IsValueOf (map_tree self.now) (view v)) }
+        // Read back, a well-formed map means the same at every position, with all parts kept.
+        ensures reads_back { IfOk result (λ v. IsWellFormed (map_tree self.now)
+            → ReadsBack (ValueDecodes (view v)) (Restores (map_tree self.now))) }
+        ensures memory { IfErr result (λ e. e ≡ OutOfMemory) }
+    {
+        let raw = self.as_raw_sourcemap()?;
+        raw.into_value(self.allocator())
+    }
+
+    // The record of the map, with the texts of a regular map itself.
+    fn into_record(self) -> Result<RawSourceMap>
+        ensures { IsAnswer tree (RecordAnswer (map_tree self)) result }
+    {
+        match self {
+            DecodedMap::Regular(map) => map.into_raw_sourcemap(),
+            DecodedMap::Index(index) => index.as_raw_sourcemap(),
+        }
+    }
+
+    /// The same value as by `to_value`, with the texts of a regular map itself. Only want of memory
+    /// refuses.
+    pub fn into_value(self) -> Result<Value>
+        ensures written { IfOk result (λ v. IsValueOf (map_tree self) (view v)) }
+        // Read back, a well-formed map means the same at every position, with all parts kept.
+        ensures reads_back { IfOk result (λ v. IsWellFormed (map_tree self)
+            → ReadsBack (ValueDecodes (view v)) (Restores (map_tree self))) }
+        ensures memory { IfErr result (λ e. e ≡ OutOfMemory) }
+    {
+        let alloc = self.allocator();
+        let raw = self.into_record()?;
+        raw.into_value(alloc)
+    }
+
+    /// The map that a JSON value stands for. `BadJson(Shape)` if it is no record, then the faults of
+    /// the record, as by `decode_slice`.
+    pub fn from_value(alloc: Global, value: &Value) -> Result<Self>
+        ensures answer { IsAnswer map_tree (ValueDecodes (view value.now)) result }
+        ensures only { (due : Result MapTree Error) → ValueDecodes (view value.now) due
+            → Gives map_tree result due }
+        ensures well_formed { IfOk result (λ m. IsWellFormed (map_tree m)) }
+    {
+        decode_value(alloc, value)
+    }
+
+    /// The map that a reader's bytes hold, as by `decode`.
+    pub fn from_reader<R: Read + Drop>(alloc: Global, reader: R) -> Result<Self>
+        ensures answer { Reading (R.remaining reader)
+            (λ bytes. IsAnswerRead map_tree (BytesDecode bytes) result) }
+        ensures only { IfSome (R.remaining reader) (λ bytes. (due : Result MapTree Error)
+            → BytesDecode bytes due → IsAnswerRead map_tree (AreSame due) result) }
+        ensures well_formed { IfOk result (λ m. IsWellFormed (map_tree m)) }
+    {
+        decode(alloc, reader)
+    }
+
+    /// Writes the map's compact JSON text. A write's fault is `Io`, else only want of memory
+    /// refuses. The clause says that such a text was made. That the writer, which is given away,
+    /// gets all of it and nothing else is tested; `encode_to` promises it of a writer that is lent.
+    pub fn to_writer<W: Write + Drop>(&self, writer: W) -> Result<()>
+        ensures encoded { OnOk result ((text : List ℕ)
+            × IsEncoded (RecordAnswer (map_tree self.now)) text) }
+        ensures fault { IfErr result (λ e. UnlessMemory e (IsIo e)) }
+    {
+        encode(self.allocator(), self, writer)
+    }
+}
+
+// What is written as a value and read back means the same, with all parts kept: nothing but memory
+// refuses.
+fn read_back(map: &DecodedMap) -> Result<DecodedMap>
+    ensures { IsWellFormed (map_tree map.now) → MatchResult result
+        (λ back. Restores (map_tree map.now) (map_tree back))
+        (λ e. e ≡ OutOfMemory) }
+{
+    let value = map.to_value()?;
+    DecodedMap::from_value(map.allocator(), &value)
+}

@@ -1,0 +1,103 @@
+//! Index maps made flat: one regular map of all that they hold.
+ghost use Rattle.std.specs.Prelude.{◌≡◌, [], List, IfErr, IfOk, OnOk};
+ghost use Rattle.sourcemap_errors.specs.Answer.{IsAnswer};
+ghost use Rattle.sourcemap_regular.specs.Map.{IsWellFormed as IsWellFormedRegular};
+ghost use Rattle.sourcemap_trees.specs.Flat.{AnswersLike, FlatAnswer, Piece, SaysFlat, pieces_behind};
+ghost use Rattle.sourcemap_trees.specs.FlatList.{IsOrderly};
+ghost use Rattle.sourcemap_trees.specs.MapTree.{index_tree, sections_from};
+ghost use Rattle.sourcemap_trees.specs.WellFormed.{HasTokensInOrder, IsWellFormed};
+ghost use Rattle.sourcemap_flattening.specs.Gathering.{Gathers, RefusesFor};
+ghost use Rattle.sourcemap_index.specs.Family.{index_value, map_tree, section_value};
+ghost use Rattle.sourcemap_index.specs.Flatten.{Gathered, IsSectionInOrder, MadeFlat, map_added, section_added};
+
+use crate::family::{DecodedMap, SourceMapIndex, SourceMapSection};
+use sourcemap_errors::errors::Result;
+use sourcemap_flattening::faults::unresolved;
+use sourcemap_flattening::gathering::{FlatMap, Gathering};
+use sourcemap_regular::map::SourceMap;
+use std::alloc::Global;
+
+impl SourceMapIndex {
+    /// The index as one regular map: the tokens of all sections, each where its section stands, in
+    /// order, those of one place section by section. Sources, behind their roots, and names are there
+    /// once each; a source has the contents that were given for it last; a source is passed over if a
+    /// map passes over it that a token of it leads to. The file is that of the index; root and debug
+    /// id are none.
+    ///
+    /// `CannotFlatten` for the first section, in their order, that has no map, or a map that can't be
+    /// made flat, or brings more than 4294967295 sources or names, or a token that would pass the
+    /// last line or column, 4294967295. Else only `OutOfMemory`.
+    pub fn flatten(&self) -> Result<SourceMap>
+        ensures answer { IsAnswer (λ m. m) (FlatAnswer (index_tree (index_value self.now))) result }
+        ensures tokens { IfOk result (SaysFlat (index_tree (index_value self.now))) }
+        // It answers wherever the index does, where no section reaches into the next one.
+        ensures meaning { IfOk result (λ m. IsOrderly (index_tree (index_value self.now))
+            → AnswersLike (index_tree (index_value self.now)) m) }
+        ensures well_formed { IfOk result (λ m. IsWellFormed (index_tree (index_value self.now))
+            → IsWellFormedRegular m) }
+    {
+        let flat = self.gathered()?;
+        flat.into_map(self.alloc, self.get_file())
+    }
+
+    // What its sections hold, put beside one another.
+    #[cycle(flatten)]
+    fn gathered(&self) -> Result<FlatMap<'_>>
+        ensures ok { IfOk result
+            (MadeFlat (pieces_behind [] (sections_from (index_value self.now).sections))) }
+        ensures in_order { IfOk result (λ _. HasTokensInOrder (index_tree (index_value self.now))) }
+        ensures refused { IfErr result
+            (RefusesFor (pieces_behind [] (sections_from (index_value self.now).sections))) }
+    {
+        let mut gathering = Gathering::new(self.alloc);
+        for section in &self.sections {
+            section.gather(&mut gathering)?;
+        }
+        gathering.finish()
+    }
+}
+
+impl SourceMapSection {
+    // Puts the section's map beside those that are gathered.
+    #[cycle(flatten)]
+    fn gather<'a>(&'a self, gathering: &mut Gathering<'a>) -> Result<()>
+        ensures ok { (before : List Piece) → Gathers before gathering.old
+            → OnOk result (Gathered (section_added before (section_value self.now)) gathering.new) }
+        ensures in_order { OnOk result (IsSectionInOrder (section_value self.now)) }
+        ensures refused { (before : List Piece) → Gathers before gathering.old
+            → IfErr result (RefusesFor (section_added before (section_value self.now))) }
+    {
+        let alloc = self.alloc;
+        let (line, col) = self.offset;
+        match &self.map {
+            None => Err(unresolved(alloc, self.get_url())),
+            Some(map) => map.gather(gathering, alloc, line, col),
+        }
+    }
+}
+
+impl DecodedMap {
+    // Puts the map beside those that are gathered, from this line and column on.
+    #[cycle(flatten)]
+    fn gather<'a>(
+        &'a self,
+        gathering: &mut Gathering<'a>,
+        alloc: Global,
+        line: u32,
+        col: u32,
+    ) -> Result<()>
+        ensures ok { (before : List Piece) → Gathers before gathering.old
+            → OnOk result (Gathered (map_added before (line, col) (map_tree self.now)) gathering.new) }
+        ensures in_order { OnOk result (HasTokensInOrder (map_tree self.now)) }
+        ensures refused { (before : List Piece) → Gathers before gathering.old
+            → IfErr result (RefusesFor (map_added before (line, col) (map_tree self.now))) }
+    {
+        match self {
+            DecodedMap::Regular(map) => gathering.add(alloc, line, col, &map.lists()),
+            DecodedMap::Index(index) => {
+                let flat = index.gathered()?;
+                gathering.add_flat(alloc, line, col, &flat)
+            }
+        }
+    }
+}

@@ -1,0 +1,142 @@
+//! An index map: its getters and setters, and the lookup of a position.
+ghost use Rattle.std.specs.Prelude.{◌≡◌, ◌≢◌, None, Ok, length, map, min, option_map, slice_get, string_bytes};
+ghost use Rattle.std.specs.Bool.{Decides};
+ghost use Rattle.std.specs.Option.{option_copied};
+ghost use Rattle.std.specs.Borrow.{sem};
+ghost use Rattle.sourcemap_errors.specs.Answer.{Changes};
+ghost use Rattle.sourcemap_records.specs.Jsontypes.{text_view};
+
+use crate::family::{SourceMapIndex, SourceMapSection};
+use crate::section::SourceMapSectionIter;
+use sourcemap_errors::errors::Result;
+use sourcemap_records::jsontypes::DebugId;
+use sourcemap_texts::copies::owned;
+use std::alloc::Global;
+
+impl SourceMapIndex {
+    ghost use Rattle.sourcemap_index.specs.Family.{index_value, section_value};
+    ghost use Rattle.sourcemap_index.specs.Index.{index_made, with_file, with_debug_id, LendsSection};
+    ghost use Rattle.sourcemap_index.specs.Section.{sections_left};
+
+    /// An index of these sections, without bundle lists and debug id. A position is found if the
+    /// sections stand in order of their offsets.
+    pub fn new(alloc: Global, file: Option<String>, sections: Vec<SourceMapSection>) -> Self
+        ensures { index_value result
+            ≡ index_made (text_view file) (map section_value sections.items) None None }
+    {
+        SourceMapIndex::new_ram_bundle_compatible(alloc, file, sections, None, None)
+    }
+
+    /// An index of these sections and bundle lists, without debug id: the line at which each module
+    /// of a bundle starts, and the path of each.
+    pub fn new_ram_bundle_compatible(
+        alloc: Global,
+        file: Option<String>,
+        sections: Vec<SourceMapSection>,
+        x_facebook_offsets: Option<Vec<Option<u32>>>,
+        x_metro_module_paths: Option<Vec<String>>,
+    ) -> Self
+        ensures { index_value result ≡ index_made (text_view file)
+            (map section_value sections.items)
+            (option_map (λ v. v.items) x_facebook_offsets)
+            (option_map (λ v. map string_bytes v.items) x_metro_module_paths) }
+    {
+        SourceMapIndex {
+            file,
+            debug_id: None,
+            sections,
+            x_facebook_offsets,
+            x_metro_module_paths,
+            alloc,
+        }
+    }
+
+    /// The name of the generated file.
+    pub fn get_file(&self) -> Option<&str>
+        ensures { option_copied result ≡ (index_value self.now).parts.file }
+    {
+        self.file.as_deref()
+    }
+
+    /// Sets the name of the generated file. Only want of memory refuses, and then nothing is
+    /// changed.
+    pub fn set_file(&mut self, file: Option<&str>) -> Result<()>
+        ensures { Changes result (index_value self.old) (index_value self.new)
+            (with_file (index_value self.old) (option_copied file.entry)) }
+    {
+        self.file = owned(self.alloc, file)?;
+        Ok(())
+    }
+
+    // The identifier that ties the map to its file.
+    pub(crate) fn debug_id(&self) -> Option<DebugId>
+        ensures { result ≡ (index_value self.now).parts.debug_id }
+    {
+        self.debug_id
+    }
+
+    // Sets the identifier that ties the map to its file.
+    pub(crate) fn set_debug_id(&mut self, debug_id: Option<DebugId>)
+        ensures { index_value self.new ≡ with_debug_id (index_value self.old) debug_id }
+    {
+        self.debug_id = debug_id;
+    }
+
+    /// How many sections there are; 4294967295 stands for more, too.
+    pub fn get_section_count(&self) -> u32
+        ensures { result ≡ min (length (index_value self.now).sections) 4294967295 }
+    {
+        u32::try_from(self.sections.len()).unwrap_or(u32::MAX)
+    }
+
+    /// The section with this number, from 0, in the order of the index.
+    pub fn get_section(&self, id: u32) -> Option<&SourceMapSection>
+        ensures { option_map (λ s. section_value s.now) result
+            ≡ slice_get (index_value self.now).sections id }
+    {
+        self.sections.get(id as usize)
+    }
+
+    /// The section with this number, to be changed in its place.
+    pub fn get_section_mut(&mut self, id: u32) -> Option<&mut SourceMapSection>
+        ensures* writes_back { sem 𝓛 (LendsSection self.entry id result) }
+        ensures value { option_map (λ s. section_value s.now) result
+            ≡ slice_get (index_value self.old).sections id }
+    {
+        self.sections.get_mut(id as usize)
+    }
+
+    /// The sections, in their order.
+    pub fn sections(&self) -> SourceMapSectionIter<'_>
+        ensures { sections_left result ≡ (index_value self.now).sections }
+    {
+        SourceMapSectionIter {
+            sections: self.sections.as_slice(),
+        }
+    }
+
+    /// Whether the index has both lists of a bundle.
+    pub fn is_for_ram_bundle(&self) -> bool
+        ensures { Decides result (((index_value self.now).parts.x_facebook_offsets ≢ None)
+            × ((index_value self.now).parts.x_metro_module_paths ≢ None)) }
+    {
+        self.x_facebook_offsets.is_some() & self.x_metro_module_paths.is_some()
+    }
+
+    /// The line, from 0, at which each module of a bundle starts; `None` for a number without a
+    /// module.
+    pub fn x_facebook_offsets(&self) -> Option<&[Option<u32>]>
+        ensures { option_map (λ xs. xs.now) result
+            ≡ (index_value self.now).parts.x_facebook_offsets }
+    {
+        self.x_facebook_offsets.as_deref()
+    }
+
+    /// The path of each module of a bundle.
+    pub fn x_metro_module_paths(&self) -> Option<&[String]>
+        ensures { option_map (λ xs. map string_bytes xs.now) result
+            ≡ (index_value self.now).parts.x_metro_module_paths }
+    {
+        self.x_metro_module_paths.as_deref()
+    }
+}

@@ -1,0 +1,48 @@
+//! The sections of an index map moved down.
+ghost use Rattle.std.specs.Prelude.{◌≡◌, map};
+ghost use Rattle.std.specs.Bool.{Decides, MatchBool};
+ghost use Rattle.sourcemap_trees.specs.Shift.{HaveRowsLeft, shifted};
+ghost use Rattle.sourcemap_index.specs.Family.{index_value, section_value};
+ghost use Rattle.sourcemap_index.specs.Rows.{with_sections};
+
+use crate::family::{SourceMapIndex, SourceMapSection};
+
+// Whether each section may stand so many rows further down.
+fn have_rows_left(sections: &[SourceMapSection], rows: u32) -> bool
+    ensures { Decides result (HaveRowsLeft rows (map section_value sections.now)) }
+{
+    for section in sections {
+        if section.offset.0 > u32::MAX - rows {
+            return false;
+        }
+    }
+    true
+}
+
+// Moves each section down by so many rows, which it has left.
+fn move_down(sections: &mut [SourceMapSection], rows: u32)
+    ensures { HaveRowsLeft rows (map section_value sections.old)
+        → map section_value sections.new ≡ shifted rows (map section_value sections.old) }
+{
+    for section in sections.iter_mut() {
+        section.offset.0 = section.offset.0.saturating_add(rows);
+    }
+}
+
+impl SourceMapIndex {
+    /// Moves each section down by so many rows, and answers true; where a section would come to
+    /// stand on a row beyond 4294967295, answers false, and nothing is changed. Maps of sections and
+    /// the lists of a bundle stay as they are.
+    pub fn adjust_sections_offset_rows(&mut self, rows: u32) -> bool
+        ensures possible { Decides result (HaveRowsLeft rows (index_value self.old).sections) }
+        ensures value { MatchBool result (index_value self.new
+            ≡ with_sections (index_value self.old) (shifted rows (index_value self.old).sections))
+            (index_value self.new ≡ index_value self.old) }
+    {
+        if !have_rows_left(self.sections.as_slice(), rows) {
+            return false;
+        }
+        move_down(self.sections.as_mut_slice(), rows);
+        true
+    }
+}

@@ -1,0 +1,136 @@
+//! A section of an index map: its getters and setters, and the iterator over sections.
+ghost use Rattle.std.specs.Prelude.{◌≡◌, Ok, option_map};
+ghost use Rattle.std.specs.Option.{option_copied};
+ghost use Rattle.std.specs.Borrow.{sem};
+ghost use Rattle.sourcemap_errors.specs.Answer.{Gives, Changes};
+ghost use Rattle.sourcemap_records.specs.Jsontypes.{text_view};
+ghost use Rattle.sourcemap_trees.specs.MapTree.{section_offset};
+
+use crate::family::{DecodedMap, SourceMapSection};
+use sourcemap_errors::errors::Result;
+use sourcemap_texts::copies::owned;
+use std::alloc::Global;
+
+// A map on the heap.
+fn boxed(alloc: Global, map: Option<DecodedMap>) -> Result<Option<Box<DecodedMap>>>
+    ensures { Gives (λ kept. option_map (λ b. b.value) kept) result (Ok map) }
+{
+    match map {
+        Some(map) => Ok(Some(Box::new(alloc, map)?)),
+        None => Ok(None),
+    }
+}
+
+impl SourceMapSection {
+    ghost use Rattle.sourcemap_index.specs.Family.{map_tree, section_value};
+    ghost use Rattle.sourcemap_index.specs.Section.{section_made, with_url, with_map, LendsMap};
+
+    /// A section that starts at this line and column of the generated text, with the map of what
+    /// stands from there on, the URL of one, both or neither. Only want of memory refuses.
+    pub fn new(
+        alloc: Global,
+        offset: (u32, u32),
+        url: Option<String>,
+        map: Option<DecodedMap>,
+    ) -> Result<Self>
+        ensures { Gives section_value result
+            (Ok (section_made offset (text_view url) (option_map map_tree map))) }
+    {
+        let map = boxed(alloc, map)?;
+        Ok(SourceMapSection {
+            offset,
+            url,
+            map,
+            alloc,
+        })
+    }
+
+    /// The line, from 0, on which the section starts.
+    pub fn get_offset_line(&self) -> u32
+        ensures { result ≡ (section_value self.now).place.line }
+    {
+        self.offset.0
+    }
+
+    /// The column, from 0 and in UTF-16 units, at which the section starts.
+    pub fn get_offset_col(&self) -> u32
+        ensures { result ≡ (section_value self.now).place.column }
+    {
+        self.offset.1
+    }
+
+    /// The line and the column at which the section starts.
+    pub fn get_offset(&self) -> (u32, u32)
+        ensures { result ≡ section_offset (section_value self.now) }
+    {
+        self.offset
+    }
+
+    /// The URL of the section's map.
+    pub fn get_url(&self) -> Option<&str>
+        ensures { option_copied result ≡ (section_value self.now).place.url }
+    {
+        self.url.as_deref()
+    }
+
+    /// Sets the URL of the section's map. Only want of memory refuses, and then nothing is changed.
+    pub fn set_url(&mut self, url: Option<&str>) -> Result<()>
+        ensures { Changes result (section_value self.old) (section_value self.new)
+            (with_url (section_value self.old) (option_copied url.entry)) }
+    {
+        self.url = owned(self.alloc, url)?;
+        Ok(())
+    }
+
+    /// The map of the section.
+    pub fn get_sourcemap(&self) -> Option<&DecodedMap>
+        ensures { option_map (λ m. map_tree m.now) result ≡ (section_value self.now).map }
+    {
+        self.map.as_deref()
+    }
+
+    /// The map of the section, to be changed in its place.
+    pub fn get_sourcemap_mut(&mut self) -> Option<&mut DecodedMap>
+        ensures* writes_back { sem 𝓛 (LendsMap self.entry result) }
+        ensures value { option_map (λ m. map_tree m.now) result ≡ (section_value self.old).map }
+    {
+        match &mut self.map {
+            Some(map) => Some(&mut **map),
+            None => None,
+        }
+    }
+
+    /// Sets the map of the section. Only want of memory refuses: then the section is unchanged, and
+    /// the map that was given is let go.
+    pub fn set_sourcemap(&mut self, map: Option<DecodedMap>) -> Result<()>
+        ensures { Changes result (section_value self.old) (section_value self.new)
+            (with_map (section_value self.old) (option_map map_tree map)) }
+    {
+        self.map = boxed(self.alloc, map)?;
+        Ok(())
+    }
+}
+
+/// The sections of an index map, in their order.
+#[derive(Drop)]
+pub struct SourceMapSectionIter<'a> {
+    pub(crate) sections: &'a [SourceMapSection],
+}
+
+impl<'a> Iterator for SourceMapSectionIter<'a> {
+    type Item = &'a SourceMapSection;
+
+    ghost use Rattle.std.specs.Iterator.{YieldsFirstBy, item_count};
+    ghost use Rattle.sourcemap_index.specs.Family.{section_value};
+    ghost use Rattle.sourcemap_index.specs.Section.{sections_left};
+
+    ghost next_gives = { YieldsFirstBy (λ s. section_value s.now) sections_left };
+
+    ghost remaining = { item_count sections_left };
+
+    fn next(&mut self) -> Option<&'a SourceMapSection> {
+        let (first, rest) = self.sections.split_first()?;
+        self.sections = rest;
+        Some(first)
+    }
+}

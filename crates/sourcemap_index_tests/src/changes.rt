@@ -1,0 +1,168 @@
+// Index maps that are made of parts, and changed in one of them.
+use crate::checks::check;
+use crate::decoding::sections_told;
+use sourcemap_errors::errors::Result;
+use sourcemap_index::decode::decode_slice;
+use sourcemap_index::family::{DecodedMap, SourceMapIndex, SourceMapSection};
+use std::alloc::Global;
+
+// What is done to an index of two sections, or to one of them.
+#[derive(Clone, Copy)]
+enum Change {
+    Nothing,
+    File,
+    // the URL of the section of this number
+    Url(u32),
+    // the map of the section of this number is taken away
+    Map(u32),
+    // the debug id of the map of the section of this number is taken away
+    DebugId(u32),
+}
+
+const MAP: &str = r#"{"mappings":"A","debugId":"00000000-0000-0000-0000-000000000000"}"#;
+
+fn made(alloc: Global) -> Result<SourceMapIndex> {
+    let map = decode_slice(alloc, MAP.as_bytes())?;
+    let file = String::from_str(alloc, "test.js")?;
+    let url = String::from_str(alloc, "v")?;
+    let mut sections = Vec::new(alloc);
+    sections.push(SourceMapSection::new(alloc, (0, 0), Some(url), None)?)?;
+    sections.push(SourceMapSection::new(alloc, (1, 2), None, Some(map))?)?;
+    Ok(SourceMapIndex::new(alloc, Some(file), sections))
+}
+
+fn with_url(index: &mut SourceMapIndex, id: u32) -> Result<()> {
+    match index.get_section_mut(id) {
+        None => Ok(()),
+        Some(section) => section.set_url(Some("u")),
+    }
+}
+
+fn without_map(index: &mut SourceMapIndex, id: u32) -> Result<()> {
+    match index.get_section_mut(id) {
+        None => Ok(()),
+        Some(section) => section.set_sourcemap(None),
+    }
+}
+
+fn without_debug_id(index: &mut SourceMapIndex, id: u32) {
+    let section = index.get_section_mut(id);
+    if let Some(map) = section.and_then(|section| section.get_sourcemap_mut()) {
+        map.set_debug_id(None);
+    }
+}
+
+fn apply(index: &mut SourceMapIndex, change: Change) -> Result<()> {
+    match change {
+        Change::Nothing => Ok(()),
+        Change::File => index.set_file(Some("other.js")),
+        Change::Url(id) => with_url(index, id),
+        Change::Map(id) => without_map(index, id),
+        Change::DebugId(id) => {
+            without_debug_id(index, id);
+            Ok(())
+        }
+    }
+}
+
+// Whether the map of a section has a debug id.
+fn has_debug_id(section: Option<&SourceMapSection>) -> bool {
+    match section.and_then(|section| section.get_sourcemap()) {
+        None => false,
+        Some(map) => map.debug_id().is_some(),
+    }
+}
+
+fn changed(alloc: Global, change: Change) -> Result<String> {
+    let mut index = made(alloc)?;
+    apply(&mut index, change)?;
+    let sections = sections_told(alloc, &index)?;
+    let has_id = has_debug_id(index.get_section(1));
+    Ok(format!(in alloc; "{:?} {sections} {has_id}", index.get_file())?)
+}
+
+// A change, and what the index is afterwards.
+const CHANGES: [(Change, &str); 8] = [
+    (
+        Change::Nothing,
+        r#"Some("test.js") 0:0 Some("v") no map;1:2 None a map; true"#,
+    ),
+    (
+        Change::File,
+        r#"Some("other.js") 0:0 Some("v") no map;1:2 None a map; true"#,
+    ),
+    (
+        Change::Url(0),
+        r#"Some("test.js") 0:0 Some("u") no map;1:2 None a map; true"#,
+    ),
+    (
+        Change::Url(1),
+        r#"Some("test.js") 0:0 Some("v") no map;1:2 Some("u") a map; true"#,
+    ),
+    (
+        Change::Url(2),
+        r#"Some("test.js") 0:0 Some("v") no map;1:2 None a map; true"#,
+    ),
+    (
+        Change::Map(1),
+        r#"Some("test.js") 0:0 Some("v") no map;1:2 None no map; false"#,
+    ),
+    (
+        Change::DebugId(0),
+        r#"Some("test.js") 0:0 Some("v") no map;1:2 None a map; true"#,
+    ),
+    (
+        Change::DebugId(1),
+        r#"Some("test.js") 0:0 Some("v") no map;1:2 None a map; false"#,
+    ),
+];
+
+#[test]
+fn one_part_of_an_index_is_changed(rt: HostRuntime) {
+    for (change, want) in CHANGES.iter() {
+        check(&rt, want, changed(rt.alloc(), *change), want);
+    }
+}
+
+// An index of no section with both lists of a bundle.
+fn bundled(alloc: Global) -> Result<SourceMapIndex> {
+    let mut offsets = Vec::new(alloc);
+    offsets.push(Some(5))?;
+    offsets.push(None)?;
+    let mut paths = Vec::new(alloc);
+    paths.push(String::from_str(alloc, "a.js")?)?;
+    Ok(SourceMapIndex::new_ram_bundle_compatible(
+        alloc,
+        None,
+        Vec::new(alloc),
+        Some(offsets),
+        Some(paths),
+    ))
+}
+
+fn bundle_told(alloc: Global) -> Result<String> {
+    let index = bundled(alloc)?;
+    let offsets = index.x_facebook_offsets();
+    let paths = index.x_metro_module_paths();
+    Ok(format!(in alloc; "{offsets:?} {paths:?} {}", index.is_for_ram_bundle())?)
+}
+
+#[test]
+fn indexes_are_made_for_bundles(rt: HostRuntime) {
+    let want = r#"Some([Some(5), None]) Some(["a.js"]) true"#;
+    check(&rt, "a bundle", bundle_told(rt.alloc()), want);
+}
+
+// The debug id of an index is taken away.
+fn id_taken(alloc: Global) -> Result<String> {
+    let text = r#"{"sections":[],"debug_id":"00000000-0000-0000-0000-000000000000"}"#;
+    let mut map = decode_slice(alloc, text.as_bytes())?;
+    let before = map.debug_id().is_some();
+    map.set_debug_id(None);
+    Ok(format!(in alloc; "{before} {}", map.debug_id().is_some())?)
+}
+
+#[test]
+fn debug_ids_of_indexes_are_set(rt: HostRuntime) {
+    check(&rt, "an index", id_taken(rt.alloc()), "true false");
+}

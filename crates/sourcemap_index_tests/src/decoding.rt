@@ -1,0 +1,120 @@
+// Texts and data URLs that are read as index maps, and what is refused.
+use crate::checks::{check, fault_told};
+use sourcemap_errors::errors::Result;
+use sourcemap_index::decode::{decode, decode_data_url, decode_slice, decode_vec};
+use sourcemap_index::family::{DecodedMap, SourceMapIndex, SourceMapSection};
+use std::alloc::Global;
+
+fn section_told(alloc: Global, section: &SourceMapSection) -> Result<String> {
+    let held = match section.get_sourcemap() {
+        None => "no map",
+        Some(DecodedMap::Regular(_)) => "a map",
+        Some(DecodedMap::Index(_)) => "an index",
+    };
+    let (line, col) = section.get_offset();
+    Ok(format!(in alloc; "{line}:{col} {:?} {held};", section.get_url())?)
+}
+
+/// The place, the URL and the kind of the map of each section.
+pub fn sections_told(alloc: Global, index: &SourceMapIndex) -> Result<String> {
+    let mut told = String::new(alloc);
+    for section in index.sections() {
+        told.push_str(section_told(alloc, section)?.as_str())?;
+    }
+    Ok(told)
+}
+
+fn told(alloc: Global, answer: Result<DecodedMap>) -> Result<String> {
+    match answer {
+        Ok(DecodedMap::Index(index)) => sections_told(alloc, &index),
+        Ok(DecodedMap::Regular(_)) => Ok(String::from_str(alloc, "a regular map")?),
+        fault => fault_told(alloc, fault),
+    }
+}
+
+// A text, and the sections of its index or its fault.
+const TEXTS: [(&str, &str); 13] = [
+    // Sections are put in order, those of one place as they stood.
+    (
+        r#"{"sections":[{"offset":{"line":10,"column":4},"url":"p"},{"offset":{"line":0,"column":7},"url":"q"},{"offset":{"line":10,"column":4},"url":"r"},{"offset":{"line":10,"column":3},"map":{"sections":[]}}]}"#,
+        r#"0:7 Some("q") no map;10:3 None an index;10:4 Some("p") no map;10:4 Some("r") no map;"#,
+    ),
+    (
+        r#"{"sections":[{"offset":{"line":0,"column":0},"url":"u","map":{"mappings":"A"}}]}"#,
+        r#"0:0 Some("u") a map;"#,
+    ),
+    // What else a record holds for a map is not looked at.
+    (
+        r#"{"sections":[],"x_facebook_sources":[],"mappings":"!"}"#,
+        "",
+    ),
+    (r#"{"sections":null,"mappings":"A"}"#, "a regular map"),
+    // Of two faults the first of the text is answered, whatever the order of the offsets.
+    (
+        r#"{"sections":[{"offset":{"line":9,"column":0},"map":{"mappings":"!"}},{"offset":{"line":0,"column":0},"map":{"mappings":"AAAAAA"}}]}"#,
+        "invalid base64 character: !",
+    ),
+    (
+        r#"{"sections":[{"offset":{"line":9,"column":0},"map":{"mappings":"AAAAAA"}},{"offset":{"line":0,"column":0},"map":{"mappings":"!"}}]}"#,
+        "got 6 segments, expected 4 or 5",
+    ),
+    (
+        r#"{"sections":[{"offset":{"line":9,"column":0},"map":{"sections":[{"offset":{"line":0,"column":0},"url":"u"},{"offset":{"line":0,"column":0},"map":{"mappings":"AAAA"}}]}},{"offset":{"line":0,"column":0},"map":{"mappings":"!"}}]}"#,
+        "bad reference to source #0",
+    ),
+    // A map with function names is refused in a section, too, before its parts are looked at.
+    (
+        r#"{"sections":[{"offset":{"line":0,"column":0},"map":{"x_facebook_sources":[],"mappings":"!"}}]}"#,
+        "encountered incompatible sourcemap format",
+    ),
+    (
+        r#"{"sections":[{"offset":{"line":0,"column":0},"map":{"mappings":"!"}},{"offset":{"line":1,"column":0},"map":{"x_facebook_sources":[]}}]}"#,
+        "invalid base64 character: !",
+    ),
+    // The record is read whole before a map of it is made.
+    (
+        r#"{"sections":[{"offset":{"line":0,"column":0},"map":{"mappings":"!"}},{"offset":{"line":1}}]}"#,
+        "bad json: a field has the wrong type",
+    ),
+    (
+        r#"{"sections":[{"offset":{"line":0,"column":4294967296}}]}"#,
+        "bad json: a field has the wrong type",
+    ),
+    ("", "bad json: the text is not JSON"),
+    ("[]", "bad json: a field has the wrong type"),
+];
+
+fn read_owned(alloc: Global, text: &str) -> Result<DecodedMap> {
+    decode_vec(alloc, Vec::from_slice(alloc, text.as_bytes())?)
+}
+
+#[test]
+fn records_are_read_section_by_section(rt: HostRuntime) {
+    let alloc = rt.alloc();
+    for (text, want) in TEXTS.iter() {
+        let bytes = text.as_bytes();
+        check(&rt, text, told(alloc, decode_slice(alloc, bytes)), want);
+        check(&rt, text, told(alloc, read_owned(alloc, text)), want);
+        check(&rt, text, told(alloc, decode(alloc, bytes)), want);
+    }
+}
+
+// A data URL, and the sections of its index or its fault.
+const URLS: [(&str, &str); 2] = [
+    (
+        "data:application/json;base64,eyJzZWN0aW9ucyI6W3sib2Zmc2V0Ijp7ImxpbmUiOjEsImNvbHVtbiI6Mn0sInVybCI6InUifV19",
+        r#"1:2 Some("u") no map;"#,
+    ),
+    (
+        "data:application/json;charset=latin1;base64,e30=",
+        "the provided data URL is invalid",
+    ),
+];
+
+#[test]
+fn data_urls_are_read(rt: HostRuntime) {
+    let alloc = rt.alloc();
+    for (url, want) in URLS.iter() {
+        check(&rt, url, told(alloc, decode_data_url(alloc, url)), want);
+    }
+}

@@ -1,0 +1,18 @@
+//! Tests of index maps: read, made of parts, asked and changed. This crate holds nothing else, so
+//! that no proof and no must-fail edit waits for it.
+#![tactic(auto)]
+
+#[cfg(test)]
+mod answers;
+#[cfg(test)]
+mod changes;
+#[cfg(test)]
+mod checks;
+#[cfg(test)]
+mod decoding;
+#[cfg(test)]
+mod lookups;
+#[cfg(test)]
+mod nested;
+#[cfg(test)]
+mod whole;

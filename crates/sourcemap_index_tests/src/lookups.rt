@@ -1,0 +1,102 @@
+// Positions that are looked up in index maps.
+use crate::checks::check;
+use sourcemap_errors::errors::Result;
+use sourcemap_index::decode::decode_slice;
+use sourcemap_index::family::DecodedMap;
+use sourcemap_regular::token::Token;
+use std::alloc::Global;
+
+// Two maps, the second from the middle of a line on.
+const TWO: &str =
+    r#"{"version":3,"sections":[{"offset":{"line":0,"column":0},"map":{"version":3,"sources":["a.js"],"names":[],"mappings":"AAAA"}},{"offset":{"line":10,"column":4},"map":{"version":3,"sources":["b.js"],"names":[],"mappings":"AAAA"}}]}"#;
+
+// The column counts from the offset on the first line of a section alone.
+const LINES: &str =
+    r#"{"sections":[{"offset":{"line":2,"column":4},"map":{"sources":["a.js"],"mappings":"AAAA,IAAI;IACA"}}]}"#;
+
+// A range token counts from its own place in the map of its section.
+const RANGED: &str =
+    r#"{"sections":[{"offset":{"line":1,"column":3},"map":{"sources":["a.js"],"mappings":"AAAO","rangeMappings":"B"}}]}"#;
+
+// Of sections at one place the first answers there, and the last behind it.
+const EQUAL: &str =
+    r#"{"sections":[{"offset":{"line":1,"column":2},"map":{"sources":["a.js"],"mappings":"AAAA"}},{"offset":{"line":1,"column":2},"map":{"sources":["b.js"],"mappings":"AAAA"}}]}"#;
+
+// A section without a map, and one whose map has no token on its first line.
+const LINKED: &str =
+    r#"{"sections":[{"offset":{"line":0,"column":0},"map":{"sources":["a.js"],"mappings":"AAAA"}},{"offset":{"line":1,"column":0},"url":"u"},{"offset":{"line":2,"column":0},"map":{"sources":["c.js"],"mappings":";AAAA"}}]}"#;
+
+// An index in a section of another.
+const NESTED: &str =
+    r#"{"sections":[{"offset":{"line":2,"column":3},"map":{"sections":[{"offset":{"line":1,"column":0},"map":{"sources":["a.js"],"mappings":"AAAA"}}]}}]}"#;
+
+// Nothing stands before the first section.
+const LATE: &str =
+    r#"{"sections":[{"offset":{"line":5,"column":0},"map":{"sources":["a.js"],"mappings":"AAAA"}}]}"#;
+
+// The later section begins among the tokens of the earlier one.
+const MIXED: &str =
+    r#"{"sections":[{"offset":{"line":0,"column":0},"map":{"sources":["a.js"],"mappings":"AAAA,SAAA"}},{"offset":{"line":0,"column":5},"map":{"sources":["b.js"],"mappings":"AAAA"}}]}"#;
+
+// An index, a line and a column, and what is printed there.
+const PLACES: [(&str, u32, u32, &str); 25] = [
+    (TWO, 0, 0, "a.js:0:0"),
+    (TWO, 10, 3, "a.js:0:0"),
+    (TWO, 10, 4, "b.js:0:0"),
+    (TWO, 10, 9, "b.js:0:0"),
+    (TWO, 11, 0, "b.js:0:0"),
+    (LINES, 2, 3, "none"),
+    (LINES, 2, 7, "a.js:0:0"),
+    (LINES, 2, 8, "a.js:0:4"),
+    (LINES, 3, 3, "a.js:0:4"),
+    (LINES, 3, 4, "a.js:1:4"),
+    (RANGED, 1, 8, "a.js:0:12"),
+    (RANGED, 4, 5, "a.js:0:7"),
+    (EQUAL, 1, 2, "a.js:0:0"),
+    (EQUAL, 1, 3, "b.js:0:0"),
+    (LINKED, 0, 9, "a.js:0:0"),
+    (LINKED, 1, 5, "none"),
+    (LINKED, 2, 7, "none"),
+    (LINKED, 3, 0, "c.js:0:0"),
+    (NESTED, 3, 0, "a.js:0:0"),
+    (NESTED, 2, 9, "none"),
+    (LATE, 4, 9, "none"),
+    (LATE, 5, 0, "a.js:0:0"),
+    (MIXED, 0, 4, "a.js:0:0"),
+    (MIXED, 0, 9, "b.js:0:0"),
+    (r#"{"sections":[]}"#, 0, 0, "none"),
+];
+
+/// The text of a token.
+pub fn token_told(alloc: Global, token: Option<Token<'_>>) -> Result<String> {
+    match token {
+        None => Ok(String::from_str(alloc, "none")?),
+        Some(token) => Ok(format!(in alloc; "{token}")?),
+    }
+}
+
+fn looked_up(alloc: Global, text: &str, line: u32, col: u32) -> Result<String> {
+    let map = decode_slice(alloc, text.as_bytes())?;
+    token_told(alloc, map.lookup_token(line, col))
+}
+
+fn looked_up_by_index(alloc: Global, text: &str, line: u32, col: u32) -> Result<String> {
+    match decode_slice(alloc, text.as_bytes())? {
+        DecodedMap::Index(index) => token_told(alloc, index.lookup_token(line, col)),
+        DecodedMap::Regular(_) => Ok(String::from_str(alloc, "a regular map")?),
+    }
+}
+
+#[test]
+fn positions_are_looked_up_in_the_closest_section(rt: HostRuntime) {
+    let alloc = rt.alloc();
+    for (text, line, col, want) in PLACES.iter() {
+        check(&rt, text, looked_up(alloc, text, *line, *col), want);
+        check(
+            &rt,
+            text,
+            looked_up_by_index(alloc, text, *line, *col),
+            want,
+        );
+    }
+}

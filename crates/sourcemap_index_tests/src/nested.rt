@@ -1,0 +1,69 @@
+// Index maps in one another, made in memory and read from text.
+use crate::checks::{check, fault_told};
+use crate::lookups::token_told;
+use sourcemap_errors::errors::Result;
+use sourcemap_index::decode::decode_slice;
+use sourcemap_index::family::{DecodedMap, SourceMapIndex, SourceMapSection};
+use std::alloc::Global;
+
+const INNERMOST: &str = r#"{"sources":["a.js"],"mappings":"AAAA"}"#;
+
+const OPENED: &str = r#"{"sections":[{"offset":{"line":0,"column":0},"map":"#;
+
+const CLOSED: &str = "}]}";
+
+// An index of one section, with this map.
+fn wrapped(alloc: Global, map: DecodedMap) -> Result<DecodedMap> {
+    let mut sections = Vec::new(alloc);
+    sections.push(SourceMapSection::new(alloc, (0, 0), None, Some(map))?)?;
+    Ok(DecodedMap::Index(SourceMapIndex::new(alloc, None, sections)))
+}
+
+fn nested(alloc: Global, depth: usize) -> Result<DecodedMap> {
+    let mut map = decode_slice(alloc, INNERMOST.as_bytes())?;
+    for _ in 0..depth {
+        map = wrapped(alloc, map)?;
+    }
+    Ok(map)
+}
+
+fn nested_text(alloc: Global, depth: usize) -> Result<String> {
+    let head = OPENED.repeat(alloc, depth)?;
+    let tail = CLOSED.repeat(alloc, depth)?;
+    Ok(format!(in alloc; "{head}{INNERMOST}{tail}")?)
+}
+
+fn looked_up(alloc: Global, map: Result<DecodedMap>) -> Result<String> {
+    match map {
+        Ok(map) => token_told(alloc, map.lookup_token(0, 0)),
+        fault => fault_told(alloc, fault),
+    }
+}
+
+fn read(alloc: Global, depth: usize) -> Result<String> {
+    let text = nested_text(alloc, depth)?;
+    looked_up(alloc, decode_slice(alloc, text.as_bytes()))
+}
+
+// How many indexes there are in one another, and what their text is read as. Each is three levels of
+// the text, and the innermost map two.
+const TEXTS: [(usize, &str); 4] = [
+    (20, "a.js:0:0"),
+    (41, "a.js:0:0"),
+    (42, "bad json: the text is not JSON"),
+    (100, "bad json: the text is not JSON"),
+];
+
+#[test]
+fn indexes_in_one_another_are_looked_up(rt: HostRuntime) {
+    let alloc = rt.alloc();
+    for (depth, want) in TEXTS.iter() {
+        check(
+            &rt,
+            "in memory",
+            looked_up(alloc, nested(alloc, *depth)),
+            "a.js:0:0",
+        );
+        check(&rt, want, read(alloc, *depth), want);
+    }
+}

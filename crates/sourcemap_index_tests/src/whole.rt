@@ -1,0 +1,192 @@
+// Index maps as a whole: made flat, moved down, copied, compared and written.
+use crate::checks::{check, fault_told};
+use crate::decoding::sections_told;
+use serde_json::Value;
+use sourcemap_errors::errors::{Error, Result};
+use sourcemap_index::decode::decode_slice;
+use sourcemap_index::family::{DecodedMap, SourceMapIndex};
+use sourcemap_regular::map::SourceMap;
+use std::alloc::Global;
+
+// Two maps, the second from the middle of a line on.
+const TWO: &str =
+    r#"{"sections":[{"offset":{"line":0,"column":0},"map":{"sources":["a.js"],"mappings":"AAAA"}},{"offset":{"line":10,"column":4},"map":{"sources":["b.js"],"mappings":"AAAA"}}]}"#;
+
+const PAST_THE_END: &str =
+    r#"{"sections":[{"offset":{"line":4294967295,"column":0},"map":{"sources":["a.js"],"mappings":";AAAA"}}]}"#;
+
+const LINKED: &str = r#"{"sections":[{"offset":{"line":1,"column":4},"url":"u"}]}"#;
+
+const NEITHER: &str = r#"{"sections":[{"offset":{"line":1,"column":4}}]}"#;
+
+const NESTED: &str =
+    r#"{"sections":[{"offset":{"line":2,"column":3},"map":{"sections":[{"offset":{"line":0,"column":1},"map":{"sourceRoot":"r","sources":["a.js"],"sourcesContent":["x"],"names":["n"],"mappings":"AAAAA;AAAA","ignoreList":[0]}}]}}],"file":"f"}"#;
+
+const BUNDLE: &str =
+    r#"{"sections":[],"x_facebook_offsets":[5,null],"x_metro_module_paths":["a.js"]}"#;
+
+fn index_of(alloc: Global, text: &str) -> Result<SourceMapIndex> {
+    match decode_slice(alloc, text.as_bytes())? {
+        DecodedMap::Index(index) => Ok(index),
+        DecodedMap::Regular(_) => Err(Error::IncompatibleSourceMap),
+    }
+}
+
+fn map_told(alloc: Global, map: Result<SourceMap>) -> Result<String> {
+    match map {
+        Ok(map) => value_told(alloc, map.into_raw_sourcemap()?.into_value(alloc)),
+        fault => fault_told(alloc, fault),
+    }
+}
+
+fn value_told(alloc: Global, value: Result<Value>) -> Result<String> {
+    match value {
+        Ok(value) => Ok(value.to_string(alloc)?),
+        fault => fault_told(alloc, fault),
+    }
+}
+
+fn flat(alloc: Global, text: &str) -> Result<String> {
+    map_told(alloc, index_of(alloc, text)?.flatten())
+}
+
+// An index, and its flat map or the fault.
+const FLAT: [(&str, &str); 6] = [
+    (
+        TWO,
+        r#"{"mappings":"AAAA;;;;;;;;;;ICAA","names":[],"sources":["a.js","b.js"],"version":3}"#,
+    ),
+    (
+        PAST_THE_END,
+        "cannot flatten the indexed sourcemap: a position passes 4294967295",
+    ),
+    (
+        LINKED,
+        "cannot flatten the indexed sourcemap: Section has an unresolved sourcemap: u",
+    ),
+    (
+        NEITHER,
+        "cannot flatten the indexed sourcemap: Section has an unresolved sourcemap: <unknown url>",
+    ),
+    (
+        NESTED,
+        r#"{"file":"f","ignoreList":[0],"mappings":";;IAAAA;AAAA","names":["n"],"sources":["r/a.js"],"sourcesContent":["x"],"version":3}"#,
+    ),
+    (BUNDLE, r#"{"mappings":"","names":[],"sources":[],"version":3}"#),
+];
+
+#[test]
+fn indexes_are_made_flat(rt: HostRuntime) {
+    let alloc = rt.alloc();
+    for (text, want) in FLAT.iter() {
+        check(&rt, text, flat(alloc, text), want);
+    }
+}
+
+fn moved(alloc: Global, text: &str, rows: u32) -> Result<String> {
+    let mut index = index_of(alloc, text)?;
+    let fits = index.adjust_sections_offset_rows(rows);
+    let told = sections_told(alloc, &index)?;
+    Ok(format!(in alloc; "{fits} {told}")?)
+}
+
+const ROWS: &str =
+    r#"{"sections":[{"offset":{"line":0,"column":0}},{"offset":{"line":10,"column":0}},{"offset":{"line":20,"column":10}},{"offset":{"line":30,"column":40}}]}"#;
+
+const LAST_ROW: &str =
+    r#"{"sections":[{"offset":{"line":0,"column":0}},{"offset":{"line":4294967295,"column":0}}]}"#;
+
+// An index, how many rows it moves down, whether it can, and its sections then.
+const MOVED: [(&str, u32, &str); 3] = [
+    (
+        ROWS,
+        1,
+        "true 1:0 None no map;11:0 None no map;21:10 None no map;31:40 None no map;",
+    ),
+    (
+        LAST_ROW,
+        1,
+        "false 0:0 None no map;4294967295:0 None no map;",
+    ),
+    (
+        LAST_ROW,
+        0,
+        "true 0:0 None no map;4294967295:0 None no map;",
+    ),
+];
+
+#[test]
+fn sections_move_down_all_or_none(rt: HostRuntime) {
+    let alloc = rt.alloc();
+    for (text, rows, want) in MOVED.iter() {
+        check(&rt, text, moved(alloc, text, *rows), want);
+    }
+}
+
+fn written(alloc: Global, text: &str) -> Result<String> {
+    value_told(alloc, decode_slice(alloc, text.as_bytes())?.to_value())
+}
+
+fn written_away(alloc: Global, text: &str) -> Result<String> {
+    let map = decode_slice(alloc, text.as_bytes())?;
+    value_told(alloc, DecodedMap::into_value(map))
+}
+
+fn written_to(alloc: Global, text: &str) -> Result<String> {
+    let map = decode_slice(alloc, text.as_bytes())?;
+    let mut bytes = Vec::new(alloc);
+    map.to_writer(&mut bytes)?;
+    match String::from_utf8(bytes) {
+        Ok(text) => Ok(text),
+        Err(_) => Err(Error::IncompatibleSourceMap),
+    }
+}
+
+// An index, and the text that it is written as.
+const WRITTEN: [(&str, &str); 3] = [
+    (
+        BUNDLE,
+        r#"{"sections":[],"sources":null,"version":3,"x_facebook_offsets":[5,null],"x_metro_module_paths":["a.js"]}"#,
+    ),
+    (
+        LINKED,
+        r#"{"sections":[{"map":null,"offset":{"column":4,"line":1},"url":"u"}],"sources":null,"version":3}"#,
+    ),
+    (
+        r#"{"sections":[{"offset":{"line":0,"column":1},"map":{"mappings":"A"}}],"file":"f"}"#,
+        r#"{"file":"f","sections":[{"map":{"mappings":"A","names":[],"sources":[],"version":3},"offset":{"column":1,"line":0},"url":null}],"sources":null,"version":3}"#,
+    ),
+];
+
+#[test]
+fn indexes_are_written(rt: HostRuntime) {
+    let alloc = rt.alloc();
+    for (text, want) in WRITTEN.iter() {
+        check(&rt, text, written(alloc, text), want);
+        check(&rt, text, written_away(alloc, text), want);
+        check(&rt, text, written_to(alloc, text), want);
+    }
+}
+
+fn compared(alloc: Global, text: &str, other: &str) -> Result<String> {
+    let map = decode_slice(alloc, text.as_bytes())?;
+    let copy = map.clone()?;
+    let other = decode_slice(alloc, other.as_bytes())?;
+    Ok(format!(in alloc; "{} {}", copy == map, copy == other)?)
+}
+
+// Whether a copy of an index is equal to it, and to another map.
+const COMPARED: [(&str, &str, &str); 4] = [
+    (NESTED, NESTED, "true true"),
+    (LINKED, NEITHER, "true false"),
+    (BUNDLE, r#"{"sections":[]}"#, "true false"),
+    (r#"{"sections":[]}"#, r#"{"mappings":""}"#, "true false"),
+];
+
+#[test]
+fn copies_are_equal(rt: HostRuntime) {
+    let alloc = rt.alloc();
+    for (text, other, want) in COMPARED.iter() {
+        check(&rt, text, compared(alloc, text, other), want);
+    }
+}

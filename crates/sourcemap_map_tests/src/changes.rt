@@ -1,0 +1,203 @@
+// Maps that are changed, step by step.
+use crate::checks::check;
+use crate::samples::{mixed, written};
+use sourcemap::errors::{Error, Result};
+use sourcemap::types::SourceMap;
+use std::alloc::Global;
+
+// What is changed in a map.
+#[derive(Clone, Copy)]
+enum Change<'a> {
+    File(&'a str),
+    Root(&'a str),
+    Source(u32, &'a str),
+    Contents(u32, &'a str),
+    Ignore(u32),
+    NoDebugId,
+    NoNames,
+}
+
+const CHANGES: [Change<'static>; 10] = [
+    Change::File("out.js"),
+    Change::NoDebugId,
+    Change::Root("root"),
+    Change::Root("root/"),
+    Change::Source(1, "b.js"),
+    Change::Contents(2, "text"),
+    Change::Ignore(3),
+    Change::Ignore(1),
+    Change::Ignore(3),
+    Change::NoNames,
+];
+
+// Which of these changes the map: all but taking away the debug id that it lacks, and the last id
+// to be ignored, which is ignored already.
+const MARKS: &str = "+=++++++=+";
+
+fn make(map: &mut SourceMap, change: &Change<'_>) -> Result<()> {
+    match *change {
+        Change::File(file) => map.set_file(Some(file)),
+        Change::Root(root) => map.set_source_root(Some(root)),
+        Change::Source(id, text) => set_source(map, id, text),
+        Change::Contents(id, text) => set_contents(map, id, text),
+        Change::Ignore(id) => map.add_to_ignore_list(id),
+        Change::NoDebugId => {
+            map.set_debug_id(None);
+            Ok(())
+        }
+        Change::NoNames => {
+            map.remove_names();
+            Ok(())
+        }
+    }
+}
+
+fn set_source(map: &mut SourceMap, id: u32, text: &str) -> Result<()> {
+    if id < map.get_source_count() {
+        map.set_source(id, text)
+    } else {
+        Err(Error::BadSourceReference(id))
+    }
+}
+
+fn set_contents(map: &mut SourceMap, id: u32, text: &str) -> Result<()> {
+    if id < map.get_source_count() {
+        map.set_source_contents(id, Some(text))
+    } else {
+        Err(Error::BadSourceReference(id))
+    }
+}
+
+// Makes a change, and says whether it changed the map. Where memory runs out, the map is to be as
+// before, and the change is made again.
+fn mark_beside(map: &mut SourceMap, before: &SourceMap, change: &Change<'_>) -> Result<char> {
+    let mut outcome = make(map, change);
+    if matches!(outcome, Err(Error::OutOfMemory)) {
+        if *map != *before {
+            return Ok('!');
+        }
+        outcome = make(map, change);
+    }
+    outcome?;
+    Ok(if *map == *before { '=' } else { '+' })
+}
+
+fn mark(map: &mut SourceMap, change: &Change<'_>) -> Result<char> {
+    let before = map.clone()?;
+    mark_beside(map, &before, change)
+}
+
+fn marks(alloc: Global, map: &mut SourceMap, changes: &[Change<'_>]) -> Result<String> {
+    let mut marks = String::new(alloc);
+    for change in changes {
+        marks.push(mark(map, change)?)?;
+    }
+    Ok(marks)
+}
+
+fn marked(alloc: Global, map: Result<SourceMap>) -> Result<String> {
+    let mut map = map?;
+    marks(alloc, &mut map, &CHANGES)
+}
+
+fn changed(map: Result<SourceMap>, changes: &[Change<'_>]) -> Result<SourceMap> {
+    let mut map = map?;
+    make_all(&mut map, changes)?;
+    Ok(map)
+}
+
+fn make_all(map: &mut SourceMap, changes: &[Change<'_>]) -> Result<()> {
+    for change in changes {
+        make(map, change)?;
+    }
+    Ok(())
+}
+
+#[test]
+fn changes_are_made_whole(rt: HostRuntime) {
+    let alloc = rt.alloc();
+    check(&rt, "marks", marked(alloc, mixed(alloc)), MARKS);
+    let want =
+        r#"{"file":"out.js","ignoreList":[1,3],"mappings":"EAAA,AIAA,GJCE;I","names":[],"rangeMappings":"E;","sourceRoot":"root/","sources":["a.js","b.js","http:a","https:a","a.js"],"sourcesContent":[null,null,"text",null,null],"version":3}"#;
+    check(
+        &rt,
+        "written",
+        written(alloc, changed(mixed(alloc), &CHANGES)),
+        want,
+    );
+}
+
+fn push_sources(told: &mut String, map: &SourceMap) -> Result<()> {
+    for source in map.sources() {
+        write!(told, "{source} ")?;
+    }
+    Ok(())
+}
+
+fn push_contents(told: &mut String, map: &SourceMap) -> Result<()> {
+    for text in map.source_contents() {
+        write!(told, "{} ", text.unwrap_or("-"))?;
+    }
+    Ok(())
+}
+
+fn push_ignored(told: &mut String, map: &SourceMap) -> Result<()> {
+    for id in map.ignore_list() {
+        write!(told, "{id} ")?;
+    }
+    Ok(())
+}
+
+fn push_names(told: &mut String, map: &SourceMap) -> Result<()> {
+    for name in map.names() {
+        write!(told, "{name} ")?;
+    }
+    Ok(())
+}
+
+// Sources as they are shown, contents, ignored ids, names.
+fn push_lists(told: &mut String, map: &SourceMap) -> Result<()> {
+    push_sources(told, map)?;
+    told.push_str("| ")?;
+    push_contents(told, map)?;
+    told.push_str("| ")?;
+    push_ignored(told, map)?;
+    told.push_str("| ")?;
+    push_names(told, map)
+}
+
+fn lists_told(alloc: Global, map: Result<SourceMap>) -> Result<String> {
+    let map = map?;
+    let mut told = String::new(alloc);
+    push_lists(&mut told, &map)?;
+    Ok(told)
+}
+
+// A root, and the lists of the map behind it.
+const SHOWN: [(&str, &str); 3] = [
+    (
+        "root",
+        "root/a.js /a.js http:a https:a root/a.js | - - - - - | | n ",
+    ),
+    (
+        "root/",
+        "root/a.js /a.js http:a https:a root/a.js | - - - - - | | n ",
+    ),
+    ("", "a.js /a.js http:a https:a a.js | - - - - - | | n "),
+];
+
+#[test]
+fn sources_are_shown_behind_the_root(rt: HostRuntime) {
+    let alloc = rt.alloc();
+    for (root, want) in SHOWN.iter() {
+        let map = changed(mixed(alloc), &[Change::Root(root)]);
+        check(&rt, want, lists_told(alloc, map), want);
+    }
+}
+
+#[test]
+fn lists_hold_what_was_changed(rt: HostRuntime) {
+    let want = "root/a.js root/b.js http:a https:a root/a.js | - - text - - | 1 3 | ";
+    let map = changed(mixed(rt.alloc()), &CHANGES);
+    check(&rt, want, lists_told(rt.alloc(), map), want);
+}

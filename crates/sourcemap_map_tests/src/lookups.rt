@@ -1,0 +1,93 @@
+// Maps of tokens that are looked up, written as records, and looked up as they are read back.
+use crate::checks::check;
+use crate::samples::{bare, ranged, readme, written};
+use sourcemap::decoder::decode_regular;
+use sourcemap::encoder::Encodable;
+use sourcemap::errors::Result;
+use sourcemap::types::{SourceMap, Token};
+use std::alloc::Global;
+
+// A place, and what is printed there.
+type Place = (u32, u32, &'static str);
+
+const README: [Place; 6] = [
+    (0, 0, "coolstuff.js:0:0"),
+    (0, 5, "coolstuff.js:0:4 name=x"),
+    (0, 18, "coolstuff.js:2:2 name=alert"),
+    (0, 20, "coolstuff.js:2:2 name=alert"),
+    (1, 0, "coolstuff.js:2:8"),
+    (u32::MAX, u32::MAX, "coolstuff.js:2:8"),
+];
+
+// A range token adds the distance of columns on its own line alone.
+const RANGED: [Place; 3] = [
+    (0, 4, "coolstuff.js:0:0"),
+    (0, 9, "coolstuff.js:0:9"),
+    (3, 9, "coolstuff.js:0:5"),
+];
+
+fn token_told(alloc: Global, token: Option<Token<'_>>) -> Result<String> {
+    match token {
+        None => Ok(String::from_str(alloc, "none")?),
+        Some(token) => Ok(format!(in alloc; "{token}")?),
+    }
+}
+
+fn looked_up(alloc: Global, map: Result<SourceMap>, line: u32, col: u32) -> Result<String> {
+    let map = map?;
+    token_told(alloc, map.lookup_token(line, col))
+}
+
+fn read_back(alloc: Global, map: Result<SourceMap>) -> Result<SourceMap> {
+    decode_regular(alloc, map?.as_raw_sourcemap()?)
+}
+
+#[test]
+fn tokens_out_of_order_are_looked_up(rt: HostRuntime) {
+    let alloc = rt.alloc();
+    for (line, col, want) in README.iter() {
+        check(
+            &rt,
+            want,
+            looked_up(alloc, readme(alloc), *line, *col),
+            want,
+        );
+        let back = read_back(alloc, readme(alloc));
+        check(&rt, want, looked_up(alloc, back, *line, *col), want);
+    }
+}
+
+#[test]
+fn ranges_reach_along_their_line(rt: HostRuntime) {
+    let alloc = rt.alloc();
+    for (line, col, want) in RANGED.iter() {
+        check(
+            &rt,
+            want,
+            looked_up(alloc, ranged(alloc), *line, *col),
+            want,
+        );
+        let back = read_back(alloc, ranged(alloc));
+        check(&rt, want, looked_up(alloc, back, *line, *col), want);
+    }
+}
+
+#[test]
+fn tokens_are_written_in_order(rt: HostRuntime) {
+    let alloc = rt.alloc();
+    let want =
+        r#"{"file":"f","mappings":"AAAA,GAAIA,GAAI,EACR,IAAIA,GAAK,EAAG,CACVC,MAAM","names":["x","alert"],"sources":["coolstuff.js"],"version":3}"#;
+    check(&rt, "readme", written(alloc, readme(alloc)), want);
+    let want =
+        r#"{"file":"f","mappings":"AAAA,KAAK","names":[],"rangeMappings":"C","sources":["coolstuff.js"],"version":3}"#;
+    check(&rt, "ranged", written(alloc, ranged(alloc)), want);
+    let want =
+        r#"{"file":"f","mappings":"A;A","names":[],"rangeMappings":";B","sources":[],"version":3}"#;
+    check(&rt, "bare", written(alloc, bare(alloc)), want);
+    check(
+        &rt,
+        "bare",
+        written(alloc, read_back(alloc, bare(alloc))),
+        want,
+    );
+}

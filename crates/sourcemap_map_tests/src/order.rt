@@ -1,0 +1,105 @@
+// Tokens in their order: compared, sought and printed.
+use crate::checks::check;
+use crate::samples::mixed;
+use sourcemap::errors::Result;
+use sourcemap::types::{SourceMap, Token, TokenIter};
+use std::alloc::Global;
+
+// Whether the first two are equal, but not by their numbers, and the second is before the third.
+fn compared(map: &SourceMap) -> Option<(bool, bool, bool)> {
+    let first = map.get_token(0)?;
+    let second = map.get_token(1)?;
+    let third = map.get_token(2)?;
+    let is_same_raw = first.get_raw_token() == second.get_raw_token();
+    Some((first == second, is_same_raw, second < third))
+}
+
+fn compared_told(alloc: Global, map: Result<SourceMap>) -> Result<String> {
+    let map = map?;
+    Ok(format!(in alloc; "{:?}", compared(&map))?)
+}
+
+#[test]
+fn tokens_are_ordered_by_their_answers(rt: HostRuntime) {
+    let answer = compared_told(rt.alloc(), mixed(rt.alloc()));
+    check(&rt, "order", answer, "Some((true, false, true))");
+}
+
+// A place, whether seeking it finds a token, and the place and source of the token behind that.
+const SOUGHT: [(u32, u32, &str); 5] = [
+    (0, 1, "false (0, 2) 0"),
+    (0, 2, "true (0, 2) 4"),
+    (0, 4, "true (0, 5) 0"),
+    (1, 3, "true (1, 4) 4294967295"),
+    (9, 9, "true none"),
+];
+
+fn next_told(alloc: Global, found: bool, mut left: TokenIter<'_>) -> Result<String> {
+    match left.next() {
+        None => Ok(format!(in alloc; "{found} none")?),
+        Some(token) => Ok(format!(in alloc;
+            "{found} {:?} {}",
+            token.get_dst(),
+            token.get_src_id()
+        )?),
+    }
+}
+
+fn sought(alloc: Global, map: Result<SourceMap>, line: u32, col: u32) -> Result<String> {
+    let map = map?;
+    let mut left = map.tokens();
+    let found = left.seek(line, col);
+    next_told(alloc, found, left)
+}
+
+#[test]
+fn seeking_goes_on_behind_the_closest_token(rt: HostRuntime) {
+    for (line, col, want) in SOUGHT.iter() {
+        check(
+            &rt,
+            want,
+            sought(rt.alloc(), mixed(rt.alloc()), *line, *col),
+            want,
+        );
+    }
+}
+
+// A place, and its token printed in short, in full and for whoever debugs.
+const PRINTED: [(u32, u32, &str); 4] = [
+    (0, 1, "none"),
+    (0, 2, "a.js:0:0|a.js:0:0 (0:2)|<Token a.js:0:0 (0:2)>"),
+    (
+        0,
+        7,
+        "a.js:1:4 name=n|a.js:1:4 name=n (0:5) (range)|<Token a.js:1:4 name=n (0:5) (range)>",
+    ),
+    (
+        2,
+        0,
+        "<unknown>:4294967295:4294967295|<unknown>:4294967295:4294967295 (1:4)|<Token <unknown>:4294967295:4294967295 (1:4)>",
+    ),
+];
+
+fn printed(alloc: Global, token: Option<Token<'_>>) -> Result<String> {
+    match token {
+        None => Ok(String::from_str(alloc, "none")?),
+        Some(token) => Ok(format!(in alloc; "{token}|{token:#}|{token:?}")?),
+    }
+}
+
+fn printed_at(alloc: Global, map: Result<SourceMap>, line: u32, col: u32) -> Result<String> {
+    let map = map?;
+    printed(alloc, map.lookup_token(line, col))
+}
+
+#[test]
+fn tokens_are_printed(rt: HostRuntime) {
+    for (line, col, want) in PRINTED.iter() {
+        check(
+            &rt,
+            want,
+            printed_at(rt.alloc(), mixed(rt.alloc()), *line, *col),
+            want,
+        );
+    }
+}

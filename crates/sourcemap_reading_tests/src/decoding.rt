@@ -1,0 +1,212 @@
+// Bytes and data URLs that are read as maps, and what is refused.
+use crate::checks::check;
+use sourcemap::errors::Result;
+use sourcemap::jsontypes::DebugId;
+use sourcemap::types::Token;
+use sourcemap::{DecodedMap, Error, SourceMap, decode, decode_data_url, decode_slice};
+use std::alloc::Global;
+
+// The map of the crate's documentation.
+const README: &str =
+    r#"{"version":3,"sources":["coolstuff.js"],"names":["x","alert"],"mappings":"AAAA,GAAIA,GAAI,EACR,IAAIA,GAAK,EAAG,CACVC,MAAM"}"#;
+
+// A text, and how many tokens its regular map has, or its fault.
+const REGULAR: [(&str, &str); 7] = [
+    (README, "9"),
+    (")]}'junk\r\n{\"mappings\":\"A\"}", "1"),
+    (
+        r#"{"sections":[],"mappings":"!"}"#,
+        "encountered incompatible sourcemap format",
+    ),
+    (
+        r#"{"x_facebook_sources":[],"mappings":"!"}"#,
+        "encountered incompatible sourcemap format",
+    ),
+    (r#"{"mappings":"!"}"#, "invalid base64 character: !"),
+    ("{", "bad json: the text is not JSON"),
+    ("[]", "bad json: a field has the wrong type"),
+];
+
+fn fault_told<T: Drop>(alloc: Global, answer: Result<T>) -> Result<String> {
+    match answer {
+        Ok(_) => Ok(String::from_str(alloc, "no fault")?),
+        Err(Error::OutOfMemory) => Err(Error::OutOfMemory),
+        Err(fault) => Ok(format!(in alloc; "{fault}")?),
+    }
+}
+
+fn count(alloc: Global, answer: Result<SourceMap>) -> Result<String> {
+    match answer {
+        Ok(map) => Ok(format!(in alloc; "{}", map.get_token_count())?),
+        fault => fault_told(alloc, fault),
+    }
+}
+
+fn is_read_as(alloc: Global, map: &SourceMap, text: &str) -> Result<bool> {
+    let other = SourceMap::from_reader(alloc, text.as_bytes())?;
+    Ok(*map == other)
+}
+
+fn are_read_alike(alloc: Global, text: &str) -> Result<bool> {
+    let map = SourceMap::from_slice(alloc, text.as_bytes())?;
+    is_read_as(alloc, &map, text)
+}
+
+#[test]
+fn regular_maps_are_read_alone(rt: HostRuntime) {
+    for (text, want) in REGULAR.iter() {
+        let bytes = text.as_bytes();
+        check(
+            &rt,
+            text,
+            count(rt.alloc(), SourceMap::from_slice(rt.alloc(), bytes)),
+            want,
+        );
+        check(
+            &rt,
+            text,
+            count(rt.alloc(), SourceMap::from_reader(rt.alloc(), bytes)),
+            want,
+        );
+    }
+    assert!(rt; matches!(are_read_alike(rt.alloc(), README), Ok(true)));
+}
+
+// A text, and what its map prints for the place 0:0, or its fault.
+const ANY_KIND: [(&str, &str); 5] = [
+    (README, "coolstuff.js:0:0"),
+    (
+        ")]}'\n{\"mappings\":\"A\"}",
+        "<unknown>:4294967295:4294967295",
+    ),
+    (")]}'\r{}", "invalid data"),
+    ("", "bad json: the text is not JSON"),
+    ("[]", "bad json: a field has the wrong type"),
+];
+
+fn token_told(alloc: Global, token: Option<Token<'_>>) -> Result<String> {
+    match token {
+        None => Ok(String::from_str(alloc, "none")?),
+        Some(token) => Ok(format!(in alloc; "{token}")?),
+    }
+}
+
+fn looked_up(alloc: Global, answer: Result<DecodedMap>) -> Result<String> {
+    match answer {
+        Ok(map) => token_told(alloc, map.lookup_token(0, 0)),
+        fault => fault_told(alloc, fault),
+    }
+}
+
+#[test]
+fn maps_of_any_kind_are_read(rt: HostRuntime) {
+    for (text, want) in ANY_KIND.iter() {
+        let bytes = text.as_bytes();
+        check(
+            &rt,
+            text,
+            looked_up(rt.alloc(), decode_slice(rt.alloc(), bytes)),
+            want,
+        );
+        check(
+            &rt,
+            text,
+            looked_up(rt.alloc(), decode(rt.alloc(), bytes)),
+            want,
+        );
+    }
+}
+
+// Whether a map equals its copy, and whether it differs from it once its debug id is away.
+fn copied(map: &mut DecodedMap) -> Result<(bool, bool)> {
+    let copy = map.clone()?;
+    let is_same = copy == *map;
+    map.set_debug_id(None);
+    Ok((is_same, copy != *map && map.debug_id().is_none()))
+}
+
+fn copies(alloc: Global, text: &str) -> Result<(bool, bool)> {
+    let mut map = DecodedMap::from_reader(alloc, text.as_bytes())?;
+    copied(&mut map)
+}
+
+#[test]
+fn maps_of_any_kind_are_copied(rt: HostRuntime) {
+    let text = r#"{"debugId":"01234567-89ab-cdef-0123-456789abcdef","mappings":"A"}"#;
+    assert!(rt; matches!(copies(rt.alloc(), text), Ok((true, true))));
+}
+
+// A text, and the debug id of its map.
+const DEBUG_IDS: [(&str, &str); 3] = [
+    (r#"{"mappings":""}"#, "none"),
+    (
+        r#"{"debug_id":"11111111-1111-1111-1111-111111111111"}"#,
+        "11111111-1111-1111-1111-111111111111",
+    ),
+    (
+        r#"{"debug_id":"11111111-1111-1111-1111-111111111111","debugId":"00000000-0000-0000-0000-000000000000","mappings":""}"#,
+        "00000000-0000-0000-0000-000000000000",
+    ),
+];
+
+fn id_told(alloc: Global, id: Option<DebugId>) -> Result<String> {
+    match id {
+        None => Ok(String::from_str(alloc, "none")?),
+        Some(id) => Ok(format!(in alloc; "{id}")?),
+    }
+}
+
+fn debug_id(alloc: Global, text: &str) -> Result<String> {
+    let map = decode_slice(alloc, text.as_bytes())?;
+    id_told(alloc, map.debug_id())
+}
+
+#[test]
+fn of_two_debug_ids_the_newer_key_wins(rt: HostRuntime) {
+    for (text, want) in DEBUG_IDS.iter() {
+        check(&rt, text, debug_id(rt.alloc(), text), want);
+    }
+}
+
+const WRITTEN: &str = r#"{"mappings":"A","names":[],"sources":[],"version":3}"#;
+
+// A data URL, and what its map is written as, or its fault.
+const URLS: [(&str, &str); 3] = [
+    (
+        "data:application/json;base64,eyJtYXBwaW5ncyI6IkEifQ==",
+        WRITTEN,
+    ),
+    (
+        "data:application/json;charset=utf-8;base64,eyJtYXBwaW5ncyI6IkEiLCJuYW1lcyI6W10sInNvdXJjZXMiOltdLCJ2ZXJzaW9uIjozfQ==",
+        WRITTEN,
+    ),
+    (
+        "data:application/json;charset=latin1;base64,e30=",
+        "the provided data URL is invalid",
+    ),
+];
+
+fn written(alloc: Global, answer: Result<DecodedMap>) -> Result<String> {
+    match answer {
+        Ok(map) => Ok(DecodedMap::into_value(map)?.to_string(alloc)?),
+        fault => fault_told(alloc, fault),
+    }
+}
+
+fn url_of(alloc: Global, text: &str) -> Result<String> {
+    SourceMap::from_slice(alloc, text.as_bytes())?.to_data_url()
+}
+
+#[test]
+fn data_urls_are_read_and_written(rt: HostRuntime) {
+    for (url, want) in URLS.iter() {
+        check(
+            &rt,
+            url,
+            written(rt.alloc(), decode_data_url(rt.alloc(), url)),
+            want,
+        );
+    }
+    let (url, text) = URLS[1];
+    check(&rt, text, url_of(rt.alloc(), text), url);
+}

@@ -1,0 +1,103 @@
+// Records and sections that are compared field by field.
+use crate::checks::check;
+use serde_json::Value;
+use sourcemap::errors::Result;
+use sourcemap::jsontypes::{RawSection, RawSourceMap};
+use std::alloc::Global;
+
+// Each differs from the empty record in one field.
+const ONE_FIELD: [&str; 14] = [
+    r#"{"version":3}"#,
+    r#"{"file":"a"}"#,
+    r#"{"sources":[]}"#,
+    r#"{"sourceRoot":""}"#,
+    r#"{"sourcesContent":[null]}"#,
+    r#"{"sections":[]}"#,
+    r#"{"names":[1]}"#,
+    r#"{"rangeMappings":""}"#,
+    r#"{"mappings":""}"#,
+    r#"{"ignoreList":[]}"#,
+    r#"{"x_facebook_offsets":[]}"#,
+    r#"{"x_metro_module_paths":[]}"#,
+    r#"{"x_facebook_sources":[]}"#,
+    r#"{"debugId":"00000000-0000-0000-0000-000000000000"}"#,
+];
+
+fn record(alloc: Global, text: &str) -> Result<RawSourceMap> {
+    RawSourceMap::from_owned(alloc, Value::from_str(alloc, text)?)
+}
+
+// What `==` and `!=` say together.
+fn verdict(is_equal: bool, is_different: bool) -> char {
+    match (is_equal, is_different) {
+        (true, false) => '=',
+        (false, true) => '!',
+        _ => '?',
+    }
+}
+
+fn compared_with(alloc: Global, one: &RawSourceMap, text: &str) -> Result<char> {
+    let other = record(alloc, text)?;
+    Ok(verdict(*one == other, *one != other))
+}
+
+fn compared(alloc: Global, one: &str, other: &str) -> Result<char> {
+    let one = record(alloc, one)?;
+    compared_with(alloc, &one, other)
+}
+
+#[test]
+fn records_that_differ_in_a_field_are_not_equal(rt: HostRuntime) {
+    for text in ONE_FIELD.iter() {
+        assert!(rt;
+            matches!(compared(rt.alloc(), "{}", text), Ok('!')),
+            "{text}"
+        );
+        assert!(rt;
+            matches!(compared(rt.alloc(), text, text), Ok('=')),
+            "{text}"
+        );
+    }
+}
+
+// The first two are equal, and each of the others differs from them in one field.
+const SECTIONS: &str = r#"{"sections":[
+    {"offset":{"line":1,"column":2},"url":"u","map":{"mappings":"A"}},
+    {"offset":{"line":1,"column":2},"url":"u","map":{"mappings":"A"}},
+    {"offset":{"line":0,"column":2},"url":"u","map":{"mappings":"A"}},
+    {"offset":{"line":1,"column":3},"url":"u","map":{"mappings":"A"}},
+    {"offset":{"line":1,"column":2},"map":{"mappings":"A"}},
+    {"offset":{"line":1,"column":2},"url":"u"},
+    {"offset":{"line":1,"column":2},"url":"u","map":{"mappings":"C"}}
+]}"#;
+
+fn sections_in(alloc: Global, text: &str) -> Result<Vec<RawSection>> {
+    let sections = record(alloc, text)?.sections;
+    Ok(sections.unwrap_or(Vec::new(alloc)))
+}
+
+// What each section says of the first.
+fn compared_with_first(alloc: Global, sections: &[RawSection]) -> Result<String> {
+    let mut told = String::new(alloc);
+    if let Some(first) = sections.first() {
+        for section in sections {
+            told.push(verdict(*section == *first, *section != *first))?;
+        }
+    }
+    Ok(told)
+}
+
+fn sections_compared(alloc: Global, text: &str) -> Result<String> {
+    let sections = sections_in(alloc, text)?;
+    compared_with_first(alloc, sections.as_slice())
+}
+
+#[test]
+fn sections_that_differ_in_a_field_are_not_equal(rt: HostRuntime) {
+    check(
+        &rt,
+        "sections",
+        sections_compared(rt.alloc(), SECTIONS),
+        "==!!!!!",
+    );
+}

@@ -1,0 +1,11 @@
+pub mod AnswerLemmas
+pub mod ApartLemmas
+pub mod ClosestLemmas
+pub mod DecodeLemmas
+pub mod EncodeLemmas
+pub mod EqualityLemmas
+pub mod FlatLemmas
+pub mod MapTreeLemmas
+pub mod PositionLemmas
+pub mod SortLemmas
+pub mod WellFormedLemmas

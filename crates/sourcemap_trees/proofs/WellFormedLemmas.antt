@@ -1,0 +1,85 @@
+-- What a record stands for is well-formed, and well-formed maps are in order.
+use Rattle.std.proofs.Common.{◌≡◌, refl, sym, ap, subst, ◌∙◌, ℕ, ◌+◌, ◌≤◌, List, [], ◌∷◌, length, Bool, true, false, Some, None, nat_lt, Result, Ok, Err, inl, inr, arith}
+use Rattle.std.specs.Bool.{MatchBool}
+use Rattle.std.specs.List.{AllByRecursion}
+use Rattle.std.proofs.lemmas.Bool.Decides.{nat_tests}
+use Rattle.std.proofs.lemmas.List.{length-map}
+use Rattle.sourcemap_conversions.specs.FromRecord.{listed, name_read, source_read}
+use Rattle.sourcemap_errors.specs.declared.errors.Error.{Error}
+use Rattle.sourcemap_errors.specs.declared.errors.Error.TheVariants.{IncompatibleSourceMap}
+use Rattle.sourcemap_lists.proofs.SortLemmas.{All-sorted_by, length-sorted_by, sorted-sorted_by}
+use Rattle.sourcemap_lists.proofs.TokensLemmas.{position_cmp_total}
+use Rattle.sourcemap_mappings.proofs.ReadAnswers.{AllWithin-sorted}
+use Rattle.sourcemap_mappings.specs.Read.{page_tokens}
+use Rattle.sourcemap_records.specs.Jsontypes.{Fields, Tree, plain, indexed, Sections, no_more, bare, mapped}
+use Rattle.sourcemap_regular.specs.Decode.{RecordDecodes, RegularDecodes, is_regular}
+use Rattle.sourcemap_regular.specs.Map.{MapValue, IsWellFormed as IsWellFormedRegular}
+use Rattle.sourcemap_trees.specs.Decode.{Then, TreeDecodes, SectionsDecode, count, by_offset, index_of}
+use Rattle.sourcemap_trees.specs.MapTree.{MapTree, regular, MapSection, section_offset, section_list, sections_from}
+use Rattle.sourcemap_trees.specs.WellFormed.{IsInOrder, IsWellFormed, AreWellFormedSections}
+use Rattle.sourcemap_trees.proofs.MapTreeLemmas.{InSection, each_section, each_level-weaker, section_list-from}
+
+pub well_formed_in_order : (t : MapTree) → IsWellFormed t → IsInOrder t
+well_formed_in_order t h = each_level-weaker (λ m h. tt) (λ ss h. h.1) t h
+
+record_well : (r : Fields) (m : MapValue) → RecordDecodes r (Ok m) → IsWellFormedRegular m
+record_well r m (room, (page, reads, is), same) =
+    let tokens = AllWithin-sorted (listed r.mappings) (listed r.range_mappings) (record { sources = length (listed r.sources); names = length (listed r.names) })
+    (page_tokens 0 [] page) page reads refl room.names in
+    let sources : length m.sources ≡ length (listed r.sources) = ap (λ (m : MapValue). length m.sources) same ∙ length-map (listed r.sources) source_read in
+    let names : length m.names ≡ length (listed r.names) = ap (λ (m : MapValue). length m.names) same ∙ length-map (listed r.names) name_read in
+    rw (sources, names, is) tokens
+
+regular_well : (r : Fields) (m : MapValue) → RegularDecodes (plain r) (Ok m) → IsWellFormedRegular m
+regular_well r m = by_case (is_regular (plain r))
+  where
+    by_case : (b : Bool) → MatchBool b (RecordDecodes r (Ok m)) (Ok m ≡ Err IncompatibleSourceMap) → IsWellFormedRegular m
+    by_case true h = record_well r m h
+    by_case false h = cc
+
+-- what is known of sections that are read
+abbrev AreWell : ℕ → List MapSection → Type 0
+AreWell many ss = (length ss ≡ many) × AllByRecursion (InSection IsWellFormedRegular AreWellFormedSections) ss
+
+index_well : (fields : Fields) (many : ℕ) (ss : List MapSection) → many ≤ 4294967295 → AreWell many ss → IsWellFormed (index_of fields ss)
+index_well fields many ss few well =
+    let sorted : section_list (sections_from (by_offset ss)) ≡ by_offset ss = section_list-from (by_offset ss) in
+    let as_many : length (by_offset ss) ≡ length ss = length-sorted_by section_offset position_cmp_total ss in (
+      (rw sorted (omega (arith, as_many, well.0)), rw sorted (sorted-sorted_by section_offset position_cmp_total ss)),
+      each_section IsWellFormedRegular AreWellFormedSections (by_offset ss)
+          (All-sorted_by section_offset position_cmp_total (InSection IsWellFormedRegular AreWellFormedSections) ss well.1),
+    )
+
+pub not_above : (n : ℕ) → nat_lt 4294967295 n ≡ false → n ≤ 4294967295
+not_above n e = grind (arith, nat_tests)
+
+few_well : (fields : Fields) (many : ℕ) (Sections : Result (List MapSection) Error → Type 0) → ((ss : List MapSection) → Sections (Ok ss) → AreWell many ss)
+    → (b : Bool) → nat_lt 4294967295 many ≡ b → (t : MapTree)
+    → MatchBool b (Ok t ≡ Err IncompatibleSourceMap) (Then Sections (λ ss a. a ≡ Ok (index_of fields ss)) (Ok t)) → IsWellFormed t
+few_well fields many Sections each true e t h = cc
+few_well fields many Sections each false e t (inl (ss, f, n)) =
+    let same : t ≡ index_of fields ss = cc in
+    subst IsWellFormed (sym same) (index_well fields many ss (not_above many e) (each ss f))
+few_well fields many Sections each false e t (inr h) = absurd h
+
+mutual
+  pub decoded_well : (r : Tree) (t : MapTree) → TreeDecodes r (Ok t) → IsWellFormed t
+  decoded_well (plain fields) t (inl (m, f, n)) = let same : t ≡ regular m = cc in subst IsWellFormed (sym same) (regular_well fields m f)
+  decoded_well (plain fields) t (inr h) = absurd h
+  decoded_well (indexed fields sections) t h =
+      few_well fields (count sections) (λ a. SectionsDecode sections a) (λ ss f. sections_well sections ss f) (nat_lt 4294967295 (count sections)) refl t h
+
+  sections_well : (ss : Sections) (out : List MapSection) → SectionsDecode ss (Ok out) → AreWell (count ss) out
+  sections_well no_more out h = let same : out ≡ [] = cc in subst (AreWell 0) (sym same) (refl, tt)
+  sections_well (bare place rest) out (inl (ss, f, n)) =
+      let same : out ≡ record { place = place; map = None } ∷ ss = cc in
+      let well = sections_well rest ss f in
+      subst (AreWell (1 + count rest)) (sym same) (omega (arith, well.0), (tt, well.1))
+  sections_well (bare place rest) out (inr h) = absurd h
+  sections_well (mapped place t rest) out (inl (m, f, inl (ss, g, n))) =
+      let same : out ≡ record { place = place; map = Some m } ∷ ss = cc in
+      let here = decoded_well t m f in
+      let well = sections_well rest ss g in
+      subst (AreWell (1 + count rest)) (sym same) (omega (arith, well.0), (here, well.1))
+  sections_well (mapped place t rest) out (inl (m, f, inr h)) = absurd h
+  sections_well (mapped place t rest) out (inr h) = absurd h

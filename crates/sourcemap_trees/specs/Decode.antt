@@ -1,0 +1,54 @@
+-- The map of any kind that a record stands for.
+use Rattle.std.specs.Prelude.{◌≡◌, ◌⊎◌, ℕ, ◌+◌, List, [], ◌∷◌, Some, None, option_map, nat_lt, Result, Ok, Err, IsErrAnd}
+use Rattle.std.specs.Bool.{MatchBool}
+use Rattle.sourcemap_errors.specs.declared.errors.Error.{Error}
+use Rattle.sourcemap_errors.specs.declared.errors.Error.TheVariants.{IncompatibleSourceMap}
+use Rattle.sourcemap_lists.specs.Tokens.{sorted_by, position_cmp}
+use Rattle.sourcemap_records.specs.Jsontypes.{Fields, Tree, plain, indexed, Sections, no_more, bare, mapped}
+use Rattle.sourcemap_conversions.specs.FromRecord.{file_read}
+use Rattle.sourcemap_regular.specs.Decode.{RegularDecodes}
+use Rattle.sourcemap_trees.specs.MapTree.{IndexParts, MapTree, regular, index, MapSection, section_offset, sections_from}
+
+-- what comes of a first answer: its fault, or what a next step makes of it
+abbrev pub Then : {X Y : Type 0} → (Result X Error → Type 0) → (X → Result Y Error → Type 0) → Result Y Error → Type 0
+Then First Next answer = ((x : _) × First (Ok x) × Next x answer) ⊎ IsErrAnd answer (λ e. First (Err e))
+
+-- what an index holds beside its sections; other keys of its record are passed over
+abbrev pub index_parts : Fields → IndexParts
+index_parts fields = record {
+  file = option_map file_read fields.file;
+  debug_id = fields.debug_id;
+  x_facebook_offsets = fields.x_facebook_offsets;
+  x_metro_module_paths = fields.x_metro_module_paths;
+}
+
+abbrev pub count : Sections → ℕ
+count no_more = 0
+count (bare _ rest) = 1 + count rest
+count (mapped _ _ rest) = 1 + count rest
+
+-- the sections by offset, those of one offset as they stood
+abbrev pub by_offset : List MapSection → List MapSection
+by_offset ss = sorted_by {K = ℕ × ℕ} section_offset position_cmp ss
+
+abbrev pub index_of : Fields → List MapSection → MapTree
+index_of fields ss = index (index_parts fields) (sections_from (by_offset ss))
+
+-- the map that a record stands for, or why it stands for none: too many sections come before anything
+-- in them, then the first fault in the order of the text
+abbrev mutual
+  pub TreeDecodes : Tree → Result MapTree Error → Type 0
+  TreeDecodes (plain fields) answer = Then (RegularDecodes (plain fields)) (λ m a. a ≡ Ok (regular m)) answer
+  TreeDecodes (indexed fields sections) answer =
+      MatchBool (nat_lt 4294967295 (count sections))
+      (answer ≡ Err IncompatibleSourceMap)
+      (Then (λ a. SectionsDecode sections a) (λ ss a. a ≡ Ok (index_of fields ss)) answer)
+
+  pub SectionsDecode : Sections → Result (List MapSection) Error → Type 0
+  SectionsDecode no_more answer = answer ≡ Ok []
+  SectionsDecode (bare place rest) answer =
+      Then (λ a. SectionsDecode rest a) (λ ss a. a ≡ Ok (record { place = place; map = None } ∷ ss)) answer
+  SectionsDecode (mapped place t rest) answer =
+      Then (λ a. TreeDecodes t a)
+      (λ m a. Then (λ b. SectionsDecode rest b) (λ ss b. b ≡ Ok (record { place = place; map = Some m } ∷ ss)) a)
+      answer

@@ -1,0 +1,68 @@
+-- The record that a map of any kind is written as, and what is kept when that is read back.
+use Rattle.std.specs.Prelude.{◌≡◌, Some, None, option_map, Result, Ok, Err}
+use Rattle.serde_json.specs.Data.{string}
+use Rattle.sourcemap_errors.specs.declared.errors.Error.{Error}
+use Rattle.sourcemap_records.specs.Jsontypes.{Fields, Tree, indexed, Sections, no_more, bare, mapped, IsFine}
+use Rattle.sourcemap_regular.specs.Map.{MapValue}
+use Rattle.sourcemap_regular.specs.Encode.{ReadsBack, IsRecordOf as IsRecordOfRegular, Restores as RestoresRegular}
+use Rattle.sourcemap_trees.specs.MapTree.{IndexParts, MapTree, regular, index, MapSections, no_sections, hollow, filled}
+use Rattle.sourcemap_trees.specs.Meaning.{MeansTheSame}
+use Rattle.sourcemap_trees.specs.WellFormed.{IsWellFormed}
+use Rattle.sourcemap_trees.specs.Decode.{TreeDecodes}
+
+-- the keys of an index's record but for its sections
+abbrev pub index_fields : IndexParts → Fields
+index_fields parts = record {
+  version = Some 3;
+  file = option_map string parts.file;
+  sources = None;
+  source_root = None;
+  sources_content = None;
+  names = None;
+  range_mappings = None;
+  mappings = None;
+  ignore_list = None;
+  x_facebook_offsets = parts.x_facebook_offsets;
+  x_metro_module_paths = parts.x_metro_module_paths;
+  x_facebook_sources = None;
+  debug_id = parts.debug_id;
+}
+
+-- a record that the map is written as, section by section, where regular maps are written so
+abbrev mutual
+  pub IsWrittenBy : (MapValue → Tree → Type 0) → MapTree → Tree → Type 0
+  IsWrittenBy IsOf (regular m) r = IsOf m r
+  IsWrittenBy IsOf (index parts ss) r =
+      (sections : Sections) × (r ≡ indexed (index_fields parts) sections) × AreWrittenBy IsOf ss sections
+
+  pub AreWrittenBy : (MapValue → Tree → Type 0) → MapSections → Sections → Type 0
+  AreWrittenBy IsOf no_sections written = written ≡ no_more
+  AreWrittenBy IsOf (hollow place rest) written =
+      (more : Sections) × (written ≡ bare place more) × AreWrittenBy IsOf rest more
+  AreWrittenBy IsOf (filled place t rest) written =
+      (r : Tree) × (more : Sections) × (written ≡ mapped place r more) × IsWrittenBy IsOf t r × AreWrittenBy IsOf rest more
+
+abbrev pub IsRecordOf : MapTree → Tree → Type 0
+IsRecordOf t r = IsWrittenBy IsRecordOfRegular t r
+
+-- all parts are kept, at every level
+abbrev mutual
+  pub KeepsParts : (back t : MapTree) → Type 0
+  KeepsParts (regular back) (regular m) = RestoresRegular m back
+  KeepsParts (index parts ss) (index parts' ss') = (parts ≡ parts') × KeepSections ss ss'
+  KeepsParts _ _ = ⊥
+
+  pub KeepSections : (back ss : MapSections) → Type 0
+  KeepSections no_sections no_sections = Unit {0}
+  KeepSections (hollow place rest) (hollow place' rest') = (place ≡ place') × KeepSections rest rest'
+  KeepSections (filled place t rest) (filled place' t' rest') = (place ≡ place') × KeepsParts t t' × KeepSections rest rest'
+  KeepSections _ _ = ⊥
+
+-- a map that restores another has the same meaning at every position, and all its parts
+abbrev pub Restores : (t back : MapTree) → Type 0
+Restores t back = MeansTheSame back t × KeepsParts back t
+
+-- what a call that writes a map answers: a record that the map is written as, and that reads back; nothing but memory refuses
+abbrev pub RecordAnswer : MapTree → Result Tree Error → Type 0
+RecordAnswer t (Ok r) = IsRecordOf t r × IsFine r × (IsWellFormed t → ReadsBack (TreeDecodes r) (Restores t))
+RecordAnswer t (Err _) = ⊥

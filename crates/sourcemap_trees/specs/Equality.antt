@@ -1,0 +1,37 @@
+-- Equality of maps of any kind: of all that they hold.
+use Rattle.std.specs.Prelude.{nat_eq, Bool, true, false, ◌&&◌}
+use Rattle.std.specs.Option.{option_eq}
+use Rattle.std.specs.Ordering.{on, eq_of_both}
+use Rattle.std.specs.Cmp.Lexicographic.{pointwise}
+use Rattle.sourcemap_records.specs.Jsontypes.{Place}
+use Rattle.sourcemap_parts.specs.TextLists.{same_text}
+use Rattle.sourcemap_regular.specs.Equality.{same_map}
+use Rattle.sourcemap_trees.specs.MapTree.{IndexParts, MapTree, regular, index, MapSections, no_sections, hollow, filled}
+
+abbrev pub same_parts : IndexParts → IndexParts → Bool
+same_parts =
+    eq_of_both (eq_of_both (eq_of_both
+    (on (λ parts. parts.file) (option_eq same_text))
+    (on (λ parts. parts.debug_id) (option_eq same_text)))
+    (on (λ parts. parts.x_facebook_offsets) (option_eq (pointwise (option_eq nat_eq)))))
+    (on (λ parts. parts.x_metro_module_paths) (option_eq (pointwise same_text)))
+
+abbrev pub same_place : Place → Place → Bool
+same_place =
+    eq_of_both (eq_of_both
+    (on (λ place. place.line) nat_eq)
+    (on (λ place. place.column) nat_eq))
+    (on (λ place. place.url) (option_eq same_text))
+
+abbrev mutual
+  pub same_tree : MapTree → MapTree → Bool
+  same_tree (regular a) (regular b) = same_map a b
+  same_tree (index parts ss) (index parts' ss') = same_parts parts parts' && same_sections ss ss'
+  same_tree _ _ = false
+
+  pub same_sections : MapSections → MapSections → Bool
+  same_sections no_sections no_sections = true
+  same_sections (hollow place rest) (hollow place' rest') = same_place place place' && same_sections rest rest'
+  same_sections (filled place t rest) (filled place' t' rest') =
+      same_place place place' && (same_tree t t' && same_sections rest rest')
+  same_sections _ _ = false

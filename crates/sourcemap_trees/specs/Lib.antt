@@ -1,0 +1,9 @@
+pub mod MapTree
+pub mod Meaning
+pub mod WellFormed
+pub mod FlatList
+pub mod Flat
+pub mod Decode
+pub mod Encode
+pub mod Equality
+pub mod Shift

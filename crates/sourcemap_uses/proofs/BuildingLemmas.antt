@@ -1,0 +1,35 @@
+-- Maps that are made of tokens, written, and asked once they are read.
+use Rattle.std.proofs.Common.{◌≡◌, ◌∙◌, sym, ap, subst, ℕ, List, [], ◌∷◌, Option, None, option_map, Result, Ok}
+use Rattle.sourcemap.specs.Answer.{Gives, IsAnswer}
+use Rattle.sourcemap.specs.Decoded.{map_value}
+use Rattle.sourcemap.specs.Decoder.{AreSame, BytesDecode}
+use Rattle.sourcemap.specs.Encoder.{ReadsBack, Restores}
+use Rattle.sourcemap.specs.Types.{MapValue, Meaning, made_of, meaning}
+use Rattle.sourcemap.specs.declared.errors.Error.{Error}
+use Rattle.sourcemap.specs.declared.types.DecodedMap.{DecodedMap}
+use Rattle.sourcemap.specs.declared.types.RawToken.{RawToken}
+use Rattle.sourcemap_uses.specs.Building.{place_of}
+
+-- the map of one source
+pub made : (m : MapValue) (tokens : List RawToken) (names sources : List (List ℕ)) (source : List ℕ)
+    → Gives (λ m. m) (Ok m) (Ok (made_of None tokens names sources [])) → names ≡ [] → sources ≡ source ∷ []
+    → m ≡ made_of None tokens [] (source ∷ []) []
+made m tokens names sources source gave no_names one_source =
+    let e : made_of None tokens names sources [] ≡ m = cc in
+    sym e ∙ ap (λ names. made_of None tokens names sources []) no_names
+    ∙ ap (λ sources. made_of None tokens [] sources []) one_source
+
+pub reads_back : (m due : MapValue) (bytes text : List ℕ) → m ≡ due → bytes ≡ text
+    → ReadsBack (BytesDecode text) (Restores m) → ReadsBack (BytesDecode bytes) (Restores due)
+reads_back m due bytes text is same back =
+    subst (λ m. ReadsBack (BytesDecode bytes) (Restores m)) is
+    (subst (λ bytes. ReadsBack (BytesDecode bytes) (Restores m)) (sym same) back)
+
+-- what is found in the map that was read is what the map that was written means
+pub place_found : (bytes text : List ℕ) (m : MapValue) (map : DecodedMap) (p : ℕ × ℕ) (found : Option Meaning)
+    → bytes ≡ text → ReadsBack (BytesDecode text) (Restores m)
+    → ((due : Result MapValue Error) → BytesDecode bytes due → IsAnswer map_value (AreSame due) (Ok map))
+    → found ≡ meaning (map_value map) p → option_map place_of found ≡ option_map place_of (meaning m p)
+place_found bytes text m map p found same (back, stands, restored) only is =
+    let read = only (Ok back) (subst (λ bytes. BytesDecode bytes (Ok back)) (sym same) stands) in
+    ap (option_map place_of) (is ∙ ap (λ n. meaning n p) (sym read) ∙ restored.0 p)

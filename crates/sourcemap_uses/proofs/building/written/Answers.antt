@@ -1,0 +1,15 @@
+-- The law of written maps, at the map of these tokens.
+use Rattle.std.proofs.Common.{◌∙◌, ◌++◌, ap, map, string_bytes, [], ◌∷◌}
+use Rattle.sourcemap_uses.proofs.BuildingLemmas.{made, reads_back}
+use Rattle.sourcemap_uses.proofs.building.written.Goals as goal
+
+pub returns : goal.returns
+returns c =
+    let m = c.in_ok-map.map in
+    let names = ap (map string_bytes) c.new.ensures.items in
+    let sources = ap (map string_bytes) c.in_ok-sources.ensures.items ∙ ap (λ text. text ∷ []) c.in_ok-from_str.ensures.ok in
+    let is = made m c.args.tokens.items _ _ c.args.source.now c.in_ok-map.ensures.value names sources in
+    let well = c.in_ok-map.ensures.well_formed (rw (c.in_ok-sources.ensures.len, c.new.ensures.len) c.requires) in
+    let wrote = c.in_ok-encode_to.ensures.written in
+    let same = wrote.2 ∙ ap (λ bytes. bytes ++ wrote.0) c.new-text.ensures.items in
+    reads_back m _ _ wrote.0 is same (c.written_maps_read_back.ensures m wrote.0 wrote.1 well)

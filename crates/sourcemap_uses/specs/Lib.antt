@@ -1,0 +1,5 @@
+pub mod Building
+pub mod DataUrls
+pub mod Faults
+pub mod Places
+pub mod Publishing

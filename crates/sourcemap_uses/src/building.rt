@@ -1,0 +1,49 @@
+//! A map that is made of tokens, written, and asked once it is read.
+ghost use Rattle.std.specs.Prelude.{◌≡◌, ◌∷◌, [], None, IfOk, option_map};
+ghost use Rattle.sourcemap.specs.Decoder.{BytesDecode};
+ghost use Rattle.sourcemap.specs.Encoder.{ReadsBack, Restores};
+ghost use Rattle.sourcemap.specs.Tokens.{AllWithin};
+ghost use Rattle.sourcemap.specs.Types.{made_of, meaning};
+ghost use Rattle.sourcemap_uses.specs.Building.{place_of};
+
+use sourcemap::encoder::encode_to;
+use sourcemap::laws::written_maps_read_back;
+use sourcemap::types::RawToken;
+use sourcemap::{Result, SourceMap, decode_slice};
+use std::alloc::Global;
+
+/// Writes the map of these tokens, which all lead to one source or to none, reads what was written,
+/// and answers the line and the column in the source of a position of the generated text.
+pub fn place_once_written(
+    alloc: Global,
+    source: &str,
+    tokens: Vec<RawToken>,
+    line: u32,
+    col: u32,
+) -> Result<Option<(u32, u32)>>
+    requires { AllWithin 1 0 tokens.items }
+    ensures { IfOk result (λ found. found ≡ option_map place_of
+        (meaning (made_of None tokens.items [] (source.now ∷ []) []) (line, col))) }
+{
+    let text = written(alloc, source, tokens)?;
+    let map = decode_slice(alloc, text.as_slice())?;
+    match map.lookup_token(line, col) {
+        None => Ok(None),
+        Some(token) => Ok(Some(token.get_src())),
+    }
+}
+
+/// The bytes of the map of these tokens, which all lead to one source or to none. Whoever reads
+/// them gets that map back, but for repeats among its tokens.
+pub fn written(alloc: Global, source: &str, tokens: Vec<RawToken>) -> Result<Vec<u8>>
+    requires { AllWithin 1 0 tokens.items }
+    ensures { IfOk result (λ text. ReadsBack (BytesDecode text.items)
+        (Restores (made_of None tokens.items [] (source.now ∷ []) []))) }
+{
+    written_maps_read_back();
+    let sources = vec![in alloc; String::from_str(alloc, source)?]?;
+    let map = SourceMap::new(alloc, None, tokens, Vec::new(alloc), sources, None)?;
+    let mut text = Vec::new(alloc);
+    encode_to(alloc, &map, &mut text)?;
+    Ok(text)
+}

@@ -1,0 +1,11 @@
+//! What programs do with source maps, a short function a task. Each stands on the public clauses
+//! and laws of `sourcemap` alone, and its own clause says what its user wants to know.
+#![tactic(auto)]
+
+pub mod building;
+pub mod data_urls;
+pub mod faults;
+pub mod merging;
+pub mod places;
+pub mod publishing;
+pub mod shrinking;

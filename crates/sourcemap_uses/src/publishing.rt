@@ -1,0 +1,27 @@
+//! A map as it may be published: what it says stays, but names and the contents of sources go.
+ghost use Rattle.std.specs.Prelude.{IfOk};
+ghost use Rattle.sourcemap_uses.specs.Publishing.{Publishes};
+
+use sourcemap::encoder::encode_to;
+use sourcemap::laws::written_maps_read_back;
+use sourcemap::{Result, RewriteOptions, SourceMap};
+use std::alloc::Global;
+use std::rt::Files;
+
+/// The bytes of a map that says the same of each position as the map in `bytes`, but no names, and
+/// that holds no contents of sources.
+pub fn published<F: Files>(rt: &F, alloc: Global, bytes: &[u8]) -> Result<Vec<u8>>
+    ensures { IfOk result (λ text. Publishes bytes.now text.items) }
+{
+    written_maps_read_back();
+    let map = SourceMap::from_slice(alloc, bytes)?;
+    let options = RewriteOptions {
+        with_names: false,
+        with_source_contents: false,
+        ..RewriteOptions::default()
+    };
+    let bare = map.rewrite(rt, &options)?;
+    let mut text = Vec::new(alloc);
+    encode_to(alloc, &bare, &mut text)?;
+    Ok(text)
+}

@@ -1,0 +1,118 @@
+// Each use, once, with memory.
+use sourcemap::errors::JsonFault;
+use sourcemap::types::RawToken;
+use sourcemap::{Error, Result, SourceMap, SourceMapBuilder};
+use sourcemap_uses::building::place_once_written;
+use sourcemap_uses::data_urls::inline_map;
+use sourcemap_uses::faults::{Advice, advise};
+use sourcemap_uses::merging::{add_shown, merged_sources};
+use sourcemap_uses::places::{frame_text, place_text};
+use sourcemap_uses::publishing::published;
+use sourcemap_uses::shrinking::shrunk;
+use std::alloc::Global;
+use std::process::Abort;
+use std::test::Fail;
+
+const MAP: &str = r#"{"version":3,"sources":["coolstuff.js","unused.js"],"names":["x","alert"],
+"sourcesContent":["text"],"mappings":"AAAA,GAAIA,GAAI,EACR,IAAIA,GAAK,EAAG,CACVC,MAAM"}"#;
+
+const INLINE: &str =
+    "data:application/json;base64,eyJtYXBwaW5ncyI6IkFBQUEiLCJzb3VyY2VzIjpbImEuanMiXX0=";
+
+fn shown(alloc: Global, place: Option<String>) -> String {
+    place.unwrap_or(String::new(alloc))
+}
+
+#[test]
+fn places(rt: HostRuntime) -> std::result::Result<(), Fail> {
+    let alloc = rt.alloc();
+    let place = place_text(alloc, MAP.as_bytes(), 0, 5)?;
+    assert_eq!(rt; shown(alloc, place).as_str(), "coolstuff.js:0:4 name=x");
+    let frame = frame_text(alloc, MAP.as_bytes(), 1, 6)?;
+    assert_eq!(rt; shown(alloc, frame).as_str(), "coolstuff.js:0:4 name=x");
+    Ok(())
+}
+
+fn place_in(alloc: Global, map: &SourceMap) -> Result<String> {
+    match map.lookup_token(0, 5) {
+        None => Ok(String::new(alloc)),
+        Some(token) => Ok(token.to_string(alloc)?),
+    }
+}
+
+#[test]
+fn a_map_is_published(rt: HostRuntime) -> std::result::Result<(), Fail> {
+    let alloc = rt.alloc();
+    let text = published(&rt, alloc, MAP.as_bytes())?;
+    let map = SourceMap::from_slice(alloc, text.as_slice())?;
+    assert_eq!(rt; place_in(alloc, &map)?.as_str(), "coolstuff.js:0:4");
+    assert!(rt; map.get_source_contents(0).is_none());
+    Ok(())
+}
+
+#[test]
+fn a_map_is_shrunk(rt: HostRuntime) -> std::result::Result<(), Fail> {
+    let alloc = rt.alloc();
+    let small = shrunk(&rt, SourceMap::from_slice(alloc, MAP.as_bytes())?)?;
+    assert_eq!(rt; small.get_source_count(), 1);
+    assert_eq!(rt;
+        place_in(alloc, &small)?.as_str(),
+        "coolstuff.js:0:4 name=x"
+    );
+    Ok(())
+}
+
+#[test]
+fn tokens_are_written_and_asked(rt: HostRuntime) -> std::result::Result<(), Fail> {
+    let alloc = rt.alloc();
+    let token = RawToken {
+        dst_line: 2,
+        dst_col: 3,
+        src_line: 4,
+        src_col: 5,
+        src_id: 0,
+        name_id: 4294967295,
+        is_range: false,
+    };
+    let tokens = vec![in alloc; token]?;
+    assert!(rt; place_once_written(alloc, "a.js", tokens, 2, 9)? == Some((4, 5)));
+    Ok(())
+}
+
+#[test]
+fn a_data_url_holds_its_map(rt: HostRuntime) -> std::result::Result<(), Fail> {
+    let alloc = rt.alloc();
+    assert!(rt; inline_map(alloc, INLINE)?.is_some());
+    assert!(rt; inline_map(alloc, "out.js.map")?.is_none());
+    Ok(())
+}
+
+#[test]
+fn sources_are_merged(rt: HostRuntime) -> std::result::Result<(), Fail> {
+    let alloc = rt.alloc();
+    let first = SourceMap::from_slice(alloc, MAP.as_bytes())?;
+    let second = SourceMap::from_slice(
+        alloc,
+        br#"{"mappings":"","sources":["a.js","unused.js"]}"#,
+    )?;
+    let both = merged_sources(alloc, &first, &second)?;
+    assert_eq!(rt; both.get_source_count(), 3);
+    assert_eq!(rt; both.get_source(2), Some("a.js"));
+    Ok(())
+}
+
+#[test]
+fn a_source_is_shown_by_another_text(rt: HostRuntime) -> std::result::Result<(), Fail> {
+    let mut builder = SourceMapBuilder::new(rt.alloc(), None)?;
+    let id = add_shown(&mut builder, "/home/me/a.js", "a.js")?;
+    assert_eq!(rt; builder.get_source(id), Some("a.js"));
+    Ok(())
+}
+
+#[test]
+fn refusals_have_advice(rt: HostRuntime) -> std::result::Result<(), Fail> {
+    assert!(rt; advise(&Error::BadJson(JsonFault::Parse)) == Advice::LookAtInput);
+    assert!(rt; advise(&Error::BadSourceReference(3)) == Advice::MendWriter);
+    assert!(rt; advise(&Error::OutOfMemory) == Advice::FreeMemory);
+    Ok(())
+}
