@@ -10,14 +10,14 @@ ghost use Rattle.sourcemap_conversions.specs.Parts.{parts_view};
 ghost use Rattle.sourcemap_conversions.specs.FromRecord.{PartsAnswer, rising, name_read, number_read, file_read, source_read};
 ghost use Rattle.sourcemap_conversions.specs.FromRecordSteps.{ArePartsIn, HaveRoom, heading_read, sources_read, parts_read};
 
-use sourcemap_parts::contents::Contents;
-use sourcemap_parts::heading::Heading;
 use crate::parts::Parts;
-use sourcemap_parts::sources::Sources;
 use serde_json::{Number, Value};
 use sourcemap_errors::errors::{Error, Result};
 use sourcemap_lists::token_list::TokenList;
 use sourcemap_mappings::read::parse_mappings;
+use sourcemap_parts::contents::Contents;
+use sourcemap_parts::heading::Heading;
+use sourcemap_parts::sources::Sources;
 use sourcemap_records::jsontypes::{DebugId, RawSourceMap};
 use std::alloc::Global;
 use std::collections::BTreeSet;

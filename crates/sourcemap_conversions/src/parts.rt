@@ -1,8 +1,8 @@
 //! All parts of a map together.
+use sourcemap_lists::token_list::TokenList;
 use sourcemap_parts::contents::Contents;
 use sourcemap_parts::heading::Heading;
 use sourcemap_parts::sources::Sources;
-use sourcemap_lists::token_list::TokenList;
 
 /// The parts of a map.
 #[derive(Debug, Drop)]

@@ -72,7 +72,10 @@ const FLAT: [(&str, &str); 6] = [
         NESTED,
         r#"{"file":"f","ignoreList":[0],"mappings":";;IAAAA;AAAA","names":["n"],"sources":["r/a.js"],"sourcesContent":["x"],"version":3}"#,
     ),
-    (BUNDLE, r#"{"mappings":"","names":[],"sources":[],"version":3}"#),
+    (
+        BUNDLE,
+        r#"{"mappings":"","names":[],"sources":[],"version":3}"#,
+    ),
 ];
 
 #[test]
