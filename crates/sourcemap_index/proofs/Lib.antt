@@ -6,4 +6,6 @@ pub mod EncodeLemmas
 pub mod FamilyLemmas
 pub mod FlattenLemmas
 pub mod LookupLemmas
+pub mod RegularLemmas
 pub mod RowsLemmas
+pub mod WrittenValueLemmas
