@@ -1,3 +1,5 @@
 pub mod BuildingLemmas
+pub mod FlatteningLemmas
+pub mod LinkingLemmas
 pub mod MergingLemmas
 pub mod RewritingLemmas

@@ -1,10 +1,14 @@
 // Each use, once, with memory.
 use sourcemap::errors::JsonFault;
 use sourcemap::types::RawToken;
-use sourcemap::{Error, Result, SourceMap, SourceMapBuilder};
+use sourcemap::{
+    DecodedMap, Error, Result, SourceMap, SourceMapBuilder, SourceMapIndex, decode_slice,
+};
 use sourcemap_uses::building::place_once_written;
 use sourcemap_uses::data_urls::inline_map;
 use sourcemap_uses::faults::{Advice, advise};
+use sourcemap_uses::flattening::is_kept_flat;
+use sourcemap_uses::linking::link;
 use sourcemap_uses::merging::{add_shown, merged_sources};
 use sourcemap_uses::places::{frame_text, place_text};
 use sourcemap_uses::publishing::published;
@@ -114,5 +118,50 @@ fn refusals_have_advice(rt: HostRuntime) -> std::result::Result<(), Fail> {
     assert!(rt; advise(&Error::BadJson(JsonFault::Parse)) == Advice::LookAtInput);
     assert!(rt; advise(&Error::BadSourceReference(3)) == Advice::MendWriter);
     assert!(rt; advise(&Error::OutOfMemory) == Advice::FreeMemory);
+    Ok(())
+}
+
+// Two sections, the second from the middle of a line on; and two of which the first reaches into the
+// second.
+const APART: &str = r#"{"sections":[
+{"offset":{"line":0,"column":0},"map":{"sources":["a.js"],"mappings":"AAAA"}},
+{"offset":{"line":10,"column":4},"map":{"sources":["b.js"],"mappings":"AAAA"}}]}"#;
+
+const MIXED: &str = r#"{"sections":[
+{"offset":{"line":0,"column":0},"map":{"sources":["a.js"],"mappings":"AAAA,SAAA"}},
+{"offset":{"line":0,"column":5},"map":{"sources":["b.js"],"mappings":"AAAA"}}]}"#;
+
+fn index_of(alloc: Global, text: &str) -> Result<SourceMapIndex> {
+    match decode_slice(alloc, text.as_bytes())? {
+        DecodedMap::Index(index) => Ok(index),
+        DecodedMap::Regular(_) => Err(Error::IncompatibleSourceMap),
+    }
+}
+
+#[test]
+fn indexes_are_compared_with_their_flat_maps(rt: HostRuntime) -> std::result::Result<(), Fail> {
+    let apart = index_of(rt.alloc(), APART)?;
+    assert!(rt; is_kept_flat(&apart, 10, 9)?);
+    assert!(rt; is_kept_flat(&apart, 10, 3)?);
+    let mixed = index_of(rt.alloc(), MIXED)?;
+    assert!(rt; is_kept_flat(&mixed, 0, 4)?);
+    assert!(rt; !is_kept_flat(&mixed, 0, 9)?);
+    Ok(())
+}
+
+#[test]
+fn a_section_is_linked(rt: HostRuntime) -> std::result::Result<(), Fail> {
+    let mut index = index_of(rt.alloc(), APART)?;
+    link(&mut index, 1, "u")?;
+    link(&mut index, 2, "v")?;
+    let urls = (
+        index
+            .get_section(0)
+            .map(|section| section.get_url().is_none()),
+        index
+            .get_section(1)
+            .map(|section| section.get_url() == Some("u")),
+    );
+    assert!(rt; urls == (Some(true), Some(true)));
     Ok(())
 }
