@@ -1,0 +1,2 @@
+mod StretchesLemmas
+mod CompositionLemmas
