@@ -1,5 +1,5 @@
 -- A walk along two lists of stretches meets all pairs that overlap.
-use Rattle.std.proofs.Common.{◌≡◌, refl, sym, ap, subst, ◌∙◌, ℕ, zero, suc, ◌+◌, ◌-◌, ◌<◌, ◌≤◌, List, [], ◌∷◌, ◌++◌, length, length-append, append_assoc, append-nil, drop, Bool, true, false, cond, ◌||◌, Result, Ok, Err, arith, inl, inr, ◌⊎◌}
+use Rattle.std.proofs.Common.{◌≡◌, refl, sym, ap, subst, ◌∙◌, ℕ, ◌+◌, ◌≤◌, List, [], ◌∷◌, ◌++◌, length, length-append, append_assoc, append-nil, drop, Bool, true, false, ◌||◌, Result, Ok, Err, arith, inl, inr, ◌⊎◌}
 use Rattle.std.specs.List.{AllByRecursion, flat_map, list_any}
 use Rattle.std.proofs.lemmas.Bool.{cases_Bool, and_left, and_right, and_parts}
 use Rattle.std.proofs.lemmas.List.{drop_all}
@@ -8,11 +8,10 @@ use Rattle.sourcemap_lists.specs.declared.tokens.RawToken.{RawToken}
 use Rattle.sourcemap_errors.specs.declared.errors.Error.{Error}
 use Rattle.sourcemap_errors.specs.declared.errors.Error.TheVariants.{IncompatibleSourceMap}
 use Rattle.sourcemap_lists.specs.Tokens.{destination, in_order, position_cmp, sorted_by}
-use Rattle.sourcemap_lists.proofs.SortLemmas.{Rises}
 use Rattle.sourcemap_composition.specs.declared.stretches.Stretch.{Stretch}
 use Rattle.sourcemap_composition.specs.declared.stretches.Side.TheVariants.{Original, Adjustment}
 use Rattle.sourcemap_composition.specs.Stretches.{is_before, line_end, source, stretches, stretches_by}
-use Rattle.sourcemap_composition.specs.Composition.{ReachesAhead, composed, composed_all, composition, later_start, overlap, pair, passes_the_line}
+use Rattle.sourcemap_composition.specs.Composition.{ReachesAhead, composed_all, composition, later_start, overlap, pair, passes_the_line}
 use Rattle.sourcemap_composition.proofs.StretchesLemmas.{IsAt, IsSound, before-chain, behind_earlier, not_both_ways}
 
 -- A pair that overlaps.

@@ -1,2 +1,5 @@
 mod StretchesLemmas
+mod ClosestLemmas
 mod CompositionLemmas
+mod CompositionRows
+mod MovedLemmas

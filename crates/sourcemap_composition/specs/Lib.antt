@@ -1,2 +1,3 @@
 pub mod Composition
+pub mod Moved
 pub mod Stretches

@@ -2,4 +2,5 @@
 #![tactic(auto)]
 
 pub mod composition;
+pub mod moved;
 pub mod stretches;

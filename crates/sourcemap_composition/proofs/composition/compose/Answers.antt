@@ -1,11 +1,11 @@
-use Rattle.std.proofs.Common.{◌≡◌, ◌+◌, ◌≤◌, length, sym, ap, subst, ◌∙◌, arith, IsSortedByKey}
+use Rattle.std.proofs.Common.{◌≡◌, length, sym, ap, subst, ◌∙◌, arith, IsSortedByKey}
 use Rattle.std.proofs.lemmas.Result.{err_from_is_err_and}
 use Rattle.sourcemap_errors.proofs.AnswerLemmas.{UnlessMemory-weaker}
-use Rattle.sourcemap_lists.specs.Tokens.{AreInOrder, destination, in_order, position_cmp, sorted_by}
+use Rattle.sourcemap_lists.specs.Tokens.{AreInOrder, destination, position_cmp}
 use Rattle.sourcemap_lists.proofs.SortLemmas.{length-sorted_by, sorted-sorted_by}
 use Rattle.sourcemap_lists.proofs.TokensLemmas.{AreInOrder-in_order, length-in_order, position_cmp_total}
-use Rattle.sourcemap_composition.specs.Stretches.{copy_or, source}
-use Rattle.sourcemap_composition.proofs.CompositionLemmas.{composition-given, composition-refused, sorted_is}
+use Rattle.sourcemap_composition.specs.Stretches.{source}
+use Rattle.sourcemap_composition.proofs.CompositionLemmas.{composition-refused, sorted_is}
 use Rattle.sourcemap_composition.proofs.composition.compose.Goals as goal
 
 pub walk-requires-clause-adjustments : goal.walk-requires-clause-adjustments

@@ -13,8 +13,7 @@ returns-then-are_in_order c =
 
 pub returns : goal.returns
 returns c =
-    let key = place_by c.args.side in
-    ap Ok (sym (stably_sorted key position_cmp_total c.args.tokens.now c.sort_by_key.new.self.items
-    (c.in_ok-sort_by_key.ensures.sorted key (always_returns_same _ (λ a r. r ≡ key a.0.now) _ (λ a r f' k. search rules)))
-    (subst (λ tokens. IsStableByKey key position_cmp tokens c.sort_by_key.new.self.items) c.in_ok-copy.ensures.items
-    (c.sort_by_key.ensures.stable key (always_returns_same _ (λ a r. r ≡ key a.0.now) _ (λ a r f' k. search rules))))))
+    ap Ok (sym (stably_sorted (place_by c.args.side) position_cmp_total c.args.tokens.now c.sort_by_key.new.self.items
+    (c.in_ok-sort_by_key.ensures.sorted (place_by c.args.side) (always_returns_same _ (λ a r. r ≡ place_by c.args.side a.0.now) _ (λ a r f' k. search rules)))
+    (subst (λ tokens. IsStableByKey (place_by c.args.side) position_cmp tokens c.sort_by_key.new.self.items) c.in_ok-copy.ensures.items
+    (c.sort_by_key.ensures.stable (place_by c.args.side) (always_returns_same _ (λ a r. r ≡ place_by c.args.side a.0.now) _ (λ a r f' k. search rules))))))
