@@ -1,5 +1,5 @@
 -- What contracts see of the parts of an index, a section and a map.
-use Rattle.std.proofs.Common.{◌≡◌, refl, ap, sym, ◌∙◌, ℕ, List, map, length, Option, Some, None, option_map, slice_get, slice_set, Box, Global}
+use Rattle.std.proofs.Common.{◌≡◌, refl, ap, sym, ◌∙◌, ℕ, List, map, length, Option, Some, None, option_map, slice_get, Box, Global}
 use Rattle.std.specs.Vec.{with_item}
 use Rattle.std.specs.List.{ItemBy}
 use Rattle.std.specs.Option.{OnSome}

@@ -5,15 +5,16 @@ ghost use Rattle.serde_json.specs.View.{view};
 ghost use Rattle.sourcemap_errors.specs.Answer.{IsAnswer};
 ghost use Rattle.sourcemap_errors.specs.declared.errors.Error.{Error};
 ghost use Rattle.sourcemap_errors.specs.declared.errors.Error.TheVariants.{InvalidDataUrl};
+ghost use Rattle.sourcemap_records.specs.Bytes.{BytesStandFor};
 ghost use Rattle.sourcemap_records.specs.Jsontypes.{tree};
-ghost use Rattle.sourcemap_trees.specs.MapTree.{MapTree};
+ghost use Rattle.sourcemap_trees.specs.MapTree.{IndexValue, MapTree, index_tree};
 ghost use Rattle.sourcemap_trees.specs.WellFormed.{IsWellFormed};
 ghost use Rattle.sourcemap_trees.specs.Decode.{TreeDecodes};
-ghost use Rattle.sourcemap_index.specs.Family.{map_tree};
-ghost use Rattle.sourcemap_index.specs.Decode.{ValueDecodes, BytesDecode, UrlDecodes, IsNoUrl, AreSame, IsAnswerRead, Reading};
+ghost use Rattle.sourcemap_index.specs.Family.{index_value, map_tree};
+ghost use Rattle.sourcemap_index.specs.Decode.{ValueDecodes, BytesDecode, UrlDecodes, IndexDecodes, IsNoUrl, AreSame, IsAnswerRead, Reading};
 
-use crate::decode_index::decode_map;
-use crate::family::DecodedMap;
+use crate::decode_index::{decode_map, only_index};
+use crate::family::{DecodedMap, SourceMapIndex};
 use serde_json::Value;
 use sourcemap_errors::errors::Result;
 use sourcemap_headers::data_url::data_url_bytes;
@@ -111,6 +112,53 @@ pub fn decode_data_url(alloc: Global, url: &str) -> Result<DecodedMap>
     ensures well_formed { IfOk result (λ m. IsWellFormed (map_tree m)) }
 {
     decode_url(alloc, url)
+}
+
+// The index of bytes.
+fn index_in(alloc: Global, bytes: &[u8]) -> Result<SourceMapIndex>
+    ensures answer { IsAnswer index_value (BytesStandFor IndexDecodes bytes.now) result }
+    ensures well_formed { IfOk result (λ i. IsWellFormed (index_tree (index_value i))) }
+{
+    let raw = read_record(alloc, bytes)?;
+    only_index(alloc, raw)
+}
+
+// The same of bytes that are let go once their JSON value is read.
+fn index_in_owned(alloc: Global, bytes: Vec<u8>) -> Result<SourceMapIndex>
+    ensures answer { IsAnswer index_value (BytesStandFor IndexDecodes bytes.items) result }
+    ensures well_formed { IfOk result (λ i. IsWellFormed (index_tree (index_value i))) }
+{
+    let raw = read_record_owned(alloc, bytes)?;
+    only_index(alloc, raw)
+}
+
+impl SourceMapIndex {
+    /// The index that bytes hold, behind a junk header or behind none. The faults are those of
+    /// `decode_slice`, but for the record of a map of another kind, without sections: it is
+    /// `IncompatibleSourceMap` before anything of it is decoded.
+    pub fn from_slice(alloc: Global, bytes: &[u8]) -> Result<Self>
+        ensures answer { IsAnswer index_value (BytesStandFor IndexDecodes bytes.now) result }
+        // No other answer is right.
+        ensures only { (due : Result IndexValue Error) → BytesStandFor IndexDecodes bytes.now due
+            → IsAnswer index_value (AreSame due) result }
+        ensures well_formed { IfOk result (λ i. IsWellFormed (index_tree (index_value i))) }
+    {
+        index_in(alloc, bytes)
+    }
+
+    /// The index that a reader's bytes hold, as by `from_slice`. The reader is read to its end
+    /// first, and a read's fault is `Io`. The bytes are let go once their JSON value is read.
+    pub fn from_reader<R: Read + Drop>(alloc: Global, reader: R) -> Result<Self>
+        ensures answer { Reading (R.remaining reader)
+            (λ bytes. IsAnswerRead index_value (BytesStandFor IndexDecodes bytes) result) }
+        ensures only { IfSome (R.remaining reader) (λ bytes. (due : Result IndexValue Error)
+            → BytesStandFor IndexDecodes bytes due
+            → IsAnswerRead index_value (AreSame due) result) }
+        ensures well_formed { IfOk result (λ i. IsWellFormed (index_tree (index_value i))) }
+    {
+        let bytes = read_all(alloc, reader)?;
+        index_in_owned(alloc, bytes)
+    }
 }
 
 /// A law: a JSON value, bytes and a data URL each stand for one map, or for none for one reason.

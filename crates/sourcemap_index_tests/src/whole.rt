@@ -6,7 +6,9 @@ use sourcemap_errors::errors::{Error, Result};
 use sourcemap_index::decode::decode_slice;
 use sourcemap_index::family::{DecodedMap, SourceMapIndex};
 use sourcemap_regular::map::SourceMap;
+use sourcemap_regular::rewrite::RewriteOptions;
 use std::alloc::Global;
+use std::rt::Files;
 
 // Two maps, the second from the middle of a line on.
 const TWO: &str =
@@ -83,6 +85,68 @@ fn indexes_are_made_flat(rt: HostRuntime) {
     let alloc = rt.alloc();
     for (text, want) in FLAT.iter() {
         check(&rt, text, flat(alloc, text), want);
+    }
+}
+
+fn flat_rewritten<F: Files>(
+    rt: &F,
+    alloc: Global,
+    text: &str,
+    options: &RewriteOptions<'_>,
+) -> Result<String> {
+    let index = index_of(alloc, text)?;
+    map_told(alloc, index.flatten_and_rewrite(rt, options))
+}
+
+const UNUSED: &str =
+    r#"{"sections":[{"offset":{"line":0,"column":0},"map":{"sources":["x.js","a.js"],"sourcesContent":["x","y"],"mappings":"ACAA"}}]}"#;
+
+// An index, whether names are kept, whether contents are read from files, and its flat map rewritten
+// or the fault.
+const REWRITTEN: [(&str, bool, bool, &str); 6] = [
+    (
+        TWO,
+        true,
+        false,
+        r#"{"mappings":"AAAA;;;;;;;;;;ICAA","names":[],"sources":["a.js","b.js"],"version":3}"#,
+    ),
+    (
+        UNUSED,
+        true,
+        false,
+        r#"{"mappings":"AAAA","names":[],"sources":["a.js"],"sourcesContent":["y"],"version":3}"#,
+    ),
+    (
+        NESTED,
+        true,
+        false,
+        r#"{"file":"f","mappings":";;IAAAA;AAAA","names":["n"],"sources":["r/a.js"],"sourcesContent":["x"],"version":3}"#,
+    ),
+    (
+        NESTED,
+        false,
+        false,
+        r#"{"file":"f","mappings":";;IAAA;AAAA","names":[],"sources":["r/a.js"],"sourcesContent":["x"],"version":3}"#,
+    ),
+    // A fault of the flat map comes before that of the options.
+    (
+        LINKED,
+        true,
+        true,
+        "cannot flatten the indexed sourcemap: Section has an unresolved sourcemap: u",
+    ),
+    (TWO, true, true, "encountered incompatible sourcemap format"),
+];
+
+#[test]
+fn flat_maps_are_rewritten(rt: HostRuntime) {
+    for (text, with_names, load_contents, want) in REWRITTEN.iter() {
+        let options = RewriteOptions {
+            with_names: *with_names,
+            load_local_source_contents: *load_contents,
+            ..RewriteOptions::default()
+        };
+        check(&rt, text, flat_rewritten(&rt, rt.alloc(), text, &options), want);
     }
 }
 
