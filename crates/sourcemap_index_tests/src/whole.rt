@@ -146,7 +146,12 @@ fn flat_maps_are_rewritten(rt: HostRuntime) {
             load_local_source_contents: *load_contents,
             ..RewriteOptions::default()
         };
-        check(&rt, text, flat_rewritten(&rt, rt.alloc(), text, &options), want);
+        check(
+            &rt,
+            text,
+            flat_rewritten(&rt, rt.alloc(), text, &options),
+            want,
+        );
     }
 }
 
