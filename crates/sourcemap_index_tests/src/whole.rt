@@ -204,6 +204,11 @@ fn written_away(alloc: Global, text: &str) -> Result<String> {
     value_told(alloc, DecodedMap::into_value(map))
 }
 
+fn index_written_away(alloc: Global, text: &str) -> Result<String> {
+    let record = index_of(alloc, text)?.into_raw_sourcemap()?;
+    value_told(alloc, record.into_value(alloc))
+}
+
 fn written_to(alloc: Global, text: &str) -> Result<String> {
     let map = decode_slice(alloc, text.as_bytes())?;
     let mut bytes = Vec::new(alloc);
@@ -215,7 +220,7 @@ fn written_to(alloc: Global, text: &str) -> Result<String> {
 }
 
 // An index, and the text that it is written as.
-const WRITTEN: [(&str, &str); 3] = [
+const WRITTEN: [(&str, &str); 4] = [
     (
         BUNDLE,
         r#"{"sections":[],"sources":null,"version":3,"x_facebook_offsets":[5,null],"x_metro_module_paths":["a.js"]}"#,
@@ -228,6 +233,10 @@ const WRITTEN: [(&str, &str); 3] = [
         r#"{"sections":[{"offset":{"line":0,"column":1},"map":{"mappings":"A"}}],"file":"f"}"#,
         r#"{"file":"f","sections":[{"map":{"mappings":"A","names":[],"sources":[],"version":3},"offset":{"column":1,"line":0},"url":null}],"sources":null,"version":3}"#,
     ),
+    (
+        r#"{"sections":[{"offset":{"line":2,"column":0},"url":"u","map":{"sections":[],"debugId":"0123456789abcdef0123456789abcdef"}}],"sourceRoot":"r"}"#,
+        r#"{"sections":[{"map":{"debugId":"01234567-89ab-cdef-0123-456789abcdef","sections":[],"sources":null,"version":3},"offset":{"column":0,"line":2},"url":"u"}],"sources":null,"version":3}"#,
+    ),
 ];
 
 #[test]
@@ -236,6 +245,7 @@ fn indexes_are_written(rt: HostRuntime) {
     for (text, want) in WRITTEN.iter() {
         check(&rt, text, written(alloc, text), want);
         check(&rt, text, written_away(alloc, text), want);
+        check(&rt, text, index_written_away(alloc, text), want);
         check(&rt, text, written_to(alloc, text), want);
     }
 }
