@@ -33,7 +33,7 @@ Positions in an index are drawn here, beside tokens of the flat map, beside star
 """
 import argparse, random, re, tempfile
 from comparing import (TOOL, answer, build_missing, compare_all, is_reordered, noted, placed_tokens,
-                       reason_of_index, reason_of_record, reference_program)
+                       reason_of_index, reason_of_record, reference_program, tokens_of, without_mark)
 from index_maps import LAST, bytes_of, flat_tokens, innermost, is_index, offset_of, pieces, record_of
 
 WORDS = [['tokens'], ['rewrite'], ['flatten'], ['shift', '7'], ['shift', str(LAST)]]
@@ -59,6 +59,10 @@ def is_refused_digit(data, here):
     return bool(TOO_GREAT.search(mappings))
 
 
+def are_json_faults(*answers):
+    return all(status == 1 and text.startswith(JSON_FAULT) for status, text in answers)
+
+
 def is_kind_missing(data, here):
     return here == INCOMPATIBLE and any(piece.get('x_facebook_sources') is not None and not is_index(piece)
                                         for piece in pieces(record_of(data)))
@@ -80,7 +84,7 @@ def reason(word, data, here, there):
     if here == PAST_THE_END:
         return 'past the end' if passes_the_end(data) else None
     if here[0] == 1 and there[0] == 1:
-        return 'fault' if here[1].startswith(JSON_FAULT) and there[1].startswith(JSON_FAULT) else None
+        return 'fault' if are_json_faults(here, there) else None
     if word == 'tokens':
         return None if here[0] or there[0] or not is_reordered(here[1], there[1]) else 'stable sort'
     return (reason_of_index if word == 'shift' else reason_of_record)(data, here, there)
@@ -97,12 +101,11 @@ def is_moved(here, told, distance):
 def is_among_equals(reference, data, position, place, here):
     """Whether both programs have the same tokens at a place, in another order, and the answer given here is
     the right one of those: the first if the position is that place, else the last."""
-    own, other = ([line for line in answer([program, 'tokens'], data)[1].split(b'\n') if line.startswith(place + b' ')]
+    own, other = ([text for stands, text in tokens_of(answer([program, 'tokens'], data)[1]) if stands == place]
                   for program in (TOOL, reference))
     if own == other or sorted(own) != sorted(other):
         return False
-    due = own[0 if place == position.replace(' ', ':').encode() else -1]
-    return due == place + b' ' + here
+    return here == without_mark(own[0 if place == position.replace(' ', ':').encode() else -1])
 
 
 def reason_within(reference, data, position, here, told):
@@ -118,11 +121,13 @@ def reason_within(reference, data, position, here, told):
 
 def reason_of_lookup(reference, data, position, here, told, placed):
     """Why two answers to a lookup differ. `placed` is the reference's with the token's place in its map, as
-    `a.js:0:7 (0:0) (range)`."""
+    `a.js:0:7 (0:0) (range)`; both are its refusal where it refuses."""
     if is_kind_missing(data, here):
         return 'kind not there'
     if is_refused_digit(data, here):
         return 'digits'
+    if are_json_faults(here, (1, told)):
+        return 'fault'
     stands = PLACE.search(placed)
     if here[0] or not stands:
         return None

@@ -8,7 +8,8 @@ TOOL = os.environ.get('SOURCEMAP_TOOL', str(CRATES / 'sourcemap_tool/out/sourcem
 BENCH = os.environ.get('SOURCEMAP_BENCH', str(CRATES / 'sourcemap_bench/out/sourcemap_bench'))
 MAPS_AT_ONCE = 3
 MARK = b' range'
-LINE = re.compile(rb'(\d+):(\d+) (.*)\n')
+# a token's place and text, in which a line may end
+TOKEN = re.compile(rb'(\d+):(\d+) (.*?)\n(?=\d+:\d+ |\Z)', re.DOTALL)
 PANICKED = 101
 
 Note = collections.namedtuple('Note', 'what why here there')
@@ -46,33 +47,34 @@ def kind_of(reference, data):
     return answer([reference, 'stat'], data)[1].split(b'\t')[0].decode(errors='replace')
 
 
-def lines_of(text):
-    return text.split(b'\n')
-
-
-def place(line):
-    return line.split(b' ', 1)[0]
+def tokens_of(text):
+    """The place and the text of each token in what `tokens` said; of a refusal, that alone."""
+    return [(b'%b:%b' % told[:2], told[2]) for told in TOKEN.findall(text)] or [(b'', text)]
 
 
 def without_repeats(text):
-    lines = lines_of(text)
-    return [line for i, line in enumerate(lines) if i == 0 or lines[i - 1] != line]
+    tokens = tokens_of(text)
+    return [token for i, token in enumerate(tokens) if i == 0 or tokens[i - 1] != token]
+
+
+def without_mark(told):
+    return told[:-len(MARK)] if told.endswith(MARK) else told
 
 
 def without_marks(text):
-    return [line[:-len(MARK)] if line.endswith(MARK) else line for line in without_repeats(text)]
+    return [(place, without_mark(told)) for place, told in without_repeats(text)]
 
 
 def is_reordered(here, there):
     """Whether two texts have the same tokens at the same places, in another order among those of one place."""
-    here, there = lines_of(here), lines_of(there)
-    return list(map(place, here)) == list(map(place, there)) and sorted(here) == sorted(there)
+    here, there = tokens_of(here), tokens_of(there)
+    return [place for place, _ in here] == [place for place, _ in there] and sorted(here) == sorted(there)
 
 
 def placed_tokens(record):
     """The places and the texts of the tokens of a map, of an index those of the flat map."""
-    lines = LINE.findall(answer([TOOL, 'tokens'], bytes_of(record))[1])
-    return [((int(line), int(column)), text) for line, column, text in lines]
+    told = TOKEN.findall(answer([TOOL, 'tokens'], bytes_of(record))[1])
+    return [((int(line), int(column)), text) for line, column, text in told]
 
 
 def tokens_here(data):
@@ -104,8 +106,9 @@ def reason_of_record(data, here, there):
     - range bits: but for `rangeMappings` the records are equal, and what is written here reads back as the
       tokens of the map, less those that repeat the one before
     - panic: the reference panicked, what is written here has range bits, and it reads back as above
-    - stable sort: the same sources with the same contents and the same names, in whatever order, and the same
-      tokens at the same places, in another order among those of one place
+    - stable sort: the same sources with the same contents and the same names, in whatever order; the same tokens
+      at the same places, in another order among those of one place, so that not the same ones repeat the one
+      before; and what is written here reads back as above
     """
     if here[0] or there[0] not in (0, PANICKED):
         return None
@@ -117,7 +120,8 @@ def reason_of_record(data, here, there):
     other.pop('rangeMappings', None)
     if record == other:
         return 'range bits' if ranges and reads_back(data, here[1]) else None
-    is_sorted = without_order(record) == without_order(other) and is_reordered(tokens_here(here[1]), tokens_here(there[1]))
+    tokens, others = (set(tokens_of(tokens_here(text))) for text in (here[1], there[1]))
+    is_sorted = without_order(record) == without_order(other) and tokens == others and reads_back(data, here[1])
     return 'stable sort' if is_sorted else None
 
 

@@ -5,9 +5,9 @@
 
 MAPS     a folder with *.map files, at any depth
 FOLDER   where the index maps are written
---count  how many (200), and three more: one map within 20, 41 and 42 indexes, of which JSON text holds 41
+--count  how many (100), and three more: one map within 20, 41 and 42 indexes, of which JSON text holds 41
 --seed   another one gives other maps (1)
---most   the size of the longest map that is taken, in bytes (200000)
+--most   the size of the longest map that is taken, in bytes (100000)
 
 Each index has two to five sections, a quarter of them with an index of their own, down to four levels. At each
 level offsets stand in one of five ways: below one another; the next section on the last line of the one before;
@@ -124,9 +124,9 @@ def main():
     words = argparse.ArgumentParser(usage=__doc__)
     words.add_argument('maps')
     words.add_argument('folder', type=pathlib.Path)
-    words.add_argument('--count', type=int, default=200)
+    words.add_argument('--count', type=int, default=100)
     words.add_argument('--seed', type=int, default=1)
-    words.add_argument('--most', type=int, default=200000)
+    words.add_argument('--most', type=int, default=100000)
     given = words.parse_args()
     groups = regular_maps(given.maps, given.most)
     draws = random.Random(given.seed)
