@@ -2,4 +2,4 @@ mod StretchesLemmas
 mod ClosestLemmas
 mod CompositionLemmas
 mod CompositionRows
-mod MovedLemmas
+pub mod MovedLemmas

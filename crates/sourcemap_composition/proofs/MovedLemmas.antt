@@ -7,7 +7,7 @@ use Rattle.sourcemap_errors.specs.declared.errors.Error.{Error}
 use Rattle.sourcemap_errors.specs.declared.errors.Error.TheVariants.{IncompatibleSourceMap}
 use Rattle.sourcemap_lists.specs.declared.tokens.RawToken.{RawToken}
 use Rattle.sourcemap_lists.specs.Search.{closest_item}
-use Rattle.sourcemap_lists.specs.Tokens.{AllWithin, IsWithin, destination, in_order, no_id, position_cmp, sorted_by}
+use Rattle.sourcemap_lists.specs.Tokens.{AllWithin, AreInOrder, IsWithin, destination, in_order, no_id, position_cmp, sorted_by}
 use Rattle.sourcemap_lists.proofs.AllLemmas.{All-flat_map, All-weaker}
 use Rattle.sourcemap_lists.proofs.SortLemmas.{All-sorted_by, Rises, Rises-sorted_by}
 use Rattle.sourcemap_lists.proofs.TokensLemmas.{AllWithin-in_order, in_order-ordered, position_cmp_total}
@@ -324,10 +324,10 @@ moved_origin sources names ts adjustment a q r few within is inside on_line stan
     rw (here, on_line.1) (ap Some (same ∙ ap (λ u. origin_by u q) found.2))
 
 pub moved_as_before : (sources names : ℕ) (original adjustment new : List RawToken) (a : Stretch) (q : ℕ × ℕ)
-    → sources ≤ 4294967295 → AllWithin sources names original → composition original adjustment ≡ Ok new
+    → AreInOrder original → sources ≤ 4294967295 → AllWithin sources names original → composition original adjustment ≡ Ok new
     → IsMovedAlone original adjustment a q → origin new (moved a q) ≡ origin original q
-moved_as_before sources names original adjustment new a q few within given alone =
-    let same : in_order original ≡ original = in_order-ordered original alone.in_order in
+moved_as_before sources names original adjustment new a q up few within given alone =
+    let same : in_order original ≡ original = in_order-ordered original up in
     let at_new = moved_origin sources names (in_order original) adjustment a q (Rises-sorted_by destination position_cmp_total original) few (AllWithin-in_order sources names original within)
     alone.stretch alone.inside (subst (λ ts. IsOnItsLine ts q) (sym same) alone.on_line) (subst StandApart (sym same) alone.apart) alone.alone in
     ap (λ tokens. origin tokens (moved a q)) (sym (composition-sorted original adjustment new given)) ∙ at_new ∙ ap (λ ts. origin ts q) same

@@ -2,7 +2,7 @@
 use Rattle.std.specs.Prelude.{◌≡◌, ℕ, ◌+◌, ◌-◌, min, Bool, ◌&&◌, ◌==◌, true, false, if◌then◌else◌, List, Option, Some, option_map, slice_get}
 use Rattle.std.specs.List.{Contains}
 use Rattle.sourcemap_lists.specs.Search.{closest_item}
-use Rattle.sourcemap_lists.specs.Tokens.{AreInOrder, destination, position_cmp}
+use Rattle.sourcemap_lists.specs.Tokens.{destination, position_cmp}
 use Rattle.sourcemap_lists.specs.declared.tokens.RawToken.{RawToken}
 use Rattle.sourcemap_composition.specs.declared.stretches.Side.TheVariants.{Original, Adjustment}
 use Rattle.sourcemap_composition.specs.declared.stretches.Stretch.{Stretch}
@@ -63,7 +63,6 @@ IsAloneUpTo p a adjustments originals =
 pub record IsMovedAlone (original adjustment : List RawToken) (a : Stretch) (q : ℕ × ℕ) : Type 0 where
   pub stretch : Contains (stretches_by Adjustment adjustment) a
   pub inside : LiesIn q a
-  pub in_order : AreInOrder original
   pub on_line : IsOnItsLine original q
   pub apart : StandApart original
   pub alone : IsAloneUpTo (moved a q) a (stretches_by Adjustment adjustment) (stretches_by Original original)

@@ -1,6 +1,6 @@
 //! What moved positions come from.
 ghost use Rattle.std.specs.Prelude.{◌≡◌, ℕ, ◌≤◌, List, Ok};
-ghost use Rattle.sourcemap_lists.specs.Tokens.{AllWithin};
+ghost use Rattle.sourcemap_lists.specs.Tokens.{AllWithin, AreInOrder};
 ghost use Rattle.sourcemap_lists.specs.declared.tokens.RawToken.{RawToken};
 ghost use Rattle.sourcemap_composition.specs.declared.stretches.Stretch.{Stretch};
 ghost use Rattle.sourcemap_composition.specs.Composition.{composition, moved};
@@ -17,7 +17,7 @@ pub fn composed_tokens_stay_within()
 /// line and column as before, by the same name.
 pub fn moved_positions_answer_as_before()
     ensures { (sources names : ℕ) (original adjustment new : List RawToken) (a : Stretch) (q : ℕ × ℕ)
-        → sources ≤ 4294967295 → AllWithin sources names original
+        → AreInOrder original → sources ≤ 4294967295 → AllWithin sources names original
         → composition original adjustment ≡ Ok new → IsMovedAlone original adjustment a q
         → origin new (moved a q) ≡ origin original q }
 {}
