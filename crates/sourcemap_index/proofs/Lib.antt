@@ -7,3 +7,4 @@ pub mod FamilyLemmas
 pub mod FlattenLemmas
 pub mod LookupLemmas
 pub mod RowsLemmas
+pub mod WriteLemmas

@@ -14,3 +14,4 @@ pub mod index;
 pub mod lookup;
 mod rows;
 pub mod section;
+pub mod write;
