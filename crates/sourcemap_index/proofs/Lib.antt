@@ -6,5 +6,8 @@ pub mod EncodeLemmas
 pub mod FamilyLemmas
 pub mod FlattenLemmas
 pub mod LookupLemmas
+pub mod RegularLemmas
 pub mod RowsLemmas
 pub mod WriteLemmas
+pub mod UrlFaultLemmas
+pub mod WrittenValueLemmas

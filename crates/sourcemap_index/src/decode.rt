@@ -1,16 +1,17 @@
 //! Which map of any kind records, JSON values, bytes and data URLs hold.
-ghost use Rattle.std.specs.Prelude.{◌≡◌, ℕ, List, IfOk, IfSome, Result};
+ghost use Rattle.std.specs.Prelude.{◌≡◌, ℕ, List, Err, IfErr, IfOk, IfSome, Result};
 ghost use Rattle.serde_json.specs.Data.{Data};
 ghost use Rattle.serde_json.specs.View.{view};
 ghost use Rattle.sourcemap_errors.specs.Answer.{IsAnswer};
 ghost use Rattle.sourcemap_errors.specs.declared.errors.Error.{Error};
+ghost use Rattle.sourcemap_errors.specs.declared.errors.Error.TheVariants.{InvalidDataUrl};
 ghost use Rattle.sourcemap_records.specs.Bytes.{BytesStandFor};
 ghost use Rattle.sourcemap_records.specs.Jsontypes.{tree};
 ghost use Rattle.sourcemap_trees.specs.MapTree.{IndexValue, MapTree, index_tree};
 ghost use Rattle.sourcemap_trees.specs.WellFormed.{IsWellFormed};
 ghost use Rattle.sourcemap_trees.specs.Decode.{TreeDecodes};
 ghost use Rattle.sourcemap_index.specs.Family.{index_value, map_tree};
-ghost use Rattle.sourcemap_index.specs.Decode.{ValueDecodes, BytesDecode, UrlDecodes, IndexDecodes, AreSame, IsAnswerRead, Reading};
+ghost use Rattle.sourcemap_index.specs.Decode.{ValueDecodes, BytesDecode, UrlDecodes, IndexDecodes, IsNoUrl, AreSame, IsAnswerRead, Reading};
 
 use crate::decode_index::{decode_map, only_index};
 use crate::family::{DecodedMap, SourceMapIndex};
@@ -100,12 +101,14 @@ fn decode_url(alloc: Global, url: &str) -> Result<DecodedMap>
 }
 
 /// The map that a data URL holds: `InvalidDataUrl` if the text is none, else as by `decode_slice`
-/// of the bytes in it.
+/// of the bytes in it, which is never `InvalidDataUrl`.
 pub fn decode_data_url(alloc: Global, url: &str) -> Result<DecodedMap>
     ensures answer { IsAnswer map_tree (UrlDecodes url.now) result }
     // No other answer is right.
     ensures only { (due : Result MapTree Error) → UrlDecodes url.now due
         → IsAnswer map_tree (AreSame due) result }
+    // What is refused as no data URL is none: no fault of the bytes in one is told so.
+    ensures no_url { IfErr result (λ e. e ≡ InvalidDataUrl → IsNoUrl url.now) }
     ensures well_formed { IfOk result (λ m. IsWellFormed (map_tree m)) }
 {
     decode_url(alloc, url)
@@ -167,4 +170,13 @@ pub fn answers_are_determined()
         → BytesDecode bytes a → BytesDecode bytes b → AreSame a b }
     ensures urls { (url : List ℕ) (a b : Result MapTree Error)
         → UrlDecodes url a → UrlDecodes url b → AreSame a b }
+{}
+
+/// A law: `InvalidDataUrl` is what a text that is no data URL stands for, and nothing else does: no
+/// JSON value, no bytes, and no data URL, whatever it holds.
+pub fn no_other_fault_is_of_urls()
+    ensures values { (d : Data) → ¬ ValueDecodes d (Err InvalidDataUrl) }
+    ensures bytes { (bytes : List ℕ) → ¬ BytesDecode bytes (Err InvalidDataUrl) }
+    ensures urls { (url : List ℕ) → UrlDecodes url (Err InvalidDataUrl) → IsNoUrl url }
+    ensures texts { (url : List ℕ) → IsNoUrl url → UrlDecodes url (Err InvalidDataUrl) }
 {}
