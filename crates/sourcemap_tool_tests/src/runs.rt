@@ -8,7 +8,8 @@ use std::test::Fail;
 pub const MAP: &str =
     r#"{"version":3,"sources":["coolstuff.js"],"names":["x","alert"],"mappings":"AAAA,GAAIA,GAAI,EACR,IAAIA,GAAK,EAAG,CACVC,MAAM"}"#;
 
-pub const USAGE: &str = "usage: lookup LINE COL | tokens | rewrite | flatten | compose FILE\n";
+pub const USAGE: &str =
+    "usage: lookup LINE COL | tokens | rewrite | flatten | compose FILE | shift ROWS\n";
 
 // Words, a map, and the status and text of the run.
 const RUNS: &str = r#"lookup 0 5|MAP|0 coolstuff.js:0:4 name=x
@@ -25,13 +26,31 @@ lookup 0 0|[]|1 bad json: a field has the wrong type
 lookup 0 0|{"version":4294967296}|1 bad json: a field has the wrong type
 lookup 0 0|{"mappings":"AAAAAA"}|1 got 6 segments, expected 4 or 5
 lookup 0 0|{"mappings":"AAAA"}|1 bad reference to source #0
-lookup 0 0|{"sections":[]}|1 encountered incompatible sourcemap format
+lookup 0 0|{"sections":[]}|0 none
+lookup 10 4|TWO|0 b.js:0:0
+lookup 10 9|TWO|0 b.js:0:0
+lookup 10 3|TWO|0 a.js:0:0
 lookup 0 0|{"x_facebook_sources":[]}|1 encountered incompatible sourcemap format
 tokens|{"sources":["a.js"],"mappings":"AAAO","rangeMappings":"B"}|0 0:0 a.js:0:7 range
 tokens|{"sections":[]}|1 encountered incompatible sourcemap format
 rewrite|MAP|0 {"mappings":"AAAA,GAAIA,GAAI,EACR,IAAIA,GAAK,EAAG,CACVC,MAAM","names":["x","alert"],"sources":["coolstuff.js"],"version":3}
 rewrite|{"sources":["a.js","b.js"],"sourcesContent":["x","y"],"mappings":"ACAA","sourceRoot":"r"}|0 {"mappings":"AAAA","names":[],"sources":["r/b.js"],"sourcesContent":["y"],"version":3}
-rewrite|{"sections":[]}|1 encountered incompatible sourcemap format"#;
+rewrite|{"sections":[]}|1 encountered incompatible sourcemap format
+flatten|TWO|0 {"mappings":"AAAA;;;;;;;;;;ICAA","names":[],"sources":["a.js","b.js"],"version":3}
+flatten|{"sections":[]}|0 {"mappings":"","names":[],"sources":[],"version":3}
+flatten|{"sections":[{"offset":{"line":0,"column":0},"url":"u"}]}|1 cannot flatten the indexed sourcemap: Section has an unresolved sourcemap: u
+flatten|{"sections":[{"offset":{"line":4294967295,"column":0},"map":{"sources":["a.js"],"mappings":";AAAA"}}]}|1 cannot flatten the indexed sourcemap: a position passes 4294967295
+flatten|MAP|1 encountered incompatible sourcemap format
+shift 2|LINK|0 {"sections":[{"map":null,"offset":{"column":4,"line":3},"url":"u"}],"sources":null,"version":3}
+shift 4294967295|LINK|1 encountered incompatible sourcemap format
+shift 2|{"sections":[],"x_facebook_offsets":[5,null],"x_metro_module_paths":["a.js"]}|0 {"sections":[],"sources":null,"version":3,"x_facebook_offsets":[5,null],"x_metro_module_paths":["a.js"]}
+shift 0|MAP|1 encountered incompatible sourcemap format"#;
+
+// An index of two maps, and one of a section that has no map.
+const TWO: &str =
+    r#"{"version":3,"sections":[{"offset":{"line":0,"column":0},"map":{"version":3,"sources":["a.js"],"names":[],"mappings":"AAAA"}},{"offset":{"line":10,"column":4},"map":{"version":3,"sources":["b.js"],"names":[],"mappings":"AAAA"}}]}"#;
+
+const LINK: &str = r#"{"sections":[{"offset":{"line":1,"column":4},"url":"u"}]}"#;
 
 // What `rewrite` says of the map.
 const REWRITTEN: &str =
@@ -60,7 +79,11 @@ lookup 0 4294967296
 Lookup 0 0
 tokens 0
 Rewrite
-flatten
+flatten 0
+shift
+shift +1
+shift 4294967296
+shift 1 1
 compose a.map";
 
 pub fn words_of(alloc: Global, line: &str) -> Result<Vec<String>, AllocError> {
@@ -120,7 +143,12 @@ fn is_met(rt: &HostRuntime, row: &str) -> Result<bool, Fail> {
     let (line, rest) = row.split_once('|').ok_or("a short row")?;
     let (input, want) = rest.split_once('|').ok_or("a short row")?;
     let (status, text) = want.split_once(' ').ok_or("a short row")?;
-    let input = if input == "MAP" { MAP } else { input };
+    let input = match input {
+        "MAP" => MAP,
+        "TWO" => TWO,
+        "LINK" => LINK,
+        text => text,
+    };
     let text = format!(in rt.alloc(); "{text}\n")?;
     is_answered(rt, line, input, status.parse()?, text.as_str())
 }
@@ -169,6 +197,8 @@ fn words_ask_for_commands(rt: HostRuntime) -> Result<(), Fail> {
     assert!(rt; ask_for(alloc, "lookup 0 18", Some(Command::Lookup(0, 18)))?);
     assert!(rt; ask_for(alloc, "tokens", Some(Command::Tokens))?);
     assert!(rt; ask_for(alloc, "rewrite", Some(Command::Rewrite))?);
+    assert!(rt; ask_for(alloc, "flatten", Some(Command::Flatten))?);
+    assert!(rt; ask_for(alloc, "shift 7", Some(Command::Shift(7)))?);
     assert!(rt; ask_for(alloc, "tokens tokens", None)?);
     Ok(())
 }

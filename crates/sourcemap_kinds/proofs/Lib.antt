@@ -1,3 +1,0 @@
-pub mod DecodeLemmas
-pub mod DecodedMapLemmas
-pub mod WrittenValueLemmas

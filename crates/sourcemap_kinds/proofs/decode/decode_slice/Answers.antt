@@ -1,6 +1,0 @@
--- Bytes have one answer.
-use Rattle.sourcemap_kinds.proofs.DecodeLemmas.{bytes_only}
-use Rattle.sourcemap_kinds.proofs.decode.decode_slice.Goals as goal
-
-pub returns-clause-only : goal.returns-clause-only
-returns-clause-only c = bytes_only c.args.bytes.now c.decode_bytes.result c.decode_bytes.ensures.answer

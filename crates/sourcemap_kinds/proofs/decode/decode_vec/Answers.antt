@@ -1,6 +1,0 @@
--- Bytes have one answer.
-use Rattle.sourcemap_kinds.proofs.DecodeLemmas.{bytes_only}
-use Rattle.sourcemap_kinds.proofs.decode.decode_vec.Goals as goal
-
-pub returns-clause-only : goal.returns-clause-only
-returns-clause-only c = bytes_only c.args.input.items c.decode_owned.result c.decode_owned.ensures.answer

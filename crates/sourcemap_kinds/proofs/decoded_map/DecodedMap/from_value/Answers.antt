@@ -1,7 +1,0 @@
--- A value has one answer.
-use Rattle.serde_json.specs.View.{view}
-use Rattle.sourcemap_kinds.proofs.DecodeLemmas.{value_only}
-use Rattle.sourcemap_kinds.proofs.decoded_map.DecodedMap.from_value.Goals as goal
-
-pub returns-clause-only : goal.returns-clause-only
-returns-clause-only c = value_only (view c.args.value.now) c.decode_value.result c.decode_value.ensures.answer

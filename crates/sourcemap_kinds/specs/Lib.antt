@@ -1,2 +1,0 @@
-pub mod Decode
-pub mod DecodedMap
