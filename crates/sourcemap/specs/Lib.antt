@@ -27,5 +27,16 @@ pub mod Encoder
 pub use Rattle.sourcemap_regular.specs.Write as Bytes
 pub mod Rewrite
 pub use Rattle.sourcemap_builder.specs.Builder
-pub use Rattle.sourcemap_kinds.specs.Decode as Decoder
-pub use Rattle.sourcemap_kinds.specs.DecodedMap as Decoded
+pub mod Trees
+pub use Rattle.sourcemap_trees.specs.FlatList
+pub use Rattle.sourcemap_trees.specs.Flat
+pub use Rattle.sourcemap_trees.specs.Decode as TreeDecoder
+pub use Rattle.sourcemap_trees.specs.Encode as TreeEncoder
+pub use Rattle.sourcemap_trees.specs.Equality as TreeEquality
+pub use Rattle.sourcemap_trees.specs.Shift
+pub use Rattle.sourcemap_index.specs.Decode as Decoder
+pub mod Decoded
+pub use Rattle.sourcemap_index.specs.Equality as IndexEquality
+pub use Rattle.sourcemap_index.specs.Index
+pub use Rattle.sourcemap_index.specs.Rows
+pub use Rattle.sourcemap_index.specs.Section

@@ -6,7 +6,14 @@ pub use sourcemap_core::laws::{
     segments_are_determined, written_texts_are_determined,
 };
 pub use sourcemap_headers::data_url::data_urls_have_one_answer;
-pub use sourcemap_kinds::decode::answers_are_determined;
+pub use sourcemap_index::decode::answers_are_determined;
+pub use sourcemap_index::laws::regular_maps_are_of_a_kind;
 pub use sourcemap_regular::encode::written_records_are_determined;
 pub use sourcemap_regular::rewrite::default_rewriting_is_final;
 pub use sourcemap_regular::write::{written_maps_are_compact, written_maps_read_back};
+pub use sourcemap_trees::laws::{
+    decoded_maps_are_well_formed, flat_maps_answer_alike, flat_maps_are_well_formed,
+    flat_maps_say_the_flat_list, maps_are_written_once, orderly_maps_are_in_order,
+    records_decode_once, same_tree_decides, well_formed_maps_are_in_order,
+    written_records_read_back,
+};

@@ -14,5 +14,5 @@ pub use sourcemap_maps::{builder, encoder};
 pub use sourcemap_records::jsontypes;
 pub use types::{
     DecodedMap, NameIter, RawToken, RewriteOptions, SourceContentsIter, SourceIter, SourceMap,
-    Token, TokenIter,
+    SourceMapIndex, SourceMapSection, SourceMapSectionIter, Token, TokenIter,
 };

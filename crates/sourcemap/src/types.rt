@@ -1,6 +1,7 @@
-//! Maps, their tokens and iterators.
+//! Maps of any kind, their tokens and iterators.
 
-pub use sourcemap_kinds::decoded_map::DecodedMap;
+pub use sourcemap_index::family::{DecodedMap, SourceMapIndex, SourceMapSection};
+pub use sourcemap_index::section::SourceMapSectionIter;
 pub use sourcemap_lists::tokens::RawToken;
 pub use sourcemap_maps::types::{
     IgnoreListIter, NameIter, RewriteOptions, SourceContentsIter, SourceIter, SourceMap, Token,

@@ -4,8 +4,8 @@ use Rattle.std.specs.Io.KnownBytes.{Appends}
 use Rattle.sourcemap.specs.Answer.{UnlessMemory}
 use Rattle.sourcemap.specs.Bytes.{IsEncoded, IsIo}
 use Rattle.sourcemap.specs.Decoder.{BytesDecode}
-use Rattle.sourcemap.specs.Encoder.{RecordAnswer}
-use Rattle.sourcemap.specs.Types.{MapValue}
+use Rattle.sourcemap.specs.TreeEncoder.{RecordAnswer}
+use Rattle.sourcemap.specs.Trees.{MapTree}
 use Rattle.sourcemap.specs.declared.errors.Error.{Error}
 use Rattle.sourcemap.specs.declared.errors.Error.TheVariants.{OutOfMemory}
 use Rattle.sourcemap_bench.specs.Written.{IsWritten, IsUnwritten}
@@ -15,22 +15,22 @@ unless_memory OutOfMemory P Q f h = tt
 unless_memory _ P Q f h = f h
 
 -- nothing but the writer refuses
-writer_failed : (bytes : List ℕ) (m : MapValue) (e : Error) → RecordAnswer m (Err e) ⊎ IsIo e → IsUnwritten bytes e
-writer_failed bytes m e (inl never) = absurd never
-writer_failed bytes m e (inr io) = inr io
+writer_failed : (bytes : List ℕ) (t : MapTree) (e : Error) → RecordAnswer t (Err e) ⊎ IsIo e → IsUnwritten bytes e
+writer_failed bytes t e (inl never) = absurd never
+writer_failed bytes t e (inr io) = inr io
 
 -- what keeps bytes from being a map
 pub no_map : (bytes : List ℕ) (e : Error) → UnlessMemory e (BytesDecode bytes (Err e)) → UnlessMemory e (IsUnwritten bytes e)
 no_map bytes e h = unless_memory e (BytesDecode bytes (Err e)) (IsUnwritten bytes e) inl h
 
-pub text_written : {T : Type 0} (bytes : List ℕ) (m : MapValue) (r : Result T Error) (old new : Option (List ℕ))
-    → BytesDecode bytes (Ok m) → OnOk r ((text : List ℕ) × IsEncoded (RecordAnswer m) text × Appends old new text)
+pub text_written : {T : Type 0} (bytes : List ℕ) (t : MapTree) (r : Result T Error) (old new : Option (List ℕ))
+    → BytesDecode bytes (Ok t) → OnOk r ((text : List ℕ) × IsEncoded (RecordAnswer t) text × Appends old new text)
     → OnOk r (IsWritten bytes old new)
-text_written bytes m (Ok _) old new stand h = (m, stand, h)
-text_written bytes m (Err _) old new stand h = tt
+text_written bytes t (Ok _) old new stand h = (t, stand, h)
+text_written bytes t (Err _) old new stand h = tt
 
-pub text_unwritten : {T : Type 0} (bytes : List ℕ) (m : MapValue) (r : Result T Error)
-    → IfErr r (λ e. UnlessMemory e (RecordAnswer m (Err e) ⊎ IsIo e))
+pub text_unwritten : {T : Type 0} (bytes : List ℕ) (t : MapTree) (r : Result T Error)
+    → IfErr r (λ e. UnlessMemory e (RecordAnswer t (Err e) ⊎ IsIo e))
     → IfErr r (λ e. UnlessMemory e (IsUnwritten bytes e))
-text_unwritten bytes m (Ok _) h = tt
-text_unwritten bytes m (Err e) h = unless_memory e (RecordAnswer m (Err e) ⊎ IsIo e) (IsUnwritten bytes e) (writer_failed bytes m e) h
+text_unwritten bytes t (Ok _) h = tt
+text_unwritten bytes t (Err e) h = unless_memory e (RecordAnswer t (Err e) ⊎ IsIo e) (IsUnwritten bytes e) (writer_failed bytes t e) h

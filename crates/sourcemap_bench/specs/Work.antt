@@ -4,6 +4,7 @@ use Rattle.sourcemap.specs.Bytes.{IsEncoded}
 use Rattle.sourcemap.specs.Decoder.{BytesDecode}
 use Rattle.sourcemap.specs.Encoder.{RecordAnswer}
 use Rattle.sourcemap.specs.Rewrite.{no_removal, rewritten}
+use Rattle.sourcemap.specs.Trees.{regular}
 use Rattle.sourcemap.specs.Types.{MapValue}
 use Rattle.sourcemap_bench.specs.Sums.{mixed, lookup_sum, token_sum}
 use Rattle.sourcemap_bench.specs.declared.work.Work.{Work}
@@ -13,9 +14,9 @@ use Rattle.sourcemap_bench.specs.declared.work.Work.TheVariants.{Decode, DecodeR
 abbrev pub counted : ℕ → ℕ → ℕ
 counted sum count = mixed sum (min count 4294967295)
 
--- the sum with the count of the tokens of the map that bytes stand for
+-- the sum with the count of the tokens of the regular map that bytes stand for
 abbrev pub CountsTokens : List ℕ → ℕ → ℕ → Type 0
-CountsTokens bytes old new = (m : MapValue) × BytesDecode bytes (Ok m) × (new ≡ counted old (length m.tokens))
+CountsTokens bytes old new = (m : MapValue) × BytesDecode bytes (Ok (regular m)) × (new ≡ counted old (length m.tokens))
 
 -- the sum behind a round
 abbrev pub RoundGives : Work → ℕ → ℕ → Type 0

@@ -3,14 +3,14 @@ use Rattle.std.specs.Prelude.{ℕ, List, Option, Result, Ok, Err, ◌⊎◌}
 use Rattle.std.specs.Io.KnownBytes.{Appends}
 use Rattle.sourcemap.specs.Bytes.{IsEncoded, IsIo}
 use Rattle.sourcemap.specs.Decoder.{BytesDecode}
-use Rattle.sourcemap.specs.Encoder.{RecordAnswer}
-use Rattle.sourcemap.specs.Types.{MapValue}
+use Rattle.sourcemap.specs.TreeEncoder.{RecordAnswer}
+use Rattle.sourcemap.specs.Trees.{MapTree}
 use Rattle.sourcemap.specs.declared.errors.Error.{Error}
 
 -- a writer's bytes grow by the text that the map that bytes stand for is written as
 abbrev pub IsWritten : List ℕ → Option (List ℕ) → Option (List ℕ) → Type 0
-IsWritten bytes old new = (m : MapValue) × BytesDecode bytes (Ok m)
-    × ((text : List ℕ) × IsEncoded (RecordAnswer m) text × Appends old new text)
+IsWritten bytes old new = (t : MapTree) × BytesDecode bytes (Ok t)
+    × ((text : List ℕ) × IsEncoded (RecordAnswer t) text × Appends old new text)
 
 -- why nothing is written: the bytes stand for no map, or the writer fails
 abbrev pub IsUnwritten : List ℕ → Error → Type 0

@@ -28,19 +28,24 @@ pub enum Work {
     Rewrite(SourceMap),
 }
 
-/// What an operation works on, of a map's bytes.
+// The regular map that bytes hold.
+fn regular_map(alloc: Global, bytes: Vec<u8>) -> Result<SourceMap> {
+    regular_of(decode_slice(alloc, bytes.as_slice())?)
+}
+
+/// What an operation works on, of the bytes of a regular map.
 pub fn prepared(alloc: Global, operation: Operation, bytes: Vec<u8>) -> Result<Work> {
     match operation {
         Operation::Decode => Ok(Work::Decode(bytes)),
         Operation::DecodeReader => Ok(Work::DecodeReader(bytes)),
         Operation::Lookup => {
-            let map = regular_of(decode_slice(alloc, bytes.as_slice())?);
+            let map = regular_map(alloc, bytes)?;
             let positions = drawn_positions(alloc, &map)?;
             Ok(Work::Lookup(map, positions))
         }
-        Operation::Tokens => Ok(Work::Tokens(regular_of(decode_slice(alloc, bytes.as_slice())?))),
-        Operation::Encode => Ok(Work::Encode(regular_of(decode_slice(alloc, bytes.as_slice())?))),
-        Operation::Rewrite => Ok(Work::Rewrite(regular_of(decode_slice(alloc, bytes.as_slice())?))),
+        Operation::Tokens => Ok(Work::Tokens(regular_map(alloc, bytes)?)),
+        Operation::Encode => Ok(Work::Encode(regular_map(alloc, bytes)?)),
+        Operation::Rewrite => Ok(Work::Rewrite(regular_map(alloc, bytes)?)),
     }
 }
 
@@ -50,11 +55,11 @@ fn round<F: Files>(rt: &F, alloc: Global, work: &Work, sum: u32) -> Result<u32>
 {
     match work {
         Work::Decode(bytes) => {
-            let map = regular_of(decode_slice(alloc, bytes.as_slice())?);
+            let map = regular_of(decode_slice(alloc, bytes.as_slice())?)?;
             Ok(mixed(sum, map.get_token_count()))
         }
         Work::DecodeReader(bytes) => {
-            let map = regular_of(decode(alloc, bytes.as_slice())?);
+            let map = regular_of(decode(alloc, bytes.as_slice())?)?;
             Ok(mixed(sum, map.get_token_count()))
         }
         Work::Lookup(map, positions) => Ok(lookup_sum(map, positions.as_slice(), sum)),

@@ -1,12 +1,16 @@
 -- Words ask for one command.
-use Rattle.std.proofs.Common.{◌≡◌, ℕ, List, [], ◌∷◌, refl, sym, ◌∙◌, ap}
+use Rattle.std.proofs.Common.{◌≡◌, ℕ, List, [], ◌∷◌, Bool, true, false, bytes_eq, codes, get_or, refl, sym, ◌∙◌, ap}
 use Rattle.std.specs.Str.Parse.{digits_value}
 use Rattle.sourcemap_commands.specs.Command.{IsNumber, AskFor}
 use Rattle.sourcemap_commands.specs.declared.command.Command.{Command}
-use Rattle.sourcemap_commands.specs.declared.command.Command.TheVariants.{Lookup, Tokens, Rewrite}
+use Rattle.sourcemap_commands.specs.declared.command.Command.TheVariants.{Lookup, Tokens, Rewrite, Flatten, Shift}
 
 number_once : (a b : List ℕ) (m n : ℕ) → a ≡ b → IsNumber a m → IsNumber b n → m ≡ n
 number_once a b m n same p q = p.2 ∙ ap (digits_value 10) same ∙ sym q.2
+
+-- whether the first word is this one; the two words compared so are equally long
+abbrev is_rewrite : List (List ℕ) → Bool
+is_rewrite words = bytes_eq (get_or words 0 []) (codes "rewrite")
 
 pub command_once : (words : List (List ℕ)) (a b : Command) → AskFor words a → AskFor words b → a ≡ b
 command_once words (Lookup line col) (Lookup line' col') (l, c, is, at_line, at_col) (l', c', is', at_line', at_col') =
@@ -15,11 +19,30 @@ command_once words (Lookup line col) (Lookup line' col') (l, c, is, at_line, at_
     let e : line ≡ line' = number_once l l' line line' lines at_line at_line' in
     let f : col ≡ col' = number_once c c' col col' cols at_col at_col' in
     cc
+command_once words (Shift rows) (Shift rows') (r, is, at_rows) (r', is', at_rows') =
+    let same : r ≡ r' = cc in
+    let e : rows ≡ rows' = number_once r r' rows rows' same at_rows at_rows' in
+    cc
 command_once words (Lookup line col) Tokens p q = absurd (let no = sym q ∙ p.2 in cc)
 command_once words (Lookup line col) Rewrite p q = absurd (let no = sym q ∙ p.2 in cc)
+command_once words (Lookup line col) Flatten p q = absurd (let no = sym q ∙ p.2 in cc)
+command_once words (Lookup line col) (Shift rows) p q = absurd (let no = sym q.1 ∙ p.2 in cc)
 command_once words Tokens (Lookup line col) p q = absurd (let no = sym p ∙ q.2 in cc)
 command_once words Tokens Tokens p q = refl
 command_once words Tokens Rewrite p q = absurd (let no = sym p ∙ q in cc)
+command_once words Tokens Flatten p q = absurd (let no = sym p ∙ q in cc)
+command_once words Tokens (Shift rows) p q = absurd (let no = sym p ∙ q.1 in cc)
 command_once words Rewrite (Lookup line col) p q = absurd (let no = sym p ∙ q.2 in cc)
 command_once words Rewrite Tokens p q = absurd (let no = sym p ∙ q in cc)
 command_once words Rewrite Rewrite p q = refl
+command_once words Rewrite Flatten p q = absurd (let no : true ≡ false = ap is_rewrite (sym p ∙ q) in cc)
+command_once words Rewrite (Shift rows) p q = absurd (let no = sym p ∙ q.1 in cc)
+command_once words Flatten (Lookup line col) p q = absurd (let no = sym p ∙ q.2 in cc)
+command_once words Flatten Tokens p q = absurd (let no = sym p ∙ q in cc)
+command_once words Flatten Rewrite p q = absurd (let no : false ≡ true = ap is_rewrite (sym p ∙ q) in cc)
+command_once words Flatten Flatten p q = refl
+command_once words Flatten (Shift rows) p q = absurd (let no = sym p ∙ q.1 in cc)
+command_once words (Shift rows) (Lookup line col) p q = absurd (let no = sym p.1 ∙ q.2 in cc)
+command_once words (Shift rows) Tokens p q = absurd (let no = sym p.1 ∙ q in cc)
+command_once words (Shift rows) Rewrite p q = absurd (let no = sym p.1 ∙ q in cc)
+command_once words (Shift rows) Flatten p q = absurd (let no = sym p.1 ∙ q in cc)

@@ -6,7 +6,7 @@ use Rattle.sourcemap.specs.declared.errors.Error.TheVariants.{OutOfMemory}
 use Rattle.sourcemap.specs.Types.{MapValue}
 use Rattle.sourcemap.specs.Rewrite.{IsDefault, no_removal, removal_of, rewrite_due, rewritten}
 use Rattle.sourcemap_rewriting.specs.declared.options.RewriteOptions.{RewriteOptions}
-use Rattle.sourcemap_kinds.proofs.DecodedMapLemmas.{memory_alone}
+use Rattle.sourcemap_index.proofs.DecodedMapLemmas.{memory_alone}
 
 -- default options take nothing away
 nothing_removed : (options : RewriteOptions) → IsDefault options → removal_of options ≡ no_removal

@@ -2,7 +2,7 @@
 use Rattle.std.specs.Prelude.{◌≡◌, ℕ, ◌≤◌, List, [], ◌∷◌, codes}
 use Rattle.std.specs.Str.Parse.{IsNumeral, digits_value}
 use Rattle.sourcemap_commands.specs.declared.command.Command.{Command}
-use Rattle.sourcemap_commands.specs.declared.command.Command.TheVariants.{Lookup, Tokens, Rewrite}
+use Rattle.sourcemap_commands.specs.declared.command.Command.TheVariants.{Lookup, Tokens, Rewrite, Flatten, Shift}
 
 -- a word of one or more digits that is a number of 32 bits
 abbrev pub IsNumber : List ℕ → ℕ → Type 0
@@ -15,3 +15,5 @@ AskFor words (Lookup line col) = (l c : List ℕ)
     × (words ≡ codes "lookup" ∷ l ∷ c ∷ []) × IsNumber l line × IsNumber c col
 AskFor words Tokens = words ≡ codes "tokens" ∷ []
 AskFor words Rewrite = words ≡ codes "rewrite" ∷ []
+AskFor words Flatten = words ≡ codes "flatten" ∷ []
+AskFor words (Shift rows) = (r : List ℕ) × (words ≡ codes "shift" ∷ r ∷ []) × IsNumber r rows

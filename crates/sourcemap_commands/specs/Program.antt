@@ -6,23 +6,27 @@ use Rattle.sourcemap.specs.Decoded.{IsTextOf}
 use Rattle.sourcemap.specs.Answer.{UnlessMemory}
 use Rattle.sourcemap.specs.Errors.{error_text, FromIo}
 use Rattle.sourcemap.specs.Decoder.{BytesDecode, Reading, UnlessRead}
+use Rattle.sourcemap.specs.Flat.{FlatAnswer}
 use Rattle.sourcemap.specs.Rewrite.{no_removal, rewritten}
-use Rattle.sourcemap.specs.Token.{lookup, token_text, tokens_from, says, TokenValue}
+use Rattle.sourcemap.specs.Shift.{HaveRowsLeft, shifted}
+use Rattle.sourcemap.specs.Token.{token_text, tokens_from, says, TokenValue}
+use Rattle.sourcemap.specs.TreeDecoder.{Then}
+use Rattle.sourcemap.specs.Trees.{MapTree, regular, index, MapSection, IndexParts, section_list, sections_from, lookup, IsInOrder}
 use Rattle.sourcemap.specs.Types.{MapValue}
 use Rattle.sourcemap.specs.declared.errors.Error.{Error}
-use Rattle.sourcemap.specs.declared.errors.Error.TheVariants.{OutOfMemory}
+use Rattle.sourcemap.specs.declared.errors.Error.TheVariants.{IncompatibleSourceMap, OutOfMemory}
 use Rattle.std.specs.declared.alloc.Global.{Global}
 use Rattle.std.specs.declared.io.Error.{Error as IoError}
 use Rattle.sourcemap_commands.specs.Command.{AskFor}
 use Rattle.sourcemap_commands.specs.declared.command.Command.{Command}
-use Rattle.sourcemap_commands.specs.declared.command.Command.TheVariants.{Lookup, Tokens, Rewrite}
+use Rattle.sourcemap_commands.specs.declared.command.Command.TheVariants.{Lookup, Tokens, Rewrite, Flatten, Shift}
 use Rattle.sourcemap_commands.specs.declared.program.Reply.{Reply}
 
 abbrev pub newline : List ℕ
 newline = 10 ∷ []
 
 abbrev pub usage_text : List ℕ
-usage_text = codes "usage: lookup LINE COL | tokens | rewrite | flatten | compose FILE" ++ newline
+usage_text = codes "usage: lookup LINE COL | tokens | rewrite | flatten | compose FILE | shift ROWS" ++ newline
 
 -- a token's text, or that there is none
 abbrev pub found_text : Option TokenValue → List ℕ
@@ -39,20 +43,39 @@ token_line t =
     decimal t.raw.dst_line ++ codes ":" ++ decimal t.raw.dst_col ++ codes " "
     ++ token_text (says t) ++ range_mark t ++ newline
 
--- the compact JSON text that a map is written as, and a newline
-abbrev pub IsJsonLine : MapValue → List ℕ → Type 0
-IsJsonLine m text = (json : List ℕ) × IsTextOf m json × (text ≡ json ++ newline)
+-- the line of the closest token; of an index in no order, of some token or of none
+abbrev pub IsFoundLine : MapTree → ℕ × ℕ → List ℕ → Type 0
+IsFoundLine t p text = (found : Option TokenValue) × (text ≡ found_text found ++ newline) × (IsInOrder t → found ≡ lookup t p)
 
--- what a command says of a map: its text, or why it refuses
-abbrev pub Says : Command → MapValue → Result (List ℕ) Error → Type 0
-Says (Lookup line col) m answer = answer ≡ Ok (found_text (lookup m (line, col)) ++ newline)
-Says Tokens m answer = answer ≡ Ok (flat_map token_line (tokens_from m 0))
-Says Rewrite m answer = IsOkAnd answer (IsJsonLine (rewritten no_removal m))
+-- the compact JSON text that a map is written as, and a newline
+abbrev pub IsJsonLine : MapTree → List ℕ → Type 0
+IsJsonLine t text = (json : List ℕ) × IsTextOf t json × (text ≡ json ++ newline)
+
+abbrev pub PrintsMap : MapTree → Result (List ℕ) Error → Type 0
+PrintsMap t answer = IsOkAnd answer (IsJsonLine t)
+
+-- an index with its sections so many rows further down, which is refused where one would pass the last row
+abbrev pub ShiftAnswer : ℕ → IndexParts → List MapSection → Result (List ℕ) Error → Type 0
+ShiftAnswer rows parts ss answer =
+    (HaveRowsLeft rows ss × PrintsMap (index parts (sections_from (shifted rows ss))) answer)
+    ⊎ ((¬ HaveRowsLeft rows ss) × (answer ≡ Err IncompatibleSourceMap))
+
+-- what a command says of a map: its text, or why it refuses, a map of the wrong kind before all else
+abbrev pub Says : Command → MapTree → Result (List ℕ) Error → Type 0
+Says (Lookup line col) t answer = IsOkAnd answer (IsFoundLine t (line, col))
+Says Tokens (regular m) answer = answer ≡ Ok (flat_map token_line (tokens_from m 0))
+Says Tokens (index _ _) answer = answer ≡ Err IncompatibleSourceMap
+Says Rewrite (regular m) answer = PrintsMap (regular (rewritten no_removal m)) answer
+Says Rewrite (index _ _) answer = answer ≡ Err IncompatibleSourceMap
+Says Flatten (regular _) answer = answer ≡ Err IncompatibleSourceMap
+Says Flatten (index parts ss) answer = Then (FlatAnswer (index parts ss)) (λ m a. PrintsMap (regular m) a) answer
+Says (Shift _) (regular _) answer = answer ≡ Err IncompatibleSourceMap
+Says (Shift rows) (index parts ss) answer = ShiftAnswer rows parts (section_list ss) answer
 
 -- what a command says of the map that bytes stand for, or why they stand for none
 abbrev pub CommandAnswers : Command → List ℕ → Result (List ℕ) Error → Type 0
-CommandAnswers command bytes answer = (held : Result MapValue Error) × BytesDecode bytes held
-    × MatchResult held (λ m. Says command m answer) (λ e. answer ≡ Err e)
+CommandAnswers command bytes answer = (held : Result MapTree Error) × BytesDecode bytes held
+    × MatchResult held (λ t. Says command t answer) (λ e. answer ≡ Err e)
 
 -- Runs: words, and bytes that hold a map.
 

@@ -15,6 +15,10 @@ pub enum Command {
     Tokens,
     /// `rewrite`: the map rewritten with default options, as JSON text.
     Rewrite,
+    /// `flatten`: the regular map that an index is made flat to, as JSON text.
+    Flatten,
+    /// `shift ROWS`: the index with each of its sections so many rows further down, as JSON text.
+    Shift(u32),
 }
 
 // The number that a word of digits is. A sign, which `parse` would take, is none.
@@ -36,8 +40,21 @@ fn lone(word: &str) -> Option<Command>
     match word {
         "tokens" => Some(Command::Tokens),
         "rewrite" => Some(Command::Rewrite),
+        "flatten" => Some(Command::Flatten),
         _ => None,
     }
+}
+
+// The command that a word and a number ask for.
+fn counted(verb: &str, count: &str) -> Option<Command>
+    ensures { MatchOption result
+        ((command : _) → ¬ AskFor (verb.now ∷ count.now ∷ []) command)
+        (AskFor (verb.now ∷ count.now ∷ [])) }
+{
+    if verb != "shift" {
+        return None;
+    }
+    Some(Command::Shift(number_of(count)?))
 }
 
 // The command that a word and two numbers ask for.
@@ -52,7 +69,7 @@ fn placed(verb: &str, line: &str, col: &str) -> Option<Command>
     Some(Command::Lookup(number_of(line)?, number_of(col)?))
 }
 
-/// The command that the words ask for, none for other words. LINE and COL are decimal
+/// The command that the words ask for, none for other words. LINE, COL and ROWS are decimal
 /// digits, at least one, of a number below 2^32. Only want of memory refuses.
 pub fn parse_words(_alloc: Global, words: &[String]) -> Result<Option<Command>>
     ensures { MatchResult result
@@ -63,6 +80,7 @@ pub fn parse_words(_alloc: Global, words: &[String]) -> Result<Option<Command>>
 {
     match words {
         [word] => Ok(lone(word.as_str())),
+        [verb, count] => Ok(counted(verb.as_str(), count.as_str())),
         [verb, line, col] => Ok(placed(verb.as_str(), line.as_str(), col.as_str())),
         _ => Ok(None),
     }

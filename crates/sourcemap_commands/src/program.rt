@@ -2,24 +2,26 @@
 ghost use Rattle.std.specs.Prelude.{◌≡◌, ◌++◌, ◌⊎◌, ℕ, List, IfErr, IfOk, IfSome, IsNone, MatchResult, map, string_bytes};
 ghost use Rattle.std.specs.Io.KnownBytes.{Appends};
 ghost use Rattle.sourcemap.specs.Answer.{IsAnswer};
-ghost use Rattle.sourcemap.specs.Decoded.{map_value};
+ghost use Rattle.sourcemap.specs.Decoded.{index_value, map_tree};
 ghost use Rattle.sourcemap.specs.Decoder.{Reading};
 ghost use Rattle.sourcemap.specs.Token.{token_value};
+ghost use Rattle.sourcemap.specs.Trees.{index_tree, regular};
 ghost use Rattle.sourcemap.specs.declared.errors.Error.TheVariants.{OutOfMemory};
-ghost use Rattle.sourcemap_commands.specs.declared.command.Command.TheVariants.{Lookup, Tokens, Rewrite};
+ghost use Rattle.sourcemap_commands.specs.declared.command.Command.TheVariants.{Flatten, Lookup, Rewrite, Shift, Tokens};
 ghost use Rattle.sourcemap_commands.specs.declared.program.Reply.{Reply};
 ghost use Rattle.sourcemap_commands.specs.Program.{AskForNone, CommandAnswers, Ending, Ends, IsCutShort, IsJsonLine, IsRefusal, IsReply, IsReplyOf, IsReplyTo, IsReported, IsWriteFault, PrintsRefusal, Runs, Says, range_mark, token_line};
 
 use crate::command::{Command, parse_words};
-use crate::regular::{regular_of, rewritten};
+use crate::regular::{flattened, rewritten};
 use sourcemap::decoder::decode_vec;
-use sourcemap::{DecodedMap, Error, Result, SourceMap, Token};
+use sourcemap::{DecodedMap, Error, Result, SourceMap, SourceMapIndex, Token};
 use sourcemap_records::bytes::read_all;
 use std::alloc::Global;
 use std::io::{Read, Write};
 use std::rt::Files;
 
-const USAGE: &str = "usage: lookup LINE COL | tokens | rewrite | flatten | compose FILE\n";
+const USAGE: &str =
+    "usage: lookup LINE COL | tokens | rewrite | flatten | compose FILE | shift ROWS\n";
 
 const NO_MEMORY: &str = "out of memory\n";
 
@@ -32,11 +34,16 @@ pub struct Reply {
     pub status: u8,
 }
 
-/// What a command says of a map: for `Lookup` the closest token's text or `none`, and a newline;
-/// for `Tokens` the tokens line by line, each with where it stands in the generated text, its own
-/// text, and ` range` if it is a range token; for `Rewrite` the compact JSON text of the map
-/// rewritten with default options, and a newline. No command so far takes a second map. Only want
-/// of memory refuses.
+/// What a command says of a map. For `Lookup` the closest token's text or `none`, and a newline; in
+/// an index in no order it is that of some token or `none`. For `Tokens` the tokens line by line,
+/// each with where it stands in the generated text, its own text, and ` range` if it is a range
+/// token. For `Rewrite` the compact JSON text of the map rewritten with default options, for
+/// `Flatten` that of the regular map that the index is made flat to, for `Shift` that of the index
+/// with its sections so many rows further down, each with a newline.
+///
+/// `IncompatibleSourceMap` for an index in `Tokens` and `Rewrite`, for a regular map in `Flatten` and
+/// `Shift`, and where `Shift` would put a section on a row beyond 4294967295. `CannotFlatten` as by
+/// `SourceMapIndex::flatten`. Else only want of memory refuses. No command so far takes a second map.
 pub fn apply<F: Files>(
     rt: &F,
     alloc: Global,
@@ -45,18 +52,31 @@ pub fn apply<F: Files>(
     adjustment: Option<DecodedMap>,
 ) -> Result<String>
     requires { IsNone adjustment }
-    ensures { IsAnswer string_bytes (Says command.now (map_value map)) result }
+    ensures { IsAnswer string_bytes (Says command.now (map_tree map)) result }
 {
-    match *command {
-        Command::Lookup(line, col) => lookup_text(alloc, &map, line, col),
-        Command::Tokens => tokens_text(alloc, &regular_of(map)),
-        Command::Rewrite => rewritten_text(rt, alloc, regular_of(map)),
+    said(rt, alloc, *command, map)
+}
+
+// What a command says of a map.
+fn said<F: Files>(rt: &F, alloc: Global, command: Command, map: DecodedMap) -> Result<String>
+    ensures { IsAnswer string_bytes (Says command (map_tree map)) result }
+{
+    match (command, map) {
+        (Command::Lookup(line, col), map) => lookup_text(alloc, &map, line, col),
+        (Command::Tokens, DecodedMap::Regular(map)) => tokens_text(alloc, &map),
+        (Command::Rewrite, DecodedMap::Regular(map)) => rewritten_text(rt, alloc, map),
+        (Command::Flatten, DecodedMap::Index(index)) => flat_text(alloc, index),
+        (Command::Shift(rows), DecodedMap::Index(index)) => shifted_text(alloc, index, rows),
+        (Command::Tokens, DecodedMap::Index(_)) => Err(Error::IncompatibleSourceMap),
+        (Command::Rewrite, DecodedMap::Index(_)) => Err(Error::IncompatibleSourceMap),
+        (Command::Flatten, DecodedMap::Regular(_)) => Err(Error::IncompatibleSourceMap),
+        (Command::Shift(_), DecodedMap::Regular(_)) => Err(Error::IncompatibleSourceMap),
     }
 }
 
 // The text of the closest token to a place, or that there is none.
 fn lookup_text(alloc: Global, map: &DecodedMap, line: u32, col: u32) -> Result<String>
-    ensures { IsAnswer string_bytes (Says (Lookup line col) (map_value map.now)) result }
+    ensures { IsAnswer string_bytes (Says (Lookup line col) (map_tree map.now)) result }
 {
     match map.lookup_token(line, col) {
         Some(token) => Ok(format!(in alloc; "{token}\n")?),
@@ -66,7 +86,7 @@ fn lookup_text(alloc: Global, map: &DecodedMap, line: u32, col: u32) -> Result<S
 
 // The lines of all tokens.
 fn tokens_text(alloc: Global, map: &SourceMap) -> Result<String>
-    ensures { IsAnswer string_bytes (Says Tokens map.now) result }
+    ensures { IsAnswer string_bytes (Says Tokens (regular map.now)) result }
 {
     let mut text = String::new(alloc);
     for token in map.tokens() {
@@ -97,16 +117,34 @@ fn range_mark(token: &Token<'_>) -> &'static str
 
 // The JSON text of the map rewritten with default options.
 fn rewritten_text<F: Files>(rt: &F, alloc: Global, map: SourceMap) -> Result<String>
-    ensures { IsAnswer string_bytes (Says Rewrite map) result }
+    ensures { IsAnswer string_bytes (Says Rewrite (regular map)) result }
 {
     let rewritten = rewritten(rt, map)?;
     json_line(alloc, DecodedMap::Regular(rewritten))
 }
 
-// The compact JSON text of a map, and a newline. The map's texts are moved.
+// The JSON text of the regular map that an index is made flat to.
+fn flat_text(alloc: Global, index: SourceMapIndex) -> Result<String>
+    ensures { IsAnswer string_bytes (Says Flatten (index_tree (index_value index))) result }
+{
+    let flat = flattened(index)?;
+    json_line(alloc, DecodedMap::Regular(flat))
+}
+
+// The JSON text of an index with its sections so many rows further down.
+fn shifted_text(alloc: Global, mut index: SourceMapIndex, rows: u32) -> Result<String>
+    ensures { IsAnswer string_bytes (Says (Shift rows) (index_tree (index_value index))) result }
+{
+    if !index.adjust_sections_offset_rows(rows) {
+        return Err(Error::IncompatibleSourceMap);
+    }
+    json_line(alloc, DecodedMap::Index(index))
+}
+
+// The compact JSON text of a map, and a newline. A regular map's texts are moved.
 fn json_line(alloc: Global, map: DecodedMap) -> Result<String>
     ensures { MatchResult result
-        (λ text. IsJsonLine (map_value map) (string_bytes text))
+        (λ text. IsJsonLine (map_tree map) (string_bytes text))
         (λ e. e ≡ OutOfMemory) }
 {
     let value = map.into_value()?;

@@ -1,18 +1,24 @@
-//! The regular map that a map is, and what such a map is rewritten as by default.
+//! Regular maps that the program makes of a map: one rewritten by default, and one of an index.
 ghost use Rattle.std.specs.Prelude.{◌≡◌, MatchResult};
-ghost use Rattle.sourcemap.specs.Decoded.{map_value};
+ghost use Rattle.sourcemap.specs.Answer.{IsAnswer};
+ghost use Rattle.sourcemap.specs.Decoded.{index_value, map_tree};
+ghost use Rattle.sourcemap.specs.Flat.{FlatAnswer};
 ghost use Rattle.sourcemap.specs.Rewrite.{no_removal, rewritten};
-ghost use Rattle.sourcemap.specs.declared.errors.Error.TheVariants.{OutOfMemory};
+ghost use Rattle.sourcemap.specs.Trees.{IndexValue, index_tree, regular};
+ghost use Rattle.sourcemap.specs.declared.errors.Error.TheVariants.{IncompatibleSourceMap, OutOfMemory};
 
-use sourcemap::{DecodedMap, Result, RewriteOptions, SourceMap};
+use sourcemap::{DecodedMap, Error, Result, RewriteOptions, SourceMap, SourceMapIndex};
 use std::rt::Files;
 
-/// The regular map that a map is: there is no other kind yet.
-pub fn regular_of(map: DecodedMap) -> SourceMap
-    ensures { result ≡ map_value map }
+/// The regular map that a map is; an index is `IncompatibleSourceMap`.
+pub fn regular_of(map: DecodedMap) -> Result<SourceMap>
+    ensures { MatchResult result
+        (λ m. map_tree map ≡ regular m)
+        (λ e. (e ≡ IncompatibleSourceMap) × ((i : IndexValue) × (map_tree map ≡ index_tree i))) }
 {
     match map {
-        DecodedMap::Regular(map) => map,
+        DecodedMap::Regular(map) => Ok(map),
+        DecodedMap::Index(_) => Err(Error::IncompatibleSourceMap),
     }
 }
 
@@ -21,4 +27,11 @@ pub fn rewritten<F: Files>(rt: &F, map: SourceMap) -> Result<SourceMap>
     ensures { MatchResult result (λ m. m ≡ rewritten no_removal map) (λ e. e ≡ OutOfMemory) }
 {
     map.rewrite(rt, &RewriteOptions::default())
+}
+
+/// The index made flat, as by `SourceMapIndex::flatten`. The index is let go then.
+pub fn flattened(index: SourceMapIndex) -> Result<SourceMap>
+    ensures { IsAnswer (λ m. m) (FlatAnswer (index_tree (index_value index))) result }
+{
+    index.flatten()
 }

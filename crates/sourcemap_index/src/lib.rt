@@ -11,6 +11,7 @@ mod equality;
 pub mod family;
 pub mod flatten;
 pub mod index;
+pub mod laws;
 pub mod lookup;
 mod rows;
 pub mod section;

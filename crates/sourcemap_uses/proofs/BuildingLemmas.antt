@@ -1,9 +1,12 @@
 -- Maps that are made of tokens, written, and asked once they are read.
-use Rattle.std.proofs.Common.{◌≡◌, ◌∙◌, sym, ap, subst, ℕ, List, [], ◌∷◌, Option, None, option_map, Result, Ok}
+use Rattle.std.proofs.Common.{◌≡◌, ◌↔◌, ◌∙◌, sym, ap, subst, ℕ, List, [], ◌∷◌, Option, None, option_map, Result, Ok}
 use Rattle.sourcemap.specs.Answer.{Gives, IsAnswer}
-use Rattle.sourcemap.specs.Decoded.{map_value}
+use Rattle.sourcemap.specs.Decoded.{map_tree}
 use Rattle.sourcemap.specs.Decoder.{AreSame, BytesDecode}
-use Rattle.sourcemap.specs.Encoder.{ReadsBack, Restores}
+use Rattle.sourcemap.specs.Encoder.{ReadsBack, Restores as RestoresRegular}
+use Rattle.sourcemap.specs.Reading.{BytesStandFor, RegularDecodes}
+use Rattle.sourcemap.specs.TreeEncoder.{Restores}
+use Rattle.sourcemap.specs.Trees.{MapTree, regular, meaning as meaning_of}
 use Rattle.sourcemap.specs.Types.{MapValue, Meaning, made_of, meaning}
 use Rattle.sourcemap.specs.declared.errors.Error.{Error}
 use Rattle.sourcemap.specs.declared.types.DecodedMap.{DecodedMap}
@@ -19,17 +22,22 @@ made m tokens names sources source gave no_names one_source =
     sym e ∙ ap (λ names. made_of None tokens names sources []) no_names
     ∙ ap (λ sources. made_of None tokens [] sources []) one_source
 
+-- a regular map that is read back is read back as a map of any kind
 pub reads_back : (m due : MapValue) (bytes text : List ℕ) → m ≡ due → bytes ≡ text
-    → ReadsBack (BytesDecode text) (Restores m) → ReadsBack (BytesDecode bytes) (Restores due)
-reads_back m due bytes text is same back =
-    subst (λ m. ReadsBack (BytesDecode bytes) (Restores m)) is
-    (subst (λ bytes. ReadsBack (BytesDecode bytes) (Restores m)) (sym same) back)
+    → ((back : MapValue) → BytesStandFor RegularDecodes text (Ok back) ↔ BytesDecode text (Ok (regular back)))
+    → ReadsBack (BytesStandFor RegularDecodes text) (RestoresRegular m) → ReadsBack (BytesDecode bytes) (Restores (regular due))
+reads_back m due bytes text is same any (back, stands, restored) =
+    let whole : Restores (regular m) (regular back) = (restored.0, restored) in (
+      regular back,
+      subst (λ bytes. BytesDecode bytes (Ok (regular back))) (sym same) ((any back).0 stands),
+      subst (λ m. Restores (regular m) (regular back)) is whole,
+    )
 
 -- what is found in the map that was read is what the map that was written means
 pub place_found : (bytes text : List ℕ) (m : MapValue) (map : DecodedMap) (p : ℕ × ℕ) (found : Option Meaning)
-    → bytes ≡ text → ReadsBack (BytesDecode text) (Restores m)
-    → ((due : Result MapValue Error) → BytesDecode bytes due → IsAnswer map_value (AreSame due) (Ok map))
-    → found ≡ meaning (map_value map) p → option_map place_of found ≡ option_map place_of (meaning m p)
+    → bytes ≡ text → ReadsBack (BytesDecode text) (Restores (regular m))
+    → ((due : Result MapTree Error) → BytesDecode bytes due → IsAnswer map_tree (AreSame due) (Ok map))
+    → found ≡ meaning_of (map_tree map) p → option_map place_of found ≡ option_map place_of (meaning m p)
 place_found bytes text m map p found same (back, stands, restored) only is =
     let read = only (Ok back) (subst (λ bytes. BytesDecode bytes (Ok back)) (sym same) stands) in
-    ap (option_map place_of) (is ∙ ap (λ n. meaning n p) (sym read) ∙ restored.0 p)
+    ap (option_map place_of) (is ∙ ap (λ t. meaning_of t p) (sym read) ∙ restored.0 p)

@@ -1,8 +1,8 @@
 -- What a rewriting leaves that takes names and contents away.
 use Rattle.std.proofs.Common.{◌≡◌, ◌∙◌, refl, sym, ap, subst, ℕ, ◌<◌, List, [], map, length, false, Option, Some, None, option_map, Ok}
-use Rattle.sourcemap.specs.Decoder.{BytesDecode}
 use Rattle.sourcemap.specs.Encoder.{ReadsBack, Restores}
 use Rattle.sourcemap.specs.Prefixes.{cut_by}
+use Rattle.sourcemap.specs.Reading.{BytesStandFor, RegularDecodes}
 use Rattle.sourcemap.specs.Rewrite.{MeansLess, removal_of, rewrite_due, rewritten, taken_away}
 use Rattle.sourcemap.specs.Types.{MapValue, Meaning, contents_of, meaning}
 use Rattle.sourcemap.specs.declared.types.RewriteOptions.{RewriteOptions}
@@ -45,14 +45,14 @@ pub but_details : (options : RewriteOptions) (m bare : MapValue) → options.wit
 but_details options m bare names contents prefixes =
     subst (λ removal. MeansLess removal m bare) (details options names contents prefixes)
 
-pub published_as : (m bare : MapValue) (bytes text read : List ℕ) → BytesDecode bytes (Ok m)
+pub published_as : (m bare : MapValue) (bytes text read : List ℕ) → BytesStandFor RegularDecodes bytes (Ok m)
     → bare ≡ rewritten no_details m → MeansLess no_details m bare → text ≡ read
-    → ReadsBack (BytesDecode read) (Restores bare) → Publishes bytes text
+    → ReadsBack (BytesStandFor RegularDecodes read) (Restores bare) → Publishes bytes text
 published_as m bare bytes text read stands is less same (back, reads, restored) = (
   m,
   back,
   stands,
-  subst (λ text. BytesDecode text (Ok back)) (sym same) reads,
+  subst (λ text. BytesStandFor RegularDecodes text (Ok back)) (sym same) reads,
   record {
     meaning = λ p. restored.0 p ∙ means_but_names m bare less p;
     names = restored.1.names ∙ ap (λ m. m.names) is;

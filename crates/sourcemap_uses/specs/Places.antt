@@ -2,8 +2,8 @@
 use Rattle.std.specs.Prelude.{◌≡◌, ℕ, List, Option, option_map, Ok}
 use Rattle.sourcemap.specs.Decoder.{BytesDecode}
 use Rattle.sourcemap.specs.Token.{token_text}
-use Rattle.sourcemap.specs.Types.{MapValue, meaning}
+use Rattle.sourcemap.specs.Trees.{MapTree, meaning}
 
 -- the text of what the position means by that map, where it means something
 abbrev pub IsTextOf : (bytes : List ℕ) → ℕ × ℕ → Option (List ℕ) → Type 0
-IsTextOf bytes p text = (m : MapValue) × BytesDecode bytes (Ok m) × (text ≡ option_map token_text (meaning m p))
+IsTextOf bytes p text = (t : MapTree) × BytesDecode bytes (Ok t) × (text ≡ option_map token_text (meaning t p))

@@ -1,6 +1,6 @@
 -- What is published of a map.
 use Rattle.std.specs.Prelude.{◌≡◌, ℕ, ◌<◌, List, [], length, false, None, option_map, Ok}
-use Rattle.sourcemap.specs.Decoder.{BytesDecode}
+use Rattle.sourcemap.specs.Reading.{BytesStandFor, RegularDecodes}
 use Rattle.sourcemap.specs.Rewrite.{Removal}
 use Rattle.sourcemap.specs.Types.{MapValue, Meaning, meaning, contents_of}
 
@@ -19,4 +19,5 @@ pub record IsBare (old new : MapValue) : Type 0 where
 
 -- bytes of such a map, made from bytes of the old one
 abbrev pub Publishes : (old new : List ℕ) → Type 0
-Publishes old new = (m n : MapValue) × BytesDecode old (Ok m) × BytesDecode new (Ok n) × IsBare m n
+Publishes old new =
+    (m n : MapValue) × BytesStandFor RegularDecodes old (Ok m) × BytesStandFor RegularDecodes new (Ok n) × IsBare m n

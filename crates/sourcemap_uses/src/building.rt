@@ -1,13 +1,17 @@
 //! A map that is made of tokens, written, and asked once it is read.
 ghost use Rattle.std.specs.Prelude.{◌≡◌, ◌∷◌, [], None, IfOk, option_map};
 ghost use Rattle.sourcemap.specs.Decoder.{BytesDecode};
-ghost use Rattle.sourcemap.specs.Encoder.{ReadsBack, Restores};
+ghost use Rattle.sourcemap.specs.Encoder.{ReadsBack};
 ghost use Rattle.sourcemap.specs.Tokens.{AllWithin};
+ghost use Rattle.sourcemap.specs.TreeEncoder.{Restores};
+ghost use Rattle.sourcemap.specs.Trees.{regular};
 ghost use Rattle.sourcemap.specs.Types.{made_of, meaning};
 ghost use Rattle.sourcemap_uses.specs.Building.{place_of};
 
 use sourcemap::encoder::encode_to;
-use sourcemap::laws::written_maps_read_back;
+use sourcemap::laws::{
+    regular_maps_are_of_a_kind, well_formed_maps_are_in_order, written_maps_read_back,
+};
 use sourcemap::types::RawToken;
 use sourcemap::{Result, SourceMap, decode_slice};
 use std::alloc::Global;
@@ -25,6 +29,7 @@ pub fn place_once_written(
     ensures { IfOk result (λ found. found ≡ option_map place_of
         (meaning (made_of None tokens.items [] (source.now ∷ []) []) (line, col))) }
 {
+    well_formed_maps_are_in_order();
     let text = written(alloc, source, tokens)?;
     let map = decode_slice(alloc, text.as_slice())?;
     match map.lookup_token(line, col) {
@@ -38,9 +43,10 @@ pub fn place_once_written(
 pub fn written(alloc: Global, source: &str, tokens: Vec<RawToken>) -> Result<Vec<u8>>
     requires { AllWithin 1 0 tokens.items }
     ensures { IfOk result (λ text. ReadsBack (BytesDecode text.items)
-        (Restores (made_of None tokens.items [] (source.now ∷ []) []))) }
+        (Restores (regular (made_of None tokens.items [] (source.now ∷ []) [])))) }
 {
     written_maps_read_back();
+    regular_maps_are_of_a_kind();
     let sources = vec![in alloc; String::from_str(alloc, source)?]?;
     let map = SourceMap::new(alloc, None, tokens, Vec::new(alloc), sources, None)?;
     let mut text = Vec::new(alloc);

@@ -5,6 +5,8 @@
 pub mod building;
 pub mod data_urls;
 pub mod faults;
+pub mod flattening;
+pub mod linking;
 pub mod merging;
 pub mod places;
 pub mod publishing;

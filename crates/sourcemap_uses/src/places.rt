@@ -4,6 +4,7 @@ ghost use Rattle.sourcemap.specs.Answer.{UnlessMemory};
 ghost use Rattle.sourcemap.specs.Decoder.{BytesDecode};
 ghost use Rattle.sourcemap_uses.specs.Places.{IsTextOf};
 
+use sourcemap::laws::well_formed_maps_are_in_order;
 use sourcemap::{Result, decode_slice};
 use std::alloc::Global;
 
@@ -16,6 +17,7 @@ pub fn place_text(alloc: Global, bytes: &[u8], line: u32, col: u32) -> Result<Op
         (λ text. IsTextOf bytes.now (line, col) (option_map string_bytes text)) }
     ensures fault { IfErr result (λ e. UnlessMemory e (BytesDecode bytes.now (Err e))) }
 {
+    well_formed_maps_are_in_order();
     let map = decode_slice(alloc, bytes)?;
     match map.lookup_token(line, col) {
         None => Ok(None),

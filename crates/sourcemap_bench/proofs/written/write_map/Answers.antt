@@ -1,6 +1,6 @@
 -- The map is written, or the bytes are none.
 use Rattle.std.proofs.lemmas.Result.{err_from_is_err_and}
-use Rattle.sourcemap.specs.Decoded.{map_value}
+use Rattle.sourcemap.specs.Decoded.{map_tree}
 use Rattle.sourcemap_bench.proofs.WrittenLemmas.{no_map, text_written, text_unwritten}
 use Rattle.sourcemap_bench.proofs.written.write_map.Goals as goal
 
@@ -11,9 +11,9 @@ returns-in_err-map-clause-fault g c =
 
 pub returns-clause-written : goal.returns-clause-written
 returns-clause-written g c =
-    text_written c.args.bytes.now (map_value c.in_ok-map.map) c.encode_to.result (g.W.Write.contents c.args.output.now)
+    text_written c.args.bytes.now (map_tree c.in_ok-map.map) c.encode_to.result (g.W.Write.contents c.args.output.now)
     (g.W.Write.contents c.encode_to.new.writer) c.in_ok-map.ensures.answer c.encode_to.ensures.written
 
 pub returns-clause-fault : goal.returns-clause-fault
 returns-clause-fault g c =
-    text_unwritten c.args.bytes.now (map_value c.in_ok-map.map) c.encode_to.result c.encode_to.ensures.fault
+    text_unwritten c.args.bytes.now (map_tree c.in_ok-map.map) c.encode_to.result c.encode_to.ensures.fault

@@ -1,12 +1,12 @@
 -- What is said of the map, or what kept the bytes from being one.
 use Rattle.std.proofs.lemmas.Result.{err_from_is_err_and}
-use Rattle.sourcemap.specs.Decoded.{map_value}
+use Rattle.sourcemap.specs.Decoded.{map_tree}
 use Rattle.sourcemap_commands.proofs.ProgramLemmas.{answer_of_map, answer_of_fault}
 use Rattle.sourcemap_commands.proofs.program.answer.Goals as goal
 
 pub returns : goal.returns
 returns g c =
-    answer_of_map c.args.command.now c.args.bytes.items (map_value c.in_ok-map.map) c.apply.result
+    answer_of_map c.args.command.now c.args.bytes.items (map_tree c.in_ok-map.map) c.apply.result
     c.in_ok-map.ensures.answer c.apply.ensures
 
 pub returns-in_err-map : goal.returns-in_err-map

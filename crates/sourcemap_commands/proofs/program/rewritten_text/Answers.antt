@@ -1,5 +1,10 @@
+use Rattle.sourcemap.specs.Decoded.{map_tree}
+use Rattle.sourcemap_index.proofs.FamilyLemmas.{regular_tree}
+use Rattle.sourcemap_index.specs.declared.family.DecodedMap.TheVariants.{Regular}
 use Rattle.sourcemap_commands.proofs.ProgramLemmas.{says_rewritten}
 use Rattle.sourcemap_commands.proofs.program.rewritten_text.Goals as goal
 
 pub returns : goal.returns
-returns g c = says_rewritten c.args.map _ c.json_line.result c.in_ok-rewritten.ensures c.json_line.ensures
+returns g c =
+    says_rewritten c.args.map c.in_ok-rewritten.rewritten (map_tree (Regular c.in_ok-rewritten.rewritten)) c.json_line.result
+    c.in_ok-rewritten.ensures (regular_tree c.in_ok-rewritten.rewritten) c.json_line.ensures

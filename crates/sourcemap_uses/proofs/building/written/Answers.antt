@@ -12,4 +12,4 @@ returns c =
     let well = c.in_ok-map.ensures.well_formed (rw (c.in_ok-sources.ensures.len, c.new.ensures.len) c.requires) in
     let wrote = c.in_ok-encode_to.ensures.written in
     let same = wrote.2 ∙ ap (λ bytes. bytes ++ wrote.0) c.new-text.ensures.items in
-    reads_back m _ _ wrote.0 is same (c.written_maps_read_back.ensures m wrote.0 wrote.1 well)
+    reads_back m _ _ wrote.0 is same (c.regular_maps_are_of_a_kind.ensures.bytes wrote.0) (c.written_maps_read_back.ensures m wrote.0 wrote.1 well)

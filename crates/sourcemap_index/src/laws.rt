@@ -1,0 +1,28 @@
+//! Laws of maps of any kind as they are stored.
+ghost use Rattle.std.specs.Prelude.{◌≡◌, false, List, Ok, ℕ, ◌↔◌};
+ghost use Rattle.serde_json.specs.Data.{Data};
+ghost use Rattle.serde_json.specs.Written.{has_float};
+ghost use Rattle.sourcemap_records.specs.Bytes.{BytesStandFor, UrlStandsFor, ValueStandsFor};
+ghost use Rattle.sourcemap_regular.specs.Decode.{RegularDecodes};
+ghost use Rattle.sourcemap_regular.specs.Map.{MapValue};
+ghost use Rattle.sourcemap_trees.specs.MapTree.{MapTree, regular};
+ghost use Rattle.sourcemap_index.specs.Decode.{BytesDecode, UrlDecodes, ValueDecodes};
+ghost use Rattle.sourcemap_index.specs.DecodedMap.{IsTextOf, IsValueOf};
+
+/// A law: a JSON value, bytes or a data URL stand for a regular map exactly if they stand for it as a
+/// map of any kind.
+pub fn regular_maps_are_of_a_kind()
+    ensures values { (d : Data) (m : MapValue)
+        → ValueStandsFor RegularDecodes d (Ok m) ↔ ValueDecodes d (Ok (regular m)) }
+    ensures bytes { (bytes : List ℕ) (m : MapValue)
+        → BytesStandFor RegularDecodes bytes (Ok m) ↔ BytesDecode bytes (Ok (regular m)) }
+    ensures urls { (url : List ℕ) (m : MapValue)
+        → UrlStandsFor RegularDecodes url (Ok m) ↔ UrlDecodes url (Ok (regular m)) }
+{}
+
+/// A law: a map is written as one text, and no number of its value has a fraction, so that the value
+/// is printed as that text.
+pub fn written_values_have_one_text()
+    ensures whole { (t : MapTree) (d : Data) → IsValueOf t d → has_float d ≡ false }
+    ensures once { (t : MapTree) (a b : List ℕ) → IsTextOf t a → IsTextOf t b → a ≡ b }
+{}
