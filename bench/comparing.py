@@ -109,6 +109,7 @@ def reason_of_record(data, here, there):
     - stable sort: the same sources with the same contents and the same names, in whatever order; the same tokens
       at the same places, in another order among those of one place, so that not the same ones repeat the one
       before; and what is written here reads back as above
+    - stable sort, range bits: the same where there are range bits, but for which of them are range tokens
     """
     if here[0] or there[0] not in (0, PANICKED):
         return None
@@ -120,9 +121,11 @@ def reason_of_record(data, here, there):
     other.pop('rangeMappings', None)
     if record == other:
         return 'range bits' if ranges and reads_back(data, here[1]) else None
-    tokens, others = (set(tokens_of(tokens_here(text))) for text in (here[1], there[1]))
-    is_sorted = without_order(record) == without_order(other) and tokens == others and reads_back(data, here[1])
-    return 'stable sort' if is_sorted else None
+    listed = without_marks if ranges else without_repeats
+    tokens, others = (set(listed(tokens_here(text))) for text in (here[1], there[1]))
+    if without_order(record) != without_order(other) or tokens != others or not reads_back(data, here[1]):
+        return None
+    return 'stable sort, range bits' if ranges else 'stable sort'
 
 
 def reason_of_piece(own, here, there):

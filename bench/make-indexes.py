@@ -14,7 +14,7 @@ level offsets stand in one of five ways: below one another; the next section on 
 anywhere; the first two at one place; the last at the end of its line. In a third of the indexes the sections
 stand in no order. In a sixth a section has a URL only, or nothing. A twelfth have faults in two of their maps.
 Some have lists of a bundle, a file and a debug id; some maps have contents, which are not the same where a map
-is taken twice, and an ignore list, of which some ids name nothing.
+is taken twice, an ignore list, of which some ids name nothing, or range tokens.
 """
 import argparse, json, pathlib, random
 from index_maps import LAST, is_index, record_of
@@ -61,8 +61,10 @@ def offsets(draws, maps):
 
 
 def changed(draws, record):
-    """A copy of a regular map, some with contents of their own, some with an ignore list."""
+    """A copy of a regular map, some with contents of their own, an ignore list, or range tokens."""
     record, count = dict(record), len(record.get('sources') or [])
+    if draws.randrange(8) == 0:
+        record['rangeMappings'] = ';'.join(draws.choice(['', 'B', 'C', 'J', 'AE']) for _ in range(height(record)))
     if draws.randrange(3) == 0:
         record['sourcesContent'] = [draws.choice([None, f'// {draws.random()}\n']) for _ in range(count)]
     if draws.randrange(3) == 0:
