@@ -2,7 +2,8 @@
 //! function calls it; the call does nothing when it runs.
 
 pub use sourcemap_core::laws::{
-    bits_are_determined, mappings_determine_one_answer, one_stable_order, reduced_answers_alike,
+    bits_are_determined, composed_tokens_stay_within, mappings_determine_one_answer,
+    moved_positions_answer_as_before, one_stable_order, reduced_answers_alike,
     segments_are_determined, written_texts_are_determined,
 };
 pub use sourcemap_headers::data_url::data_urls_have_one_answer;
