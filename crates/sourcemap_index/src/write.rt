@@ -12,14 +12,14 @@ ghost use Rattle.sourcemap_index.specs.Write.{IsShallow};
 
 /// A law: the bytes that a map of any kind is written as are the compact text of its record's value,
 /// for no number in that has a fraction.
-pub fn written_maps_are_compact()
+pub fn maps_of_any_kind_are_compact()
     ensures { (t : MapTree) (text : List ℕ) → IsEncoded (RecordAnswer t) text → IsTextOf t text }
 {}
 
 /// A law: the bytes that a well-formed map of any kind is written as, and a data URL of them, stand
 /// for a map of the same meaning at every position, with all parts kept, where a reader of JSON
 /// takes as many levels.
-pub fn written_maps_read_back()
+pub fn maps_of_any_kind_read_back()
     ensures bytes { (t : MapTree) (text : List ℕ)
         → IsEncoded (RecordAnswer t) text → IsWellFormed t → IsShallow t
         → ReadsBack (BytesDecode text) (Restores t) }
