@@ -18,18 +18,27 @@ then the status is 1. A reason is given only where what was printed bears it out
   a lookup, the same tokens at the place that was found, in another order, and the right one of those here
 - distance of columns: a range token that stands on another line than the position, where the reference adds
   the distance of columns to the source column and nothing else differs
-- digits: this program refuses a byte, named as a character, or a number that the map's mappings have, where the
-  byte is no digit or the number has more than 63 bits; the reference takes them, or refuses what comes later
+- of a lookup in an index: both answer as they do in the map that the position leads to, and differ there for
+  one of these two reasons
+- bundle lists: of records written of an index, see `reason_of_index` in comparing.py
+- past the end: this program refuses to flatten, and by the rules a token would pass the last line or column
+- digits: this program refuses a byte, named as a character, or a number that mappings have, where the byte is
+  no digit or the number has more than 63 bits; the reference takes them, or refuses what comes later
 - fault: both refuse the text as JSON, with another of its faults
 - not there: this program does not know the word yet
-- kind not there: a map that the reference's `stat` calls `index` or `hermes` and that this program refuses
-  as incompatible; to be taken out of this script once the program reads such maps
-"""
-import argparse, json, re, tempfile
-from comparing import (TOOL, answer, build_missing, compare_all, is_reordered, kind_of, noted, reason_of_record,
-                       reference_program)
+- kind not there: a map that has function names, or an index of such maps, which this program refuses as
+  incompatible; to be taken out of this script once the program reads such maps
 
-WORDS = ['tokens', 'rewrite', 'flatten']
+Positions in an index are drawn here, beside tokens of the flat map, beside starts of sections and anywhere.
+"""
+import argparse, random, re, tempfile
+from comparing import (TOOL, answer, build_missing, compare_all, is_reordered, noted, placed_tokens,
+                       reason_of_index, reason_of_record, reference_program, tokens_of, without_mark)
+from index_maps import LAST, bytes_of, flat_tokens, innermost, is_index, offset_of, pieces, record_of
+
+WORDS = [['tokens'], ['rewrite'], ['flatten'], ['shift', '7'], ['shift', str(LAST)]]
+INCOMPATIBLE = (1, b'encountered incompatible sourcemap format\n')
+PAST_THE_END = (1, b'cannot flatten the indexed sourcemap: a position passes 4294967295\n')
 JSON_FAULT = b'bad json: '
 OVERFLOW = b'vlq decode caused an overflow\n'
 FOREIGN = re.compile(r'invalid base64 character: (.)\n', re.DOTALL)
@@ -41,30 +50,44 @@ PLACE = re.compile(rb' \((\d+):(\d+)\)( \(range\))?$')
 
 def is_refused_digit(data, here):
     """Whether this program refuses digits that the reference takes, and the map has such."""
-    mappings = json.loads(data[data.index(b'{'):]).get('mappings') if here[0] == 1 else None
     refused = FOREIGN.fullmatch(here[1].decode(errors='replace'))
-    if refused and mappings:
+    if here[0] != 1 or not refused and here[1] != OVERFLOW:
+        return False
+    mappings = ';'.join(piece.get('mappings') or '' for piece in pieces(record_of(data)))
+    if refused:
         return not DIGIT.fullmatch(refused[1]) and refused[1] in mappings.encode().decode('latin-1')
-    return bool(mappings) and here[1] == OVERFLOW and bool(TOO_GREAT.search(mappings))
+    return bool(TOO_GREAT.search(mappings))
 
 
-def is_kind_missing(kind, here):
-    return kind in ('index', 'hermes') and here == (1, b'encountered incompatible sourcemap format\n')
+def are_json_faults(*answers):
+    return all(status == 1 and text.startswith(JSON_FAULT) for status, text in answers)
 
 
-def reason(word, data, kind, here, there):
+def is_kind_missing(data, here):
+    return here == INCOMPATIBLE and any(piece.get('x_facebook_sources') is not None and not is_index(piece)
+                                        for piece in pieces(record_of(data)))
+
+
+def passes_the_end(data):
+    """Whether a token of an index stands where no position is."""
+    return any(max(place) > LAST for place, _ in flat_tokens(record_of(data), placed_tokens))
+
+
+def reason(word, data, here, there):
     """Why the two programs differ, None if nothing bears a reason out."""
     if here[0] == 2:
         return 'not there'
-    if is_kind_missing(kind, here):
+    if is_kind_missing(data, here):
         return 'kind not there'
     if is_refused_digit(data, here):
         return 'digits'
+    if here == PAST_THE_END:
+        return 'past the end' if passes_the_end(data) else None
     if here[0] == 1 and there[0] == 1:
-        return 'fault' if here[1].startswith(JSON_FAULT) and there[1].startswith(JSON_FAULT) else None
+        return 'fault' if are_json_faults(here, there) else None
     if word == 'tokens':
         return None if here[0] or there[0] or not is_reordered(here[1], there[1]) else 'stable sort'
-    return reason_of_record(data, here, there)
+    return (reason_of_index if word == 'shift' else reason_of_record)(data, here, there)
 
 
 def is_moved(here, told, distance):
@@ -78,24 +101,39 @@ def is_moved(here, told, distance):
 def is_among_equals(reference, data, position, place, here):
     """Whether both programs have the same tokens at a place, in another order, and the answer given here is
     the right one of those: the first if the position is that place, else the last."""
-    own, other = ([line for line in answer([program, 'tokens'], data)[1].split(b'\n') if line.startswith(place + b' ')]
+    own, other = ([text for stands, text in tokens_of(answer([program, 'tokens'], data)[1]) if stands == place]
                   for program in (TOOL, reference))
     if own == other or sorted(own) != sorted(other):
         return False
-    due = own[0 if place == position.replace(' ', ':').encode() else -1]
-    return due == place + b' ' + here
+    return here == without_mark(own[0 if place == position.replace(' ', ':').encode() else -1])
 
 
-def reason_of_lookup(reference, data, position, kind, here, told, placed):
-    """Why two answers to a lookup differ. `placed` is the reference's with the token's place, as
-    `a.js:0:7 (0:0) (range)`."""
-    if is_kind_missing(kind, here):
+def reason_within(reference, data, position, here, told):
+    """The bytes of the map that a position in an index leads to, and the position there, where both programs
+    answer there as they do in the index; else None."""
+    found = innermost(record_of(data), tuple(map(int, position.split())))
+    if found is None:
+        return None
+    inner, place = bytes_of(found[0]), '%d %d' % found[1]
+    answers = [answer([program, 'lookup', *place.split()], inner) for program in (TOOL, reference)]
+    return (inner, place) if answers == [here, (0, told + b'\n')] else None
+
+
+def reason_of_lookup(reference, data, position, here, told, placed):
+    """Why two answers to a lookup differ. `placed` is the reference's with the token's place in its map, as
+    `a.js:0:7 (0:0) (range)`; both are its refusal where it refuses."""
+    if is_kind_missing(data, here):
         return 'kind not there'
     if is_refused_digit(data, here):
         return 'digits'
+    if are_json_faults(here, (1, told)):
+        return 'fault'
     stands = PLACE.search(placed)
     if here[0] or not stands:
         return None
+    if is_index(record_of(data)):
+        inner = reason_within(reference, data, position, here, told)
+        return inner and reason_of_lookup(reference, *inner, here, told, placed)
     text, (line, column) = here[1][:-1], map(int, position.split())
     if stands[3] and int(stands[1]) != line and is_moved(text, told, (column - int(stands[2])) % 2**32):
         return 'distance of columns'
@@ -103,30 +141,50 @@ def reason_of_lookup(reference, data, position, kind, here, told, placed):
     return 'stable sort' if is_among_equals(reference, data, position, place, text) else None
 
 
+def positions_in_index(record, count):
+    """Positions in an index: beside tokens of the flat map, beside starts of sections, and anywhere."""
+    draws = random.Random(count)
+    places = [place for place, _ in flat_tokens(record, placed_tokens)] + [(0, 0)]
+    starts = list(map(offset_of, record['sections'])) + [(0, 0)]
+    last = max(places)[0]
+
+    def drawn(number):
+        if number % 4 == 3:
+            return draws.randrange(last + 3), draws.randrange(1 << draws.randrange(33))
+        line, column = draws.choice(starts if number % 4 == 2 else places)
+        return line + (draws.randrange(-1, 2) if number % 4 == 2 else 0), column + draws.randrange(-2, 4)
+
+    bounded = ([max(0, min(LAST, part)) for part in drawn(number)] for number in range(count))
+    return ''.join('%d %d\n' % tuple(position) for position in bounded).encode()
+
+
 def drawn_positions(reference, data, count):
     """Positions for the map, None if the reference draws none for it."""
+    if b'"sections"' in data and is_index(record := record_of(data)):
+        return positions_in_index(record, count)
     drawn = [answer([reference, 'positions', str(n), *more], data)
              for n, more in ((count // 2, ['7']), (count - count // 2, ['11', 'wild']))]
     return None if any(status for status, _ in drawn) else b''.join(text for _, text in drawn)
 
 
-def compare_lookups(reference, count, name, data, kind):
+def compare_lookups(reference, count, name, data):
     positions = drawn_positions(reference, data, count)
     if positions is None:
         return
     with tempfile.NamedTemporaryFile() as file:
         file.write(positions)
         file.flush()
-        told, placed = (answer([reference, word, file.name], data)[1].split(b'\n') for word in ('batch', 'dst'))
+        (status, text), (_, places) = (answer([reference, word, file.name], data) for word in ('batch', 'dst'))
     for i, position in enumerate(positions.decode().splitlines()):
         here = answer([TOOL, 'lookup', *position.split()], data)
-        yield noted(f'{name}, lookup {position}', here, (0, told[i] + b'\n'),
-                    lambda: reason_of_lookup(reference, data, position, kind, here, told[i], placed[i]))
+        told, placed = (text if status else both.split(b'\n')[i] for both in (text, places))
+        yield noted(f'{name}, lookup {position}', here, (status, text if status else told + b'\n'),
+                    lambda: reason_of_lookup(reference, data, position, here, told, placed))
 
 
-def compare_word(reference, word, name, data, kind):
-    here, there = answer([TOOL, word], data), answer([reference, word], data)
-    return noted(f'{name}, {word}', here, there, lambda: reason(word, data, kind, here, there))
+def compare_words(reference, words, name, data):
+    here, there = answer([TOOL, *words], data), answer([reference, *words], data)
+    return noted(f'{name}, {" ".join(words)}', here, there, lambda: reason(words[0], data, here, there))
 
 
 def main():
@@ -139,9 +197,8 @@ def main():
     reference = reference_program(given.reference)
 
     def compare(name, data):
-        kind = kind_of(reference, data)
-        notes = [compare_word(reference, word, name, data, kind) for word in WORDS]
-        return notes + list(compare_lookups(reference, given.positions, name, data, kind))
+        notes = [compare_words(reference, words, name, data) for words in WORDS]
+        return notes + list(compare_lookups(reference, given.positions, name, data))
 
     compare_all(given.maps, compare)
 

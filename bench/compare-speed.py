@@ -5,11 +5,11 @@
 
 REFERENCE       bench/reference, which is then built, from the public registry if it needs one; or a program
                 over the Rust crate that knows its words `bench OPERATION N`, `stat`, and `slice` and
-                `stream` before `lookup LINE COL` and `rewrite`
-MAP             maps to take, as files; without any, those that bench/get-maps.sh gathers, and small and odd
-                ones that bench/make-map.py makes
+                `stream` before `lookup LINE COL`, `rewrite` and `flatten`
+MAP             maps to take, as files, index maps too; without any, those that bench/get-maps.sh gathers, and
+                small and odd ones and indexes that bench/make-map.py makes
 --rounds        rounds of each figure, of which the least counts (7)
---no-made       no small and odd maps
+--no-made       no small and odd maps, and no indexes
 --growth        tokens of the smallest of four made maps, each with twice the tokens of the one before;
                 a table for each such number (75000 250000), and none for 0
 --instructions  counts instructions with valgrind too, which is slow
@@ -31,11 +31,15 @@ from comparing import BENCH, CRATES, TOOL, build_missing, reference_program
 
 SCRIPTS = CRATES.parent / 'bench'
 OPERATIONS = ['decode', 'decode-reader', 'lookup', 'tokens', 'encode', 'rewrite']
+INDEX_OPERATIONS = ['decode', 'decode-reader', 'lookup', 'encode', 'flatten']
 TITLES = {'decode': 'decode a slice', 'decode-reader': 'decode a reader', 'lookup': '1,000,000 lookups',
-          'tokens': 'all tokens', 'encode': 'encode', 'rewrite': 'copy and rewrite'}
+          'tokens': 'all tokens', 'encode': 'encode', 'rewrite': 'copy and rewrite', 'flatten': 'flatten'}
 RUNS = (['lookup', '3', '100'], ['rewrite'])
+INDEX_RUNS = (['lookup', '3', '100'], ['flatten'])
 MADE = {'300-tokens': ['300'], '1000-tokens': ['1000'], '5000-tokens': ['5000'], '20000-tokens': ['20000'],
-        'short-lines': ['500000', '--line', '5'], 'contents': ['20000', '--contents', '10000000']}
+        'short-lines': ['500000', '--line', '5'], 'contents': ['20000', '--contents', '10000000'],
+        '500-sections': ['400000', '--sections', '500'], '100000-sections': ['400000', '--sections', '100000'],
+        'within-40-indexes': ['20000', '--within', '40']}
 
 
 def run(command, path):
@@ -163,17 +167,18 @@ def row(title, pair, unit, scale):
 def map_table(programs, path, rounds, counted):
     kilobytes = os.path.getsize(path) / 1e3
     size = f'{kilobytes / 1e3:.1f} MB' if kilobytes >= 100 else f'{kilobytes:.0f} kB'
-    tokens = subprocess.run([programs.reference, 'stat'], stdin=open(path), capture_output=True,
-                            text=True).stdout.split('\t')[1]
+    kind, tokens = subprocess.run([programs.reference, 'stat'], stdin=open(path), capture_output=True,
+                                  text=True).stdout.split('\t')[:2]
+    operations, runs = (INDEX_OPERATIONS, INDEX_RUNS) if kind == 'index' else (OPERATIONS, RUNS)
     print(f'\n`{os.path.basename(path)}`, {size}, {int(tokens):,} tokens:\n')
     print('| Operation | Here | Reference | Ratio |\n|---|---|---|---|')
-    for operation in OPERATIONS:
+    for operation in operations:
         print(row(TITLES[operation], programs.times(path, operation, rounds), 'ms', 1e3), flush=True)
-    for words in RUNS:
+    for words in runs:
         print(row('run of `' + ' '.join(words) + '`', programs.whole(path, words, rounds), 'ms', 1e3), flush=True)
         print(row('its most memory', programs.memory(path, words), 'MB', 1), flush=True)
     if counted:
-        for operation in OPERATIONS[:2] + OPERATIONS[4:5]:
+        for operation in ('decode', 'decode-reader', 'encode'):
             print(row('instructions, ' + TITLES[operation], programs.counts(path, operation), 'million', 1), flush=True)
 
 

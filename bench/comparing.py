@@ -1,12 +1,16 @@
 """What the scripts share: the two programs of this repository, running programs, telling lists of tokens
 apart, and counting."""
-import collections, concurrent.futures, json, os, pathlib, subprocess, sys
+import collections, concurrent.futures, json, os, pathlib, re, subprocess, sys
+from index_maps import LISTS, bytes_of, flat_tokens, is_index, pieces, record_of
 
 CRATES = pathlib.Path(__file__).resolve().parent.parent / 'crates'
 TOOL = os.environ.get('SOURCEMAP_TOOL', str(CRATES / 'sourcemap_tool/out/sourcemap_tool'))
 BENCH = os.environ.get('SOURCEMAP_BENCH', str(CRATES / 'sourcemap_bench/out/sourcemap_bench'))
 MAPS_AT_ONCE = 3
 MARK = b' range'
+# a token's place and text, in which a line may end
+TOKEN = re.compile(rb'(\d+):(\d+) (.*?)\n(?=\d+:\d+ |\Z)', re.DOTALL)
+PANICKED = 101
 
 Note = collections.namedtuple('Note', 'what why here there')
 
@@ -43,30 +47,42 @@ def kind_of(reference, data):
     return answer([reference, 'stat'], data)[1].split(b'\t')[0].decode(errors='replace')
 
 
-def lines_of(text):
-    return text.split(b'\n')
-
-
-def place(line):
-    return line.split(b' ', 1)[0]
+def tokens_of(text):
+    """The place and the text of each token in what `tokens` said; of a refusal, that alone."""
+    return [(b'%b:%b' % told[:2], told[2]) for told in TOKEN.findall(text)] or [(b'', text)]
 
 
 def without_repeats(text):
-    lines = lines_of(text)
-    return [line for i, line in enumerate(lines) if i == 0 or lines[i - 1] != line]
+    tokens = tokens_of(text)
+    return [token for i, token in enumerate(tokens) if i == 0 or tokens[i - 1] != token]
+
+
+def without_mark(told):
+    return told[:-len(MARK)] if told.endswith(MARK) else told
 
 
 def without_marks(text):
-    return [line[:-len(MARK)] if line.endswith(MARK) else line for line in without_repeats(text)]
+    return [(place, without_mark(told)) for place, told in without_repeats(text)]
 
 
 def is_reordered(here, there):
     """Whether two texts have the same tokens at the same places, in another order among those of one place."""
-    here, there = lines_of(here), lines_of(there)
-    return list(map(place, here)) == list(map(place, there)) and sorted(here) == sorted(there)
+    here, there = tokens_of(here), tokens_of(there)
+    return [place for place, _ in here] == [place for place, _ in there] and sorted(here) == sorted(there)
+
+
+def placed_tokens(record):
+    """The places and the texts of the tokens of a map, of an index those of the flat map."""
+    told = TOKEN.findall(answer([TOOL, 'tokens'], bytes_of(record))[1])
+    return [((int(line), int(column)), text) for line, column, text in told]
 
 
 def tokens_here(data):
+    """What `tokens` of this program says of a map; of an index, what it has to say of the flat map, by what it
+    says of the maps of its sections."""
+    if b'"sections"' in data and is_index(record := record_of(data)):
+        tokens = flat_tokens(record, placed_tokens)
+        return b''.join(b'%d:%d %b\n' % (*place, text) for place, text in tokens)
     return answer([TOOL, 'tokens'], data)[1]
 
 
@@ -84,26 +100,63 @@ def without_order(record):
 
 
 def reason_of_record(data, here, there):
-    """Why two answers differ that are records written of a map, None if nothing bears a reason out.
+    """Why two answers differ that are records written of a map, or of the flat map of an index, None if nothing
+    bears a reason out.
 
     - range bits: but for `rangeMappings` the records are equal, and what is written here reads back as the
       tokens of the map, less those that repeat the one before
     - panic: the reference panicked, what is written here has range bits, and it reads back as above
-    - stable sort: the same sources with the same contents and the same names, in whatever order, and the same
-      tokens at the same places, in another order among those of one place
+    - stable sort: the same sources with the same contents and the same names, in whatever order; the same tokens
+      at the same places, in another order among those of one place, so that not the same ones repeat the one
+      before; and what is written here reads back as above
+    - stable sort, range bits: the same where there are range bits, but for which of them are range tokens
     """
-    if here[0] or there[0] not in (0, 101):
+    if here[0] or there[0] not in (0, PANICKED):
         return None
     record = json.loads(here[1])
     ranges = record.pop('rangeMappings', None)
-    if there[0] == 101:
+    if there[0] == PANICKED:
         return 'panic' if ranges and reads_back(data, here[1]) else None
     other = json.loads(there[1])
     other.pop('rangeMappings', None)
     if record == other:
         return 'range bits' if ranges and reads_back(data, here[1]) else None
-    is_sorted = without_order(record) == without_order(other) and is_reordered(tokens_here(here[1]), tokens_here(there[1]))
-    return 'stable sort' if is_sorted else None
+    listed = without_marks if ranges else without_repeats
+    tokens, others = (set(listed(tokens_here(text))) for text in (here[1], there[1]))
+    if without_order(record) != without_order(other) or tokens != others or not reads_back(data, here[1]):
+        return None
+    return 'stable sort, range bits' if ranges else 'stable sort'
+
+
+def reason_of_piece(own, here, there):
+    """Why what is written of one map within an index differs, None if nothing bears a reason out."""
+    if here == there:
+        return 'same'
+    if not is_index(own):
+        return reason_of_record(bytes_of(own), (0, bytes_of(here)), (0, bytes_of(there)))
+    lists = {key: own[key] for key in LISTS if own.get(key) is not None}
+    return 'bundle lists' if lists and here == {**there, **lists} else None
+
+
+def reason_of_index(data, here, there):
+    """Why two answers differ that are records written of an index, None if nothing bears a reason out.
+
+    - bundle lists: only what is written here has the lists of a bundle, and they are those of the index
+    - panic: the reference panicked, a map within has range bits, and all those maps read back as they were
+    - else the reasons of records, map by map
+    """
+    if here[0] or there[0] not in (0, PANICKED):
+        return None
+    own, written = pieces(record_of(data)), pieces(json.loads(here[1]))
+    if there[0] == PANICKED:
+        maps = [(bytes_of(old), bytes_of(new)) for old, new in zip(own, written) if not is_index(old)]
+        is_ranged = any('rangeMappings' in piece for piece in written)
+        return 'panic' if is_ranged and all(reads_back(*both) for both in maps) else None
+    other = pieces(json.loads(there[1]))
+    if not len(own) == len(written) == len(other):
+        return None
+    reasons = set(map(reason_of_piece, own, written, other)) - {'same'}
+    return None if None in reasons else ', '.join(sorted(reasons)) or None
 
 
 def first_difference(here, there):

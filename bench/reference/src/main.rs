@@ -8,7 +8,7 @@ use repeat::Operation;
 use serde_json::Value;
 use sourcemap::{
     decode, decode_slice, DecodedMap, Error, Result, RewriteOptions, SourceMap, SourceMapHermes,
-    Token,
+    SourceMapIndex, Token,
 };
 use std::fs::{self, File};
 use std::io::{self, BufWriter, Read, Write};
@@ -16,9 +16,10 @@ use std::ops::Deref;
 use std::os::fd::AsFd;
 use std::process::ExitCode;
 
-const USAGE: &str = "usage, with a map on standard input: [slice | stream] (lookup LINE COL | tokens | rewrite)
-    | flatten | roundtrip | stat | batch FILE | dst FILE | positions N SEED [wild] | bench OPERATION N
-OPERATION: decode | decode-reader | lookup | tokens | encode | rewrite
+const USAGE: &str = "usage, with a map on standard input:
+    [slice | stream] (lookup LINE COL | tokens | rewrite | flatten | shift ROWS)
+    | roundtrip | stat | batch FILE | dst FILE | positions N SEED [wild] | bench OPERATION N
+OPERATION: decode | decode-reader | lookup | tokens | encode | rewrite | flatten
 ";
 
 /// How the map is read, and how JSON text is printed.
@@ -92,6 +93,13 @@ fn flat(map: DecodedMap) -> Result<Single> {
 fn regular(map: DecodedMap) -> Result<SourceMap> {
     match map {
         DecodedMap::Regular(map) => Ok(map),
+        _ => Err(Error::IncompatibleSourceMap),
+    }
+}
+
+fn index(map: DecodedMap) -> Result<SourceMapIndex> {
+    match map {
+        DecodedMap::Index(map) => Ok(map),
         _ => Err(Error::IncompatibleSourceMap),
     }
 }
@@ -184,10 +192,11 @@ fn rewritten(map: Single) -> Result<DecodedMap> {
     })
 }
 
-fn flattened(map: DecodedMap) -> Result<DecodedMap> {
-    match map {
-        DecodedMap::Index(index) => Ok(DecodedMap::Regular(index.flatten()?)),
-        _ => Err(Error::IncompatibleSourceMap),
+fn shifted(mut map: SourceMapIndex, rows: u32) -> Result<DecodedMap> {
+    if map.adjust_sections_offset_rows(rows) {
+        Ok(DecodedMap::Index(map))
+    } else {
+        Err(Error::IncompatibleSourceMap)
     }
 }
 
@@ -206,10 +215,17 @@ fn answer(form: Form, words: &[&str], output: &mut Output) -> Option<Result<()>>
             .and_then(single)
             .and_then(rewritten)
             .and_then(|map| write_json(&map, form, output)),
-        _ if form != Form::Compared => return None,
         ["flatten"] => map()
-            .and_then(flattened)
-            .and_then(|map| write_json(&map, form, output)),
+            .and_then(index)
+            .and_then(|map| write_json(&DecodedMap::Regular(map.flatten()?), form, output)),
+        ["shift", rows] => {
+            let rows = rows.parse().ok()?;
+            map()
+                .and_then(index)
+                .and_then(|map| shifted(map, rows))
+                .and_then(|map| write_json(&map, form, output))
+        }
+        _ if form != Form::Compared => return None,
         ["roundtrip"] => map().and_then(|map| write_json(&map, form, output)),
         ["stat"] => map().and_then(|map| Ok(write_stat(map, output)?)),
         ["batch", file] => {

@@ -1,8 +1,8 @@
 //! Operations that are repeated so that they can be timed, and the checksums of what they gave.
 
 use crate::draws::Draws;
-use crate::regular;
-use sourcemap::{decode, decode_slice, Result, RewriteOptions, SourceMap, Token};
+use crate::{flat, index, regular};
+use sourcemap::{decode, decode_slice, DecodedMap, Result, RewriteOptions, SourceMap, Token};
 
 const POSITIONS: usize = 1_000_000;
 
@@ -14,6 +14,7 @@ pub enum Operation {
     Tokens,
     Encode,
     Rewrite,
+    Flatten,
 }
 
 fn mixed(sum: u32, number: u32) -> u32 {
@@ -28,6 +29,15 @@ fn worth(token: Option<Token<'_>>) -> u32 {
             .wrapping_add(token.get_src_col().wrapping_mul(7))
             .wrapping_add(1),
         _ => 0,
+    }
+}
+
+/// The number of a map: how many tokens it has, or how many sections.
+fn count(map: &DecodedMap) -> u32 {
+    match map {
+        DecodedMap::Regular(map) => map.get_token_count(),
+        DecodedMap::Index(map) => map.get_section_count(),
+        DecodedMap::Hermes(map) => map.get_token_count(),
     }
 }
 
@@ -54,23 +64,24 @@ impl Operation {
             "tokens" => Operation::Tokens,
             "encode" => Operation::Encode,
             "rewrite" => Operation::Rewrite,
+            "flatten" => Operation::Flatten,
             _ => return None,
         })
     }
 
     /// The checksum of so many rounds on the map in these bytes.
-    pub fn repeated(self, bytes: &[u8], count: u32) -> Result<u32> {
-        let map = || decode_slice(bytes).and_then(regular);
+    pub fn repeated(self, bytes: &[u8], times: u32) -> Result<u32> {
+        let map = || decode_slice(bytes);
+        let regular_map = || map().and_then(regular);
         match self {
-            Operation::Decode => rounds(count, |sum| Ok(mixed(sum, map()?.get_token_count()))),
-            Operation::DecodeReader => rounds(count, |sum| {
-                let map = decode(bytes).and_then(regular)?;
-                Ok(mixed(sum, map.get_token_count()))
-            }),
+            Operation::Decode => rounds(times, |sum| Ok(mixed(sum, count(&map()?)))),
+            Operation::DecodeReader => {
+                rounds(times, |sum| Ok(mixed(sum, count(&decode(bytes)?))))
+            }
             Operation::Lookup => {
+                let positions = drawn_positions(&*map().and_then(flat)?);
                 let map = map()?;
-                let positions = drawn_positions(&map);
-                rounds(count, |sum| {
+                rounds(times, |sum| {
                     let answers = positions
                         .iter()
                         .map(|&(line, column)| worth(map.lookup_token(line, column)));
@@ -78,8 +89,8 @@ impl Operation {
                 })
             }
             Operation::Tokens => {
-                let map = map()?;
-                rounds(count, |sum| {
+                let map = regular_map()?;
+                rounds(times, |sum| {
                     Ok(map
                         .tokens()
                         .map(|token| worth(Some(token)))
@@ -88,17 +99,23 @@ impl Operation {
             }
             Operation::Encode => {
                 let map = map()?;
-                rounds(count, |sum| {
+                rounds(times, |sum| {
                     let mut text = Vec::new();
                     map.to_writer(&mut text)?;
                     Ok(mixed(sum, length(&text)))
                 })
             }
             Operation::Rewrite => {
-                let map = map()?;
-                rounds(count, |sum| {
+                let map = regular_map()?;
+                rounds(times, |sum| {
                     let new = map.clone().rewrite(&RewriteOptions::default())?;
                     Ok(mixed(sum, new.get_source_count()))
+                })
+            }
+            Operation::Flatten => {
+                let map = map().and_then(index)?;
+                rounds(times, |sum| {
+                    Ok(mixed(sum, map.flatten()?.get_token_count()))
                 })
             }
         }

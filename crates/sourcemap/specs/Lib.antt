@@ -5,6 +5,9 @@ pub use Rattle.sourcemap_digits.specs.Vlq
 pub use Rattle.sourcemap_lists.specs.Interner
 pub use Rattle.sourcemap_lists.specs.Search as Utils
 pub use Rattle.sourcemap_lists.specs.Tokens
+pub use Rattle.sourcemap_composition.specs.Stretches
+pub use Rattle.sourcemap_composition.specs.Composition
+pub use Rattle.sourcemap_composition.specs.Moved
 pub mod Mappings
 pub use Rattle.sourcemap_mappings.specs.Write as MappingsWritten
 pub use Rattle.sourcemap_texts.specs.Paths
@@ -20,6 +23,7 @@ pub mod Types
 pub use Rattle.sourcemap_regular.specs.Token
 pub use Rattle.sourcemap_regular.specs.TokenOrder
 pub use Rattle.sourcemap_regular.specs.Iterators
+pub use Rattle.sourcemap_regular.specs.Adjust
 pub mod Equality
 pub mod RegularDecoder
 pub mod Reading
@@ -32,6 +36,7 @@ pub use Rattle.sourcemap_trees.specs.FlatList
 pub use Rattle.sourcemap_trees.specs.Flat
 pub use Rattle.sourcemap_trees.specs.Decode as TreeDecoder
 pub use Rattle.sourcemap_trees.specs.Encode as TreeEncoder
+pub use Rattle.sourcemap_index.specs.Write as TreeBytes
 pub use Rattle.sourcemap_trees.specs.Equality as TreeEquality
 pub use Rattle.sourcemap_trees.specs.Shift
 pub use Rattle.sourcemap_index.specs.Decode as Decoder

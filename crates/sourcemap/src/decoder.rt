@@ -1,5 +1,6 @@
 //! Maps read from bytes, values and data URLs, and junk headers taken off.
 
+pub use sourcemap_headers::data_url::{data_url, data_url_bytes};
 pub use sourcemap_headers::header::strip_junk_header;
 pub use sourcemap_headers::header_reader::StripHeaderReader;
 pub use sourcemap_index::decode::{decode, decode_data_url, decode_slice, decode_vec};

@@ -2,12 +2,14 @@
 //! function calls it; the call does nothing when it runs.
 
 pub use sourcemap_core::laws::{
-    bits_are_determined, mappings_determine_one_answer, one_stable_order, reduced_answers_alike,
+    bits_are_determined, composed_tokens_stay_within, mappings_determine_one_answer,
+    moved_positions_answer_as_before, one_stable_order, reduced_answers_alike,
     segments_are_determined, written_texts_are_determined,
 };
 pub use sourcemap_headers::data_url::data_urls_have_one_answer;
-pub use sourcemap_index::decode::answers_are_determined;
-pub use sourcemap_index::laws::regular_maps_are_of_a_kind;
+pub use sourcemap_index::decode::{answers_are_determined, no_other_fault_is_of_urls};
+pub use sourcemap_index::laws::{regular_maps_are_of_a_kind, written_values_have_one_text};
+pub use sourcemap_index::write::{maps_of_any_kind_are_compact, maps_of_any_kind_read_back};
 pub use sourcemap_regular::encode::written_records_are_determined;
 pub use sourcemap_regular::rewrite::default_rewriting_is_final;
 pub use sourcemap_regular::write::{written_maps_are_compact, written_maps_read_back};

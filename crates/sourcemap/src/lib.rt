@@ -7,7 +7,7 @@ pub mod laws;
 pub mod types;
 
 pub use decoder::{decode, decode_data_url, decode_slice};
-pub use sourcemap_core::{errors, utils, vlq};
+pub use sourcemap_core::{compose, errors, utils, vlq};
 pub use sourcemap_errors::errors::{Error, Result};
 pub use sourcemap_maps::builder::SourceMapBuilder;
 pub use sourcemap_maps::{builder, encoder};

@@ -1,6 +1,9 @@
 //! Laws: what follows from the definitions that contracts cite. A proof has one at hand where its
 //! function calls it; the call does nothing when it runs.
 
+pub use sourcemap_composition::moved::{
+    composed_tokens_stay_within, moved_positions_answer_as_before,
+};
 pub use sourcemap_digits::bits::bits_are_determined;
 pub use sourcemap_digits::vlq::segments_are_determined;
 pub use sourcemap_lists::tokens::{one_stable_order, reduced_answers_alike};

@@ -1,7 +1,8 @@
 //! A door: what stands below records and maps, under the module names that users know. Behind it
-//! are the crates of faults, digits, lists, mappings and texts.
+//! are the crates of faults, digits, lists, composition, mappings and texts.
 #![tactic(auto)]
 
+pub mod compose;
 pub mod laws;
 pub mod mappings;
 pub mod utils;

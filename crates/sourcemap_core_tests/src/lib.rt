@@ -5,6 +5,8 @@
 #[cfg(test)]
 mod checks;
 #[cfg(test)]
+mod composition;
+#[cfg(test)]
 mod digits;
 #[cfg(test)]
 mod lists;

@@ -60,7 +60,8 @@ fn push_token(told: &mut String, token: &RawToken) -> Result<()> {
     Ok(())
 }
 
-fn tokens_told(alloc: Global, tokens: &[RawToken]) -> Result<String> {
+/// Each token in turn.
+pub fn tokens_told(alloc: Global, tokens: &[RawToken]) -> Result<String> {
     let mut told = String::new(alloc);
     for token in tokens {
         push_token(&mut told, token)?;
@@ -87,10 +88,11 @@ fn reads_mappings(rt: HostRuntime) {
     }
 }
 
-// A token: its line and column, then source, line and column there, then name and range flag.
-type Row = ((u32, u32), (u32, u32, u32), u32, bool);
+/// A token: its line and column, then source, line and column there, then name and range flag.
+pub type Row = ((u32, u32), (u32, u32, u32), u32, bool);
 
-const BARE: (u32, u32, u32) = (NO_ID, NO_ID, NO_ID);
+/// No source, and no place in one.
+pub const BARE: (u32, u32, u32) = (NO_ID, NO_ID, NO_ID);
 
 // Tokens, their mappings, and their range mappings if there are any. There are two names.
 const WRITTEN: [(&[Row], &str, Option<&str>); 8] = [
@@ -135,7 +137,8 @@ const WRITTEN: [(&[Row], &str, Option<&str>); 8] = [
     ),
 ];
 
-fn token(row: Row) -> RawToken {
+/// The token of a row.
+pub fn token(row: Row) -> RawToken {
     let ((dst_line, dst_col), (src_id, src_line, src_col), name_id, is_range) = row;
     RawToken {
         dst_line,

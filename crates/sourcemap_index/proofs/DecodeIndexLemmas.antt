@@ -1,5 +1,5 @@
 -- Sections are decoded one by one.
-use Rattle.std.proofs.Common.{◌≡◌, refl, sym, ap, subst, ◌∙◌, ℕ, ◌+◌, ◌≤◌, arith, List, [], ◌∷◌, ◌++◌, map, length, Option, Some, None, Bool, true, false, nat_lt, Result, Ok, Err, IfOk, MatchOption, option_map, ◌<◌, Vec, Global, inl, inr}
+use Rattle.std.proofs.Common.{◌≡◌, refl, sym, ap, subst, ◌∙◌, ℕ, ◌+◌, ◌≤◌, arith, List, [], ◌∷◌, ◌++◌, map, length, Option, Some, None, Bool, true, false, nat_lt, Result, Ok, Err, IfOk, option_map, ◌<◌, Vec, Global, inl, inr}
 use Rattle.std.proofs.lemmas.Bool.Decides.{nat_tests}
 use Rattle.std.specs.Bool.{MatchBool}
 use Rattle.std.proofs.lemmas.List.{append_assoc}
@@ -7,20 +7,22 @@ use Rattle.sourcemap_errors.specs.declared.errors.Error.{Error}
 use Rattle.sourcemap_errors.specs.declared.errors.Error.TheVariants.{IncompatibleSourceMap}
 use Rattle.sourcemap_errors.specs.Answer.{UnlessMemory, Gives, IsAnswer}
 use Rattle.sourcemap_errors.proofs.AnswerLemmas.{UnlessMemory-weaker}
-use Rattle.sourcemap_records.specs.Jsontypes.{Fields, Place, Tree, plain, indexed, Section, Sections, no_more, bare, mapped, section_with, section, sections_from, tree, tree_with, fields_view}
+use Rattle.sourcemap_records.specs.Jsontypes.{Fields, Tree, plain, indexed, Section, Sections, no_more, bare, mapped, section_with, section, sections_from, tree, tree_with, fields_view}
 use Rattle.sourcemap_records.specs.declared.jsontypes.RawSection.{RawSection}
 use Rattle.sourcemap_records.specs.declared.jsontypes.RawSourceMap.{RawSourceMap, out-RawSourceMap, roll-RawSourceMap}
 use Rattle.sourcemap_records.proofs.JsontypesLemmas.{tree-out, tree-roll}
 use Rattle.sourcemap_regular.specs.Decode.{RegularDecodes}
 use Rattle.sourcemap_regular.specs.Map.{MapValue}
-use Rattle.sourcemap_trees.specs.MapTree.{MapTree, regular, MapSection, IndexValue, index_tree}
+use Rattle.sourcemap_trees.specs.MapTree.{MapTree, regular, MapSection, IndexValue, index_tree, section_list, sections_from as maps_from}
 use Rattle.sourcemap_trees.specs.Decode.{Then, TreeDecodes, SectionsDecode, count, by_offset, index_parts}
 use Rattle.sourcemap_trees.specs.WellFormed.{IsWellFormed}
+use Rattle.sourcemap_trees.proofs.DecodeLemmas.{tree_decodes_once}
+use Rattle.sourcemap_trees.proofs.MapTreeLemmas.{section_list-from}
 use Rattle.sourcemap_trees.proofs.WellFormedLemmas.{decoded_well}
 use Rattle.sourcemap_index.specs.Family.{index_value, map_tree}
 use Rattle.sourcemap_index.specs.declared.family.DecodedMap.{DecodedMap}
 use Rattle.sourcemap_index.specs.declared.family.SourceMapIndex.{SourceMapIndex}
-use Rattle.sourcemap_index.specs.Decode.{SectionDecodes, PartsDecode, index_in, index_with}
+use Rattle.sourcemap_index.specs.Decode.{SectionDecodes, PartsDecode, IndexDecodes, index_in, index_with}
 
 -- ---- how far a record goes down
 
@@ -103,14 +105,17 @@ index_decodes fields ss v = by_case (nat_lt 4294967295 (count ss))
     by_case false (inl (xs, f, n)) = inl (xs, f, (let same : v ≡ index_in fields xs = cc in ap (λ v. Ok (index_tree v)) same))
     by_case false (inr h) = absurd h
 
-pub index_refused : (fields : Fields) (ss : Sections) (e : Error) → UnlessMemory e (PartsDecode fields ss (Err e)) → UnlessMemory e (TreeDecodes (indexed fields ss) (Err e))
-index_refused fields ss e h = UnlessMemory-weaker e (by_case (nat_lt 4294967295 (count ss))) h
+index_fault : (fields : Fields) (ss : Sections) (e : Error) → PartsDecode fields ss (Err e) → TreeDecodes (indexed fields ss) (Err e)
+index_fault fields ss e h = by_case (nat_lt 4294967295 (count ss)) h
   where
     by_case : (b : Bool) → MatchBool b (◌≡◌ {A = Result IndexValue Error} (Err e) (Err IncompatibleSourceMap)) (Then (λ a. SectionsDecode ss a) (λ ss a. a ≡ Ok (index_in fields ss)) (Err e))
         → MatchBool b (◌≡◌ {A = Result MapTree Error} (Err e) (Err IncompatibleSourceMap)) (Then (λ a. SectionsDecode ss a) (λ ss a. a ≡ Ok (index_tree (index_in fields ss))) (Err e))
     by_case true h = let same : e ≡ IncompatibleSourceMap = cc in ap Err same
     by_case false (inl (xs, f, n)) = cc
     by_case false (inr h) = inr h
+
+pub index_refused : (fields : Fields) (ss : Sections) (e : Error) → UnlessMemory e (PartsDecode fields ss (Err e)) → UnlessMemory e (TreeDecodes (indexed fields ss) (Err e))
+index_refused fields ss e h = UnlessMemory-weaker e (index_fault fields ss e) h
 
 -- ---- want of memory
 
@@ -180,3 +185,34 @@ plain_refused r left e none gone h =
 pub well_formed_answer : (t : Tree) (r : Result DecodedMap Error) → IsAnswer map_tree (TreeDecodes t) r → IfOk r (λ m. IsWellFormed (map_tree m))
 well_formed_answer t (Ok m) h = decoded_well t (map_tree m) h
 well_formed_answer t (Err e) h = tt
+
+-- ---- records of indexes alone
+
+pub index_well_formed : (t : Tree) (r : Result SourceMapIndex Error) → IsAnswer index_value (IndexDecodes t) r → IfOk r (λ i. IsWellFormed (index_tree (index_value i)))
+index_well_formed (plain fields) (Ok i) h = cc
+index_well_formed (indexed fields ss) (Ok i) h = decoded_well (indexed fields ss) (index_tree (index_value i)) (index_decodes fields ss (index_value i) h)
+index_well_formed t (Err e) h = tt
+
+same_sections : (a b : IndexValue) → index_tree a ≡ index_tree b → a.sections ≡ b.sections
+same_sections a b same =
+    let trees : maps_from a.sections ≡ maps_from b.sections = cc in
+    sym (section_list-from a.sections) ∙ ap section_list trees ∙ section_list-from b.sections
+
+same_index : (a b : IndexValue) → index_tree a ≡ index_tree b → a ≡ b
+same_index a b same =
+    let parts : a.parts ≡ b.parts = cc in
+    ap (λ p. index_with p a.sections) parts ∙ ap (index_with b.parts) (same_sections a b same)
+
+-- a record is that of one index, or of none for one reason
+pub index_decodes_once : (t : Tree) (a b : Result IndexValue Error) → IndexDecodes t a → IndexDecodes t b → a ≡ b
+index_decodes_once (plain fields) a b h k = h ∙ sym k
+index_decodes_once (indexed fields ss) (Ok v) (Ok w) h k =
+    let trees = tree_decodes_once (indexed fields ss) _ _ (index_decodes fields ss v h) (index_decodes fields ss w k) in
+    let same : index_tree v ≡ index_tree w = cc in
+    ap Ok (same_index v w same)
+index_decodes_once (indexed fields ss) (Ok v) (Err f) h k = let trees = tree_decodes_once (indexed fields ss) _ _ (index_decodes fields ss v h) (index_fault fields ss f k) in cc
+index_decodes_once (indexed fields ss) (Err e) (Ok w) h k = let trees = tree_decodes_once (indexed fields ss) _ _ (index_fault fields ss e h) (index_decodes fields ss w k) in cc
+index_decodes_once (indexed fields ss) (Err e) (Err f) h k =
+    let trees = tree_decodes_once (indexed fields ss) _ _ (index_fault fields ss e h) (index_fault fields ss f k) in
+    let same : e ≡ f = cc in
+    ap Err same

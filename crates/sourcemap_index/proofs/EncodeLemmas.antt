@@ -1,5 +1,5 @@
 -- Sections are written one by one.
-use Rattle.std.proofs.Common.{◌≡◌, refl, sym, ap, subst, ◌∙◌, List, [], ◌∷◌, ◌++◌, Option, Some, None, MatchOption, IfSome, Result, Ok, Err, IfOk}
+use Rattle.std.proofs.Common.{◌≡◌, refl, List, [], ◌∷◌, ◌++◌, Option, Some, None, MatchOption, Result, Ok, Err, IfOk}
 use Rattle.sourcemap_errors.specs.Answer.{IsAnswer}
 use Rattle.sourcemap_errors.specs.declared.errors.Error.{Error}
 use Rattle.sourcemap_records.specs.declared.jsontypes.RawSourceMap.{RawSourceMap}
@@ -8,7 +8,7 @@ use Rattle.sourcemap_regular.specs.Encode.{ReadsBack, RecordAnswer as RecordAnsw
 use Rattle.sourcemap_trees.specs.Decode.{TreeDecodes}
 use Rattle.sourcemap_trees.specs.WellFormed.{IsWellFormed}
 use Rattle.sourcemap_trees.proofs.EncodeLemmas.{tree_answer}
-use Rattle.sourcemap_records.specs.Jsontypes.{Place, Tree, Section, Sections, bare, mapped, section_with, sections_from, AreSectionsInRange, IsSectionInRange, IsFine, tree}
+use Rattle.sourcemap_records.specs.Jsontypes.{Tree, Section, section_with, sections_from, AreSectionsInRange, IsSectionInRange, IsFine, tree}
 use Rattle.sourcemap_trees.specs.Encode.{IsWrittenBy, AreWrittenBy, RecordAnswer, Restores}
 use Rattle.sourcemap_trees.specs.MapTree.{MapTree, regular, MapSection, section_with as map_with, sections_from as maps_from}
 use Rattle.sourcemap_index.specs.Encode.{IsRegularRecord, SectionIsWritten, MapWrites}

@@ -1,10 +1,11 @@
 -- What contracts see of the parts of an index, a section and a map.
-use Rattle.std.proofs.Common.{◌≡◌, refl, ap, sym, ◌∙◌, ℕ, List, map, length, Option, Some, None, option_map, slice_get, slice_set, Box, Global}
+use Rattle.std.proofs.Common.{◌≡◌, refl, ap, sym, ◌∙◌, ℕ, List, map, length, Option, Some, None, option_map, slice_get, Box, Global}
 use Rattle.std.specs.Vec.{with_item}
 use Rattle.std.specs.List.{ItemBy}
 use Rattle.std.specs.Option.{OnSome}
 use Rattle.std.proofs.lemmas.Option.{slice_get-map, slice_get_read, slice_get_past}
 use Rattle.std.proofs.lemmas.List.{map-set}
+use Rattle.sourcemap_records.specs.Jsontypes.{text_view}
 use Rattle.sourcemap_regular.specs.Map.{MapValue}
 use Rattle.sourcemap_trees.specs.MapTree.{MapTree, regular, MapSection, IndexValue, index_tree, section_offset}
 use Rattle.sourcemap_index.specs.Family.{map_step, index_step, section_step, map_tree, index_value, section_value, parts_view}
@@ -48,6 +49,10 @@ boxed_map s (Some b) = refl
 -- the map of a section
 pub section_map : (s : SourceMapSection) → (section_value s).map ≡ option_map (λ b. map_tree b.value) s.map
 section_map s = ap (λ (v : MapSection). v.map) (fold_out-SourceMapSection MapTree IndexValue MapSection map_step index_step section_step s) ∙ boxed_map s s.map
+
+-- where a section stands, and its URL
+pub section_place : (s : SourceMapSection) → (section_value s).place ≡ record { line = s.offset.0; column = s.offset.1; url = text_view s.url }
+section_place s = ap (λ (v : MapSection). v.place) (fold_out-SourceMapSection MapTree IndexValue MapSection map_step index_step section_step s)
 
 pub section_at : (s : SourceMapSection) → section_offset (section_value s) ≡ s.offset
 section_at s = ap section_offset (fold_out-SourceMapSection MapTree IndexValue MapSection map_step index_step section_step s)

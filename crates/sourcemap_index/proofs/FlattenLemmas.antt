@@ -1,5 +1,5 @@
 -- The sections of an index, gathered one after another.
-use Rattle.std.proofs.Common.{◌≡◌, refl, sym, ap, subst, ◌∙◌, ℕ, ◌+◌, ◌<◌, ◌≤◌, arith, map, length, take, drop, get_or, slice_get, option_map, OnOk, List, [], ◌∷◌, ◌++◌, Option, Some, None, Result, Ok, Err, IfOk, string_bytes}
+use Rattle.std.proofs.Common.{◌≡◌, refl, sym, ap, subst, ◌∙◌, ℕ, ◌+◌, ◌<◌, ◌≤◌, arith, map, length, take, drop, get_or, slice_get, option_map, OnOk, List, [], ◌∷◌, ◌++◌, Option, Some, None, Result, Ok, Err, IfOk, IfSome}
 use Rattle.std.specs.List.{AllByRecursion}
 use Rattle.std.proofs.lemmas.List.{length-map, map_more, drop_more, drop_all, take_all}
 use Rattle.std.proofs.lemmas.Option.{slice_get-map, slice_get_read, get_or_from_slice_get}
@@ -7,19 +7,20 @@ use Rattle.sourcemap_errors.specs.Answer.{UnlessMemory, Gives, IsAnswer}
 use Rattle.sourcemap_errors.specs.declared.errors.Error.{Error}
 use Rattle.sourcemap_errors.specs.declared.errors.Error.TheVariants.{CannotFlatten}
 use Rattle.sourcemap_errors.proofs.AnswerLemmas.{UnlessMemory-weaker}
-use Rattle.sourcemap_records.specs.Jsontypes.{Place}
-use Rattle.sourcemap_regular.specs.Map.{MapValue}
+use Rattle.sourcemap_regular.specs.Map.{MapValue, Meaning, MeansTheSame, meaning as meaning_regular}
+use Rattle.sourcemap_regular.specs.Rewrite.{Removal, taken_away, MeansLess}
 use Rattle.sourcemap_regular.specs.declared.map.SourceMap.{SourceMap}
 use Rattle.sourcemap_trees.specs.MapTree.{MapTree, MapSection, IndexValue, index_tree, section_with, sections_from, offset_of}
 use Rattle.sourcemap_lists.specs.Tokens.{AreInOrder}
 use Rattle.sourcemap_trees.specs.WellFormed.{HasTokensInOrder}
 use Rattle.sourcemap_trees.proofs.MapTreeLemmas.{each_section}
-use Rattle.sourcemap_trees.specs.Flat.{Piece, flat, FlatAnswer, merged, on_ok, pieces_behind, with_piece, unresolved}
+use Rattle.sourcemap_trees.specs.Flat.{AnswersLike, Piece, flat, FlatAnswer, merged, on_ok, pieces_behind, with_piece, unresolved}
+use Rattle.sourcemap_trees.specs.Meaning.{meaning}
 use Rattle.sourcemap_flattening.specs.Faults.{Says, Refuses}
 use Rattle.sourcemap_flattening.specs.Gathering.{Gathers, GathersMore, IsFlat, RefusesFor}
 use Rattle.sourcemap_flattening.specs.declared.gathering.Gathering.{Gathering}
 use Rattle.sourcemap_flattening.specs.declared.gathering.FlatMap.{FlatMap}
-use Rattle.sourcemap_index.specs.Flatten.{map_added, place_added, section_added, Gathered, IsSectionInOrder, MadeFlat}
+use Rattle.sourcemap_index.specs.Flatten.{map_added, place_added, section_added, AnswersLess, Gathered, IsSectionInOrder, MadeFlat}
 use Rattle.sourcemap_index.specs.Family.{section_value}
 use Rattle.sourcemap_index.specs.declared.family.SourceMapSection.{SourceMapSection}
 use Rattle.sourcemap_index.proofs.LookupLemmas.{indexes, indexes_below}
@@ -163,3 +164,21 @@ in_order-all v items i past same all = (
   each_section (λ m. AreInOrder m.tokens) (λ ss. Unit {0}) v.sections
       (subst (AllByRecursion IsSectionInOrder) (ap (map section_value) (take_all i items past) ∙ same) all),
 )
+
+-- ---- made flat and rewritten
+
+module _ (t : MapTree) (whole new : MapValue) (like : AnswersLike t whole) where
+  pub answers_less : (removal : Removal) → flat t ≡ Ok whole → MeansLess removal whole new → AnswersLess removal t new
+  answers_less removal is less = (whole, is, λ p. at p (meaning t p) (like p))
+    where
+      at : (p : ℕ × ℕ) (found : Option Meaning) → IfSome found (λ says. meaning_regular whole p ≡ Some says)
+          → IfSome found (λ says. meaning_regular new p ≡ Some (taken_away removal whole says))
+      at p None h = tt
+      at p (Some says) h = less p ∙ ap (option_map (taken_away removal whole)) h
+
+  pub answers_alike : MeansTheSame new whole → AnswersLike t new
+  answers_alike same = λ p. at p (meaning t p) (like p)
+    where
+      at : (p : ℕ × ℕ) (found : Option Meaning) → IfSome found (λ says. meaning_regular whole p ≡ Some says) → IfSome found (λ says. meaning_regular new p ≡ Some says)
+      at p None h = tt
+      at p (Some says) h = same p ∙ h

@@ -8,4 +8,6 @@ pub mod FlattenLemmas
 pub mod LookupLemmas
 pub mod RegularLemmas
 pub mod RowsLemmas
+pub mod WriteLemmas
+pub mod UrlFaultLemmas
 pub mod WrittenValueLemmas

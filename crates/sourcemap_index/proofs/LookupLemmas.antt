@@ -8,10 +8,9 @@ use Rattle.sourcemap_lists.specs.Search.{closest, closest_item}
 use Rattle.sourcemap_lists.specs.Tokens.{position_cmp}
 use Rattle.sourcemap_lists.proofs.SearchLemmas.{closest_item-has, closest_item-change, item-closest}
 use Rattle.sourcemap_records.specs.Jsontypes.{Place}
-use Rattle.sourcemap_regular.specs.Map.{MapValue}
 use Rattle.sourcemap_regular.specs.Token.{TokenValue, answers, says, token_value}
 use Rattle.sourcemap_regular.specs.declared.token.Token.{Token}
-use Rattle.sourcemap_trees.specs.MapTree.{MapTree, regular, index, MapSections, no_sections, hollow, filled, MapSection, IndexValue, index_tree, offset_of, section_offset, section_list, section_with, sections_from, InEachSection}
+use Rattle.sourcemap_trees.specs.MapTree.{MapTree, regular, index, MapSections, no_sections, hollow, filled, MapSection, IndexValue, index_tree, offset_of, section_offset, section_with, sections_from, InEachSection}
 use Rattle.sourcemap_trees.specs.Meaning.{lowered, lookup, lookups, meaning, closest_answer}
 use Rattle.sourcemap_trees.specs.WellFormed.{IsInOrder, AreSectionsInOrder}
 use Rattle.sourcemap_trees.proofs.MapTreeLemmas.{InSection, section_list-from}

@@ -2,9 +2,8 @@
 use Rattle.std.proofs.Common.{◌≡◌, refl, sym, ap, ◌∙◌, ℕ, ◌+◌, ◌<◌, ◌≤◌, arith, min, List, [], ◌∷◌, ◌++◌, length, map, take, drop, get_or, slice_set}
 use Rattle.std.proofs.lemmas.List.{append-nil, drop_all, get_or-map, length-map, map-set, take_all}
 use Rattle.std.proofs.lemmas.List.Edits.{map_over_more}
-use Rattle.std.specs.List.{AllByRecursion}
 use Rattle.sourcemap_trees.specs.MapTree.{MapTree, MapSection, IndexValue}
-use Rattle.sourcemap_trees.specs.Shift.{moved_down, shifted, HaveRowsLeft}
+use Rattle.sourcemap_trees.specs.Shift.{shifted, HaveRowsLeft}
 use Rattle.sourcemap_index.specs.Family.{map_step, index_step, section_step, section_value}
 use Rattle.sourcemap_index.specs.declared.family.SourceMapSection.{SourceMapSection, out-SourceMapSection, roll-SourceMapSection, fold_out-SourceMapSection, fold-roll-SourceMapSection}
 

@@ -125,16 +125,16 @@ whole_index parts =
 whole_offset : (line column : ℕ) → IsWhole (written_offset (record { line = line; column = column }))
 whole_offset line column =
     whole_put_all (
-      (codes "line", Some (written_number line)) ∷
-      (codes "column", Some (written_number column)) ∷ [])
+    (codes "line", Some (written_number line)) ∷
+    (codes "column", Some (written_number column)) ∷ [])
     no_members (refl, (refl, tt)) refl
 
 whole_section : (place : Place) (d : Data) → IsWhole d → IsWhole (written_section place d)
 whole_section place d whole =
     whole_put_all (
-      (codes "map", Some d) ∷
-      (codes "offset", Some (written_offset (record { line = place.line; column = place.column }))) ∷
-      (codes "url", Some (written_or_null string place.url)) ∷ [])
+    (codes "map", Some d) ∷
+    (codes "offset", Some (written_offset (record { line = place.line; column = place.column }))) ∷
+    (codes "url", Some (written_or_null string place.url)) ∷ [])
     no_members (whole, (whole_offset place.line place.column, (whole_text place.url, tt))) refl
 
 mutual

@@ -4,6 +4,7 @@ use Rattle.std.specs.Bool.{MatchBool}
 use Rattle.serde_json.specs.Data.{Data}
 use Rattle.sourcemap_errors.specs.declared.errors.Error.{Error}
 use Rattle.sourcemap_errors.specs.declared.errors.Error.TheVariants.{IncompatibleSourceMap}
+use Rattle.sourcemap_headers.specs.DataUrl.{Holds}
 use Rattle.sourcemap_records.specs.Jsontypes.{Fields, Tree, plain, indexed, Section, Sections}
 pub use Rattle.sourcemap_records.specs.Bytes.{AreSame, UnlessRead, IsAnswerRead, Reading}
 use Rattle.sourcemap_records.specs.Bytes.{ValueStandsFor, BytesStandFor, UrlStandsFor}
@@ -47,3 +48,7 @@ BytesDecode bytes answer = BytesStandFor TreeDecodes bytes answer
 -- the map that a data URL stands for
 abbrev pub UrlDecodes : List ℕ → Result MapTree Error → Type 0
 UrlDecodes url answer = UrlStandsFor TreeDecodes url answer
+
+-- a text that is no data URL: it holds no bytes
+abbrev pub IsNoUrl : List ℕ → Type 0
+IsNoUrl url = (bytes : List ℕ) → ¬ Holds url bytes

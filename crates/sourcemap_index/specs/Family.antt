@@ -1,5 +1,5 @@
 -- A map of any kind, an index and a section as contracts see them.
-use Rattle.std.specs.Prelude.{List, map, option_map, string_bytes}
+use Rattle.std.specs.Prelude.{map, option_map, string_bytes}
 use Rattle.sourcemap_records.specs.Jsontypes.{text_view}
 use Rattle.sourcemap_trees.specs.MapTree.{MapTree, regular, MapSection, IndexParts, IndexValue, index_tree}
 use Rattle.sourcemap_index.specs.declared.family.DecodedMap.{DecodedMap, DecodedMap-F, fold-DecodedMap}

@@ -2,7 +2,7 @@
 use Rattle.std.specs.Prelude.{◌≡◌, ℕ, List, slice_set, Option, None}
 use Rattle.std.specs.Option.{OnSome}
 use Rattle.std.specs.Borrow.{LendsSo, MutBor, Fml}
-use Rattle.sourcemap_trees.specs.MapTree.{MapSection, IndexParts, IndexValue}
+use Rattle.sourcemap_trees.specs.MapTree.{MapSection, IndexValue}
 use Rattle.sourcemap_index.specs.Family.{index_value, section_value}
 use Rattle.sourcemap_index.specs.contracts.family.SourceMapIndex.{the_row as index_row}
 use Rattle.sourcemap_index.specs.contracts.family.SourceMapSection.{the_row as section_row}

@@ -8,3 +8,4 @@ pub mod Index
 pub mod Lookup
 pub mod Rows
 pub mod Section
+pub mod Write

@@ -9,7 +9,10 @@ use sourcemap_parts::text_lists::{copy_text, copy_texts};
 use std::alloc::Global;
 
 // The same lines, where there is a list of them.
-fn copy_lines(alloc: Global, lines: &Option<Vec<Option<u32>>>) -> Result<Option<Vec<Option<u32>>>>
+pub(crate) fn copy_lines(
+    alloc: Global,
+    lines: &Option<Vec<Option<u32>>>,
+) -> Result<Option<Vec<Option<u32>>>>
     ensures { Gives (option_map (λ v. v.items)) result (Ok (option_map (λ v. v.items) lines.now)) }
 {
     match lines {
@@ -23,7 +26,7 @@ fn copy_lines(alloc: Global, lines: &Option<Vec<Option<u32>>>) -> Result<Option<
 }
 
 // The same paths, where there is a list of them.
-fn copy_paths(alloc: Global, paths: &Option<Vec<String>>) -> Result<Option<Vec<String>>>
+pub(crate) fn copy_paths(alloc: Global, paths: &Option<Vec<String>>) -> Result<Option<Vec<String>>>
     ensures { Gives (option_map (λ v. map string_bytes v.items)) result
         (Ok (option_map (λ v. map string_bytes v.items) paths.now)) }
 {

@@ -1,18 +1,20 @@
 //! Which map of any kind records, JSON values, bytes and data URLs hold.
-ghost use Rattle.std.specs.Prelude.{◌≡◌, ℕ, List, IfOk, IfSome, Result};
+ghost use Rattle.std.specs.Prelude.{◌≡◌, ℕ, List, Err, IfErr, IfOk, IfSome, Result};
 ghost use Rattle.serde_json.specs.Data.{Data};
 ghost use Rattle.serde_json.specs.View.{view};
 ghost use Rattle.sourcemap_errors.specs.Answer.{IsAnswer};
 ghost use Rattle.sourcemap_errors.specs.declared.errors.Error.{Error};
+ghost use Rattle.sourcemap_errors.specs.declared.errors.Error.TheVariants.{InvalidDataUrl};
+ghost use Rattle.sourcemap_records.specs.Bytes.{BytesStandFor};
 ghost use Rattle.sourcemap_records.specs.Jsontypes.{tree};
-ghost use Rattle.sourcemap_trees.specs.MapTree.{MapTree};
+ghost use Rattle.sourcemap_trees.specs.MapTree.{IndexValue, MapTree, index_tree};
 ghost use Rattle.sourcemap_trees.specs.WellFormed.{IsWellFormed};
 ghost use Rattle.sourcemap_trees.specs.Decode.{TreeDecodes};
-ghost use Rattle.sourcemap_index.specs.Family.{map_tree};
-ghost use Rattle.sourcemap_index.specs.Decode.{ValueDecodes, BytesDecode, UrlDecodes, AreSame, IsAnswerRead, Reading};
+ghost use Rattle.sourcemap_index.specs.Family.{index_value, map_tree};
+ghost use Rattle.sourcemap_index.specs.Decode.{ValueDecodes, BytesDecode, UrlDecodes, IndexDecodes, IsNoUrl, AreSame, IsAnswerRead, Reading};
 
-use crate::decode_index::decode_map;
-use crate::family::DecodedMap;
+use crate::decode_index::{decode_map, only_index};
+use crate::family::{DecodedMap, SourceMapIndex};
 use serde_json::Value;
 use sourcemap_errors::errors::Result;
 use sourcemap_headers::data_url::data_url_bytes;
@@ -99,15 +101,64 @@ fn decode_url(alloc: Global, url: &str) -> Result<DecodedMap>
 }
 
 /// The map that a data URL holds: `InvalidDataUrl` if the text is none, else as by `decode_slice`
-/// of the bytes in it.
+/// of the bytes in it, which is never `InvalidDataUrl`.
 pub fn decode_data_url(alloc: Global, url: &str) -> Result<DecodedMap>
     ensures answer { IsAnswer map_tree (UrlDecodes url.now) result }
     // No other answer is right.
     ensures only { (due : Result MapTree Error) → UrlDecodes url.now due
         → IsAnswer map_tree (AreSame due) result }
+    // What is refused as no data URL is none: no fault of the bytes in one is told so.
+    ensures no_url { IfErr result (λ e. e ≡ InvalidDataUrl → IsNoUrl url.now) }
     ensures well_formed { IfOk result (λ m. IsWellFormed (map_tree m)) }
 {
     decode_url(alloc, url)
+}
+
+// The index of bytes.
+fn index_in(alloc: Global, bytes: &[u8]) -> Result<SourceMapIndex>
+    ensures answer { IsAnswer index_value (BytesStandFor IndexDecodes bytes.now) result }
+    ensures well_formed { IfOk result (λ i. IsWellFormed (index_tree (index_value i))) }
+{
+    let raw = read_record(alloc, bytes)?;
+    only_index(alloc, raw)
+}
+
+// The same of bytes that are let go once their JSON value is read.
+fn index_in_owned(alloc: Global, bytes: Vec<u8>) -> Result<SourceMapIndex>
+    ensures answer { IsAnswer index_value (BytesStandFor IndexDecodes bytes.items) result }
+    ensures well_formed { IfOk result (λ i. IsWellFormed (index_tree (index_value i))) }
+{
+    let raw = read_record_owned(alloc, bytes)?;
+    only_index(alloc, raw)
+}
+
+impl SourceMapIndex {
+    /// The index that bytes hold, behind a junk header or behind none. The faults are those of
+    /// `decode_slice`, but for the record of a map of another kind, without sections: it is
+    /// `IncompatibleSourceMap` before anything of it is decoded.
+    pub fn from_slice(alloc: Global, bytes: &[u8]) -> Result<Self>
+        ensures answer { IsAnswer index_value (BytesStandFor IndexDecodes bytes.now) result }
+        // No other answer is right.
+        ensures only { (due : Result IndexValue Error) → BytesStandFor IndexDecodes bytes.now due
+            → IsAnswer index_value (AreSame due) result }
+        ensures well_formed { IfOk result (λ i. IsWellFormed (index_tree (index_value i))) }
+    {
+        index_in(alloc, bytes)
+    }
+
+    /// The index that a reader's bytes hold, as by `from_slice`. The reader is read to its end
+    /// first, and a read's fault is `Io`. The bytes are let go once their JSON value is read.
+    pub fn from_reader<R: Read + Drop>(alloc: Global, reader: R) -> Result<Self>
+        ensures answer { Reading (R.remaining reader)
+            (λ bytes. IsAnswerRead index_value (BytesStandFor IndexDecodes bytes) result) }
+        ensures only { IfSome (R.remaining reader) (λ bytes. (due : Result IndexValue Error)
+            → BytesStandFor IndexDecodes bytes due
+            → IsAnswerRead index_value (AreSame due) result) }
+        ensures well_formed { IfOk result (λ i. IsWellFormed (index_tree (index_value i))) }
+    {
+        let bytes = read_all(alloc, reader)?;
+        index_in_owned(alloc, bytes)
+    }
 }
 
 /// A law: a JSON value, bytes and a data URL each stand for one map, or for none for one reason.
@@ -119,4 +170,13 @@ pub fn answers_are_determined()
         → BytesDecode bytes a → BytesDecode bytes b → AreSame a b }
     ensures urls { (url : List ℕ) (a b : Result MapTree Error)
         → UrlDecodes url a → UrlDecodes url b → AreSame a b }
+{}
+
+/// A law: `InvalidDataUrl` is what a text that is no data URL stands for, and nothing else does: no
+/// JSON value, no bytes, and no data URL, whatever it holds.
+pub fn no_other_fault_is_of_urls()
+    ensures values { (d : Data) → ¬ ValueDecodes d (Err InvalidDataUrl) }
+    ensures bytes { (bytes : List ℕ) → ¬ BytesDecode bytes (Err InvalidDataUrl) }
+    ensures urls { (url : List ℕ) → UrlDecodes url (Err InvalidDataUrl) → IsNoUrl url }
+    ensures texts { (url : List ℕ) → IsNoUrl url → UrlDecodes url (Err InvalidDataUrl) }
 {}

@@ -13,6 +13,7 @@ ghost use Rattle.sourcemap_trees.specs.WellFormed.{IsWellFormed};
 ghost use Rattle.sourcemap_index.specs.Family.{map_tree};
 
 use crate::decode::{decode, decode_value};
+use crate::encode::map_into_record;
 use crate::family::DecodedMap;
 use serde_json::Value;
 use sourcemap_errors::errors::Result;
@@ -66,18 +67,16 @@ impl DecodedMap {
         raw.into_value(self.allocator())
     }
 
-    // The record of the map, with the texts of a regular map itself.
-    fn into_record(self) -> Result<RawSourceMap>
+    /// The same record as by `as_raw_sourcemap` of a map that is not needed any more: all texts are
+    /// moved, in an index those of its sections, too. Only want of memory refuses.
+    pub fn into_raw_sourcemap(self) -> Result<RawSourceMap>
         ensures { IsAnswer tree (RecordAnswer (map_tree self)) result }
     {
-        match self {
-            DecodedMap::Regular(map) => map.into_raw_sourcemap(),
-            DecodedMap::Index(index) => index.as_raw_sourcemap(),
-        }
+        map_into_record(self)
     }
 
-    /// The same value as by `to_value`, with the texts of a regular map itself. Only want of memory
-    /// refuses.
+    /// The same value as by `to_value` of a map that is not needed any more: all texts are moved.
+    /// Only want of memory refuses.
     pub fn into_value(self) -> Result<Value>
         ensures written { IfOk result (λ v. IsValueOf (map_tree self) (view v)) }
         // Read back, a well-formed map means the same at every position, with all parts kept.
@@ -86,7 +85,7 @@ impl DecodedMap {
         ensures memory { IfErr result (λ e. e ≡ OutOfMemory) }
     {
         let alloc = self.allocator();
-        let raw = self.into_record()?;
+        let raw = self.into_raw_sourcemap()?;
         raw.into_value(alloc)
     }
 

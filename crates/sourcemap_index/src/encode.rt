@@ -1,10 +1,9 @@
 //! The record that a map of any kind is written as, section by section.
-ghost use Rattle.std.specs.Prelude.{◌≡◌, ℕ, List, Ok, IfSome, IfOk, IfErr, OnOk, map, option_map};
+ghost use Rattle.std.specs.Prelude.{◌≡◌, ℕ, List, Ok, IfSome, IfOk, IfErr, OnOk, map, option_map, string_bytes};
 ghost use Rattle.std.specs.List.{AllByRecursion};
 ghost use Rattle.sourcemap_errors.specs.Answer.{IsAnswer, Gives, UnlessMemory};
 ghost use Rattle.sourcemap_headers.specs.DebugId.{IsId};
-ghost use Rattle.sourcemap_records.specs.Jsontypes.{tree, indexed, section, sections_from, FitsU32, AreInRange, IsFine};
-ghost use Rattle.sourcemap_texts.specs.Texts.{texts_of};
+ghost use Rattle.sourcemap_records.specs.Jsontypes.{tree, flat, indexed, section, sections_from, text_view, FitsU32, AreInRange, IsFine};
 ghost use Rattle.sourcemap_regular.specs.Encode.{ReadsBack};
 ghost use Rattle.sourcemap_regular.specs.Write.{IsEncoded, IsIo};
 ghost use Rattle.sourcemap_trees.specs.Decode.{TreeDecodes};
@@ -14,10 +13,11 @@ ghost use Rattle.sourcemap_trees.specs.MapTree.{index_tree, sections_from as sec
 ghost use Rattle.sourcemap_index.specs.Encode.{MapWrites, SectionsWrite, SectionWrites};
 ghost use Rattle.sourcemap_index.specs.Family.{index_value, map_tree, section_value};
 
+use crate::clone::{copy_lines, copy_paths};
 use crate::family::{DecodedMap, SourceMapIndex, SourceMapSection};
 use serde_json::Value;
 use sourcemap_errors::errors::Result;
-use sourcemap_parts::text_lists::{copy_text, copy_texts};
+use sourcemap_parts::text_lists::copy_text;
 use sourcemap_records::jsontypes::{DebugId, RawSection, RawSectionOffset, RawSourceMap};
 use sourcemap_regular::encode::Encodable;
 use sourcemap_regular::write::encode;
@@ -55,6 +55,14 @@ impl Encodable for SourceMapIndex {
 }
 
 impl SourceMapIndex {
+    /// The same record as by `as_raw_sourcemap` of an index that is not needed any more: its texts
+    /// and those of its sections are moved. Only want of memory refuses.
+    pub fn into_raw_sourcemap(self) -> Result<RawSourceMap>
+        ensures { IsAnswer tree (RecordAnswer (index_tree (index_value self))) result }
+    {
+        index_into_record(self)
+    }
+
     /// Writes the index's compact JSON text. A write's fault is `Io`, else only want of memory
     /// refuses. The clause says that such a text was made. That the writer, which is given away,
     /// gets all of it and nothing else is tested; `encode_to` promises it of a writer that is lent.
@@ -82,7 +90,7 @@ pub(crate) fn record_of_index(index: &SourceMapIndex) -> Result<RawSourceMap>
     ensures { IsAnswer tree (MapWrites (index_tree (index_value index.now))) result }
 {
     let sections = records_of(index.alloc, index.sections.as_slice())?;
-    record_with(index, sections)
+    copied_with(index, sections)
 }
 
 #[cycle(encode)]
@@ -114,17 +122,102 @@ fn record_of_section(part: &SourceMapSection) -> Result<RawSection>
     })
 }
 
+#[cycle(consume)]
+pub(crate) fn map_into_record(map: DecodedMap) -> Result<RawSourceMap>
+    ensures { IsAnswer tree (MapWrites (map_tree map)) result }
+{
+    match map {
+        DecodedMap::Regular(map) => map.into_raw_sourcemap(),
+        DecodedMap::Index(index) => index_into_record(index),
+    }
+}
+
+#[cycle(consume)]
+fn index_into_record(index: SourceMapIndex) -> Result<RawSourceMap>
+    ensures { IsAnswer tree (MapWrites (index_tree (index_value index))) result }
+{
+    let SourceMapIndex {
+        file,
+        debug_id,
+        sections,
+        x_facebook_offsets,
+        x_metro_module_paths,
+        alloc,
+    } = index;
+    let sections = sections_into_records(alloc, sections)?;
+    Ok(record_with(
+        file,
+        debug_id,
+        x_facebook_offsets,
+        x_metro_module_paths,
+        sections,
+    ))
+}
+
+#[cycle(consume)]
+fn sections_into_records(alloc: Global, sections: Vec<SourceMapSection>) -> Result<Vec<RawSection>>
+    ensures { IsAnswer (λ v. sections_from (map section v.items))
+        (SectionsWrite (sections_of (map section_value sections.items))) result }
+{
+    let mut records = Vec::with_capacity(alloc, sections.len())?;
+    for part in sections {
+        records.push(section_into_record(part)?)?;
+    }
+    Ok(records)
+}
+
+#[cycle(consume)]
+fn section_into_record(part: SourceMapSection) -> Result<RawSection>
+    ensures { IsAnswer section (SectionWrites (section_value part)) result }
+{
+    let SourceMapSection {
+        offset,
+        url,
+        map,
+        alloc,
+    } = part;
+    let map = match map {
+        Some(map) => Some(Box::new(alloc, map_into_record(Box::into_inner(map))?)?),
+        None => None,
+    };
+    let (line, column) = offset;
+    Ok(RawSection {
+        offset: RawSectionOffset { line, column },
+        url,
+        map,
+    })
+}
+
 // The record of an index with these sections.
-fn record_with(index: &SourceMapIndex, sections: Vec<RawSection>) -> Result<RawSourceMap>
+fn copied_with(index: &SourceMapIndex, sections: Vec<RawSection>) -> Result<RawSourceMap>
     ensures value { Gives tree result (Ok (indexed (index_fields (index_value index.now).parts)
         (sections_from (map section sections.items)))) }
     ensures in_range { OnOk result (AreInRange (index_fields (index_value index.now).parts)) }
 {
     let alloc = index.alloc;
     let file = copy_text(alloc, &index.file)?;
-    let offsets = copy_offsets(alloc, &index.x_facebook_offsets)?;
+    let offsets = copy_lines(alloc, &index.x_facebook_offsets)?;
     let paths = copy_paths(alloc, &index.x_metro_module_paths)?;
-    Ok(RawSourceMap {
+    Ok(record_with(file, index.debug_id, offsets, paths, sections))
+}
+
+// The record of an index of these parts and sections.
+fn record_with(
+    file: Option<String>,
+    debug_id: Option<DebugId>,
+    offsets: Option<Vec<Option<u32>>>,
+    paths: Option<Vec<String>>,
+    sections: Vec<RawSection>,
+) -> RawSourceMap
+    ensures value { tree result ≡ indexed (index_fields (record {
+      file = text_view file;
+      debug_id = debug_id;
+      x_facebook_offsets = option_map (λ v. v.items) offsets;
+      x_metro_module_paths = option_map (λ v. map string_bytes v.items) paths;
+    })) (sections_from (map section sections.items)) }
+    ensures in_range { AreInRange (flat (tree result)) }
+{
+    RawSourceMap {
         version: Some(3),
         file: file.map(Value::String),
         sources: None,
@@ -135,11 +228,11 @@ fn record_with(index: &SourceMapIndex, sections: Vec<RawSection>) -> Result<RawS
         range_mappings: None,
         mappings: None,
         ignore_list: None,
-        x_facebook_offsets: offsets,
+        x_facebook_offsets: checked_lines(offsets),
         x_metro_module_paths: paths,
         x_facebook_sources: None,
-        debug_id: checked_id(index.debug_id),
-    })
+        debug_id: checked_id(debug_id),
+    }
 }
 
 // The same id: it is sixteen bytes.
@@ -153,31 +246,27 @@ fn checked_id(id: Option<DebugId>) -> Option<DebugId>
     }
 }
 
-/// The same lines of modules, where there are some. Only want of memory refuses.
-pub(crate) fn copy_offsets(
-    alloc: Global,
-    offsets: &Option<Vec<Option<u32>>>,
-) -> Result<Option<Vec<Option<u32>>>>
-    ensures value { Gives (option_map (λ v. v.items)) result
-        (Ok (option_map (λ v. v.items) offsets.now)) }
-    ensures small { OnOk result
-        (IfSome offsets.now (λ v. AllByRecursion (λ n. IfSome n FitsU32) v.items)) }
+// The same lines: they are below 2^32.
+fn checked_lines(lines: Option<Vec<Option<u32>>>) -> Option<Vec<Option<u32>>>
+    ensures value { option_map (λ v. v.items) result ≡ option_map (λ v. v.items) lines }
+    ensures small { IfSome result (λ v. AllByRecursion (λ n. IfSome n FitsU32) v.items) }
 {
-    match offsets {
-        None => Ok(None),
-        Some(offsets) => Ok(Some(copy_numbers(alloc, offsets.as_slice())?)),
+    match lines {
+        None => None,
+        Some(lines) => {
+            look_at(lines.as_slice());
+            Some(lines)
+        }
     }
 }
 
-fn copy_numbers(alloc: Global, numbers: &[Option<u32>]) -> Result<Vec<Option<u32>>>
-    ensures value { Gives (λ v. v.items) result (Ok numbers.now) }
-    ensures small { OnOk result (AllByRecursion (λ n. IfSome n FitsU32) numbers.now) }
+// For the prover, which learns of each number alone that it is below 2^32.
+fn look_at(numbers: &[Option<u32>])
+    ensures { AllByRecursion (λ n. IfSome n FitsU32) numbers.now }
 {
-    let mut copies = Vec::with_capacity(alloc, numbers.len())?;
     for number in numbers {
-        copies.push(checked(*number))?;
+        let _ = checked(*number);
     }
-    Ok(copies)
 }
 
 // The same number: it is below 2^32.
@@ -186,14 +275,4 @@ fn checked(number: Option<u32>) -> Option<u32>
     ensures small { IfSome result FitsU32 }
 {
     number
-}
-
-/// The same paths of modules, where there are some. Only want of memory refuses.
-pub(crate) fn copy_paths(alloc: Global, paths: &Option<Vec<String>>) -> Result<Option<Vec<String>>>
-    ensures { Gives (option_map texts_of) result (Ok (option_map texts_of paths.now)) }
-{
-    match paths {
-        None => Ok(None),
-        Some(paths) => Ok(Some(copy_texts(alloc, paths.as_slice())?)),
-    }
 }

@@ -2,20 +2,23 @@
 ghost use Rattle.std.specs.Prelude.{◌≡◌, [], List, IfErr, IfOk, OnOk};
 ghost use Rattle.sourcemap_errors.specs.Answer.{IsAnswer};
 ghost use Rattle.sourcemap_regular.specs.Map.{IsWellFormed as IsWellFormedRegular};
+ghost use Rattle.sourcemap_regular.specs.Rewrite.{LeavesMeaning, removal_of};
 ghost use Rattle.sourcemap_trees.specs.Flat.{AnswersLike, FlatAnswer, Piece, SaysFlat, pieces_behind};
 ghost use Rattle.sourcemap_trees.specs.FlatList.{IsOrderly};
 ghost use Rattle.sourcemap_trees.specs.MapTree.{index_tree, sections_from};
 ghost use Rattle.sourcemap_trees.specs.WellFormed.{HasTokensInOrder, IsWellFormed};
 ghost use Rattle.sourcemap_flattening.specs.Gathering.{Gathers, RefusesFor};
 ghost use Rattle.sourcemap_index.specs.Family.{index_value, map_tree, section_value};
-ghost use Rattle.sourcemap_index.specs.Flatten.{Gathered, IsSectionInOrder, MadeFlat, map_added, section_added};
+ghost use Rattle.sourcemap_index.specs.Flatten.{AnswersLess, Gathered, IsSectionInOrder, MadeFlat, RewriteAnswer, SaysFlatLess, map_added, section_added};
 
 use crate::family::{DecodedMap, SourceMapIndex, SourceMapSection};
 use sourcemap_errors::errors::Result;
 use sourcemap_flattening::faults::unresolved;
 use sourcemap_flattening::gathering::{FlatMap, Gathering};
 use sourcemap_regular::map::SourceMap;
+use sourcemap_regular::rewrite::RewriteOptions;
 use std::alloc::Global;
+use std::rt::Files;
 
 impl SourceMapIndex {
     /// The index as one regular map: the tokens of all sections, each where its section stands, in
@@ -38,6 +41,31 @@ impl SourceMapIndex {
     {
         let flat = self.gathered()?;
         flat.into_map(self.alloc, self.get_file())
+    }
+
+    /// The flat map, rewritten: as by `flatten`, and then as by `SourceMap::rewrite`. The faults of
+    /// `flatten` come first, then those of `rewrite`.
+    pub fn flatten_and_rewrite<F: Files>(
+        self,
+        rt: &F,
+        options: &RewriteOptions<'_>,
+    ) -> Result<SourceMap>
+        ensures answer { IsAnswer (λ m. m)
+            (RewriteAnswer options.now (index_tree (index_value self))) result }
+        ensures tokens { IfOk result
+            (SaysFlatLess (removal_of options.now) (index_tree (index_value self))) }
+        // It answers wherever the index does, less what the options take away.
+        ensures meaning { IfOk result (λ m. IsOrderly (index_tree (index_value self))
+            → AnswersLess (removal_of options.now) (index_tree (index_value self)) m) }
+        // Where names are kept and no prefix is cut, that is the same meaning.
+        ensures same { LeavesMeaning (removal_of options.now) → IfOk result (λ m.
+            IsOrderly (index_tree (index_value self))
+            → AnswersLike (index_tree (index_value self)) m) }
+        ensures well_formed { IfOk result (λ m. IsWellFormed (index_tree (index_value self))
+            → IsWellFormedRegular m) }
+    {
+        let flat = self.flatten()?;
+        flat.rewrite(rt, options)
     }
 
     // What its sections hold, put beside one another.

@@ -15,3 +15,4 @@ pub mod laws;
 pub mod lookup;
 mod rows;
 pub mod section;
+pub mod write;

@@ -99,6 +99,49 @@ fn records_are_read_section_by_section(rt: HostRuntime) {
     }
 }
 
+fn index_told(alloc: Global, answer: Result<SourceMapIndex>) -> Result<String> {
+    match answer {
+        Ok(index) => sections_told(alloc, &index),
+        fault => fault_told(alloc, fault),
+    }
+}
+
+// A text, and the sections of the index that it is, or why it is none.
+const INDEXES: [(&str, &str); 7] = [
+    (
+        r#"{"sections":[{"offset":{"line":3,"column":0},"url":"p"},{"offset":{"line":1,"column":2},"map":{"mappings":"A"}}]}"#,
+        r#"1:2 None a map;3:0 Some("p") no map;"#,
+    ),
+    (r#"{"sections":[]}"#, ""),
+    // The record of a map of another kind is refused before anything of it is decoded.
+    (
+        r#"{"mappings":"!"}"#,
+        "encountered incompatible sourcemap format",
+    ),
+    (
+        r#"{"sections":null,"mappings":"A"}"#,
+        "encountered incompatible sourcemap format",
+    ),
+    (
+        r#"{"sections":[{"offset":{"line":0,"column":0},"map":{"mappings":"!"}}]}"#,
+        "invalid base64 character: !",
+    ),
+    (r#"{"sections":{}}"#, "bad json: a field has the wrong type"),
+    ("", "bad json: the text is not JSON"),
+];
+
+#[test]
+fn indexes_alone_are_read(rt: HostRuntime) {
+    let alloc = rt.alloc();
+    for (text, want) in INDEXES.iter() {
+        let bytes = text.as_bytes();
+        let read = SourceMapIndex::from_slice(alloc, bytes);
+        check(&rt, text, index_told(alloc, read), want);
+        let streamed = SourceMapIndex::from_reader(alloc, bytes);
+        check(&rt, text, index_told(alloc, streamed), want);
+    }
+}
+
 // A data URL, and the sections of its index or its fault.
 const URLS: [(&str, &str); 2] = [
     (

@@ -6,7 +6,9 @@ use sourcemap_errors::errors::{Error, Result};
 use sourcemap_index::decode::decode_slice;
 use sourcemap_index::family::{DecodedMap, SourceMapIndex};
 use sourcemap_regular::map::SourceMap;
+use sourcemap_regular::rewrite::RewriteOptions;
 use std::alloc::Global;
+use std::rt::Files;
 
 // Two maps, the second from the middle of a line on.
 const TWO: &str =
@@ -86,6 +88,73 @@ fn indexes_are_made_flat(rt: HostRuntime) {
     }
 }
 
+fn flat_rewritten<F: Files>(
+    rt: &F,
+    alloc: Global,
+    text: &str,
+    options: &RewriteOptions<'_>,
+) -> Result<String> {
+    let index = index_of(alloc, text)?;
+    map_told(alloc, index.flatten_and_rewrite(rt, options))
+}
+
+const UNUSED: &str =
+    r#"{"sections":[{"offset":{"line":0,"column":0},"map":{"sources":["x.js","a.js"],"sourcesContent":["x","y"],"mappings":"ACAA"}}]}"#;
+
+// An index, whether names are kept, whether contents are read from files, and its flat map rewritten
+// or the fault.
+const REWRITTEN: [(&str, bool, bool, &str); 6] = [
+    (
+        TWO,
+        true,
+        false,
+        r#"{"mappings":"AAAA;;;;;;;;;;ICAA","names":[],"sources":["a.js","b.js"],"version":3}"#,
+    ),
+    (
+        UNUSED,
+        true,
+        false,
+        r#"{"mappings":"AAAA","names":[],"sources":["a.js"],"sourcesContent":["y"],"version":3}"#,
+    ),
+    (
+        NESTED,
+        true,
+        false,
+        r#"{"file":"f","mappings":";;IAAAA;AAAA","names":["n"],"sources":["r/a.js"],"sourcesContent":["x"],"version":3}"#,
+    ),
+    (
+        NESTED,
+        false,
+        false,
+        r#"{"file":"f","mappings":";;IAAA;AAAA","names":[],"sources":["r/a.js"],"sourcesContent":["x"],"version":3}"#,
+    ),
+    // A fault of the flat map comes before that of the options.
+    (
+        LINKED,
+        true,
+        true,
+        "cannot flatten the indexed sourcemap: Section has an unresolved sourcemap: u",
+    ),
+    (TWO, true, true, "encountered incompatible sourcemap format"),
+];
+
+#[test]
+fn flat_maps_are_rewritten(rt: HostRuntime) {
+    for (text, with_names, load_contents, want) in REWRITTEN.iter() {
+        let options = RewriteOptions {
+            with_names: *with_names,
+            load_local_source_contents: *load_contents,
+            ..RewriteOptions::default()
+        };
+        check(
+            &rt,
+            text,
+            flat_rewritten(&rt, rt.alloc(), text, &options),
+            want,
+        );
+    }
+}
+
 fn moved(alloc: Global, text: &str, rows: u32) -> Result<String> {
     let mut index = index_of(alloc, text)?;
     let fits = index.adjust_sections_offset_rows(rows);
@@ -135,6 +204,11 @@ fn written_away(alloc: Global, text: &str) -> Result<String> {
     value_told(alloc, DecodedMap::into_value(map))
 }
 
+fn index_written_away(alloc: Global, text: &str) -> Result<String> {
+    let record = index_of(alloc, text)?.into_raw_sourcemap()?;
+    value_told(alloc, record.into_value(alloc))
+}
+
 fn written_to(alloc: Global, text: &str) -> Result<String> {
     let map = decode_slice(alloc, text.as_bytes())?;
     let mut bytes = Vec::new(alloc);
@@ -146,7 +220,7 @@ fn written_to(alloc: Global, text: &str) -> Result<String> {
 }
 
 // An index, and the text that it is written as.
-const WRITTEN: [(&str, &str); 3] = [
+const WRITTEN: [(&str, &str); 4] = [
     (
         BUNDLE,
         r#"{"sections":[],"sources":null,"version":3,"x_facebook_offsets":[5,null],"x_metro_module_paths":["a.js"]}"#,
@@ -159,6 +233,10 @@ const WRITTEN: [(&str, &str); 3] = [
         r#"{"sections":[{"offset":{"line":0,"column":1},"map":{"mappings":"A"}}],"file":"f"}"#,
         r#"{"file":"f","sections":[{"map":{"mappings":"A","names":[],"sources":[],"version":3},"offset":{"column":1,"line":0},"url":null}],"sources":null,"version":3}"#,
     ),
+    (
+        r#"{"sections":[{"offset":{"line":2,"column":0},"url":"u","map":{"sections":[],"debugId":"0123456789abcdef0123456789abcdef"}}],"sourceRoot":"r"}"#,
+        r#"{"sections":[{"map":{"debugId":"01234567-89ab-cdef-0123-456789abcdef","sections":[],"sources":null,"version":3},"offset":{"column":0,"line":2},"url":"u"}],"sources":null,"version":3}"#,
+    ),
 ];
 
 #[test]
@@ -167,6 +245,7 @@ fn indexes_are_written(rt: HostRuntime) {
     for (text, want) in WRITTEN.iter() {
         check(&rt, text, written(alloc, text), want);
         check(&rt, text, written_away(alloc, text), want);
+        check(&rt, text, index_written_away(alloc, text), want);
         check(&rt, text, written_to(alloc, text), want);
     }
 }

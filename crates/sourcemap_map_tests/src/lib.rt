@@ -3,6 +3,8 @@
 #![tactic(auto)]
 
 #[cfg(test)]
+mod adjusting;
+#[cfg(test)]
 mod answers;
 #[cfg(test)]
 mod changes;

@@ -26,7 +26,8 @@ const RANGED: [Place; 3] = [
     (3, 9, "coolstuff.js:0:5"),
 ];
 
-fn token_told(alloc: Global, token: Option<Token<'_>>) -> Result<String> {
+/// What a token prints.
+pub fn token_told(alloc: Global, token: Option<Token<'_>>) -> Result<String> {
     match token {
         None => Ok(String::from_str(alloc, "none")?),
         Some(token) => Ok(format!(in alloc; "{token}")?),

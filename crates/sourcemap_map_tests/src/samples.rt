@@ -61,7 +61,8 @@ pub fn bare(alloc: Global) -> Result<SourceMap> {
     made(alloc, &BARE, &[], &[])
 }
 
-fn made(alloc: Global, rows: &[Row], names: &[&str], sources: &[&str]) -> Result<SourceMap> {
+/// A map of these tokens, names and sources.
+pub fn made(alloc: Global, rows: &[Row], names: &[&str], sources: &[&str]) -> Result<SourceMap> {
     let names = texts(alloc, names)?;
     let sources = texts(alloc, sources)?;
     if names.len() > 9 || sources.len() > 9 {

@@ -1,3 +1,4 @@
+mod AdjustLemmas
 pub mod DecodeLemmas
 pub mod EncodeLemmas
 pub mod EqualityLemmas

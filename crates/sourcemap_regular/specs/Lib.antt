@@ -1,3 +1,4 @@
+pub mod Adjust
 pub mod Decode
 pub mod Encode
 pub mod Equality

@@ -2,6 +2,7 @@
 //! is left of them when they are rewritten.
 #![tactic(auto)]
 
+mod adjust;
 mod changes;
 mod clone;
 pub mod decode;

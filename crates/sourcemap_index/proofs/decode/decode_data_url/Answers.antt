@@ -1,6 +1,10 @@
--- A data URL has one answer.
+-- A data URL has one answer, and only a text that is none is refused as one.
 use Rattle.sourcemap_index.proofs.DecodeLemmas.{url_only}
+use Rattle.sourcemap_index.proofs.UrlFaultLemmas.{refused_as_no_url}
 use Rattle.sourcemap_index.proofs.decode.decode_data_url.Goals as goal
 
 pub returns-clause-only : goal.returns-clause-only
 returns-clause-only c = url_only c.args.url.now c.decode_url.result c.decode_url.ensures.answer
+
+pub returns-clause-no_url : goal.returns-clause-no_url
+returns-clause-no_url c = refused_as_no_url c.args.url.now c.decode_url.result c.decode_url.ensures.answer

@@ -1,13 +1,11 @@
 -- Sections are decoded one by one, and the first fault is answered.
-use Rattle.std.proofs.Common.{◌≡◌, ◌∙◌, refl, sym, ap, subst, rules, arith, ℕ, ◌++◌, List, [], ◌∷◌, map, Option, Some, None, Result, Ok, Err}
+use Rattle.std.proofs.Common.{◌≡◌, ◌∙◌, refl, sym, ap, subst, arith, [], ◌∷◌, map, Ok, Err}
 use Rattle.std.proofs.lemmas.List.{map-append, nil_from_length, length-map, append-nil}
 use Rattle.std.proofs.lemmas.Result.{err_from_is_err_and}
 use Rattle.std.specs.Vec.Iter.{into_iter_items}
-use Rattle.sourcemap_errors.specs.declared.errors.Error.{Error}
 use Rattle.sourcemap_errors.proofs.AnswerLemmas.{UnlessMemory-weaker}
 use Rattle.sourcemap_records.specs.Jsontypes.{flat, tree, section, sections_from}
 use Rattle.sourcemap_trees.specs.Decode.{SectionsDecode}
-use Rattle.sourcemap_trees.specs.MapTree.{MapSection}
 use Rattle.sourcemap_index.specs.Family.{section_value}
 use Rattle.sourcemap_index.specs.Decode.{SectionDecodes}
 use Rattle.sourcemap_index.proofs.FamilyLemmas.{regular_tree}

@@ -1,7 +1,7 @@
 -- A stable sort by offset is the sorted list.
 use Rattle.std.proofs.Common.{◌≡◌, refl, sym, ap, ◌∙◌, map, ℕ, rules}
 use Rattle.std.proofs.lemmas.List.Sorted.{answers_always}
-use Rattle.sourcemap_lists.specs.Tokens.{position_cmp, sorted_by}
+use Rattle.sourcemap_lists.specs.Tokens.{position_cmp}
 use Rattle.sourcemap_lists.proofs.SortLemmas.{stably_sorted}
 use Rattle.sourcemap_lists.proofs.TokensLemmas.{position_cmp_total}
 use Rattle.sourcemap_trees.specs.MapTree.{section_offset}

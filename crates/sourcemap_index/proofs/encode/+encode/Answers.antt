@@ -1,10 +1,7 @@
 -- Each section's record stands at its place.
-use Rattle.std.proofs.Common.{◌≡◌, ◌∙◌, sym, ap, subst, arith, ℕ, ◌+◌, ◌++◌, [], ◌∷◌, map, take}
+use Rattle.std.proofs.Common.{◌≡◌, ◌∙◌, sym, ap, subst, arith, ◌+◌, ◌++◌, [], ◌∷◌, map, take}
 use Rattle.std.proofs.lemmas.List.{map-append, take_more, take_all}
-use Rattle.sourcemap_records.specs.Jsontypes.{section, sections_from}
-use Rattle.sourcemap_trees.specs.Encode.{AreWrittenBy}
-use Rattle.sourcemap_trees.specs.MapTree.{sections_from as sections_of}
-use Rattle.sourcemap_index.specs.Encode.{IsRegularRecord}
+use Rattle.sourcemap_records.specs.Jsontypes.{section}
 use Rattle.sourcemap_index.specs.Family.{section_value}
 use Rattle.sourcemap_index.proofs.EncodeLemmas.{ArePairs, pairs_more, pairs_written, pairs_in_range}
 use Rattle.sourcemap_index.proofs.encode.+encode.Goals as goal

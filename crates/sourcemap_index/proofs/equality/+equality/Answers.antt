@@ -1,5 +1,5 @@
 -- Indexes are compared by their parts and section by section.
-use Rattle.std.proofs.Common.{◌≡◌, ◌∙◌, sym, ap}
+use Rattle.std.proofs.Common.{◌∙◌, sym}
 use Rattle.sourcemap_trees.specs.Equality.{same_tree}
 use Rattle.sourcemap_index.specs.Family.{index_value, map_tree}
 use Rattle.sourcemap_index.proofs.EqualityLemmas.{index_same}

@@ -1,19 +1,15 @@
 -- Sections are gathered one after another, each with what its map is made to.
-use Rattle.std.proofs.Common.{◌≡◌, ◌∙◌, refl, sym, ap, subst, ℕ, List, [], ◌∷◌, arith, map, drop, take, length, OnOk, ◌+◌, slice_get}
+use Rattle.std.proofs.Common.{◌≡◌, ◌∙◌, sym, ap, subst, List, [], ◌∷◌, arith, map, drop, take, OnOk, ◌+◌, slice_get}
 use Rattle.std.specs.List.{AllByRecursion}
-use Rattle.std.proofs.lemmas.List.{length-map}
 use Rattle.std.proofs.lemmas.Result.{err_from_is_err_and}
-use Rattle.sourcemap_regular.specs.Map.{MapValue}
-use Rattle.sourcemap_lists.specs.Tokens.{AreInOrder}
-use Rattle.sourcemap_trees.specs.MapTree.{MapTree, MapSections, MapSection, IndexValue, index_tree, sections_from}
+use Rattle.sourcemap_trees.specs.MapTree.{MapSection, IndexValue, sections_from}
 use Rattle.sourcemap_trees.specs.Flat.{merged, pieces_behind}
-use Rattle.sourcemap_trees.specs.WellFormed.{HasTokensInOrder}
 use Rattle.sourcemap_lists.proofs.AllLemmas.{All-append}
 use Rattle.sourcemap_flattening.specs.Gathering.{RefusesFor}
 use Rattle.sourcemap_index.specs.Family.{index_value, map_tree, section_value}
-use Rattle.sourcemap_index.specs.Flatten.{Gathered, IsSectionInOrder, MadeFlat, map_added}
+use Rattle.sourcemap_index.specs.Flatten.{Gathered, IsSectionInOrder, map_added}
 use Rattle.sourcemap_index.proofs.FamilyLemmas.{index-out, index_tree-of, regular_tree}
-use Rattle.sourcemap_index.proofs.FlattenLemmas.{SoFar, so_far-none, so_far-more, so_far-refused, made_flat, gathered-more, index_added, section_below, item-at, item-next, items-taken, on_ok_then, if_ok_any, if_ok_then, none-left, in_order-all}
+use Rattle.sourcemap_index.proofs.FlattenLemmas.{SoFar, so_far-more, so_far-refused, gathered-more, index_added, section_below, item-at, item-next, items-taken, on_ok_then, if_ok_any, if_ok_then, none-left, in_order-all}
 use Rattle.sourcemap_index.proofs.family.+flatten.Goals as goal
 
 pub DecodedMap::gather-returns-in-Regular-clause-ok :

@@ -1,7 +1,7 @@
 -- The closest section's map answers for the index.
-use Rattle.std.proofs.Common.{◌≡◌, ◌∙◌, sym, ap, subst, ℕ, arith, None, Some, Option, option_map, IfSome}
+use Rattle.std.proofs.Common.{◌≡◌, ◌∙◌, sym, ap, subst, ℕ, arith, None, Some, option_map, IfSome}
 use Rattle.sourcemap_regular.specs.Token.{token_value}
-use Rattle.sourcemap_trees.specs.MapTree.{MapTree, section_offset}
+use Rattle.sourcemap_trees.specs.MapTree.{section_offset}
 use Rattle.sourcemap_trees.specs.Meaning.{lookup, lowered}
 use Rattle.sourcemap_trees.specs.WellFormed.{IsInOrder}
 use Rattle.sourcemap_index.specs.Family.{index_value, map_tree, section_value}

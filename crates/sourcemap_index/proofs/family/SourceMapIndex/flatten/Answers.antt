@@ -1,6 +1,5 @@
-use Rattle.std.proofs.Common.{◌≡◌, ◌∙◌, refl, sym, ap}
-use Rattle.sourcemap_regular.specs.Map.{MapValue, IsWellFormed as IsWellFormedRegular}
-use Rattle.sourcemap_trees.specs.MapTree.{MapTree, IndexValue, index_tree}
+use Rattle.sourcemap_regular.specs.Map.{IsWellFormed as IsWellFormedRegular}
+use Rattle.sourcemap_trees.specs.MapTree.{IndexValue, index_tree}
 use Rattle.sourcemap_trees.specs.Flat.{AnswersLike, SaysFlat}
 use Rattle.sourcemap_trees.specs.FlatList.{IsOrderly}
 use Rattle.sourcemap_trees.specs.WellFormed.{IsWellFormed}

@@ -1,8 +1,7 @@
 -- A section stands in the list.
-use Rattle.std.proofs.Common.{◌≡◌, ◌∙◌, sym, ap, slice_get, option_map, map}
+use Rattle.std.proofs.Common.{◌∙◌, sym, ap, slice_get, map}
 use Rattle.sourcemap_index.proofs.FamilyLemmas.{index-out, item_seen}
 use Rattle.sourcemap_index.specs.Family.{section_value}
-use Rattle.sourcemap_index.specs.declared.family.SourceMapIndex.{out-SourceMapIndex}
 use Rattle.sourcemap_index.proofs.family.SourceMapIndex.get_section.Goals as goal
 
 pub returns : goal.returns

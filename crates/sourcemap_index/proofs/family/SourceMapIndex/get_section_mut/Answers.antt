@@ -1,10 +1,8 @@
 -- A section stands in the list; what is put in its place is seen there.
-use Rattle.std.proofs.Common.{◌≡◌, refl, ◌∙◌, sym, ap, slice_get}
+use Rattle.std.proofs.Common.{refl, ◌∙◌, sym, ap, slice_get}
 use Rattle.sourcemap_index.proofs.FamilyLemmas.{index-out, index_same, item_seen, on_some, section_put}
-use Rattle.sourcemap_index.specs.Family.{index_value, section_value}
-use Rattle.sourcemap_index.specs.Index.{with_section}
+use Rattle.sourcemap_index.specs.Family.{section_value}
 use Rattle.sourcemap_index.specs.declared.family.SourceMapIndex.{out-SourceMapIndex}
-use Rattle.sourcemap_index.specs.declared.family.SourceMapSection.{SourceMapSection}
 use Rattle.sourcemap_index.proofs.family.SourceMapIndex.get_section_mut.Goals as goal
 
 pub returns : goal.returns

@@ -1,0 +1,5 @@
+mod StretchesLemmas
+mod ClosestLemmas
+mod CompositionLemmas
+mod CompositionRows
+pub mod MovedLemmas

@@ -1,0 +1,6 @@
+//! Composition: the tokens of a map, adjusted by those of another that leads on from its text.
+#![tactic(auto)]
+
+pub mod composition;
+pub mod moved;
+pub mod stretches;

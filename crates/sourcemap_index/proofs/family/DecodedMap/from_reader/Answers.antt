@@ -1,0 +1,8 @@
+-- The map is that of `decode`, so that a wrong body is refused fast.
+use Rattle.sourcemap_index.proofs.family.DecodedMap.from_reader.Goals as goal
+
+pub returns-clause-answer : goal.returns-clause-answer
+returns-clause-answer g c = c.decode.ensures.answer
+
+pub returns-clause-only : goal.returns-clause-only
+returns-clause-only g c = c.decode.ensures.only

@@ -1,0 +1,7 @@
+-- What the search finds, so that a wrong body is refused fast.
+use Rattle.std.proofs.Common.{rules}
+use Rattle.sourcemap_index.proofs.FamilyLemmas.{index-out}
+use Rattle.sourcemap_index.proofs.family.SourceMapIndex.is_for_ram_bundle.Goals as goal
+
+pub returns : goal.returns
+returns c = search (rules, index-out c.args.self.now)

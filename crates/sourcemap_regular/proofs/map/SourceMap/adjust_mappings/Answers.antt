@@ -1,0 +1,32 @@
+use Rattle.std.proofs.Common.{◌≡◌, ◌≤◌, ◌∙◌, sym, ap, subst, length, Ok, arith}
+use Rattle.sourcemap_composition.specs.Composition.{composition}
+use Rattle.sourcemap_composition.specs.Moved.{IsMovedAlone}
+use Rattle.sourcemap_composition.proofs.MovedLemmas.{composed_within}
+use Rattle.sourcemap_lists.specs.Tokens.{AreInOrder}
+use Rattle.sourcemap_regular.specs.Map.{IsWellFormed, MapValue, meaning}
+use Rattle.sourcemap_regular.specs.MapStored.{value_of}
+use Rattle.sourcemap_regular.proofs.AdjustLemmas.{adjusted_meaning}
+use Rattle.sourcemap_regular.proofs.map.SourceMap.adjust_mappings.Goals as goal
+
+-- the composition that was made, of the tokens of both maps as they are stored
+composed : (c : goal.After-drop-self-inside) → composition c.self.inside.tokens c.adjustment.inside.tokens ≡ Ok c.of_ordered.result
+composed c =
+    subst (λ tokens. composition tokens c.adjustment.inside.tokens ≡ Ok c.of_ordered.result) c.as_slice.ensures.value
+    (subst (λ tokens. composition c.as_slice.result.now tokens ≡ Ok c.of_ordered.result) c.as_slice-2.ensures.value
+    (c.in_ok-tokens.ensures.answer ∙ ap Ok (sym c.of_ordered.ensures)))
+
+pub returns-clause-well_formed : goal.returns-clause-well_formed
+returns-clause-well_formed c = λ sound.
+    let stored : IsWellFormed (value_of c.self.inside) = subst IsWellFormed (sym c.self.view_is) sound in
+    composed_within (length c.self.inside.sources.texts) (length (value_of c.self.inside).names) c.self.inside.tokens c.adjustment.inside.tokens c.of_ordered.result stored (composed c)
+
+pub returns-clause-meaning : goal.returns-clause-meaning
+returns-clause-meaning c = λ a q sound alone.
+    let few : length c.self.inside.sources.texts ≤ 4294967295 = omega (arith, c.len.ensures) in
+    let stored : IsWellFormed (value_of c.self.inside) = subst IsWellFormed (sym c.self.view_is) sound in
+    let up : AreInOrder c.self.inside.tokens = subst AreInOrder c.as_slice.ensures.value c.as_slice.ensures.in_order in
+    let alone' : IsMovedAlone c.self.inside.tokens c.adjustment.inside.tokens a q =
+    subst (λ (m : MapValue). IsMovedAlone m.tokens c.adjustment.inside.tokens a q) (sym c.self.view_is)
+    (subst (λ (n : MapValue). IsMovedAlone c.args.self.now.tokens n.tokens a q) (sym c.adjustment.view_is) alone) in
+    adjusted_meaning (value_of c.self.inside) (value_of c.adjustment.inside) c.of_ordered.result a q few up stored (composed c) alone'
+    ∙ ap (λ (m : MapValue). meaning m q) c.self.view_is
