@@ -36,7 +36,6 @@ pub use Rattle.sourcemap_trees.specs.FlatList
 pub use Rattle.sourcemap_trees.specs.Flat
 pub use Rattle.sourcemap_trees.specs.Decode as TreeDecoder
 pub use Rattle.sourcemap_trees.specs.Encode as TreeEncoder
-pub use Rattle.sourcemap_index.specs.Write as TreeBytes
 pub use Rattle.sourcemap_trees.specs.Equality as TreeEquality
 pub use Rattle.sourcemap_trees.specs.Shift
 pub use Rattle.sourcemap_index.specs.Decode as Decoder

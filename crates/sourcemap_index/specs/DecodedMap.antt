@@ -1,6 +1,7 @@
 -- What a map of any kind answers by its kind, and which values and texts it is written as.
-use Rattle.std.specs.Prelude.{◌≡◌, ℕ, List, Option}
-use Rattle.serde_json.specs.Data.{Data}
+use Rattle.std.specs.Prelude.{◌≡◌, ◌≤◌, ℕ, List, Option}
+use Rattle.serde_json.specs.Data.{Data, depth}
+use Rattle.serde_json.specs.Read.{max_depth}
 use Rattle.serde_json.specs.Written.{compact_text}
 use Rattle.sourcemap_records.specs.Jsontypes.{Tree, written}
 use Rattle.sourcemap_trees.specs.Encode.{IsRecordOf}
@@ -22,3 +23,7 @@ IsValueOf t d = (r : Tree) × IsRecordOf t r × (d ≡ written r)
 -- the compact text of a value that a map is written as
 abbrev pub IsTextOf : MapTree → List ℕ → Type 0
 IsTextOf t text = (d : Data) × IsValueOf t d × (text ≡ compact_text d)
+
+-- what the map is written as has at most 127 levels, as a regular map's two always are
+abbrev pub IsShallow : MapTree → Type 0
+IsShallow t = (d : Data) → IsValueOf t d → depth d ≤ max_depth

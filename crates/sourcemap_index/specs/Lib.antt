@@ -8,4 +8,3 @@ pub mod Index
 pub mod Lookup
 pub mod Rows
 pub mod Section
-pub mod Write

@@ -2,12 +2,17 @@
 ghost use Rattle.std.specs.Prelude.{◌≡◌, false, List, Ok, ℕ, ◌↔◌};
 ghost use Rattle.serde_json.specs.Data.{Data};
 ghost use Rattle.serde_json.specs.Written.{has_float};
+ghost use Rattle.sourcemap_headers.specs.DataUrl.{Holds};
 ghost use Rattle.sourcemap_records.specs.Bytes.{BytesStandFor, UrlStandsFor, ValueStandsFor};
 ghost use Rattle.sourcemap_regular.specs.Decode.{RegularDecodes};
+ghost use Rattle.sourcemap_regular.specs.Encode.{ReadsBack};
 ghost use Rattle.sourcemap_regular.specs.Map.{MapValue};
+ghost use Rattle.sourcemap_regular.specs.Write.{IsEncoded};
+ghost use Rattle.sourcemap_trees.specs.Encode.{RecordAnswer, Restores};
 ghost use Rattle.sourcemap_trees.specs.MapTree.{MapTree, regular};
+ghost use Rattle.sourcemap_trees.specs.WellFormed.{IsWellFormed};
 ghost use Rattle.sourcemap_index.specs.Decode.{BytesDecode, UrlDecodes, ValueDecodes};
-ghost use Rattle.sourcemap_index.specs.DecodedMap.{IsTextOf, IsValueOf};
+ghost use Rattle.sourcemap_index.specs.DecodedMap.{IsShallow, IsTextOf, IsValueOf};
 
 /// A law: a JSON value, bytes or a data URL stand for a regular map exactly if they stand for it as a
 /// map of any kind.
@@ -25,4 +30,22 @@ pub fn regular_maps_are_of_a_kind()
 pub fn written_values_have_one_text()
     ensures whole { (t : MapTree) (d : Data) → IsValueOf t d → has_float d ≡ false }
     ensures once { (t : MapTree) (a b : List ℕ) → IsTextOf t a → IsTextOf t b → a ≡ b }
+{}
+
+/// A law: the bytes that a map of any kind is written as are the compact text of its record's value,
+/// for no number in that has a fraction.
+pub fn encoded_texts_are_compact()
+    ensures { (t : MapTree) (text : List ℕ) → IsEncoded (RecordAnswer t) text → IsTextOf t text }
+{}
+
+/// A law: the bytes that a well-formed map of any kind is written as, and a data URL of them, stand
+/// for a map of the same meaning at every position, with all parts kept, where a reader of JSON
+/// takes as many levels.
+pub fn encoded_texts_read_back()
+    ensures bytes { (t : MapTree) (text : List ℕ)
+        → IsEncoded (RecordAnswer t) text → IsWellFormed t → IsShallow t
+        → ReadsBack (BytesDecode text) (Restores t) }
+    ensures urls { (t : MapTree) (text url : List ℕ)
+        → IsEncoded (RecordAnswer t) text → Holds url text → IsWellFormed t → IsShallow t
+        → ReadsBack (UrlDecodes url) (Restores t) }
 {}

@@ -15,4 +15,3 @@ pub mod laws;
 pub mod lookup;
 mod rows;
 pub mod section;
-pub mod write;

@@ -1,5 +1,5 @@
 use Rattle.sourcemap_index.proofs.WriteLemmas.{text_compact}
-use Rattle.sourcemap_index.proofs.write.maps_of_any_kind_are_compact.Goals as goal
+use Rattle.sourcemap_index.proofs.laws.encoded_texts_are_compact.Goals as goal
 
 pub returns : goal.returns
 returns c = text_compact
