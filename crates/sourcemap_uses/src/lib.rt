@@ -2,6 +2,7 @@
 //! and laws of `sourcemap` alone, and its own clause says what its user wants to know.
 #![tactic(auto)]
 
+pub mod adjusting;
 pub mod building;
 pub mod data_urls;
 pub mod faults;
