@@ -7,7 +7,9 @@ pub use sourcemap_core::laws::{
 };
 pub use sourcemap_headers::data_url::data_urls_have_one_answer;
 pub use sourcemap_index::decode::answers_are_determined;
-pub use sourcemap_index::laws::regular_maps_are_of_a_kind;
+pub use sourcemap_index::laws::{
+    encoded_texts_are_compact, encoded_texts_read_back, regular_maps_are_of_a_kind,
+};
 pub use sourcemap_regular::encode::written_records_are_determined;
 pub use sourcemap_regular::rewrite::default_rewriting_is_final;
 pub use sourcemap_regular::write::{written_maps_are_compact, written_maps_read_back};
