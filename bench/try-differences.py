@@ -4,7 +4,8 @@
     bench/try-differences.py REFERENCE
 
 REFERENCE    bench/reference, which is then built, or a program over the Rust crate that knows the words
-             `lookup`, `tokens`, `rewrite` and `stream rewrite`, `flatten`, `shift` and `roundtrip`, which writes a map as it is
+             `lookup`, `tokens`, `rewrite` and `stream rewrite`, `flatten`, `shift`, and `roundtrip`, which
+             writes a map as it is
 
 The programs of this repository are built where they are missing; SOURCEMAP_TOOL and SOURCEMAP_BENCH in the
 environment name others in their place. A row of the document whose last column names a word has a trial
