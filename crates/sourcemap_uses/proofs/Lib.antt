@@ -1,4 +1,5 @@
 pub mod BuildingLemmas
+pub mod DataUrlsLemmas
 pub mod FlatteningLemmas
 pub mod LinkingLemmas
 pub mod MergingLemmas

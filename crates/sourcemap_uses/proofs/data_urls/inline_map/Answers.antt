@@ -1,6 +1,6 @@
--- A text that is no data URL.
+-- A data URL whose bytes hold no map.
+use Rattle.sourcemap_uses.proofs.DataUrlsLemmas.{held_unless_memory}
 use Rattle.sourcemap_uses.proofs.data_urls.inline_map.Goals as goal
 
-pub returns-in-Err-InvalidDataUrl : goal.returns-in-Err-InvalidDataUrl
-returns-in-Err-InvalidDataUrl c =
-    rw c.in-Err-InvalidDataUrl.field-0-is at c.in-Err-InvalidDataUrl.ensures.answer
+pub returns-in_default : goal.returns-in_default
+returns-in_default c = held_unless_memory c.args.reference.now c.in-Err.error c.in_default.not-InvalidDataUrl c.in-Err.ensures.answer
