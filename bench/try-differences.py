@@ -4,7 +4,8 @@
     bench/try-differences.py REFERENCE
 
 REFERENCE    bench/reference, which is then built, or a program over the Rust crate that knows the words
-             `lookup`, `tokens`, `rewrite` and `stream rewrite`, and `roundtrip`, which writes a map as it is
+             `lookup`, `tokens`, `rewrite` and `stream rewrite`, `flatten`, `shift`, and `roundtrip`, which
+             writes a map as it is
 
 The programs of this repository are built where they are missing; SOURCEMAP_TOOL and SOURCEMAP_BENCH in the
 environment name others in their place. A row of the document whose last column names a word has a trial
@@ -24,6 +25,23 @@ def record(mappings, **more):
     return json.dumps({'version': 3, 'sources': ['a.js'], 'names': [], **more, 'mappings': mappings}).encode()
 
 
+def index(*sections):
+    """An index of sections with this offset, source and mappings; without a map where there are no mappings."""
+    return json.dumps({'sections': [
+        {'offset': {'line': line, 'column': column}, 'map': mappings and {'sources': [source], 'mappings': mappings}}
+        for line, column, source, mappings in sections]}).encode()
+
+
+def steps(text):
+    """How many tokens a written map has on its line, and how many of them step to another column."""
+    segments = json.loads(text)['mappings'].split(',')
+    return len(segments), sum(segment[0] != 'A' for segment in segments)
+
+
+def has_the_same_steps(here, there):
+    return steps(here) == steps(there)
+
+
 def fails_behind(data):
     """A reader that gives these bytes and then fails: a terminal that was hung up."""
     ours, theirs = pty.openpty()
@@ -33,6 +51,7 @@ def fails_behind(data):
     return ours
 
 
+PAST_THE_END = 'cannot flatten the indexed sourcemap: a position passes 4294967295'
 PARTLY_READ = 'a JSON text of which a failing reader gave a part, as `{"version":3`'
 SORTED = 'a line of more than 32 segments, out of order, some at one column, as `CAAA` and then `DAAC,CAAC` 16 times'
 TRIALS = {
@@ -70,6 +89,18 @@ TRIALS = {
         'write', record('A,A,C', rangeMappings='E'), (0, '"rangeMappings":"C"'), (0, '"rangeMappings":"E"')),
     'sixteen plain tokens and then a range token in one line': Trial(
         'write', record('A' + ',C' * 16, rangeMappings='AAQ'), (0, '"rangeMappings":"AAQ"'), (101, '')),
+    'a section at (4294967295,0), source `a.js`, mappings `;AAAA`': Trial(
+        'flatten', index((2**32 - 1, 0, 'a.js', ';AAAA')), (1, PAST_THE_END), (0, '"mappings":"AAAA"')),
+    'a section at (0,4294967295), source `a.js`, mappings `CAAA`, then one without a map': Trial(
+        'flatten', index((0, 2**32 - 1, 'a.js', 'CAAA'), (1, 0, '', None)), (1, PAST_THE_END),
+        (1, 'cannot flatten the indexed sourcemap: Section has an unresolved sourcemap: <unknown url>')),
+    'two sections at (0,0), sources `a.js` and `b.js`, each with mappings `AAAA` and then `,CAAA` 20 times': Trial(
+        'flatten', index(*((0, 0, source, 'AAAA' + ',CAAA' * 20) for source in ('a.js', 'b.js'))),
+        (0, '"mappings":"AAAA,ACAA' + ',CDAA,ACAA' * 20 + '"'), (0, has_the_same_steps)),
+    '`{"sections":[],"x_facebook_offsets":[5,null],"x_metro_module_paths":["a.js"]}`': Trial(
+        'shift 0', b'{"sections":[],"x_facebook_offsets":[5,null],"x_metro_module_paths":["a.js"]}',
+        (0, '{"sections":[],"sources":null,"version":3,"x_facebook_offsets":[5,null],"x_metro_module_paths":["a.js"]}'),
+        (0, '{"sections":[],"sources":null,"version":3}')),
     'JSON keys': Trial(
         'rewrite', record('AAAA'), (0, '{"mappings":"AAAA","names":[],"sources":["a.js"],"version":3}\n'),
         (0, '{"version":3,"sources":["a.js"],"names":[],"mappings":"AAAA"}\n')),

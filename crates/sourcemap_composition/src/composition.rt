@@ -23,7 +23,8 @@ pub fn compose(
     original: &[RawToken],
     adjustment: &[RawToken],
 ) -> Result<Vec<RawToken>>
-    ensures answer { Gives (λ tokens. tokens.items) result (composition original.now adjustment.now) }
+    ensures answer { Gives (λ tokens. tokens.items) result
+        (composition original.now adjustment.now) }
     ensures in_order { IfOk result (λ tokens. AreInOrder tokens.items) }
     ensures few { IfOk result (λ tokens. length tokens.items
         ≤ length original.now + length adjustment.now) }

@@ -16,7 +16,8 @@ pub fn composed_tokens_stay_within()
 /// A law: where nothing else comes to the place of a moved position, it comes from the same source,
 /// line and column as before, by the same name.
 pub fn moved_positions_answer_as_before()
-    ensures { (sources names : ℕ) (original adjustment new : List RawToken) (a : Stretch) (q : ℕ × ℕ)
+    ensures { (sources names : ℕ) (original adjustment new : List RawToken)
+        (a : Stretch) (q : ℕ × ℕ)
         → AreInOrder original → sources ≤ 4294967295 → AllWithin sources names original
         → composition original adjustment ≡ Ok new → IsMovedAlone original adjustment a q
         → origin new (moved a q) ≡ origin original q }

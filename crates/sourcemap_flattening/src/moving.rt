@@ -15,6 +15,7 @@ use sourcemap_errors::errors::Result;
 use sourcemap_lists::tokens::{NO_ID, RawToken};
 use std::alloc::Global;
 use std::collections::BTreeSet;
+use std::mem;
 
 // Where a map stands, and the new numbers of its sources and its names.
 #[derive(Clone, Copy)]
@@ -68,7 +69,7 @@ fn moved(alloc: Global, token: RawToken, to: Move<'_>) -> Result<RawToken>
     }
 }
 
-// Puts tokens behind others, each where it stands then.
+// Puts tokens behind others, each where it stands then. A refusal loses the others too.
 pub(crate) fn move_all(
     alloc: Global,
     all: &mut Vec<RawToken>,
@@ -79,12 +80,15 @@ pub(crate) fn move_all(
     ensures refused { IfErr result (RefusesBy (list_any (passes_by to.entry) tokens.now)
         (codes "a position passes 4294967295")) }
 {
-    all.reserve(tokens.len())?;
+    // held here while it grows: each push through a reference would read and write its length there
+    let mut list = mem::replace(all, Vec::new(alloc));
+    list.reserve(tokens.len())?;
     for token in tokens {
         // in two steps for the prover: what a call answers is known behind its `?`
         let token = moved(alloc, *token, to)?;
-        all.push(token)?;
+        list.push(token)?;
     }
+    *all = list;
     Ok(())
 }
 

@@ -1,8 +1,8 @@
 // Index maps that answer by their parts.
 use crate::checks::check;
-use sourcemap_errors::errors::{Error, Result};
-use sourcemap_index::decode::decode_slice;
-use sourcemap_index::family::{DecodedMap, SourceMapIndex};
+use sourcemap::decoder::decode_slice;
+use sourcemap::errors::{Error, Result};
+use sourcemap::types::{DecodedMap, SourceMapIndex};
 use std::alloc::Global;
 
 const FULL: &str =

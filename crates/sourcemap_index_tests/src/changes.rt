@@ -1,9 +1,9 @@
 // Index maps that are made of parts, and changed in one of them.
 use crate::checks::check;
 use crate::decoding::sections_told;
-use sourcemap_errors::errors::Result;
-use sourcemap_index::decode::decode_slice;
-use sourcemap_index::family::{DecodedMap, SourceMapIndex, SourceMapSection};
+use sourcemap::decoder::decode_slice;
+use sourcemap::errors::Result;
+use sourcemap::types::{DecodedMap, SourceMapIndex, SourceMapSection};
 use std::alloc::Global;
 
 // What is done to an index of two sections, or to one of them.

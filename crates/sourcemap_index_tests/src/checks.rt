@@ -1,5 +1,5 @@
 // How an answer is compared with the text that is wanted, and how a fault is told.
-use sourcemap_errors::errors::{Error, Result};
+use sourcemap::errors::{Error, Result};
 use std::alloc::Global;
 use std::process::Abort;
 

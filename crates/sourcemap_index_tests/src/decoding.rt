@@ -1,8 +1,8 @@
 // Texts and data URLs that are read as index maps, and what is refused.
 use crate::checks::{check, fault_told};
-use sourcemap_errors::errors::Result;
-use sourcemap_index::decode::{decode, decode_data_url, decode_slice, decode_vec};
-use sourcemap_index::family::{DecodedMap, SourceMapIndex, SourceMapSection};
+use sourcemap::decoder::{decode, decode_data_url, decode_slice, decode_vec};
+use sourcemap::errors::Result;
+use sourcemap::types::{DecodedMap, SourceMapIndex, SourceMapSection};
 use std::alloc::Global;
 
 fn section_told(alloc: Global, section: &SourceMapSection) -> Result<String> {

@@ -1,9 +1,8 @@
 // Positions that are looked up in index maps.
 use crate::checks::check;
-use sourcemap_errors::errors::Result;
-use sourcemap_index::decode::decode_slice;
-use sourcemap_index::family::DecodedMap;
-use sourcemap_regular::token::Token;
+use sourcemap::decoder::decode_slice;
+use sourcemap::errors::Result;
+use sourcemap::types::{DecodedMap, Token};
 use std::alloc::Global;
 
 // Two maps, the second from the middle of a line on.

@@ -1,9 +1,9 @@
 // Index maps in one another, made in memory and read from text.
 use crate::checks::{check, fault_told};
 use crate::lookups::token_told;
-use sourcemap_errors::errors::Result;
-use sourcemap_index::decode::decode_slice;
-use sourcemap_index::family::{DecodedMap, SourceMapIndex, SourceMapSection};
+use sourcemap::decoder::decode_slice;
+use sourcemap::errors::Result;
+use sourcemap::types::{DecodedMap, SourceMapIndex, SourceMapSection};
 use std::alloc::Global;
 
 const INNERMOST: &str = r#"{"sources":["a.js"],"mappings":"AAAA"}"#;

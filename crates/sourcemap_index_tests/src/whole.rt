@@ -2,11 +2,9 @@
 use crate::checks::{check, fault_told};
 use crate::decoding::sections_told;
 use serde_json::Value;
-use sourcemap_errors::errors::{Error, Result};
-use sourcemap_index::decode::decode_slice;
-use sourcemap_index::family::{DecodedMap, SourceMapIndex};
-use sourcemap_regular::map::SourceMap;
-use sourcemap_regular::rewrite::RewriteOptions;
+use sourcemap::decoder::decode_slice;
+use sourcemap::errors::{Error, Result};
+use sourcemap::types::{DecodedMap, RewriteOptions, SourceMap, SourceMapIndex};
 use std::alloc::Global;
 use std::rt::Files;
 

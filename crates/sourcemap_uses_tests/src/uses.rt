@@ -4,6 +4,7 @@ use sourcemap::types::RawToken;
 use sourcemap::{
     DecodedMap, Error, Result, SourceMap, SourceMapBuilder, SourceMapIndex, decode_slice,
 };
+use sourcemap_uses::adjusting::line_behind;
 use sourcemap_uses::building::place_once_written;
 use sourcemap_uses::data_urls::inline_map;
 use sourcemap_uses::faults::{Advice, advise};
@@ -63,6 +64,19 @@ fn a_map_is_shrunk(rt: HostRuntime) -> std::result::Result<(), Fail> {
         place_in(alloc, &small)?.as_str(),
         "coolstuff.js:0:4 name=x"
     );
+    Ok(())
+}
+
+// Leads from line 3 of a later text to column 18 of the text of the map above.
+const LATER: &str = r#"{"version":3,"sources":["mid.js"],"mappings":";;;AAAkB"}"#;
+
+#[test]
+fn a_line_is_behind_a_later_place(rt: HostRuntime) -> std::result::Result<(), Fail> {
+    let alloc = rt.alloc();
+    let map = SourceMap::from_slice(alloc, MAP.as_bytes())?;
+    let later = SourceMap::from_slice(alloc, LATER.as_bytes())?;
+    let line = line_behind(map, &later, 3, 1)?;
+    assert_eq!(rt; line.unwrap_or(9), 2);
     Ok(())
 }
 
