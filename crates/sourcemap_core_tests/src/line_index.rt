@@ -29,15 +29,6 @@ fn equal_tokens(alloc: Global, count: u32) -> Result<TokenList> {
     Ok(TokenList::sorted(tokens)?)
 }
 
-// The tokens at these places, known by their numbers from 0.
-fn tokens_at(alloc: Global, places: &[(u32, u32)]) -> Result<TokenList> {
-    let mut tokens = Vec::new(alloc);
-    for (at, place) in places.iter().enumerate() {
-        tokens.push(token(*place, at as u32))?;
-    }
-    Ok(TokenList::sorted(tokens)?)
-}
-
 // What stands closest to a place, and whether it took from `least` to `most` comparisons.
 fn found(
     alloc: Global,
@@ -87,6 +78,15 @@ fn finds_among_equals_by_few_comparisons(rt: HostRuntime) {
 // Where tokens stand, in order; two of them are at one place, and line 3 holds none.
 const PLACES: [(u32, u32); 5] = [(0, 3), (2, 5), (2, 5), (2, 9), (4, 0)];
 
+// The tokens at these places, known by their numbers from 0.
+fn tokens_on_lines(alloc: Global) -> Result<TokenList> {
+    let mut tokens = Vec::new(alloc);
+    for (at, place) in PLACES.iter().enumerate() {
+        tokens.push(token(*place, at as u32))?;
+    }
+    Ok(TokenList::sorted(tokens)?)
+}
+
 // A place, and the number of the token that stands closest.
 const BETWEEN_LINES: [((u32, u32), &str); 9] = [
     ((0, 2), "None true"),
@@ -101,7 +101,7 @@ const BETWEEN_LINES: [((u32, u32), &str); 9] = [
 ];
 
 fn between_lines(alloc: Global, place: (u32, u32)) -> Result<String> {
-    let list = tokens_at(alloc, &PLACES)?;
+    let list = tokens_on_lines(alloc)?;
     found(alloc, &list, place, 1, 8)
 }
 
