@@ -1,7 +1,7 @@
 -- The closest token, from the place among the tokens of its line where a search ends.
 use Rattle.std.proofs.Common.{◌≡◌, sym, ap, subst, ◌∙◌, ℕ, zero, suc, ◌<◌, ◌≤◌, ◌+◌, ◌-◌, ◌*◌, ◌/◌, ◌^◌, arith, inl, inr, eq-eqb, min, true, false, List, get_or, Some, None, Option, option_map}
 use Rattle.std.proofs.Math.Nat.{pow-succ'}
-use Rattle.std.specs.Option.{SomeIff}
+use Rattle.std.specs.Option.{IfSome, SomeIff}
 use Rattle.std.specs.Ordering.{is_eq, is_lt, nat_cmp}
 use Rattle.std.proofs.lemmas.Bool.{cases_eq, ne_eqb}
 use Rattle.std.proofs.lemmas.Bool.Decides.{nat_tests}
@@ -85,6 +85,11 @@ module _ (tokens : List RawToken) (p : ℕ × ℕ) (low high place : ℕ) (up : 
             ap Some some.1 ∙ ap (option_map (λ found. found.0)) is
         | inr gone ↦ let past = gone.0 in let least = some.0 in absurd (omega arith)
       ]
+
+-- the place before a place of the list, if any, is inside of the list
+pub inside_before : (place count : ℕ) (r : Option ℕ) → SomeIff r (1 ≤ place) (place - 1) → place ≤ count → IfSome r (λ k. k < count)
+inside_before place count None none l = tt
+inside_before place count (Some k) some l = let least = some.0 in let is = some.1 in omega arith
 
 half_of : (n most : ℕ) → n ≤ suc most → n / 2 ≤ most
 half_of n most l = omega arith

@@ -1,5 +1,5 @@
 //! A table of the lines that hold tokens, and the lookup by it.
-ghost use Rattle.std.specs.Prelude.{◌≡◌, ℕ, ◌<◌, ◌≤◌, ◌+◌, ◌-◌, ◌*◌, ◌^◌, IfErr, IfOk, false, length, option_map, slice_index, slice_index_or, true};
+ghost use Rattle.std.specs.Prelude.{◌≡◌, ℕ, ◌<◌, ◌≤◌, ◌+◌, ◌-◌, ◌*◌, ◌^◌, IfErr, IfOk, IfSome, false, length, option_map, slice_index, slice_index_or, true};
 ghost use Rattle.sourcemap_errors.specs.declared.errors.Error.TheVariants.{OutOfMemory};
 ghost use Rattle.sourcemap_lists.specs.Tokens.{AreInOrder, closest_token};
 ghost use Rattle.sourcemap_lists.specs.declared.tokens.RawToken.{RawToken};
@@ -54,6 +54,7 @@ impl LineIndex {
         requires { IsMadeFrom tokens.now self.now }
         ensures answer { result
             ≡ option_map (λ found. found.0) (closest_token tokens.now (P.position probe.old)) }
+        ensures inside { IfSome result (λ place. place < length tokens.now) }
         ensures kept { P.position probe.new ≡ P.position probe.old }
         ensures counted { P.comparisons probe.new
             ≤ P.comparisons probe.old + 2 * (binary_digits (length tokens.now) + 1) }

@@ -3,7 +3,7 @@ use Rattle.std.specs.Ordering.{is_eq}
 use Rattle.sourcemap_lists.specs.Tokens.{destination, position_cmp}
 use Rattle.sourcemap_lists.proofs.SearchLemmas.{IsApart}
 use Rattle.sourcemap_line_index.specs.LineIndex.{binary_digits}
-use Rattle.sourcemap_line_index.proofs.ClosestLemmas.{binary_digits_suffice, count_in_all, count_without_last, place-apart, place-hit, place-miss, place-past}
+use Rattle.sourcemap_line_index.proofs.ClosestLemmas.{binary_digits_suffice, count_in_all, count_without_last, inside_before, place-apart, place-hit, place-miss, place-past}
 use Rattle.sourcemap_line_index.proofs.line_index.LineIndex.closest.Goals as goal
 use Rattle.sourcemap_line_index.proofs.line_index.LineIndex.closest.Goals.{else-place-end-via-then-place-end+else-is_eq, else-place-end-via-else-place-end}
 
@@ -48,3 +48,9 @@ returns-clause-counted g c =
       | else-place-end-via-then-place-end+else-is_eq w ↦ rw w.probe-is (count_in_all _ _ _ _ _ found left w.column.ensures.counted)
       | else-place-end-via-else-place-end w ↦ rw w.probe-is (count_without_last _ _ _ _ found left)
     ]
+
+pub returns-clause-inside : goal.returns-clause-inside
+returns-clause-inside g c =
+    let inside = c.span_of-first.ensures.span.inside in
+    let at_most = c.first_at_column-place.ensures.at_most in
+    inside_before c.first_at_column-place.result (length c.args.tokens.now) c.checked_sub.result c.checked_sub.ensures (omega arith)
