@@ -1,9 +1,9 @@
 //! Lookups by a table of lines: which token, and by how many comparisons.
 use crate::checks::check;
 use sourcemap_core::errors::Result;
+use sourcemap_core::line_index::LineIndex;
+use sourcemap_core::probe::{KeyProbe, Probe};
 use sourcemap_core::tokens::{NO_ID, RawToken};
-use sourcemap_line_index::line_index::LineIndex;
-use sourcemap_line_index::probe::{KeyProbe, Probe};
 use sourcemap_lists::token_list::TokenList;
 use std::alloc::Global;
 
