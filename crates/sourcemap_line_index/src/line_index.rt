@@ -85,7 +85,7 @@ impl LineIndex {
         (first, first)
     }
 
-    // The place of the first token of the line in this row, the `end` of the tokens behind the last.
+    // The place of the first token of the line in this row, `end` behind the last row.
     fn first_of(&self, row: usize, end: usize) -> usize
         ensures within { row < length self.now.firsts → result ≡ slice_index self.now.firsts row }
         ensures past { length self.now.firsts ≤ row → result ≡ end }
