@@ -1,5 +1,5 @@
 //! A door: what stands below records and maps, under the module names that users know. Behind it
-//! are the crates of faults, digits, lists, composition, mappings and texts.
+//! are the crates of faults, digits, lists, composition, tables of lines, mappings and texts.
 #![tactic(auto)]
 
 pub mod compose;
@@ -10,4 +10,5 @@ pub mod vlq;
 
 pub use sourcemap_digits::bits;
 pub use sourcemap_errors::errors;
+pub use sourcemap_line_index::{line_index, probe};
 pub use sourcemap_lists::{interner, tokens};

@@ -9,6 +9,8 @@ mod composition;
 #[cfg(test)]
 mod digits;
 #[cfg(test)]
+mod line_index;
+#[cfg(test)]
 mod lists;
 #[cfg(test)]
 mod mappings;

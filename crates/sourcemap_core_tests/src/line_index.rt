@@ -1,0 +1,113 @@
+//! Lookups by a table of lines: which token, and by how many comparisons.
+use crate::checks::check;
+use sourcemap_core::errors::Result;
+use sourcemap_core::line_index::LineIndex;
+use sourcemap_core::probe::{KeyProbe, Probe};
+use sourcemap_core::tokens::{NO_ID, RawToken};
+use sourcemap_lists::token_list::TokenList;
+use std::alloc::Global;
+
+// A token at this place, known by its column in the source.
+fn token(place: (u32, u32), src_col: u32) -> RawToken {
+    RawToken {
+        dst_line: place.0,
+        dst_col: place.1,
+        src_line: 0,
+        src_col,
+        src_id: 0,
+        name_id: NO_ID,
+        is_range: false,
+    }
+}
+
+// As many tokens at line 0, column 0, known by their numbers from 0.
+fn equal_tokens(alloc: Global, count: u32) -> Result<TokenList> {
+    let mut tokens = Vec::new(alloc);
+    for src_col in 0..count {
+        tokens.push(token((0, 0), src_col))?;
+    }
+    Ok(TokenList::sorted(tokens)?)
+}
+
+// What stands closest to a place, and whether it took from `least` to `most` comparisons.
+fn found(
+    alloc: Global,
+    list: &TokenList,
+    place: (u32, u32),
+    least: u32,
+    most: u32,
+) -> Result<String> {
+    let index = LineIndex::new(alloc, list.as_slice())?;
+    let mut probe = KeyProbe::new(place.0, place.1);
+    let at = index.closest(list.as_slice(), &mut probe);
+    let is_counted = least <= probe.count() && probe.count() <= most;
+    let col = at.and_then(|at| list.get(at)).map(|token| token.src_col);
+    Ok(format!(in alloc; "{col:?} {is_counted}")?)
+}
+
+// How many equal tokens there are, a place, how many comparisons it takes at least and at most, and
+// the token that stands closest.
+const AMONG_EQUALS: [(u32, (u32, u32), u32, u32, &str); 6] = [
+    (0, (0, 0), 0, 2, "None true"),
+    (1000, (0, 0), 1, 22, "Some(0) true"),
+    (1000, (0, 1), 1, 22, "Some(999) true"),
+    (1000, (7, 0), 1, 22, "Some(999) true"),
+    (1000000, (0, 0), 1, 42, "Some(0) true"),
+    (1000000, (0, 1), 1, 42, "Some(999999) true"),
+];
+
+fn among_equals(
+    alloc: Global,
+    count: u32,
+    place: (u32, u32),
+    least: u32,
+    most: u32,
+) -> Result<String> {
+    let list = equal_tokens(alloc, count)?;
+    found(alloc, &list, place, least, most)
+}
+
+#[test]
+fn finds_among_equals_by_few_comparisons(rt: HostRuntime) {
+    for (count, place, least, most, want) in AMONG_EQUALS.iter() {
+        let answer = among_equals(rt.alloc(), *count, *place, *least, *most);
+        check(&rt, want, answer, want);
+    }
+}
+
+// Where tokens stand, in order; two of them are at one place, and line 3 holds none.
+const PLACES: [(u32, u32); 5] = [(0, 3), (2, 5), (2, 5), (2, 9), (4, 0)];
+
+// The tokens at these places, known by their numbers from 0.
+fn tokens_on_lines(alloc: Global) -> Result<TokenList> {
+    let mut tokens = Vec::new(alloc);
+    for (at, place) in PLACES.iter().enumerate() {
+        tokens.push(token(*place, at as u32))?;
+    }
+    Ok(TokenList::sorted(tokens)?)
+}
+
+// A place, and the number of the token that stands closest.
+const BETWEEN_LINES: [((u32, u32), &str); 9] = [
+    ((0, 2), "None true"),
+    ((0, 3), "Some(0) true"),
+    ((1, 0), "Some(0) true"),
+    ((2, 4), "Some(0) true"),
+    ((2, 5), "Some(1) true"),
+    ((2, 8), "Some(2) true"),
+    ((3, 7), "Some(3) true"),
+    ((4, 0), "Some(4) true"),
+    ((NO_ID, NO_ID), "Some(4) true"),
+];
+
+fn between_lines(alloc: Global, place: (u32, u32)) -> Result<String> {
+    let list = tokens_on_lines(alloc)?;
+    found(alloc, &list, place, 1, 8)
+}
+
+#[test]
+fn finds_between_lines(rt: HostRuntime) {
+    for (place, want) in BETWEEN_LINES.iter() {
+        check(&rt, want, between_lines(rt.alloc(), *place), want);
+    }
+}

@@ -1,0 +1,118 @@
+-- The closest token, from the place among the tokens of its line where a search ends.
+use Rattle.std.proofs.Common.{◌≡◌, sym, ap, subst, ◌∙◌, ℕ, zero, suc, ◌<◌, ◌≤◌, ◌+◌, ◌-◌, ◌*◌, ◌/◌, ◌^◌, arith, inl, inr, eq-eqb, min, true, false, List, get_or, Some, None, Option, option_map}
+use Rattle.std.proofs.Math.Nat.{pow-succ'}
+use Rattle.std.specs.Option.{IfSome, SomeIff}
+use Rattle.std.specs.Ordering.{is_eq, is_lt, nat_cmp}
+use Rattle.std.proofs.lemmas.Bool.{cases_eq, ne_eqb}
+use Rattle.std.proofs.lemmas.Bool.Decides.{nat_tests}
+use Rattle.std.proofs.lemmas.List.{get_or_default}
+use Rattle.std.proofs.lemmas.Option.{slice_get_cases}
+use Rattle.sourcemap_lists.specs.Tokens.{AreInOrder, closest_token, destination, position_cmp}
+use Rattle.sourcemap_lists.specs.declared.tokens.RawToken.{RawToken}
+use Rattle.sourcemap_lists.proofs.TokensLemmas.{position_cmp_total}
+use Rattle.sourcemap_lists.proofs.SearchLemmas.{IsApart, IsBracket, closest-hit, closest-miss, closest-none}
+use Rattle.sourcemap_line_index.specs.LineIndex.{IsSpan, binary_digits, digits_within}
+
+less_by_line : (q p : ℕ × ℕ) → q.0 < p.0 → is_lt (position_cmp q p) ≡ true
+less_by_line (a, b) (c, d) l = grind (arith, nat_tests)
+
+less_by_col : (q p : ℕ × ℕ) → q.0 ≡ p.0 → q.1 < p.1 → is_lt (position_cmp q p) ≡ true
+less_by_col (a, b) (c, d) e l = grind (arith, nat_tests)
+
+not_less_by_line : (q p : ℕ × ℕ) → p.0 < q.0 → is_lt (position_cmp q p) ≡ false
+not_less_by_line (a, b) (c, d) l = grind (arith, nat_tests)
+
+not_less_by_col : (q p : ℕ × ℕ) → q.0 ≡ p.0 → p.1 ≤ q.1 → is_lt (position_cmp q p) ≡ false
+not_less_by_col (a, b) (c, d) e l = grind (arith, nat_tests)
+
+apart_by_line : (q p : ℕ × ℕ) → p.0 < q.0 → is_eq (position_cmp q p) ≡ false
+apart_by_line (a, b) (c, d) l = grind (arith, nat_tests)
+
+apart_by_col : (q p : ℕ × ℕ) → is_eq (nat_cmp p.1 q.1) ≡ false → is_eq (position_cmp q p) ≡ false
+apart_by_col (a, b) (c, d) e = grind (arith, nat_tests)
+
+same_by_both : (q p : ℕ × ℕ) → q.0 ≡ p.0 → is_eq (nat_cmp p.1 q.1) ≡ true → is_eq (position_cmp q p) ≡ true
+same_by_both (a, b) (c, d) e f = grind (arith, nat_tests)
+
+-- the search among the tokens of the line of p, from low up to high, for the column of q, which is p, ended at a place
+module _ (tokens : List RawToken) (p : ℕ × ℕ) (low high place : ℕ) (up : AreInOrder tokens) (span : IsSpan tokens p.0 low high) (at_least : low ≤ place) (at_most : place ≤ high) (q : ℕ × ℕ) (kept : q ≡ p) (before : (d : RawToken) → low < place → (get_or tokens (place - 1) d).dst_col < q.1) (from : (d : RawToken) → place < high → q.1 ≤ (get_or tokens place d).dst_col) where
+  col : q.1 ≡ p.1
+  col = ap (λ k. k.1) kept
+
+  bracket : IsBracket destination position_cmp tokens p place place
+  bracket = record {
+    below = λ d some. elim (cases_eq low place) [
+      | inl first ↦
+          let line = span.before d (omega arith) in
+          let same : low - 1 ≡ place - 1 = omega arith in
+          less_by_line (destination (get_or tokens (place - 1) d)) p (subst (λ k. (get_or tokens k d).dst_line < p.0) same line)
+      | inr other ↦ less_by_col (destination (get_or tokens (place - 1) d)) p (span.on_line (place - 1) d (omega arith) (omega arith)) (subst (λ n. (get_or tokens (place - 1) d).dst_col < n) col (before d (omega arith)))
+    ];
+    above = λ d l. elim (cases_eq place high) [
+      | inl last ↦ not_less_by_line (destination (get_or tokens place d)) p (subst (λ k. p.0 < (get_or tokens k d).dst_line) (sym last) (span.behind d (omega arith)))
+      | inr other ↦ not_less_by_col (destination (get_or tokens place d)) p (span.on_line place d at_least (omega arith)) (subst (λ n. n ≤ (get_or tokens place d).dst_col) col (from d (omega arith)))
+    ];
+  }
+
+  -- a token there stands at p
+  pub place-hit : (e : RawToken) (r : ℕ × ℕ) → r ≡ q → place < high → is_eq (nat_cmp r.1 (get_or tokens place e).dst_col) ≡ true → Some place ≡ option_map (λ found. found.0) (closest_token tokens p)
+  place-hit e r still l same =
+      let inside = span.inside in
+      let is = closest-hit position_cmp_total destination tokens p place up bracket (get_or tokens place e) (omega arith)
+      (get_or_default tokens place e (get_or tokens place e) (omega arith))
+      (same_by_both (destination (get_or tokens place e)) p (span.on_line place e at_least l) (subst (λ k. is_eq (nat_cmp k.1 (get_or tokens place e).dst_col) ≡ true) (still ∙ kept) same)) in
+      ap (option_map (λ found. found.0)) is
+
+  -- the token there, if any, does not
+  pub place-apart : (e : RawToken) (r : ℕ × ℕ) → r ≡ q → place < high → is_eq (nat_cmp r.1 (get_or tokens place e).dst_col) ≡ false → IsApart destination position_cmp tokens p place
+  place-apart e r still l other d inside = apart_by_col (destination (get_or tokens place d)) p (subst (λ k. is_eq (nat_cmp k.1 (get_or tokens place d).dst_col) ≡ false) (still ∙ kept) (subst (λ t. is_eq (nat_cmp r.1 t.dst_col) ≡ false) (get_or_default tokens place e d inside) other))
+
+  pub place-past : high ≤ place → IsApart destination position_cmp tokens p place
+  place-past past d inside =
+      let last : high ≡ place = omega arith in
+      apart_by_line (destination (get_or tokens place d)) p (subst (λ k. p.0 < (get_or tokens k d).dst_line) last (span.behind d (omega arith)))
+
+  pub place-miss : IsApart destination position_cmp tokens p place → (r : Option ℕ) → SomeIff r (1 ≤ place) (place - 1) → r ≡ option_map (λ found. found.0) (closest_token tokens p)
+  place-miss apart None none =
+      let front : place ≡ 0 = elim (cases_eq place 0) [ inl e ↦ e | inr other ↦ absurd (none (omega arith)) ] in
+      ap (option_map (λ found. found.0)) (closest-none position_cmp_total destination tokens p place up bracket front apart)
+  place-miss apart (Some r) some =
+      let inside = span.inside in
+      let found = slice_get_cases tokens (place - 1) in
+      elim found.1 [
+        | inl here ↦
+            let is = closest-miss position_cmp_total destination tokens p place up bracket here.0 some.0 (omega arith) (sym here.3) apart in
+            ap Some some.1 ∙ ap (option_map (λ found. found.0)) is
+        | inr gone ↦ let past = gone.0 in let least = some.0 in absurd (omega arith)
+      ]
+
+-- the place before a place of the list, if any, is inside of the list
+pub inside_before : (place count : ℕ) (r : Option ℕ) → SomeIff r (1 ≤ place) (place - 1) → place ≤ count → IfSome r (λ k. k < count)
+inside_before place count None none l = tt
+inside_before place count (Some k) some l = let least = some.0 in let is = some.1 in omega arith
+
+half_of : (n most : ℕ) → n ≤ suc most → n / 2 ≤ most
+half_of n most l = omega arith
+
+twice : (n power : ℕ) → n / 2 < power → n < 2 * power
+twice n power l = omega arith
+
+digits_suffice : (most n : ℕ) → n ≤ most → n < 2 ^ (digits_within most n)
+digits_suffice zero n l = omega arith
+digits_suffice (suc most) n l =
+    let later : n / 2 < 2 ^ (digits_within most (n / 2)) = digits_suffice most (n / 2) (half_of n most l) in
+    elim (cases_eq n 0) [
+      | inl none ↦ rw (eq-eqb n 0 none) (omega arith)
+      | inr some ↦ rw (ne_eqb n 0 some, pow-succ' 2 (digits_within most (n / 2))) (twice n _ later)
+    ]
+
+-- a count is below the power of two of its binary digits
+pub binary_digits_suffice : (n : ℕ) → n < 2 ^ (binary_digits n)
+binary_digits_suffice n = digits_suffice n n (omega arith)
+
+-- the comparisons of a search for a line, one with the line, those for a column, and one with the column
+pub count_in_all : (start found left end d : ℕ) → found ≤ start + (d + 1) → left ≤ found + d → end ≡ min (left + 1) 4294967295 → end ≤ start + 2 * (d + 1)
+count_in_all start found left end d f l e = omega arith
+
+pub count_without_last : (start found left d : ℕ) → found ≤ start + (d + 1) → left ≤ found + d → left ≤ start + 2 * (d + 1)
+count_without_last start found left d f l = omega arith

@@ -1,0 +1,3 @@
+pub mod ClosestLemmas
+pub mod LineIndexLemmas
+pub mod TableLemmas

@@ -1,0 +1,260 @@
+-- How a table of lines grows token by token, and which tokens its rows lead to.
+use Rattle.std.proofs.Common.{◌≡◌, refl, sym, ap, subst, ◌∙◌, ℕ, ◌<◌, ◌≤◌, ◌+◌, ◌-◌, arith, inl, inr, List, [], ◌∷◌, ◌++◌, length, get_or, slice_get, slice_index, Some, None, option_map}
+use Rattle.std.specs.Ordering.{ordering_index}
+use Rattle.std.proofs.lemmas.Bool.{cases_eq, cases_lt}
+use Rattle.std.proofs.lemmas.Bool.Decides.{nat_tests}
+use Rattle.std.proofs.lemmas.List.{get_or_append_left, get_or_push, length-append}
+use Rattle.std.proofs.lemmas.List.Sorted.{searchable_from_sorted}
+use Rattle.std.proofs.lemmas.Option.{slice_get-get_or, slice_get_cases, slice_get_past}
+use Rattle.sourcemap_lists.specs.Tokens.{AreInOrder, destination, position_cmp}
+use Rattle.sourcemap_lists.specs.declared.tokens.RawToken.{RawToken}
+use Rattle.sourcemap_lists.proofs.TokensLemmas.{position_cmp_total}
+use Rattle.sourcemap_line_index.specs.LineIndex.{BeginsLine, GoesOnLine, IsLineTable, IsMadeFrom, IsSpan, LineTable, line_at}
+
+-- a place with a line is inside the list, and its token is on that line
+pub inside_list : (tokens : List RawToken) (k line : ℕ) → line_at tokens k ≡ Some line → k < length tokens
+inside_list tokens k line at =
+    elim (cases_lt k (length tokens)) [
+      | inl l ↦ l
+      | inr past ↦ let none = slice_get_past tokens k past in let never : option_map (λ (t : RawToken). t.dst_line) None ≡ Some line = subst (λ o. option_map (λ t. t.dst_line) o ≡ Some line) none at in cc
+    ]
+
+pub token_line : (tokens : List RawToken) (k line : ℕ) (d : RawToken) → line_at tokens k ≡ Some line → (get_or tokens k d).dst_line ≡ line
+token_line tokens k line d at =
+    let found = slice_get-get_or tokens k d (inside_list tokens k line at) in
+    let same : Some (get_or tokens k d).dst_line ≡ Some line = subst (λ o. option_map (λ t. t.dst_line) o ≡ Some line) found at in
+    cc
+
+-- it is some token
+token_of : (tokens : List RawToken) (k line : ℕ) → line_at tokens k ≡ Some line → (t : RawToken) × (slice_get tokens k ≡ Some t)
+token_of tokens k line at =
+    let found = slice_get_cases tokens k in
+    elim found.1 [
+      | inl here ↦ (here.0, here.2)
+      | inr gone ↦ let inside = inside_list tokens k line at in let past = gone.0 in absurd (omega arith)
+    ]
+
+pub line_at_token : (tokens : List RawToken) (k : ℕ) (d : RawToken) → k < length tokens → line_at tokens k ≡ Some (get_or tokens k d).dst_line
+line_at_token tokens k d l = ap (option_map (λ t. t.dst_line)) (slice_get-get_or tokens k d l)
+
+first_at_most : (a b c d : ℕ) → ordering_index (position_cmp (a, b) (c, d)) ≤ ordering_index (position_cmp (c, d) (c, d)) → a ≤ c
+first_at_most a b c d l = grind (arith, nat_tests)
+
+-- lines do not fall along tokens in order
+pub lines_rise : (tokens : List RawToken) → AreInOrder tokens → (i j : ℕ) (d : RawToken) → i ≤ j → j < length tokens → (get_or tokens i d).dst_line ≤ (get_or tokens j d).dst_line
+lines_rise tokens up i j d l within =
+    first_at_most (get_or tokens i d).dst_line (get_or tokens i d).dst_col (get_or tokens j d).dst_line (get_or tokens j d).dst_col
+    (searchable_from_sorted position_cmp_total destination tokens (destination (get_or tokens j d)) up i j d l within)
+
+-- the table of no tokens
+pub table_of_none : (tokens : List RawToken) → IsLineTable tokens 0 (record { lines = []; firsts = [] })
+table_of_none tokens = record {
+  paired = refl;
+  few = omega arith;
+  filled = λ none. refl;
+  front = refl;
+  within = λ row l. absurd (omega arith);
+  on_line = λ row l. absurd (omega arith);
+  rising = λ row l. absurd (omega arith);
+  apart = λ row l. absurd (omega arith);
+  abutting = λ row l. absurd (omega arith);
+  ends = λ l. absurd (omega arith);
+}
+
+-- a token on the line of the one before it changes nothing
+pub table_kept : (tokens : List RawToken) (n : ℕ) (table : LineTable) → GoesOnLine tokens n → IsLineTable tokens n table → IsLineTable tokens (n + 1) table
+table_kept tokens n table goes_on t = record {
+  paired = t.paired;
+  few = let few = t.few in omega arith;
+  filled = λ none. let start = t.filled none in let some = goes_on.0 in absurd (omega arith);
+  front = t.front;
+  within = λ row l. let within = t.within row l in omega arith;
+  on_line = t.on_line;
+  rising = t.rising;
+  apart = t.apart;
+  abutting = t.abutting;
+  ends = λ some. let back : n + 1 - 1 ≡ n = omega arith in rw back (goes_on.1 ∙ t.ends some);
+}
+
+-- a token that begins a line adds a row
+module _ (tokens : List RawToken) (n line : ℕ) (lines firsts : List ℕ) (up : AreInOrder tokens) (at : line_at tokens n ≡ Some line) (begins : BeginsLine tokens n) (t : IsLineTable tokens n (record { lines = lines; firsts = firsts })) where
+  old_line : (row : ℕ) → row < length lines → slice_index (lines ++ line ∷ []) row ≡ slice_index lines row
+  old_line row l = get_or_append_left lines (line ∷ []) 0 row l
+
+  old_first : (row : ℕ) → row < length lines → slice_index (firsts ++ n ∷ []) row ≡ slice_index firsts row
+  old_first row l = let paired = t.paired in get_or_append_left firsts (n ∷ []) 0 row (omega arith)
+
+  new_line : (row : ℕ) → length lines ≡ row → slice_index (lines ++ line ∷ []) row ≡ line
+  new_line row e = get_or_push lines line 0 row e
+
+  new_first : (row : ℕ) → length lines ≡ row → slice_index (firsts ++ n ∷ []) row ≡ n
+  new_first row e = get_or_push firsts n 0 row (t.paired ∙ e)
+
+  last_at : (row : ℕ) → row + 1 ≡ length lines → line_at tokens (n - 1) ≡ Some (slice_index lines row)
+  last_at row e = let back : length lines - 1 ≡ row = omega arith in subst (λ k. line_at tokens (n - 1) ≡ Some (slice_index lines k)) back (t.ends (omega arith))
+
+  last_before : (row : ℕ) → row + 1 ≡ length lines → slice_index lines row < line
+  last_before row e =
+      let few = t.few in
+      let last = last_at row e in
+      let within = inside_list tokens n line at in
+      let one = token_of tokens n line at in
+      let here : (get_or tokens n one.0).dst_line ≡ line = token_line tokens n line one.0 at in
+      let there : (get_or tokens (n - 1) one.0).dst_line ≡ slice_index lines row = token_line tokens (n - 1) (slice_index lines row) one.0 last in
+      let rises = lines_rise tokens up (n - 1) n one.0 (omega arith) within in
+      elim (cases_eq (slice_index lines row) line) [
+        | inl same ↦ absurd (begins (omega arith) (at ∙ sym (last ∙ ap Some same)))
+        | inr other ↦ omega arith
+      ]
+
+  pub table_pushed : IsLineTable tokens (n + 1) (record { lines = lines ++ line ∷ []; firsts = firsts ++ n ∷ [] })
+  table_pushed =
+      let many : length (lines ++ line ∷ []) ≡ length lines + 1 = length-append lines (line ∷ []) in
+      let many_firsts : length (firsts ++ n ∷ []) ≡ length firsts + 1 = length-append firsts (n ∷ []) in
+      let paired = t.paired in
+      let few = t.few in
+      record {
+        paired = omega arith;
+        few = omega arith;
+        filled = λ none. absurd (omega arith);
+        front = elim (cases_eq (length lines) 0) [
+          | inl none ↦ new_first 0 none ∙ t.filled none
+          | inr some ↦ old_first 0 (omega arith) ∙ t.front
+        ];
+        within = λ row l. elim (cases_eq (length lines) row) [
+          | inl here ↦ let is = new_first row here in omega arith
+          | inr other ↦ let is = old_first row (omega arith) in let within = t.within row (omega arith) in omega arith
+        ];
+        on_line = λ row l. elim (cases_eq (length lines) row) [
+          | inl here ↦ rw (new_first row here, new_line row here) at
+          | inr other ↦ rw (old_first row (omega arith), old_line row (omega arith)) (t.on_line row (omega arith))
+        ];
+        rising = λ row l. elim (cases_eq (length lines) (row + 1)) [
+          | inl here ↦ rw (old_line row (omega arith), new_line (row + 1) here) (last_before row (sym here))
+          | inr other ↦ rw (old_line row (omega arith), old_line (row + 1) (omega arith)) (t.rising row (omega arith))
+        ];
+        apart = λ row l. elim (cases_eq (length lines) (row + 1)) [
+          | inl here ↦ rw (old_first row (omega arith), new_first (row + 1) here) (t.within row (omega arith))
+          | inr other ↦ rw (old_first row (omega arith), old_first (row + 1) (omega arith)) (t.apart row (omega arith))
+        ];
+        abutting = λ row l. elim (cases_eq (length lines) (row + 1)) [
+          | inl here ↦ rw (old_line row (omega arith), new_first (row + 1) here) (last_at row (sym here))
+          | inr other ↦ rw (old_line row (omega arith), old_first (row + 1) (omega arith)) (t.abutting row (omega arith))
+        ];
+        ends = λ some.
+            let back : n + 1 - 1 ≡ n = omega arith in
+            let last : length lines ≡ length (lines ++ line ∷ []) - 1 = omega arith in
+            rw (back, new_line (length (lines ++ line ∷ []) - 1) last) at;
+      }
+
+-- the tokens that the rows lead to; `low` is where those of the row begin
+module _ (tokens : List RawToken) (table : LineTable) (made : IsMadeFrom tokens table) (row low p : ℕ) (within : row < length table.firsts → low ≡ slice_index table.firsts row) (past : length table.firsts ≤ row → low ≡ length tokens) (in_rows : row ≤ length table.lines) where
+  pub inside_row : low ≤ length tokens
+  inside_row =
+      let paired = made.1.paired in
+      elim (cases_lt row (length table.lines)) [
+        | inl l ↦ let is = within (omega arith) in let first = made.1.within row l in omega arith
+        | inr ge ↦ let is = past (omega arith) in omega arith
+      ]
+
+  pub before_row : (0 < row → slice_index table.lines (row - 1) < p) → (d : RawToken) → 0 < low → (get_or tokens (low - 1) d).dst_line < p
+  before_row less d some =
+      let paired = made.1.paired in
+      elim (cases_eq row 0) [
+        | inl top ↦ elim (cases_lt row (length table.lines)) [
+          | inl l ↦
+              let is : low ≡ slice_index table.firsts 0 = subst (λ r. low ≡ slice_index table.firsts r) top (within (omega arith)) in
+              let front = made.1.front in
+              absurd (omega arith)
+          | inr ge ↦
+              let is = past (omega arith) in
+              let none = made.1.filled (omega arith) in
+              absurd (omega arith)
+        ]
+        | inr lower ↦
+            let before : slice_index table.lines (row - 1) < p = less (omega arith) in
+            let last : line_at tokens (low - 1) ≡ Some (slice_index table.lines (row - 1)) =
+            elim (cases_lt row (length table.lines)) [
+              | inl l ↦
+                  let is = within (omega arith) in
+                  let up : row - 1 + 1 ≡ row = omega arith in
+                  let abutting = made.1.abutting (row - 1) (omega arith) in
+                  rw is (subst (λ r. line_at tokens (slice_index table.firsts r - 1) ≡ Some (slice_index table.lines (row - 1))) up abutting)
+              | inr ge ↦
+                  let is = past (omega arith) in
+                  let end : length table.lines - 1 ≡ row - 1 = omega arith in
+                  rw is (subst (λ r. line_at tokens (length tokens - 1) ≡ Some (slice_index table.lines r)) end (made.1.ends (omega arith)))
+            ] in
+            let on = token_line tokens (low - 1) _ d last in
+            omega arith
+      ]
+
+  pub behind_row : (row < length table.lines → p < slice_index table.lines row) → (d : RawToken) → low < length tokens → p < (get_or tokens low d).dst_line
+  behind_row more d l =
+      let paired = made.1.paired in
+      elim (cases_lt row (length table.lines)) [
+        | inl inner ↦
+            let is = within (omega arith) in
+            let on : (get_or tokens low d).dst_line ≡ slice_index table.lines row = rw is (token_line tokens (slice_index table.firsts row) (slice_index table.lines row) d (made.1.on_line row inner)) in
+            let after = more inner in
+            omega arith
+        | inr ge ↦ let is = past (omega arith) in absurd (omega arith)
+      ]
+
+  -- no row has the line
+  pub span_of_none : (0 < row → slice_index table.lines (row - 1) < p) → (row < length table.lines → p < slice_index table.lines row) → IsSpan tokens p low low
+  span_of_none less more = record {
+    ordered = omega arith;
+    inside = inside_row;
+    before = before_row less;
+    behind = behind_row more;
+    on_line = λ place d from to. absurd (omega arith);
+  }
+
+-- this row has the line, and its tokens end at `high`
+module _ (tokens : List RawToken) (table : LineTable) (made : IsMadeFrom tokens table) (row low high p : ℕ) (within : row < length table.firsts → low ≡ slice_index table.firsts row) (within' : row + 1 < length table.firsts → high ≡ slice_index table.firsts (row + 1)) (past' : length table.firsts ≤ row + 1 → high ≡ length tokens) (l : row < length table.lines) (here : p ≡ slice_index table.lines row) where
+  starts : low ≡ slice_index table.firsts row
+  starts = let paired = made.1.paired in within (omega arith)
+
+  never : length table.firsts ≤ row → low ≡ length tokens
+  never ge = let paired = made.1.paired in absurd (omega arith)
+
+  rises : row + 1 < length table.lines → p < slice_index table.lines (row + 1)
+  rises m = let up = made.1.rising row m in omega arith
+
+  ordered : low < high
+  ordered =
+      let is = starts in
+      let paired = made.1.paired in
+      elim (cases_lt (row + 1) (length table.lines)) [
+        | inl m ↦ let end = within' (omega arith) in let apart = made.1.apart row m in omega arith
+        | inr ge ↦ let end = past' (omega arith) in let inner = made.1.within row l in omega arith
+      ]
+
+  last_on : line_at tokens (high - 1) ≡ Some (slice_index table.lines row)
+  last_on =
+      let paired = made.1.paired in
+      elim (cases_lt (row + 1) (length table.lines)) [
+        | inl m ↦ let end = within' (omega arith) in rw end (made.1.abutting row m)
+        | inr ge ↦
+            let end = past' (omega arith) in
+            let back : length table.lines - 1 ≡ row = omega arith in
+            rw end (subst (λ r. line_at tokens (length tokens - 1) ≡ Some (slice_index table.lines r)) back (made.1.ends (omega arith)))
+      ]
+
+  pub span_of_row : (0 < row → slice_index table.lines (row - 1) < p) → IsSpan tokens p low high
+  span_of_row less =
+      let apart = ordered in
+      let inner = inside_row tokens table made (row + 1) high p within' past' (omega arith) in
+      record {
+        ordered = omega arith;
+        inside = inner;
+        before = before_row tokens table made row low p within never (omega arith) less;
+        behind = behind_row tokens table made (row + 1) high p within' past' (omega arith) rises;
+        on_line = λ place d from to.
+            let first : (get_or tokens low d).dst_line ≡ slice_index table.lines row = rw starts (token_line tokens (slice_index table.firsts row) (slice_index table.lines row) d (made.1.on_line row l)) in
+            let last : (get_or tokens (high - 1) d).dst_line ≡ slice_index table.lines row = token_line tokens (high - 1) (slice_index table.lines row) d last_on in
+            let up = lines_rise tokens made.0 low place d from (omega arith) in
+            let down = lines_rise tokens made.0 place (high - 1) d (omega arith) (omega arith) in
+            omega arith;
+      }

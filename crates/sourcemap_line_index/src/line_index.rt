@@ -1,0 +1,159 @@
+//! A table of the lines that hold tokens, and the lookup by it.
+ghost use Rattle.std.specs.Prelude.{◌≡◌, ℕ, ◌<◌, ◌≤◌, ◌+◌, ◌-◌, ◌*◌, ◌^◌, IfErr, IfOk, IfSome, false, length, option_map, slice_index, slice_index_or, true};
+ghost use Rattle.sourcemap_errors.specs.declared.errors.Error.TheVariants.{OutOfMemory};
+ghost use Rattle.sourcemap_lists.specs.Tokens.{AreInOrder, closest_token};
+ghost use Rattle.sourcemap_lists.specs.declared.tokens.RawToken.{RawToken};
+ghost use Rattle.sourcemap_line_index.specs.LineIndex.{BeginsLine, GoesOnLine, IsMadeFrom, IsSpan, binary_digits};
+
+use crate::probe::Probe;
+use sourcemap_errors::errors::Result;
+use sourcemap_lists::tokens::RawToken;
+use std::alloc::Global;
+use std::marker::Model;
+
+/// The lines that hold tokens, and where the tokens of each begin in the list.
+#[derive(Debug, Drop)]
+pub struct LineIndex {
+    // a list of its own, so that a search for a line reads as little memory as can be
+    lines: Vec<u32>,
+    // the place of the first token of each line
+    firsts: Vec<usize>,
+}
+
+impl Model for LineIndex {
+    ghost use Rattle.sourcemap_line_index.specs.LineIndex.{LineTable};
+
+    ghost Value = { LineTable };
+
+    ghost view = { λ index. record { lines = index.lines.items; firsts = index.firsts.items } };
+}
+
+impl LineIndex {
+    /// The table of these tokens, which are in order. Only want of memory refuses.
+    pub fn new(alloc: Global, tokens: &[RawToken]) -> Result<LineIndex>
+        requires { AreInOrder tokens.now }
+        ensures table { IfOk result (λ index. IsMadeFrom tokens.now index) }
+        ensures memory { IfErr result (λ cause. cause ≡ OutOfMemory) }
+    {
+        let mut lines = Vec::new(alloc);
+        let mut firsts = Vec::new(alloc);
+        for place in 0..tokens.len() {
+            if begins_line(tokens, place) {
+                lines.push(tokens[place].dst_line)?;
+                firsts.push(place)?;
+            }
+        }
+        Ok(LineIndex { lines, firsts })
+    }
+
+    /// The place of the token closest to the probe's position, in the list that the table was made
+    /// from: of the tokens at that position the first, and if there are none, the last one that
+    /// stands before it. It takes no memory, and with d binary digits in the count of tokens it
+    /// makes at most 2 (d + 1) comparisons, however many tokens are equal.
+    pub fn closest<P: Probe>(&self, tokens: &[RawToken], probe: &mut P) -> Option<usize>
+        requires { IsMadeFrom tokens.now self.now }
+        ensures answer { result
+            ≡ option_map (λ found. found.0) (closest_token tokens.now (P.position probe.old)) }
+        ensures inside { IfSome result (λ place. place < length tokens.now) }
+        ensures kept { P.position probe.new ≡ P.position probe.old }
+        ensures counted { P.comparisons probe.new
+            ≤ P.comparisons probe.old + 2 * (binary_digits (length tokens.now) + 1) }
+    {
+        let (first, end) = self.span_of(tokens, probe);
+        let place = first_at_column(tokens, first, end, probe);
+        if place < end && probe.column(tokens[place].dst_col).is_eq() {
+            return Some(place);
+        }
+        place.checked_sub(1)
+    }
+
+    // Where the tokens of the probe's line stand: from the first up to, not including, the second.
+    // Both are behind the tokens of earlier lines if it holds none.
+    fn span_of<P: Probe>(&self, tokens: &[RawToken], probe: &mut P) -> (usize, usize)
+        requires { IsMadeFrom tokens.now self.now }
+        ensures span { IsSpan tokens.now (P.position probe.old).0 result.0 result.1 }
+        ensures kept { P.position probe.new ≡ P.position probe.old }
+        ensures counted { (d : ℕ) → length tokens.now < 2 ^ d
+            → P.comparisons probe.new ≤ P.comparisons probe.old + (d + 1) }
+    {
+        let lines = self.lines.as_slice();
+        let row = first_at_line(lines, probe);
+        let first = self.first_of(row, tokens.len());
+        if row < lines.len() && probe.line(lines[row]).is_eq() {
+            return (first, self.first_of(row + 1, tokens.len()));
+        }
+        (first, first)
+    }
+
+    // The place of the first token of the line in this row, `end` behind the last row.
+    fn first_of(&self, row: usize, end: usize) -> usize
+        ensures within { row < length self.now.firsts → result ≡ slice_index self.now.firsts row }
+        ensures past { length self.now.firsts ≤ row → result ≡ end }
+    {
+        if row < self.firsts.len() {
+            self.firsts[row]
+        } else {
+            end
+        }
+    }
+}
+
+// Whether the token at this place is the first of its line.
+fn begins_line(tokens: &[RawToken], place: usize) -> bool
+    requires { place < length tokens.now }
+    ensures begins { result ≡ true → BeginsLine tokens.now place }
+    ensures goes_on { result ≡ false → GoesOnLine tokens.now place }
+{
+    place == 0 || tokens[place].dst_line != tokens[place - 1].dst_line
+}
+
+// The row of the first line that is not before the probe's, behind all rows if there is none.
+fn first_at_line<P: Probe>(lines: &[u32], probe: &mut P) -> usize
+    ensures within { result ≤ length lines.now }
+    ensures before { 0 < result → slice_index lines.now (result - 1) < (P.position probe.old).0 }
+    ensures from { result < length lines.now
+        → (P.position probe.old).0 ≤ slice_index lines.now result }
+    ensures kept { P.position probe.new ≡ P.position probe.old }
+    ensures counted { (d : ℕ) → length lines.now < 2 ^ d
+        → P.comparisons probe.new ≤ P.comparisons probe.old + d }
+{
+    let mut low = 0;
+    let mut high = lines.len();
+    while low < high {
+        let middle = low + (high - low) / 2;
+        if probe.line(lines[middle]).is_gt() {
+            low = middle + 1;
+        } else {
+            high = middle;
+        }
+    }
+    low
+}
+
+// The place of the first of the tokens from `first` up to `end` that is not left of the probe's
+// column, `end` if there is none.
+fn first_at_column<P: Probe>(tokens: &[RawToken], first: usize, end: usize, probe: &mut P) -> usize
+    requires ordered { first ≤ end }
+    requires within { end ≤ length tokens.now }
+    ensures at_least { first ≤ result }
+    ensures at_most { result ≤ end }
+    ensures before { (d : RawToken) → first < result
+        → (slice_index_or tokens.now (result - 1) d).dst_col < (P.position probe.old).1 }
+    ensures from { (d : RawToken) → result < end
+        → (P.position probe.old).1 ≤ (slice_index_or tokens.now result d).dst_col }
+    ensures kept { P.position probe.new ≡ P.position probe.old }
+    ensures counted { (d : ℕ) → end - first < 2 ^ d
+        → P.comparisons probe.new ≤ P.comparisons probe.old + d }
+{
+    let mut low = first;
+    let mut high = end;
+    while low < high {
+        let middle = low + (high - low) / 2;
+        if probe.column(tokens[middle].dst_col).is_gt() {
+            low = middle + 1;
+        } else {
+            high = middle;
+        }
+    }
+    low
+}

@@ -1,0 +1,73 @@
+//! What a lookup looks for, met through counted comparisons alone.
+ghost use Rattle.std.specs.Prelude.{◌≡◌, ℕ, ◌+◌, min};
+ghost use Rattle.std.specs.Ordering.{nat_cmp};
+
+use std::cmp::Ordering;
+
+/// A position that is looked for, a line and a column. No call hands it out: code that takes any
+/// probe can only compare it with numbers, and each comparison is counted.
+pub trait Probe {
+    // The line and the column that are looked for.
+    ghost position: { Self → ℕ × ℕ };
+
+    // How many comparisons were made, at most 4294967295.
+    ghost comparisons: { Self → ℕ };
+
+    /// How the line that is looked for compares with this one. It counts as a comparison.
+    fn line(&mut self, line: u32) -> Ordering
+        ensures answer { result ≡ nat_cmp (position self.old).0 line }
+        ensures kept { position self.new ≡ position self.old }
+        ensures counted { comparisons self.new ≡ min (comparisons self.old + 1) 4294967295 };
+
+    /// How the column that is looked for compares with this one. It counts as a comparison.
+    fn column(&mut self, col: u32) -> Ordering
+        ensures answer { result ≡ nat_cmp (position self.old).1 col }
+        ensures kept { position self.new ≡ position self.old }
+        ensures counted { comparisons self.new ≡ min (comparisons self.old + 1) 4294967295 };
+
+    /// How many comparisons were made so far. The count stays at 4294967295 once it is there.
+    fn count(&self) -> u32
+        ensures { result ≡ comparisons self.now };
+}
+
+/// The probe of one line and one column.
+#[derive(Debug, Drop)]
+pub struct KeyProbe {
+    line: u32,
+    col: u32,
+    count: u32,
+}
+
+impl KeyProbe {
+    /// A probe of this line and this column, both from 0, that has compared nothing yet.
+    pub fn new(line: u32, col: u32) -> KeyProbe
+        ensures position { ⟦<KeyProbe as Probe>⟧.position result ≡ (line, col) }
+        ensures fresh { ⟦<KeyProbe as Probe>⟧.comparisons result ≡ 0 }
+    {
+        KeyProbe {
+            line,
+            col,
+            count: 0,
+        }
+    }
+}
+
+impl Probe for KeyProbe {
+    ghost position = { λ probe. (probe.line, probe.col) };
+
+    ghost comparisons = { λ probe. probe.count };
+
+    fn line(&mut self, line: u32) -> Ordering {
+        self.count = self.count.saturating_add(1);
+        self.line.cmp(&line)
+    }
+
+    fn column(&mut self, col: u32) -> Ordering {
+        self.count = self.count.saturating_add(1);
+        self.col.cmp(&col)
+    }
+
+    fn count(&self) -> u32 {
+        self.count
+    }
+}
