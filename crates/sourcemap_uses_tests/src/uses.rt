@@ -152,14 +152,19 @@ fn index_of(alloc: Global, text: &str) -> Result<SourceMapIndex> {
     }
 }
 
+// Whether the index in a text and the map that it is made flat to lead a position to one place.
+fn is_kept(alloc: Global, text: &str, line: u32, col: u32) -> Result<bool> {
+    let index = index_of(alloc, text)?;
+    is_kept_flat(&index, line, col)
+}
+
 #[test]
 fn indexes_are_compared_with_their_flat_maps(rt: HostRuntime) -> std::result::Result<(), Fail> {
-    let apart = index_of(rt.alloc(), APART)?;
-    assert!(rt; is_kept_flat(&apart, 10, 9)?);
-    assert!(rt; is_kept_flat(&apart, 10, 3)?);
-    let mixed = index_of(rt.alloc(), MIXED)?;
-    assert!(rt; is_kept_flat(&mixed, 0, 4)?);
-    assert!(rt; !is_kept_flat(&mixed, 0, 9)?);
+    let alloc = rt.alloc();
+    assert!(rt; is_kept(alloc, APART, 10, 9)?);
+    assert!(rt; is_kept(alloc, APART, 10, 3)?);
+    assert!(rt; is_kept(alloc, MIXED, 0, 4)?);
+    assert!(rt; !is_kept(alloc, MIXED, 0, 9)?);
     Ok(())
 }
 
