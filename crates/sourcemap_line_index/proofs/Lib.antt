@@ -1,3 +1,4 @@
 pub mod ClosestLemmas
 pub mod LineIndexLemmas
 pub mod TableLemmas
+pub mod TokenListLemmas

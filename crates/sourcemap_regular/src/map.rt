@@ -7,7 +7,7 @@ ghost use Rattle.sourcemap_regular.specs.Map.{distance};
 
 use crate::token::Token;
 use sourcemap_errors::errors::Result;
-use sourcemap_lists::token_list::TokenList;
+use sourcemap_line_index::token_list::TokenList;
 use sourcemap_lists::tokens::RawToken;
 use sourcemap_parts::contents::Contents;
 use sourcemap_parts::heading::Heading;

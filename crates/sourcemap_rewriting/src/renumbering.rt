@@ -5,7 +5,7 @@ ghost use Rattle.sourcemap_rewriting.specs.Renumbering.{IsRenumbered};
 
 use crate::numbering::{NewNumbers, Numbering};
 use sourcemap_errors::errors::Result;
-use sourcemap_lists::token_list::TokenList;
+use sourcemap_line_index::token_list::TokenList;
 use sourcemap_lists::tokens::RawToken;
 use std::alloc::Global;
 
