@@ -126,7 +126,7 @@ fn tokens_in(alloc: Global, texts: RecordTexts, sources: u32, names: u32) -> Res
     let ranges = texts.ranges.as_str();
     match parse_mappings(alloc, mappings, ranges, sources, names) {
         Err(fault) => Err(fault),
-        Ok(tokens) => Ok(TokenList::of_ordered(tokens)),
+        Ok(tokens) => TokenList::of_ordered(tokens),
     }
 }
 

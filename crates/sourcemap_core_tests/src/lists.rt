@@ -87,7 +87,7 @@ fn compared(list: &TokenList) -> Result<(bool, bool)> {
     let is_same = copy == *list;
     let mut fewer = copy.into_vec();
     let _last = fewer.pop();
-    Ok((is_same, TokenList::of_ordered(fewer) == *list))
+    Ok((is_same, TokenList::of_ordered(fewer)? == *list))
 }
 
 fn ends(alloc: Global) -> Result<String> {

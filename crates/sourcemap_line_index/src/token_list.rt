@@ -98,6 +98,7 @@ impl TokenList {
         ensures own_index { IfSome result.0 (λ found. slice_get self.now found.0 ≡ Some found.1) }
         ensures small { IfSome result.0 (λ found. found.0 + 1 < 2 ^ 64) }
         ensures counted { result.1 ≤ 2 * (binary_digits (length self.now) + 1) }
+        ensures asked { 0 < length self.now → 0 < result.1 }
     {
         let mut probe = KeyProbe::new(line, col);
         let tokens = self.tokens.as_slice();

@@ -58,5 +58,6 @@ pub(crate) fn renumber(
 {
     let mut tokens = tokens.into_vec();
     let numbers = renumber_each(alloc, tokens.as_mut_slice(), sources, names)?;
-    Ok((TokenList::of_ordered(tokens), numbers))
+    let tokens = TokenList::of_ordered(tokens)?;
+    Ok((tokens, numbers))
 }

@@ -1,4 +1,4 @@
-use Rattle.std.proofs.Common.{◌≡◌, ap, subst, ◌∙◌, option_map}
+use Rattle.std.proofs.Common.{ap, ◌∙◌, option_map}
 use Rattle.sourcemap_lists.specs.Tokens.{closest_token}
 use Rattle.sourcemap_line_index.proofs.TokenListLemmas.{closest_from_place}
 use Rattle.sourcemap_line_index.proofs.token_list.TokenList.closest_steps.Goals as goal
