@@ -31,7 +31,8 @@ impl SourceMap {
         let _ = self.sources.len();
         let alloc = self.allocator();
         let tokens = compose(alloc, self.tokens.as_slice(), adjustment.tokens.as_slice())?;
-        self.tokens = TokenList::of_ordered(tokens)?;
+        let list = TokenList::of_ordered(tokens)?;
+        self.tokens = list;
         Ok(())
     }
 }
