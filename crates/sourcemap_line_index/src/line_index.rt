@@ -162,3 +162,9 @@ fn first_at_column<P: Probe>(tokens: &[RawToken], first: usize, end: usize, prob
     }
     place
 }
+
+/// A law: the binary digits of a count are enough to write it, and no fewer are.
+pub fn binary_digits_are_fewest()
+    ensures enough { (count : ℕ) → count < 2 ^ binary_digits count }
+    ensures fewest { (count digits : ℕ) → count < 2 ^ digits → binary_digits count ≤ digits }
+{}
