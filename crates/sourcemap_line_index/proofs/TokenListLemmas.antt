@@ -1,21 +1,14 @@
--- Equality of tokens holds exactly for equal ones.
-use Rattle.std.proofs.Common.{◌≡◌, List, Bool, true, false, ◌&&◌, refl, ap}
+-- Equality of tokens holds exactly for equal ones, and a place of a list has one token.
+use Rattle.std.proofs.Common.{◌≡◌, refl, ap, ℕ, List, Option, Some, None, option_map, slice_get}
+use Rattle.std.specs.Option.{IfSome}
 use Rattle.std.specs.Bool.{Decides}
 use Rattle.std.specs.Cmp.{unsigned_Decides, booleans_Decides}
 use Rattle.std.specs.Cmp.Lexicographic.{pointwise_decides}
+use Rattle.sourcemap_lists.specs.Tokens.{closest_token, destination, position_cmp}
+use Rattle.sourcemap_lists.proofs.SearchLemmas.{place-closest}
 use Rattle.sourcemap_lists.specs.declared.tokens.RawToken.{RawToken}
-use Rattle.sourcemap_lists.specs.TokenList.{same_raw, same_tokens}
-
-pub decides_both : {r s : Bool} {P Q : Type 0} → Decides r P → Decides s Q → Decides (r && s) (P × Q)
-decides_both {r} {s} p q = (both r s p.0 q.0, λ h. and_true r s (p.1 h.0) (q.1 h.1))
-  where
-    both : {P Q : Type 0} (r s : Bool) → (r ≡ true → P) → (s ≡ true → Q) → r && s ≡ true → P × Q
-    both true true p q h = (p refl, q refl)
-    both true false p q h = cc
-    both false s p q h = cc
-
-    and_true : (r s : Bool) → r ≡ true → s ≡ true → r && s ≡ true
-    and_true r s h k = rw (h, k) refl
+use Rattle.sourcemap_lists.proofs.DecidesLemmas.{decides_both}
+use Rattle.sourcemap_line_index.specs.TokenList.{same_raw, same_tokens}
 
 pub raw_decides : (a b : RawToken) → Decides (same_raw a b) (a ≡ b)
 raw_decides a b =
@@ -59,3 +52,14 @@ raw_decides a b =
 
 pub tokens_decide : (a b : List RawToken) → Decides (same_tokens a b) (a ≡ b)
 tokens_decide = pointwise_decides raw_decides
+
+-- a place and its own token are what any other of the same place is
+one_at_place : (tokens : List RawToken) (r s : Option (ℕ × RawToken)) → option_map (λ found. found.0) r ≡ option_map (λ found. found.0) s → IfSome r (λ found. slice_get tokens found.0 ≡ Some found.1) → IfSome s (λ found. slice_get tokens found.0 ≡ Some found.1) → r ≡ s
+one_at_place tokens None None e own own' = refl
+one_at_place tokens None (Some s) e own own' = cc
+one_at_place tokens (Some r) None e own own' = cc
+one_at_place tokens (Some (i, t)) (Some (j, u)) e own own' = cc
+
+-- what stands at the place of the closest token is the closest token
+pub closest_from_place : (tokens : List RawToken) (p : ℕ × ℕ) (r : Option (ℕ × RawToken)) → option_map (λ found. found.0) r ≡ option_map (λ found. found.0) (closest_token tokens p) → IfSome r (λ found. slice_get tokens found.0 ≡ Some found.1) → r ≡ closest_token tokens p
+closest_from_place tokens p r e own = one_at_place tokens r (closest_token tokens p) e own (place-closest destination position_cmp tokens p)
