@@ -1,0 +1,2 @@
+pub mod OffsetsAnswers
+pub mod OffsetsLemmas

@@ -1,0 +1,4 @@
+//! The functions of the sources of Hermes maps: where each begins, and which a place stands in.
+#![tactic(auto)]
+
+pub mod offsets;
