@@ -1,2 +1,3 @@
+pub mod FunctionMapLemmas
 pub mod OffsetsAnswers
 pub mod OffsetsLemmas

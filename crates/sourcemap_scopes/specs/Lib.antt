@@ -1,2 +1,3 @@
+pub mod FunctionMap
 pub mod Offsets
 pub mod OffsetsSteps

@@ -1,4 +1,5 @@
 //! The functions of the sources of Hermes maps: where each begins, and which a place stands in.
 #![tactic(auto)]
 
+pub mod function_map;
 pub mod offsets;

@@ -87,9 +87,9 @@ fn add_parts(
     }
 }
 
-// The offsets of a text of scope mappings; the fault of a part that cannot be read, or want of
+// The offsets of a text of scope mappings; else the fault of a part that cannot be read, or want of
 // memory.
-fn read_lines(alloc: Global, text: &str) -> Result<Vec<HermesScopeOffset>>
+pub(crate) fn read_offsets(alloc: Global, text: &str) -> Result<Vec<HermesScopeOffset>>
     ensures read { IfOk result (λ offsets. StandsFor text.now (Some offsets.items)) }
     ensures fault { IfErr result (λ e. UnlessMemory e (StandsFor text.now None)) }
 {
@@ -102,21 +102,6 @@ fn read_lines(alloc: Global, text: &str) -> Result<Vec<HermesScopeOffset>>
         lines = later;
     }
     Ok(offsets)
-}
-
-/// The offsets of a text of scope mappings, in its order, or none if a part of it cannot be read.
-/// Only want of memory refuses.
-pub fn read_offsets(alloc: Global, text: &str) -> Result<Option<Vec<HermesScopeOffset>>>
-    ensures offsets { IfOk result (λ read. StandsFor text.now (option_map (λ v. v.items) read)) }
-    ensures memory { IfErr result (λ e. e ≡ OutOfMemory) }
-{
-    match read_lines(alloc, text) {
-        Ok(offsets) => Ok(Some(offsets)),
-        Err(fault) => match fault {
-            Error::OutOfMemory => Err(fault),
-            _ => Ok(None),
-        },
-    }
 }
 
 /// A law: a text of scope mappings stands for one list of offsets, or for none.

@@ -5,7 +5,7 @@ use Rattle.sourcemap_mappings.specs.Segment.{parts_of}
 use Rattle.sourcemap_mappings.specs.ReadSteps.{lines_left}
 use Rattle.sourcemap_scopes.specs.Offsets.{IsUnreadable}
 use Rattle.sourcemap_scopes.proofs.OffsetsLemmas.{Any-here, Any-later, PageSoFar-none, PageSoFar-more, StandsFor-all}
-use Rattle.sourcemap_scopes.proofs.offsets.read_lines.Goals as goal
+use Rattle.sourcemap_scopes.proofs.offsets.read_offsets.Goals as goal
 
 pub loop-lines-init : goal.loop-lines-init
 loop-lines-init c = record {

@@ -5,7 +5,7 @@ use Rattle.sourcemap_mappings.specs.Read.{lines_of}
 use Rattle.sourcemap_mappings.specs.ReadSteps.{lines_left}
 use Rattle.sourcemap_scopes.specs.Offsets.{IsUnreadable}
 use Rattle.sourcemap_scopes.proofs.OffsetsLemmas.{PageSoFar}
-use Rattle.sourcemap_scopes.proofs.offsets.read_lines.Given as goal
+use Rattle.sourcemap_scopes.proofs.offsets.read_offsets.Given as goal
 
 abbrev pub invariant-loop-lines : goal.invariant-loop-lines
 invariant-loop-lines l = record {
