@@ -1,3 +1,5 @@
 pub mod FunctionMapLemmas
 pub mod OffsetsAnswers
 pub mod OffsetsLemmas
+pub mod PicksLemmas
+pub mod ScopeListsLemmas

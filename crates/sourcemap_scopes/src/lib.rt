@@ -3,3 +3,5 @@
 
 pub mod function_map;
 pub mod offsets;
+mod picks;
+pub mod scope_lists;

@@ -1,4 +1,4 @@
-use Rattle.std.proofs.Common.{◌∙◌, ◌+◌, sym, ap, subst, ℕ, Some, None, option_map, IsSortedByKey}
+use Rattle.std.proofs.Common.{◌∙◌, ◌+◌, sym, ap, subst, ℕ, Some, None}
 use Rattle.sourcemap_lists.specs.Search.{closest}
 use Rattle.sourcemap_lists.specs.Tokens.{position_cmp}
 use Rattle.sourcemap_scopes.specs.FunctionMap.{AreInOrder, place_of}
