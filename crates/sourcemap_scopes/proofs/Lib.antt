@@ -3,3 +3,4 @@ pub mod OffsetsAnswers
 pub mod OffsetsLemmas
 pub mod PicksLemmas
 pub mod ScopeListsLemmas
+pub mod SourceScopesLemmas

@@ -3,3 +3,5 @@ pub mod Offsets
 pub mod OffsetsSteps
 pub mod Picks
 pub mod ScopeLists
+pub mod SourceScopes
+pub mod SourceScopesStored

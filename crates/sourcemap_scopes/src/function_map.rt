@@ -2,6 +2,8 @@
 ghost use Rattle.std.specs.Prelude.{◌≡◌, Ok, IfOk, IfErr, option_map};
 ghost use Rattle.std.specs.Bool.{Decides};
 ghost use Rattle.std.specs.Cmp.{partial_equiv_from_equiv};
+ghost use Rattle.std.specs.Cmp.Lexicographic.{pointwise};
+ghost use Rattle.std.specs.Option.{option_eq};
 ghost use Rattle.sourcemap_errors.specs.Answer.{Gives};
 ghost use Rattle.sourcemap_errors.specs.declared.errors.Error.TheVariants.{OutOfMemory};
 ghost use Rattle.sourcemap_scopes.specs.Offsets.{StandsFor};
@@ -74,6 +76,39 @@ impl HermesFunctionMap {
         let offsets = Vec::from_slice(alloc, self.offsets.as_slice())?;
         Ok(HermesFunctionMap { offsets })
     }
+}
+
+// The same function maps, on their own.
+pub(crate) fn copy_function_maps(
+    alloc: Global,
+    maps: &[Option<HermesFunctionMap>],
+) -> Result<Vec<Option<HermesFunctionMap>>>
+    ensures { Gives (λ copies. copies.items) result (Ok maps.now) }
+{
+    let mut copies = Vec::with_capacity(alloc, maps.len())?;
+    for map in maps {
+        copies.push(copy_function_map(map)?)?;
+    }
+    Ok(copies)
+}
+
+fn copy_function_map(map: &Option<HermesFunctionMap>) -> Result<Option<HermesFunctionMap>>
+    ensures { Gives (λ copy. copy) result (Ok map.now) }
+{
+    match map {
+        Some(functions) => Ok(Some(functions.clone()?)),
+        None => Ok(None),
+    }
+}
+
+// Whether the lists are as long, and have the same function map or none at each place.
+pub(crate) fn same_function_maps(
+    a: &Vec<Option<HermesFunctionMap>>,
+    b: &Vec<Option<HermesFunctionMap>>,
+) -> bool
+    ensures { result ≡ pointwise (option_eq same_offsets) a.now.items b.now.items }
+{
+    a == b
 }
 
 fn same_items(a: &Vec<HermesScopeOffset>, b: &Vec<HermesScopeOffset>) -> bool

@@ -5,3 +5,4 @@ pub mod function_map;
 pub mod offsets;
 mod picks;
 pub mod scope_lists;
+pub mod source_scopes;
