@@ -8,15 +8,15 @@ use Rattle.sourcemap_lists.specs.Tokens.{position_cmp}
 use Rattle.sourcemap_lists.proofs.SearchLemmas.{item-closest}
 use Rattle.sourcemap_lists.proofs.TokenListLemmas.{decides_both}
 use Rattle.sourcemap_scopes.specs.declared.offsets.HermesScopeOffset.{HermesScopeOffset}
-use Rattle.sourcemap_scopes.specs.FunctionMap.{place_of, closest_offset, same_offset, same_offsets}
+use Rattle.sourcemap_scopes.specs.FunctionMap.{offset_place, closest_offset, same_offset, same_offsets}
 
 -- the name's index of the offset that was found beside its place
 pub name_found : (offsets : List HermesScopeOffset) (p : ℕ × ℕ) (found : Option (ℕ × HermesScopeOffset))
-    → found ≡ closest place_of position_cmp offsets (p.0 + 1, p.1)
+    → found ≡ closest offset_place position_cmp offsets (p.0 + 1, p.1)
     → option_map (λ (e : ℕ × HermesScopeOffset). e.1.name_index) found ≡ option_map (λ (o : HermesScopeOffset). o.name_index) (closest_offset offsets p)
 name_found offsets p found is =
     both found ∙ ap (λ e. option_map (λ (o : HermesScopeOffset). o.name_index) (option_map (λ (e : ℕ × HermesScopeOffset). e.1) e)) is
-    ∙ ap (option_map (λ (o : HermesScopeOffset). o.name_index)) (item-closest place_of position_cmp offsets (p.0 + 1, p.1))
+    ∙ ap (option_map (λ (o : HermesScopeOffset). o.name_index)) (item-closest offset_place position_cmp offsets (p.0 + 1, p.1))
   where
     both : (found : Option (ℕ × HermesScopeOffset))
         → option_map (λ (e : ℕ × HermesScopeOffset). e.1.name_index) found ≡ option_map (λ (o : HermesScopeOffset). o.name_index) (option_map (λ (e : ℕ × HermesScopeOffset). e.1) found)

@@ -4,8 +4,8 @@ use Rattle.sourcemap_digits.specs.Vlq.{Reads}
 use Rattle.sourcemap_mappings.specs.Segment.{Segment, parts_of}
 use Rattle.sourcemap_mappings.proofs.ReadLemmas.{Reads-nil}
 use Rattle.sourcemap_scopes.specs.declared.offsets.HermesScopeOffset.{HermesScopeOffset}
-use Rattle.sourcemap_scopes.specs.Offsets.{offset_of, line_offsets, page_offsets, PartsRead, LinesRead}
-use Rattle.sourcemap_scopes.specs.OffsetsSteps.{IsLast, AddsParts}
+use Rattle.sourcemap_scopes.specs.Offsets.{segment_offset, line_offsets, page_offsets, SegmentsRead, PageRead}
+use Rattle.sourcemap_scopes.specs.OffsetsSteps.{IsLastOffset, AddsOffsets}
 
 -- Some item of a list.
 
@@ -17,14 +17,14 @@ Any-later P x xs (k, y, within, at, p) = (suc k, y, (omega arith), at, p)
 
 -- Parts of a line.
 
-one_part : (part : List ℕ) (numbers : List ℤ) → 0 < length numbers → Reads part numbers → PartsRead (part ∷ []) ((record { place = 0; numbers = numbers }) ∷ [])
+one_part : (part : List ℕ) (numbers : List ℤ) → 0 < length numbers → Reads part numbers → SegmentsRead (part ∷ []) ((record { place = 0; numbers = numbers }) ∷ [])
 one_part [] numbers some reads = absurd (Reads-nil numbers some reads)
 one_part (c ∷ cs) numbers some reads = (refl, reads, refl)
 
-pub AddsParts-segment : (before here : List Segment) (part : List ℕ) (numbers : List ℤ) (old new : List HermesScopeOffset) (next : HermesScopeOffset)
-    → 0 < length numbers → Reads part numbers → IsLast before (here ++ (record { place = 0; numbers = numbers }) ∷ []) next → new ≡ old ++ next ∷ []
-    → AddsParts before here (part ∷ []) old new next
-AddsParts-segment before here part numbers old new next some reads is items = record {
+pub AddsOffsets-segment : (before here : List Segment) (part : List ℕ) (numbers : List ℤ) (old new : List HermesScopeOffset) (next : HermesScopeOffset)
+    → 0 < length numbers → Reads part numbers → IsLastOffset before (here ++ (record { place = 0; numbers = numbers }) ∷ []) next → new ≡ old ++ next ∷ []
+    → AddsOffsets before here (part ∷ []) old new next
+AddsOffsets-segment before here part numbers old new next some reads is items = record {
   segments = (record { place = 0; numbers = numbers }) ∷ [];
   read = one_part part numbers some reads;
   offsets = items ∙ ap (λ o. old ++ o ∷ []) is;
@@ -32,41 +32,41 @@ AddsParts-segment before here part numbers old new next some reads is items = re
 }
 
 -- a part without numbers
-pub AddsParts-none : (before here : List Segment) (part : List ℕ) (numbers : List ℤ) (old : List HermesScopeOffset) (last : HermesScopeOffset)
-    → length numbers ≡ 0 → Reads part numbers → IsLast before here last → AddsParts before here (part ∷ []) old old last
-AddsParts-none before here [] numbers old last none reads is = record {
+pub AddsOffsets-none : (before here : List Segment) (part : List ℕ) (numbers : List ℤ) (old : List HermesScopeOffset) (last : HermesScopeOffset)
+    → length numbers ≡ 0 → Reads part numbers → IsLastOffset before here last → AddsOffsets before here (part ∷ []) old old last
+AddsOffsets-none before here [] numbers old last none reads is = record {
   segments = [];
   read = refl;
   offsets = sym (append-nil old);
-  is_last = subst (λ ss. IsLast before ss last) (sym (append-nil here)) is;
+  is_last = subst (λ ss. IsLastOffset before ss last) (sym (append-nil here)) is;
 }
-AddsParts-none before here (c ∷ cs) [] old last none reads is = absurd (let e : c ∷ cs ≡ [] = reads in cc)
-AddsParts-none before here (c ∷ cs) (n ∷ ns) old last none reads is = absurd (omega arith)
+AddsOffsets-none before here (c ∷ cs) [] old last none reads is = absurd (let e : c ∷ cs ≡ [] = reads in cc)
+AddsOffsets-none before here (c ∷ cs) (n ∷ ns) old last none reads is = absurd (omega arith)
 
-PartsRead-cons : (part : List ℕ) (parts : List (List ℕ)) (ss later : List Segment)
-    → PartsRead (part ∷ []) ss → PartsRead parts later → PartsRead (part ∷ parts) (ss ++ later)
-PartsRead-cons [] parts ss later h rest = let none : ss ≡ [] = h in subst (λ zs. PartsRead parts (zs ++ later)) (sym none) rest
-PartsRead-cons (c ∷ cs) parts [] later h rest = absurd h
-PartsRead-cons (c ∷ cs) parts (s ∷ ss) later h rest =
+SegmentsRead-cons : (part : List ℕ) (parts : List (List ℕ)) (ss later : List Segment)
+    → SegmentsRead (part ∷ []) ss → SegmentsRead parts later → SegmentsRead (part ∷ parts) (ss ++ later)
+SegmentsRead-cons [] parts ss later h rest = let none : ss ≡ [] = h in subst (λ zs. SegmentsRead parts (zs ++ later)) (sym none) rest
+SegmentsRead-cons (c ∷ cs) parts [] later h rest = absurd h
+SegmentsRead-cons (c ∷ cs) parts (s ∷ ss) later h rest =
     let none : ss ≡ [] = h.2 in
-    (h.0, h.1, subst (λ zs. PartsRead parts (zs ++ later)) (sym none) rest)
+    (h.0, h.1, subst (λ zs. SegmentsRead parts (zs ++ later)) (sym none) rest)
 
 line_offsets-append : (before here xs ys : List Segment) → line_offsets before here (xs ++ ys) ≡ line_offsets before here xs ++ line_offsets before (here ++ xs) ys
 line_offsets-append before here [] ys = ap (λ zs. line_offsets before zs ys) (sym (append-nil here))
 line_offsets-append before here (x ∷ xs) ys =
-    ap (λ os. offset_of (here ++ x ∷ []) (before ++ (here ++ x ∷ [])) ∷ os)
+    ap (λ os. segment_offset (here ++ x ∷ []) (before ++ (here ++ x ∷ [])) ∷ os)
     (line_offsets-append before (here ++ x ∷ []) xs ys
     ∙ ap (λ zs. line_offsets before (here ++ x ∷ []) xs ++ line_offsets before zs ys) (append_assoc here (x ∷ []) xs))
 
 -- what is read of the parts `all` of a line, behind the segments `before`: all but `left`
 pub record PartsSoFar (before : List Segment) (all left : List (List ℕ)) (old new : List HermesScopeOffset) (last : HermesScopeOffset) : Type 0 where
   pub here : List Segment
-  pub read : (later : List Segment) → PartsRead left later → PartsRead all (here ++ later)
+  pub read : (later : List Segment) → SegmentsRead left later → SegmentsRead all (here ++ later)
   pub offsets : new ≡ old ++ line_offsets before [] here
-  pub is_last : IsLast before here last
+  pub is_last : IsLastOffset before here last
 
 pub PartsSoFar-none : (before : List Segment) (all : List (List ℕ)) (old : List HermesScopeOffset) (last : HermesScopeOffset)
-    → IsLast before [] last → PartsSoFar before all all old old last
+    → IsLastOffset before [] last → PartsSoFar before all all old old last
 PartsSoFar-none before all old last is = record {
   here = [];
   read = λ later r. r;
@@ -76,7 +76,7 @@ PartsSoFar-none before all old last is = record {
 
 -- one more part is read
 pub PartsSoFar-more : (before : List Segment) (all : List (List ℕ)) (part : List ℕ) (parts : List (List ℕ)) (old middle new : List HermesScopeOffset) (last next : HermesScopeOffset)
-    → (so_far : PartsSoFar before all (part ∷ parts) old middle last) → AddsParts before so_far.here (part ∷ []) middle new next
+    → (so_far : PartsSoFar before all (part ∷ parts) old middle last) → AddsOffsets before so_far.here (part ∷ []) middle new next
     → PartsSoFar before all parts old new next
 PartsSoFar-more before all part parts old middle new last next so_far adds =
     let here : List Segment = so_far.here in
@@ -84,8 +84,8 @@ PartsSoFar-more before all part parts old middle new last next so_far adds =
     record {
       here = here ++ ss;
       read = λ later r.
-          subst (λ zs. PartsRead all zs) (sym (append_assoc here ss later))
-          (so_far.read (ss ++ later) (PartsRead-cons part parts ss later adds.read r));
+          subst (λ zs. SegmentsRead all zs) (sym (append_assoc here ss later))
+          (so_far.read (ss ++ later) (SegmentsRead-cons part parts ss later adds.read r));
       offsets =
           adds.offsets ∙ ap (λ zs. zs ++ line_offsets before here ss) so_far.offsets
           ∙ append_assoc old (line_offsets before [] here) (line_offsets before here ss)
@@ -94,11 +94,11 @@ PartsSoFar-more before all part parts old middle new last next so_far adds =
     }
 
 -- all parts are read
-pub AddsParts-all : (before : List Segment) (all : List (List ℕ)) (old new : List HermesScopeOffset) (last : HermesScopeOffset)
-    → PartsSoFar before all [] old new last → AddsParts before [] all old new last
-AddsParts-all before all old new last so_far = record {
+pub AddsOffsets-all : (before : List Segment) (all : List (List ℕ)) (old new : List HermesScopeOffset) (last : HermesScopeOffset)
+    → PartsSoFar before all [] old new last → AddsOffsets before [] all old new last
+AddsOffsets-all before all old new last so_far = record {
   segments = so_far.here;
-  read = subst (λ zs. PartsRead all zs) (append-nil so_far.here) (so_far.read [] refl);
+  read = subst (λ zs. SegmentsRead all zs) (append-nil so_far.here) (so_far.read [] refl);
   offsets = so_far.offsets;
   is_last = so_far.is_last;
 }
@@ -109,9 +109,9 @@ AddsParts-all before all old new last so_far = record {
 pub record PageSoFar (all left : List (List ℕ)) (offsets : List HermesScopeOffset) (last : HermesScopeOffset) : Type 0 where
   pub before : List Segment
   pub page : List (List Segment)
-  pub read : (later : List (List Segment)) → LinesRead left later → LinesRead all (page ++ later)
+  pub read : (later : List (List Segment)) → PageRead left later → PageRead all (page ++ later)
   pub offsets_read : (later : List (List Segment)) → page_offsets [] (page ++ later) ≡ offsets ++ page_offsets before later
-  pub is_last : IsLast before [] (record last { column = 0 })
+  pub is_last : IsLastOffset before [] (record last { column = 0 })
 
 pub PageSoFar-none : (all : List (List ℕ)) → PageSoFar all all [] (record { line = 1; column = 0; name_index = 0 })
 PageSoFar-none all = record {
@@ -122,14 +122,14 @@ PageSoFar-none all = record {
   is_last = refl;
 }
 
-turned : (before here : List Segment) (last : HermesScopeOffset) → IsLast before here last → IsLast (before ++ here) [] (record last { column = 0 })
+turned : (before here : List Segment) (last : HermesScopeOffset) → IsLastOffset before here last → IsLastOffset (before ++ here) [] (record last { column = 0 })
 turned before here last is =
     ap (λ (o : HermesScopeOffset). record o { column = 0 }) is
-    ∙ ap (λ all. offset_of [] all) (sym (append-nil (before ++ here)))
+    ∙ ap (λ all. segment_offset [] all) (sym (append-nil (before ++ here)))
 
 -- one more line is read
 pub PageSoFar-more : (all : List (List ℕ)) (line : List ℕ) (left : List (List ℕ)) (old new : List HermesScopeOffset) (last next : HermesScopeOffset)
-    → (so_far : PageSoFar all (line ∷ left) old last) → AddsParts so_far.before [] (parts_of line) old new next
+    → (so_far : PageSoFar all (line ∷ left) old last) → AddsOffsets so_far.before [] (parts_of line) old new next
     → PageSoFar all left new next
 PageSoFar-more all line left old new last next so_far adds =
     let before : List Segment = so_far.before in
@@ -140,7 +140,7 @@ PageSoFar-more all line left old new last next so_far adds =
       before = before ++ ss;
       page = page ++ ss ∷ [];
       read = λ later r.
-          subst (λ zs. LinesRead all zs) (sym (append_assoc page (ss ∷ []) later)) (so_far.read (ss ∷ later) (adds.read, r));
+          subst (λ zs. PageRead all zs) (sym (append_assoc page (ss ∷ []) later)) (so_far.read (ss ∷ later) (adds.read, r));
       offsets_read = λ later.
           ap (page_offsets []) (append_assoc page (ss ∷ []) later) ∙ so_far.offsets_read (ss ∷ later)
           ∙ sym (append_assoc old os (page_offsets (before ++ ss) later))
@@ -150,9 +150,9 @@ PageSoFar-more all line left old new last next so_far adds =
 
 -- all lines are read
 pub StandsFor-all : (all : List (List ℕ)) (offsets : List HermesScopeOffset) (last : HermesScopeOffset) → PageSoFar all [] offsets last
-    → (page : List (List Segment)) × LinesRead all page × (offsets ≡ page_offsets [] page)
+    → (page : List (List Segment)) × PageRead all page × (offsets ≡ page_offsets [] page)
 StandsFor-all all offsets last so_far = (
   so_far.page,
-  subst (λ zs. LinesRead all zs) (append-nil so_far.page) (so_far.read [] refl),
+  subst (λ zs. PageRead all zs) (append-nil so_far.page) (so_far.read [] refl),
   sym (append-nil offsets) ∙ sym (so_far.offsets_read []) ∙ ap (page_offsets []) (append-nil so_far.page),
 )

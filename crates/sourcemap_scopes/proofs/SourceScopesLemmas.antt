@@ -1,5 +1,5 @@
 -- Scopes of sources: their function maps are determined, they are picked together, and test equal exactly if they are.
-use Rattle.std.proofs.Common.{◌≡◌, ℕ, zero, suc, List, [], ◌∷◌, map, Option, Some, None, option_map, option_and_then, slice_get, Vec, sym, ap, ap₂, ◌∙◌, subst, refl}
+use Rattle.std.proofs.Common.{◌≡◌, ℕ, zero, suc, List, [], ◌∷◌, map, Option, Some, None, option_map, Vec, sym, ap, ap₂, ◌∙◌, subst, refl}
 use Rattle.std.specs.Bool.{Decides}
 use Rattle.std.specs.Cmp.Lexicographic.{pointwise_decides}
 use Rattle.std.specs.List.{AllZip}
@@ -9,7 +9,7 @@ use Rattle.sourcemap_parts.proofs.TextListsLemmas.{options_decide, texts_decide,
 use Rattle.sourcemap_records.specs.Jsontypes.{Scopes}
 use Rattle.sourcemap_records.specs.declared.jsontypes.FacebookScopeMapping.{FacebookScopeMapping}
 use Rattle.sourcemap_scopes.specs.Picks.{item_at, items_at}
-use Rattle.sourcemap_scopes.specs.ScopeLists.{Entry, EntryStandsFor, ScopesStandFor, entry_in, list_in, first_scopes, same_scopes}
+use Rattle.sourcemap_scopes.specs.ScopeLists.{ScopeEntry, EntryStandsFor, ScopesStandFor, entry_in, list_in, first_scopes, same_scopes}
 use Rattle.sourcemap_scopes.specs.SourceScopes.{SourceScopesValue, AreOfEntries, picked_scopes, same_source_scopes}
 use Rattle.sourcemap_scopes.specs.declared.offsets.HermesScopeOffset.{HermesScopeOffset}
 use Rattle.sourcemap_scopes.proofs.FunctionMapLemmas.{offsets_decide}
@@ -21,7 +21,7 @@ ScopesStandFor-same : (scopes : Option Scopes) (a b : Option (List HermesScopeOf
 ScopesStandFor-same None a b h k = h ∙ sym k
 ScopesStandFor-same (Some scopes) a b h k = StandsFor-same scopes.mappings a b h k
 
-maps_same : (entries : List Entry) (a b : List (Option (List HermesScopeOffset))) → AllZip EntryStandsFor entries a → AllZip EntryStandsFor entries b → a ≡ b
+maps_same : (entries : List ScopeEntry) (a b : List (Option (List HermesScopeOffset))) → AllZip EntryStandsFor entries a → AllZip EntryStandsFor entries b → a ≡ b
 maps_same [] [] [] h k = refl
 maps_same [] [] (y ∷ b) h k = absurd k
 maps_same [] (x ∷ a) b h k = absurd h
@@ -43,7 +43,7 @@ items_at-map : {X Y : Type 0} (f : X → Y) (xs : List (Option X)) (ids : List �
 items_at-map f xs [] = refl
 items_at-map f xs (id ∷ ids) = ap₂ ◌∷◌ (item_at-map f xs id) (items_at-map f xs ids)
 
-map_at : (entries : List Entry) (maps : List (Option (List HermesScopeOffset))) (id : ℕ) → AllZip EntryStandsFor entries maps → EntryStandsFor (item_at entries id) (item_at maps id)
+map_at : (entries : List ScopeEntry) (maps : List (Option (List HermesScopeOffset))) (id : ℕ) → AllZip EntryStandsFor entries maps → EntryStandsFor (item_at entries id) (item_at maps id)
 map_at [] [] id all = refl
 map_at [] (x ∷ maps) id all = absurd all
 map_at (entry ∷ entries) [] id all = absurd all
@@ -58,7 +58,7 @@ pub picked_stored : (entries kept : List (Option (Vec FacebookScopeMapping Globa
     → record { entries = map entry_in entries; function_maps = maps } ≡ scopes → kept ≡ items_at entries ids → kept_maps ≡ items_at maps ids
     → picked_scopes scopes ids ≡ record { entries = map entry_in kept; function_maps = kept_maps }
 picked_stored entries kept maps kept_maps scopes ids is is_kept are_kept =
-    let made : List Entry → List (Option (List HermesScopeOffset)) → SourceScopesValue = λ es ms. record { entries = es; function_maps = ms } in
+    let made : List ScopeEntry → List (Option (List HermesScopeOffset)) → SourceScopesValue = λ es ms. record { entries = es; function_maps = ms } in
     ap (λ s. picked_scopes s ids) (sym is)
     ∙ ap₂ made (items_at-map list_in entries ids ∙ ap (map entry_in) (sym is_kept)) (sym are_kept)
 

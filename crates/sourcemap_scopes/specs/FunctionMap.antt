@@ -10,16 +10,16 @@ use Rattle.sourcemap_lists.specs.Tokens.{position_cmp}
 use Rattle.sourcemap_scopes.specs.declared.offsets.HermesScopeOffset.{HermesScopeOffset}
 
 -- where an offset stands: its line, from 1, and its column, from 0
-abbrev pub place_of : HermesScopeOffset → ℕ × ℕ
-place_of offset = (offset.line, offset.column)
+abbrev pub offset_place : HermesScopeOffset → ℕ × ℕ
+offset_place offset = (offset.line, offset.column)
 
 -- no offset stands before the one that it follows
-abbrev pub AreInOrder : List HermesScopeOffset → Type 0
-AreInOrder offsets = IsSortedByKey place_of position_cmp offsets
+abbrev pub AreOffsetsInOrder : List HermesScopeOffset → Type 0
+AreOffsetsInOrder offsets = IsSortedByKey offset_place position_cmp offsets
 
 -- the offset closest to a place in the source, whose line counts from 0
 abbrev pub closest_offset : List HermesScopeOffset → ℕ × ℕ → Option HermesScopeOffset
-closest_offset offsets p = closest_item place_of position_cmp offsets (p.0 + 1, p.1)
+closest_offset offsets p = closest_item offset_place position_cmp offsets (p.0 + 1, p.1)
 
 -- offsets of the same numbers
 abbrev pub same_offset : HermesScopeOffset → HermesScopeOffset → Bool

@@ -9,8 +9,8 @@ use Rattle.sourcemap_mappings.specs.Read.{lines_of}
 use Rattle.sourcemap_scopes.specs.declared.offsets.HermesScopeOffset.{HermesScopeOffset}
 
 -- the offset of a segment: `here` are the segments of its line up to it, `all` those of the text up to it
-abbrev pub offset_of : List Segment → List Segment → HermesScopeOffset
-offset_of here all = record {
+abbrev pub segment_offset : List Segment → List Segment → HermesScopeOffset
+segment_offset here all = record {
   line = (1 + sum_at 2 all) % 2 ^ 32;
   column = sum_at 0 here;
   name_index = sum_at 1 all;
@@ -21,7 +21,7 @@ abbrev pub line_offsets : List Segment → List Segment → List Segment → Lis
 line_offsets before here [] = []
 line_offsets before here (s ∷ later) =
     let here' = here ++ s ∷ [] in
-    offset_of here' (before ++ here') ∷ line_offsets before here' later
+    segment_offset here' (before ++ here') ∷ line_offsets before here' later
 
 -- the offsets of a page, whose lines are lists of segments, behind the segments `before`
 abbrev pub page_offsets : List Segment → List (List Segment) → List HermesScopeOffset
@@ -31,18 +31,18 @@ page_offsets before (line ∷ page) = line_offsets before [] line ++ page_offset
 -- Texts and pages.
 
 -- the segments of some parts, empty ones skipped; the place of a segment in its line is not kept
-abbrev pub PartsRead : List (List ℕ) → List Segment → Type 0
-PartsRead [] segments = segments ≡ []
-PartsRead ([] ∷ parts) segments = PartsRead parts segments
-PartsRead ((c ∷ cs) ∷ parts) [] = ⊥
-PartsRead ((c ∷ cs) ∷ parts) (s ∷ segments) =
-    (s.place ≡ 0) × Reads (c ∷ cs) s.numbers × PartsRead parts segments
+abbrev pub SegmentsRead : List (List ℕ) → List Segment → Type 0
+SegmentsRead [] segments = segments ≡ []
+SegmentsRead ([] ∷ parts) segments = SegmentsRead parts segments
+SegmentsRead ((c ∷ cs) ∷ parts) [] = ⊥
+SegmentsRead ((c ∷ cs) ∷ parts) (s ∷ segments) =
+    (s.place ≡ 0) × Reads (c ∷ cs) s.numbers × SegmentsRead parts segments
 
 -- some lines read as a page
-abbrev pub LinesRead : List (List ℕ) → List (List Segment) → Type 0
-LinesRead [] page = page ≡ []
-LinesRead (line ∷ lines) [] = ⊥
-LinesRead (line ∷ lines) (segments ∷ page) = PartsRead (parts_of line) segments × LinesRead lines page
+abbrev pub PageRead : List (List ℕ) → List (List Segment) → Type 0
+PageRead [] page = page ≡ []
+PageRead (line ∷ lines) [] = ⊥
+PageRead (line ∷ lines) (segments ∷ page) = SegmentsRead (parts_of line) segments × PageRead lines page
 
 -- a part whose digits cannot be read
 abbrev pub IsUnreadable : List ℕ → Type 0
@@ -51,5 +51,5 @@ IsUnreadable part = (part ≢ []) × ((e : Error) × HasFault part e)
 -- what a text stands for: the offsets of its page, or none if a part of it cannot be read
 abbrev pub StandsFor : List ℕ → Option (List HermesScopeOffset) → Type 0
 StandsFor text (Some offsets) =
-    (page : List (List Segment)) × LinesRead (lines_of text) page × (offsets ≡ page_offsets [] page)
+    (page : List (List Segment)) × PageRead (lines_of text) page × (offsets ≡ page_offsets [] page)
 StandsFor text None = Any (λ line. Any IsUnreadable (parts_of line)) (lines_of text)

@@ -2,15 +2,15 @@
 use Rattle.std.specs.Prelude.{◌≡◌, ℕ, List, ◌++◌}
 use Rattle.sourcemap_mappings.specs.Segment.{Segment}
 use Rattle.sourcemap_scopes.specs.declared.offsets.HermesScopeOffset.{HermesScopeOffset}
-use Rattle.sourcemap_scopes.specs.Offsets.{offset_of, line_offsets, PartsRead}
+use Rattle.sourcemap_scopes.specs.Offsets.{segment_offset, line_offsets, SegmentsRead}
 
 -- behind the segments `before` of earlier lines and `here` of its own, this is the last offset
-abbrev pub IsLast : (before here : List Segment) → HermesScopeOffset → Type 0
-IsLast before here last = last ≡ offset_of here (before ++ here)
+abbrev pub IsLastOffset : (before here : List Segment) → HermesScopeOffset → Type 0
+IsLastOffset before here last = last ≡ segment_offset here (before ++ here)
 
 -- parts of a line, behind `before` and `here`, give their offsets, of which this is the last
-pub record AddsParts (before here : List Segment) (parts : List (List ℕ)) (old new : List HermesScopeOffset) (last : HermesScopeOffset) : Type 0 where
+pub record AddsOffsets (before here : List Segment) (parts : List (List ℕ)) (old new : List HermesScopeOffset) (last : HermesScopeOffset) : Type 0 where
   pub segments : List Segment
-  pub read : PartsRead parts segments
+  pub read : SegmentsRead parts segments
   pub offsets : new ≡ old ++ line_offsets before here segments
-  pub is_last : IsLast before (here ++ segments) last
+  pub is_last : IsLastOffset before (here ++ segments) last

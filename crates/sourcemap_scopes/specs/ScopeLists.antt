@@ -11,24 +11,24 @@ use Rattle.sourcemap_scopes.specs.Offsets.{StandsFor}
 use Rattle.sourcemap_scopes.specs.declared.offsets.HermesScopeOffset.{HermesScopeOffset}
 
 -- what was read for a source: a list of scopes, or none
-abbrev pub Entry : Type 0
-Entry = Option (List Scopes)
+abbrev pub ScopeEntry : Type 0
+ScopeEntry = Option (List Scopes)
 
 abbrev pub list_in : Vec FacebookScopeMapping Global → List Scopes
 list_in list = map scopes_view list.items
 
-abbrev pub entry_in : Option (Vec FacebookScopeMapping Global) → Entry
+abbrev pub entry_in : Option (Vec FacebookScopeMapping Global) → ScopeEntry
 entry_in entry = option_map list_in entry
 
-abbrev pub entries_in : Vec (Option (Vec FacebookScopeMapping Global)) Global → List Entry
+abbrev pub entries_in : Vec (Option (Vec FacebookScopeMapping Global)) Global → List ScopeEntry
 entries_in entries = map entry_in entries.items
 
 -- the scopes that count are the first of the list
-abbrev pub first_scopes : Entry → Option Scopes
+abbrev pub first_scopes : ScopeEntry → Option Scopes
 first_scopes entry = option_and_then (λ list. slice_get list 0) entry
 
 -- the names of the functions of a source
-abbrev pub names_of : Entry → List (List ℕ)
+abbrev pub names_of : ScopeEntry → List (List ℕ)
 names_of entry = option_map_or (λ scopes. scopes.names) (first_scopes entry) []
 
 -- the function map that scopes stand for, if there are some
@@ -37,7 +37,7 @@ ScopesStandFor None function_map = function_map ≡ None
 ScopesStandFor (Some scopes) function_map = StandsFor scopes.mappings function_map
 
 -- the function map that an entry stands for
-abbrev pub EntryStandsFor : Entry → Option (List HermesScopeOffset) → Type 0
+abbrev pub EntryStandsFor : ScopeEntry → Option (List HermesScopeOffset) → Type 0
 EntryStandsFor entry function_map = ScopesStandFor (first_scopes entry) function_map
 
 -- the same names and the same text of mappings
@@ -48,5 +48,5 @@ same_scopes =
     (on (λ s. s.mappings) same_text)
 
 -- both none, or lists of the same scopes
-abbrev pub same_entry : Entry → Entry → Bool
+abbrev pub same_entry : ScopeEntry → ScopeEntry → Bool
 same_entry = option_eq (pointwise same_scopes)

@@ -7,14 +7,14 @@ use Rattle.std.specs.Cmp.{IsEquivalence}
 use Rattle.std.specs.Cmp.Rules.{comparing}
 use Rattle.std.specs.Cmp.Lexicographic.{pointwise}
 use Rattle.std.proofs.Common.{rules}
-use Rattle.sourcemap_scopes.specs.FunctionMap.{AreInOrder, closest_offset, same_offsets}
+use Rattle.sourcemap_scopes.specs.FunctionMap.{AreOffsetsInOrder, closest_offset, same_offsets}
 use Rattle.sourcemap_scopes.specs.Picks.{item_at, items_at}
-use Rattle.sourcemap_scopes.specs.ScopeLists.{Entry, EntryStandsFor, names_of, same_entry}
+use Rattle.sourcemap_scopes.specs.ScopeLists.{ScopeEntry, EntryStandsFor, names_of, same_entry}
 use Rattle.sourcemap_scopes.specs.declared.offsets.HermesScopeOffset.{HermesScopeOffset}
 
 -- by ids of sources, the entries as they were read, and the function maps that they stand for
 pub record SourceScopesValue : Type 0 where
-  pub entries : List Entry
+  pub entries : List ScopeEntry
   pub function_maps : List (Option (List HermesScopeOffset))
 
 -- each function map is the one that its entry stands for
@@ -23,7 +23,7 @@ AreOfEntries scopes = AllZip EntryStandsFor scopes.entries scopes.function_maps
 
 -- the functions of the source with this id stand in order
 abbrev pub IsInOrderAt : SourceScopesValue → ℕ → Type 0
-IsInOrderAt scopes id = IfSome (item_at scopes.function_maps id) AreInOrder
+IsInOrderAt scopes id = IfSome (item_at scopes.function_maps id) AreOffsetsInOrder
 
 -- the index of the name of the function that a place in the source with this id stands in
 abbrev pub name_index : SourceScopesValue → ℕ → ℕ × ℕ → Option ℕ
@@ -31,8 +31,8 @@ name_index scopes id p =
     option_and_then (λ offsets. option_map (λ o. o.name_index) (closest_offset offsets p)) (item_at scopes.function_maps id)
 
 -- the name of the function that a place in the source with this id stands in; its line and column count from 0
-abbrev pub scope : SourceScopesValue → ℕ → ℕ × ℕ → Option (List ℕ)
-scope scopes id p = option_and_then (λ index. slice_get (names_of (item_at scopes.entries id)) index) (name_index scopes id p)
+abbrev pub scope_at : SourceScopesValue → ℕ → ℕ × ℕ → Option (List ℕ)
+scope_at scopes id p = option_and_then (λ index. slice_get (names_of (item_at scopes.entries id)) index) (name_index scopes id p)
 
 -- the scopes of the sources with these ids, in this order; none of an id that has none
 abbrev pub picked_scopes : SourceScopesValue → List ℕ → SourceScopesValue

@@ -7,7 +7,7 @@ ghost use Rattle.std.specs.Option.{option_eq};
 ghost use Rattle.sourcemap_errors.specs.Answer.{Gives};
 ghost use Rattle.sourcemap_errors.specs.declared.errors.Error.TheVariants.{OutOfMemory};
 ghost use Rattle.sourcemap_scopes.specs.Offsets.{StandsFor};
-ghost use Rattle.sourcemap_scopes.specs.FunctionMap.{AreInOrder, closest_offset, place_of, same_offsets, same_offsets_equiv};
+ghost use Rattle.sourcemap_scopes.specs.FunctionMap.{AreOffsetsInOrder, closest_offset, offset_place, same_offsets, same_offsets_equiv};
 
 use crate::offsets::{HermesScopeOffset, read_offsets};
 use sourcemap_errors::errors::{Error, Result};
@@ -32,8 +32,8 @@ impl Model for HermesFunctionMap {
 }
 
 // The line, from 1, and the column of an offset.
-fn place_of(offset: &HermesScopeOffset) -> (u64, u32)
-    ensures { result ≡ place_of offset.now }
+fn offset_place(offset: &HermesScopeOffset) -> (u64, u32)
+    ensures { result ≡ offset_place offset.now }
 {
     (u64::from(offset.line), offset.column)
 }
@@ -59,12 +59,12 @@ impl HermesFunctionMap {
     /// one that begins before it. So it is where functions stand in order of their beginnings; else
     /// the answer is the index of some function's name, or none.
     pub fn name_index(&self, line: u32, col: u32) -> Option<u32>
-        ensures { AreInOrder self.now
+        ensures { AreOffsetsInOrder self.now
             → result ≡ option_map (λ o. o.name_index) (closest_offset self.now (line, col)) }
     {
         let place = (u64::from(line) + 1, col);
         let offsets = self.offsets.as_slice();
-        let (_, offset) = greatest_lower_bound(offsets, &place, place_of)?;
+        let (_, offset) = greatest_lower_bound(offsets, &place, offset_place)?;
         Some(offset.name_index)
     }
 

@@ -7,7 +7,7 @@ ghost use Rattle.sourcemap_mappings.specs.Segment.{Segment, parts_of};
 ghost use Rattle.sourcemap_mappings.specs.SegmentSteps.{AreSteps};
 ghost use Rattle.sourcemap_scopes.specs.Offsets.{IsUnreadable, StandsFor};
 ghost use Rattle.sourcemap_scopes.specs.declared.offsets.HermesScopeOffset.{HermesScopeOffset};
-ghost use Rattle.sourcemap_scopes.specs.OffsetsSteps.{IsLast, AddsParts};
+ghost use Rattle.sourcemap_scopes.specs.OffsetsSteps.{IsLastOffset, AddsOffsets};
 
 use sourcemap_errors::errors::{Error, Result};
 use sourcemap_mappings::read::cut;
@@ -34,8 +34,8 @@ const START: HermesScopeOffset = HermesScopeOffset {
 // The offset of a segment with these numbers, behind this one.
 #[inline]
 fn stepped(last: HermesScopeOffset, read: &Numbers) -> HermesScopeOffset
-    ensures { (before here : List Segment) (s : Segment) → IsLast before here last
-        → AreSteps s.numbers read.now → IsLast before (here ++ s ∷ []) result }
+    ensures { (before here : List Segment) (s : Segment) → IsLastOffset before here last
+        → AreSteps s.numbers read.now → IsLastOffset before (here ++ s ∷ []) result }
 {
     HermesScopeOffset {
         line: last.line.wrapping_add(read.steps[2]),
@@ -52,8 +52,8 @@ fn add_part(
     last: HermesScopeOffset,
 ) -> Result<HermesScopeOffset>
     ensures added { (before here : List Segment) (part : List ℕ) (numbers : List ℤ)
-        → IsLast before here last → Reads part numbers → AreSteps numbers read.now
-        → IfOk result (AddsParts before here (part ∷ []) offsets.old.items offsets.new.items) }
+        → IsLastOffset before here last → Reads part numbers → AreSteps numbers read.now
+        → IfOk result (AddsOffsets before here (part ∷ []) offsets.old.items offsets.new.items) }
     ensures memory { IfErr result (λ e. e ≡ OutOfMemory) }
 {
     if read.count == 0 {
@@ -70,9 +70,9 @@ fn add_parts(
     text: &[u8],
     last: HermesScopeOffset,
 ) -> Result<HermesScopeOffset>
-    ensures added { (before : List Segment) → IsLast before [] (record last { column = 0 })
+    ensures added { (before : List Segment) → IsLastOffset before [] (record last { column = 0 })
         → IfOk result
-        (AddsParts before [] (parts_of text.now) offsets.old.items offsets.new.items) }
+        (AddsOffsets before [] (parts_of text.now) offsets.old.items offsets.new.items) }
     ensures fault { IfErr result (λ e. UnlessMemory e (Any IsUnreadable (parts_of text.now))) }
 {
     let mut last = HermesScopeOffset { column: 0, ..last };

@@ -10,7 +10,7 @@ ghost use Rattle.sourcemap_errors.specs.declared.errors.Error.TheVariants.{OutOf
 ghost use Rattle.sourcemap_scopes.specs.FunctionMap.{same_offsets};
 ghost use Rattle.sourcemap_scopes.specs.Picks.{item_at};
 ghost use Rattle.sourcemap_scopes.specs.ScopeLists.{entries_in, names_of};
-ghost use Rattle.sourcemap_scopes.specs.SourceScopes.{SourceScopesValue, AreOfEntries, IsInOrderAt, name_index, picked_scopes, same_source_scopes, same_source_scopes_equiv, scope};
+ghost use Rattle.sourcemap_scopes.specs.SourceScopes.{SourceScopesValue, AreOfEntries, IsInOrderAt, name_index, picked_scopes, same_source_scopes, same_source_scopes_equiv, scope_at};
 
 use crate::function_map::{HermesFunctionMap, copy_function_maps, same_function_maps};
 use crate::picks::picked;
@@ -86,7 +86,7 @@ impl SourceScopes {
     /// in order of their beginnings; else the answer is the name of one of them, or none.
     pub fn scope(&self, source: u32, line: u32, col: u32) -> Option<&str>
         ensures { IsInOrderAt self.now source
-            → option_copied result ≡ scope self.now source (line, col) }
+            → option_copied result ≡ scope_at self.now source (line, col) }
     {
         let index = self.name_index(source, line, col)?;
         self.name(source, index)
@@ -112,14 +112,16 @@ impl SourceScopes {
 
     /// The scopes as they were read, moved and not copied.
     pub fn into_entries(self) -> ScopeLists
-        ensures { entries_in result ≡ self.entries }
+        ensures entries { entries_in result ≡ self.entries }
+        ensures function_maps { AreOfEntries self }
     {
         self.entries
     }
 
     /// A copy of the scopes as they were read. Only want of memory refuses.
     pub fn copy_entries(&self) -> Result<ScopeLists>
-        ensures { Gives entries_in result (Ok self.now.entries) }
+        ensures entries { Gives entries_in result (Ok self.now.entries) }
+        ensures function_maps { AreOfEntries self.now }
     {
         copy_scope_lists(*self.entries.allocator(), self.entries.as_slice())
     }
@@ -170,5 +172,5 @@ pub fn entries_determine_function_maps()
 pub fn picked_scopes_answer_alike()
     ensures { (scopes : SourceScopesValue) (ids : List ℕ) (place id : ℕ) (p : ℕ × ℕ)
         → slice_get ids place ≡ Some id
-        → scope (picked_scopes scopes ids) place p ≡ scope scopes id p }
+        → scope_at (picked_scopes scopes ids) place p ≡ scope_at scopes id p }
 {}

@@ -3,7 +3,7 @@ use Rattle.std.proofs.lemmas.Result.{err_from_is_err_and}
 use Rattle.sourcemap_errors.proofs.AnswerLemmas.{UnlessMemory-from}
 use Rattle.sourcemap_mappings.specs.Segment.{parts_of}
 use Rattle.sourcemap_scopes.specs.Offsets.{IsUnreadable}
-use Rattle.sourcemap_scopes.proofs.OffsetsLemmas.{Any-here, Any-later, PartsSoFar-more, AddsParts-all}
+use Rattle.sourcemap_scopes.proofs.OffsetsLemmas.{Any-here, Any-later, PartsSoFar-more, AddsOffsets-all}
 use Rattle.sourcemap_scopes.proofs.offsets.add_parts.Goals as goal
 
 pub returns-in_err-read-clause-fault : goal.returns-in_err-read-clause-fault
@@ -17,7 +17,7 @@ pub returns-in_default-clause-added : goal.returns-in_default-clause-added
 returns-in_default-clause-added c = λ before is.
     let first = c.in_ok-read.ensures.read in
     let so_far = rw (first.split, c.in_default.is) at (c.loop-read.invariant.so_far before is) in
-    AddsParts-all before _ _ _ _
+    AddsOffsets-all before _ _ _ _
     (PartsSoFar-more before _ first.part [] _ _ _ _ _ so_far
     (c.in_ok-last.ensures.added before so_far.here first.part first.numbers so_far.is_last first.reads first.steps))
 

@@ -1,4 +1,4 @@
-use Rattle.std.proofs.Common.{ap, Ok, subst, sym}
+use Rattle.std.proofs.Common.{ap, Ok, subst}
 use Rattle.sourcemap_scopes.specs.SourceScopes.{AreOfEntries}
 use Rattle.sourcemap_scopes.proofs.SourceScopesLemmas.{AreOfEntries-picked, picked_stored}
 use Rattle.sourcemap_scopes.proofs.source_scopes.SourceScopes.picked.Goals as goal
