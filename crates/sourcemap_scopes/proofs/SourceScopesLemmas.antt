@@ -1,18 +1,19 @@
 -- Scopes of sources: their function maps are determined, they are picked together, and test equal exactly if they are.
-use Rattle.std.proofs.Common.{◌≡◌, ℕ, zero, suc, List, [], ◌∷◌, map, Option, Some, None, option_map, Vec, sym, ap, ap₂, ◌∙◌, subst, refl}
+use Rattle.std.proofs.Common.{◌≡◌, ℕ, zero, suc, List, [], ◌∷◌, map, nat_eq, slice_set, Option, Some, None, Vec, sym, ap, ap₂, ◌∙◌, subst, refl}
 use Rattle.std.specs.Bool.{Decides}
 use Rattle.std.specs.Cmp.Lexicographic.{pointwise_decides}
-use Rattle.std.specs.List.{AllZip}
+use Rattle.std.specs.List.{AllZip, IsDistinct}
 use Rattle.std.specs.declared.alloc.Global.{Global}
 use Rattle.sourcemap_lists.proofs.TokenListLemmas.{decides_both}
 use Rattle.sourcemap_parts.proofs.TextListsLemmas.{options_decide, texts_decide, text_lists_decide}
 use Rattle.sourcemap_records.specs.Jsontypes.{Scopes}
 use Rattle.sourcemap_records.specs.declared.jsontypes.FacebookScopeMapping.{FacebookScopeMapping}
-use Rattle.sourcemap_scopes.specs.Picks.{item_at, items_at}
+use Rattle.sourcemap_scopes.specs.Picks.{item_at, moved_items}
 use Rattle.sourcemap_scopes.specs.ScopeLists.{ScopeEntry, EntryStandsFor, ScopesStandFor, entry_in, list_in, first_scopes, same_scopes}
 use Rattle.sourcemap_scopes.specs.SourceScopes.{SourceScopesValue, AreOfEntries, picked_scopes, same_source_scopes}
 use Rattle.sourcemap_scopes.specs.declared.offsets.HermesScopeOffset.{HermesScopeOffset}
 use Rattle.sourcemap_scopes.proofs.FunctionMapLemmas.{offsets_decide}
+use Rattle.sourcemap_scopes.proofs.PicksLemmas.{moved-distinct, moved-map}
 use Rattle.sourcemap_scopes.proofs.OffsetsAnswers.{StandsFor-same}
 
 -- One list of function maps.
@@ -32,16 +33,7 @@ maps_same (entry ∷ entries) (x ∷ a) (y ∷ b) h k = ap₂ ◌∷◌ (ScopesS
 pub function_maps_same : (a b : SourceScopesValue) → a.entries ≡ b.entries → AreOfEntries a → AreOfEntries b → a.function_maps ≡ b.function_maps
 function_maps_same a b same h k = maps_same b.entries a.function_maps b.function_maps (subst (λ entries. AllZip EntryStandsFor entries a.function_maps) same h) k
 
--- Picked together.
-
-item_at-map : {X Y : Type 0} (f : X → Y) (xs : List (Option X)) (id : ℕ) → item_at (map (option_map f) xs) id ≡ option_map f (item_at xs id)
-item_at-map f [] id = refl
-item_at-map f (x ∷ xs) zero = refl
-item_at-map f (x ∷ xs) (suc id) = item_at-map f xs id
-
-items_at-map : {X Y : Type 0} (f : X → Y) (xs : List (Option X)) (ids : List ℕ) → items_at (map (option_map f) xs) ids ≡ map (option_map f) (items_at xs ids)
-items_at-map f xs [] = refl
-items_at-map f xs (id ∷ ids) = ap₂ ◌∷◌ (item_at-map f xs id) (items_at-map f xs ids)
+-- Moved together.
 
 map_at : (entries : List ScopeEntry) (maps : List (Option (List HermesScopeOffset))) (id : ℕ) → AllZip EntryStandsFor entries maps → EntryStandsFor (item_at entries id) (item_at maps id)
 map_at [] [] id all = refl
@@ -50,17 +42,36 @@ map_at (entry ∷ entries) [] id all = absurd all
 map_at (entry ∷ entries) (x ∷ maps) zero all = all.0
 map_at (entry ∷ entries) (x ∷ maps) (suc id) all = map_at entries maps id all.1
 
-pub AreOfEntries-picked : (scopes : SourceScopesValue) (ids : List ℕ) → AreOfEntries scopes → AreOfEntries (picked_scopes scopes ids)
-AreOfEntries-picked scopes [] all = tt
-AreOfEntries-picked scopes (id ∷ ids) all = (map_at scopes.entries scopes.function_maps id all, AreOfEntries-picked scopes ids all)
+left_over : (entries : List ScopeEntry) (maps : List (Option (List HermesScopeOffset))) (id : ℕ) → AllZip EntryStandsFor entries maps
+    → AllZip EntryStandsFor (slice_set entries id None) (slice_set maps id None)
+left_over [] [] id all = tt
+left_over [] (x ∷ maps) id all = absurd all
+left_over (entry ∷ entries) [] id all = absurd all
+left_over (entry ∷ entries) (x ∷ maps) zero all = (refl, all.1)
+left_over (entry ∷ entries) (x ∷ maps) (suc id) all = (all.0, left_over entries maps id all.1)
 
-pub picked_stored : (entries kept : List (Option (Vec FacebookScopeMapping Global))) (maps kept_maps : List (Option (List HermesScopeOffset))) (scopes : SourceScopesValue) (ids : List ℕ)
-    → record { entries = map entry_in entries; function_maps = maps } ≡ scopes → kept ≡ items_at entries ids → kept_maps ≡ items_at maps ids
-    → picked_scopes scopes ids ≡ record { entries = map entry_in kept; function_maps = kept_maps }
-picked_stored entries kept maps kept_maps scopes ids is is_kept are_kept =
-    let made : List ScopeEntry → List (Option (List HermesScopeOffset)) → SourceScopesValue = λ es ms. record { entries = es; function_maps = ms } in
-    ap (λ s. picked_scopes s ids) (sym is)
-    ∙ ap₂ made (items_at-map list_in entries ids ∙ ap (map entry_in) (sym is_kept)) (sym are_kept)
+all_moved : (entries : List ScopeEntry) (maps : List (Option (List HermesScopeOffset))) (ids : List ℕ) → AllZip EntryStandsFor entries maps
+    → AllZip EntryStandsFor (moved_items entries ids) (moved_items maps ids)
+all_moved entries maps [] all = tt
+all_moved entries maps (id ∷ ids) all = (map_at entries maps id all, all_moved (slice_set entries id None) (slice_set maps id None) ids (left_over entries maps id all))
+
+-- what is stored once the items were moved
+module _ (entries kept : List (Option (Vec FacebookScopeMapping Global))) (maps kept_maps : List (Option (List HermesScopeOffset))) (ids : List ℕ)
+    (is_kept : kept ≡ moved_items entries ids) (are_kept : kept_maps ≡ moved_items maps ids) where
+  seen : map entry_in kept ≡ moved_items (map entry_in entries) ids
+  seen = ap (map entry_in) is_kept ∙ sym (moved-map list_in entries ids)
+
+  pub stored_moved : AllZip EntryStandsFor (map entry_in entries) maps → AllZip EntryStandsFor (map entry_in kept) kept_maps
+  stored_moved all =
+      subst (λ es. AllZip EntryStandsFor es kept_maps) (sym seen)
+      (subst (λ ms. AllZip EntryStandsFor (moved_items (map entry_in entries) ids) ms) (sym are_kept) (all_moved (map entry_in entries) maps ids all))
+
+  pub stored_picked : (scopes : SourceScopesValue) → record { entries = map entry_in entries; function_maps = maps } ≡ scopes → IsDistinct nat_eq ids
+      → record { entries = map entry_in kept; function_maps = kept_maps } ≡ picked_scopes scopes ids
+  stored_picked scopes is distinct =
+      let made : List ScopeEntry → List (Option (List HermesScopeOffset)) → SourceScopesValue = λ es ms. record { entries = es; function_maps = ms } in
+      ap₂ made (seen ∙ moved-distinct (map entry_in entries) ids distinct) (are_kept ∙ moved-distinct maps ids distinct)
+      ∙ ap (λ s. picked_scopes s ids) is
 
 -- Equality.
 

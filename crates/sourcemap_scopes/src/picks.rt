@@ -1,8 +1,7 @@
 //! Items that are moved to new places.
-ghost use Rattle.std.specs.Prelude.{◌≡◌, IfOk, IsOkUnless, None, nat_eq, slice_set};
-ghost use Rattle.std.specs.List.{IsDistinct};
+ghost use Rattle.std.specs.Prelude.{◌≡◌, IfOk, IsOkUnless, None, slice_set};
 ghost use Rattle.sourcemap_errors.specs.declared.errors.Error.TheVariants.{OutOfMemory};
-ghost use Rattle.sourcemap_scopes.specs.Picks.{item_at, items_at};
+ghost use Rattle.sourcemap_scopes.specs.Picks.{item_at, moved_items};
 
 use sourcemap_errors::errors::Result;
 use std::alloc::Global;
@@ -19,19 +18,18 @@ fn taken<T: Drop>(items: &mut Vec<Option<T>>, id: usize) -> Option<T>
     }
 }
 
-// The items with these ids, in this order, none for an id that has none.
-pub(crate) fn picked<T: Drop>(
+// The items with these ids, in this order; none for an id that has none or comes again.
+pub(crate) fn moved<T: Drop>(
     alloc: Global,
     mut items: Vec<Option<T>>,
     ids: &[u32],
 ) -> Result<Vec<Option<T>>>
-    requires { IsDistinct nat_eq ids.now }
-    ensures picked { IfOk result (λ picked. picked.items ≡ items_at items.items ids.now) }
+    ensures moved { IfOk result (λ moved. moved.items ≡ moved_items items.items ids.now) }
     ensures memory { IsOkUnless result OutOfMemory }
 {
-    let mut picked = Vec::with_capacity(alloc, ids.len())?;
+    let mut moved = Vec::with_capacity(alloc, ids.len())?;
     for id in ids {
-        picked.push(taken(&mut items, *id as usize))?;
+        moved.push(taken(&mut items, *id as usize))?;
     }
-    Ok(picked)
+    Ok(moved)
 }

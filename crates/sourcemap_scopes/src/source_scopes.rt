@@ -13,7 +13,7 @@ ghost use Rattle.sourcemap_scopes.specs.ScopeLists.{entries_in, names_of};
 ghost use Rattle.sourcemap_scopes.specs.SourceScopes.{SourceScopesValue, AreOfEntries, IsInOrderAt, name_index, picked_scopes, same_source_scopes, same_source_scopes_equiv, scope_at};
 
 use crate::function_map::{HermesFunctionMap, copy_function_maps, same_function_maps};
-use crate::picks::picked;
+use crate::picks::moved;
 use crate::scope_lists::{ScopeLists, copy_scope_lists, function_maps_of, same_scope_lists};
 use sourcemap_errors::errors::Result;
 use std::alloc::Global;
@@ -93,17 +93,18 @@ impl SourceScopes {
     }
 
     /// The scopes of the sources with these ids, in this order, moved and not copied; none for an id
-    /// that has none. No id stands twice. Only want of memory refuses.
+    /// that has none, or that comes again. Only want of memory refuses.
     pub fn picked(self, alloc: Global, ids: &[u32]) -> Result<SourceScopes>
-        requires { IsDistinct nat_eq ids.now }
-        ensures { Gives (λ scopes. scopes) result (Ok (picked_scopes self ids.now)) }
+        ensures picked { IsDistinct nat_eq ids.now
+            → IfOk result (λ scopes. scopes ≡ picked_scopes self ids.now) }
+        ensures memory { IsOkUnless result OutOfMemory }
     {
         let SourceScopes {
             entries,
             function_maps,
         } = self;
-        let entries = picked(alloc, entries, ids)?;
-        let function_maps = picked(alloc, function_maps, ids)?;
+        let entries = moved(alloc, entries, ids)?;
+        let function_maps = moved(alloc, function_maps, ids)?;
         Ok(SourceScopes {
             entries,
             function_maps,
