@@ -9,11 +9,11 @@ use std::alloc::Global;
 
 // The lists that stand in a record under `x_facebook_sources`.
 fn lists(alloc: Global, text: &str) -> Result<ScopeLists> {
-    let record = RawSourceMap::from_owned(alloc, Value::from_str(alloc, text)?)?;
-    match record.x_facebook_sources {
-        Some(lists) => Ok(lists),
-        None => Err(Error::IncompatibleSourceMap),
-    }
+    let mut record = RawSourceMap::from_owned(alloc, Value::from_str(alloc, text)?)?;
+    record
+        .x_facebook_sources
+        .take()
+        .ok_or(Error::IncompatibleSourceMap)
 }
 
 fn scopes(alloc: Global, text: &str) -> Result<SourceScopes> {
