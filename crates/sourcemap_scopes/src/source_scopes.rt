@@ -40,9 +40,9 @@ impl Model for SourceScopes {
 }
 
 impl SourceScopes {
-    /// The scopes of sources as they stand in a record, and their function maps: of each source that
-    /// of the first scopes of its list, none if it has no list, an empty one, or a text of mappings
-    /// that cannot be read. Only want of memory refuses.
+    /// The scopes of sources as they stand in a record, and their function maps: of each source
+    /// that of the first scopes of its list, none if it has no list, an empty one, or a text of
+    /// mappings that cannot be read. Only want of memory refuses.
     pub fn new(alloc: Global, entries: ScopeLists) -> Result<SourceScopes>
         ensures entries { IfOk result (λ scopes. scopes.entries ≡ entries_in entries) }
         ensures function_maps { IfOk result AreOfEntries }
@@ -81,9 +81,9 @@ impl SourceScopes {
 
     /// The name of the function that a place in the source with this id stands in, whose line and
     /// column count from 0: of the first function that begins there, and if none does, of the last
-    /// one that begins before it. There is none where no function begins so early, the source has no
-    /// function map, or the function has no name. So it is where the functions of the source stand
-    /// in order of their beginnings; else the answer is the name of one of them, or none.
+    /// one that begins before it. There is none where no function begins so early, the source has
+    /// no function map, or the function has no name. So it is where the functions of the source
+    /// stand in order of their beginnings; else the answer is the name of one of them, or none.
     pub fn scope(&self, source: u32, line: u32, col: u32) -> Option<&str>
         ensures { IsInOrderAt self.now source
             → option_copied result ≡ scope_at self.now source (line, col) }
@@ -92,8 +92,8 @@ impl SourceScopes {
         self.name(source, index)
     }
 
-    /// The scopes of the sources with these ids, in this order, moved and not copied; none for an id
-    /// that has none, or that comes again. Only want of memory refuses.
+    /// The scopes of the sources with these ids, in this order, moved and not copied; none for an
+    /// id that has none, or that comes again. Only want of memory refuses.
     pub fn picked(self, alloc: Global, ids: &[u32]) -> Result<SourceScopes>
         ensures picked { IsDistinct nat_eq ids.now
             → IfOk result (λ scopes. scopes ≡ picked_scopes self ids.now) }
@@ -169,9 +169,12 @@ pub fn entries_determine_function_maps()
         → a.function_maps ≡ b.function_maps }
 {}
 
-/// A law: a source keeps its functions where its scopes are picked.
+/// A law: where its scopes are picked, a source keeps its functions, and the order that they have.
 pub fn picked_scopes_answer_alike()
-    ensures { (scopes : SourceScopesValue) (ids : List ℕ) (place id : ℕ) (p : ℕ × ℕ)
+    ensures in_order { (scopes : SourceScopesValue) (ids : List ℕ) (place id : ℕ)
+        → slice_get ids place ≡ Some id → IsInOrderAt scopes id
+        → IsInOrderAt (picked_scopes scopes ids) place }
+    ensures scope { (scopes : SourceScopesValue) (ids : List ℕ) (place id : ℕ) (p : ℕ × ℕ)
         → slice_get ids place ≡ Some id
         → scope_at (picked_scopes scopes ids) place p ≡ scope_at scopes id p }
 {}
