@@ -1,3 +1,4 @@
+-- What is copied so far.
 use Rattle.std.proofs.Common.{◌≡◌, take}
 use Rattle.sourcemap_scopes.proofs.function_map.copy_function_maps.Given as goal
 

@@ -1,3 +1,4 @@
+-- A part adds the offset of its segment, if it is one.
 use Rattle.std.proofs.Common.{◌<◌, length, arith}
 use Rattle.sourcemap_mappings.specs.Segment.{Segment}
 use Rattle.sourcemap_scopes.proofs.OffsetsLemmas.{AddsOffsets-segment, AddsOffsets-none}

@@ -1,3 +1,4 @@
+-- The parts of a line add their offsets, or one of them cannot be read.
 use Rattle.std.proofs.Common.{[], Any, subst, sym}
 use Rattle.std.proofs.lemmas.Result.{err_from_is_err_and}
 use Rattle.sourcemap_errors.proofs.AnswerLemmas.{UnlessMemory-from}

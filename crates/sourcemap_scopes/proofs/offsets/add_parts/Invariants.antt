@@ -1,3 +1,4 @@
+-- What is read of a line so far.
 use Rattle.std.proofs.Common.{length, List, Any}
 use Rattle.sourcemap_mappings.specs.Segment.{Segment, parts_of}
 use Rattle.sourcemap_scopes.specs.Offsets.{IsUnreadable}

@@ -1,3 +1,4 @@
+-- The lines of a text are a page, or one of them cannot be read.
 use Rattle.std.proofs.Common.{Any}
 use Rattle.std.proofs.lemmas.Result.{err_from_is_err_and}
 use Rattle.sourcemap_errors.proofs.AnswerLemmas.{UnlessMemory-weaker}

@@ -1,3 +1,4 @@
+-- What is read of a text so far.
 use Rattle.std.proofs.Common.{length, ◌+◌, Any}
 use Rattle.std.specs.Option.{option_map_or}
 use Rattle.sourcemap_mappings.specs.Segment.{parts_of}

@@ -1,3 +1,4 @@
+-- One more item is moved.
 use Rattle.std.proofs.Common.{◌≡◌, ◌++◌, ◌∷◌, [], ℕ, ◌+◌, List, drop, get_or, subst}
 use Rattle.std.proofs.lemmas.List.{drop_more}
 use Rattle.sourcemap_scopes.specs.Picks.{item_at, moved_items}

@@ -1,3 +1,4 @@
+-- What is moved so far, and what is left.
 use Rattle.std.proofs.Common.{◌≡◌, ◌++◌, drop}
 use Rattle.sourcemap_scopes.specs.Picks.{moved_items}
 use Rattle.sourcemap_scopes.proofs.picks.moved.Given as goal

@@ -1,3 +1,4 @@
+-- What is copied so far.
 use Rattle.std.proofs.Common.{◌≡◌, map, take}
 use Rattle.sourcemap_records.specs.Jsontypes.{scopes_view}
 use Rattle.sourcemap_scopes.specs.ScopeLists.{list_in}

@@ -1,3 +1,4 @@
+-- What is copied so far.
 use Rattle.std.proofs.Common.{◌≡◌, map, take}
 use Rattle.sourcemap_scopes.specs.ScopeLists.{entry_in, entries_in}
 use Rattle.sourcemap_scopes.proofs.scope_lists.copy_scope_lists.Given as goal

@@ -1,3 +1,4 @@
+-- One more entry has its function map.
 use Rattle.std.proofs.Common.{subst}
 use Rattle.sourcemap_scopes.specs.ScopeLists.{EntryStandsFor, entry_in}
 use Rattle.sourcemap_scopes.proofs.ScopeListsLemmas.{AllZip-more}

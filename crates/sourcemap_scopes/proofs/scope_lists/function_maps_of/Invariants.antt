@@ -1,3 +1,4 @@
+-- The entries so far have their function maps.
 use Rattle.std.proofs.Common.{map, take}
 use Rattle.std.specs.List.{AllZip}
 use Rattle.sourcemap_scopes.specs.ScopeLists.{EntryStandsFor, entry_in}

@@ -1,3 +1,4 @@
+-- The search over the offsets finds the closest one.
 use Rattle.std.proofs.Common.{◌∙◌, ◌+◌, sym, ap, subst, ℕ, Some, None}
 use Rattle.sourcemap_lists.specs.Search.{closest}
 use Rattle.sourcemap_lists.specs.Tokens.{position_cmp}

@@ -1,3 +1,4 @@
+-- Function maps test equal exactly if they are.
 use Rattle.sourcemap_scopes.proofs.FunctionMapLemmas.{offsets_decide}
 use Rattle.sourcemap_scopes.proofs.function_map.HermesFunctionMapPartialEq.eq.Goals as goal
 

@@ -1,3 +1,4 @@
+-- Entries and function maps are moved together.
 use Rattle.sourcemap_scopes.proofs.SourceScopesLemmas.{stored_moved, stored_picked}
 use Rattle.sourcemap_scopes.proofs.source_scopes.SourceScopes.picked.Goals as goal
 

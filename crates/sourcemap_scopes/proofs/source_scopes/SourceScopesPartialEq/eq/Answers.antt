@@ -1,3 +1,4 @@
+-- Scopes of sources test equal exactly if they are.
 use Rattle.sourcemap_scopes.proofs.SourceScopesLemmas.{source_scopes_decide}
 use Rattle.sourcemap_scopes.proofs.source_scopes.SourceScopesPartialEq.eq.Goals as goal
 
