@@ -47,8 +47,8 @@ pub struct Reply {
 ///
 /// `IncompatibleSourceMap` for an index in `Tokens` and `Rewrite` and as either map of `Compose`, for
 /// a regular map in `Flatten` and `Shift`, where `Compose` would put a token past column 4294967295,
-/// as by `SourceMap::adjust_mappings`, and where `Shift` would put a section past row 4294967295.
-/// `CannotFlatten` as by `SourceMapIndex::flatten`. Else only want of memory refuses.
+/// and where `Shift` would put a section past row 4294967295. `CannotFlatten` as by
+/// `SourceMapIndex::flatten`. Else only want of memory refuses.
 pub fn apply<F: Files>(
     rt: &F,
     alloc: Global,
@@ -152,7 +152,8 @@ fn composed_text(alloc: Global, map: DecodedMap, adjustment: DecodedMap) -> Resu
 
 // The JSON text of an index with its sections so many rows further down.
 fn shifted_text(alloc: Global, mut index: SourceMapIndex, rows: u32) -> Result<String>
-    ensures { IsAnswer string_bytes (Says (Shift rows) (index_tree (index_value index)) None) result }
+    ensures { IsAnswer string_bytes
+        (Says (Shift rows) (index_tree (index_value index)) None) result }
 {
     if !index.adjust_sections_offset_rows(rows) {
         return Err(Error::IncompatibleSourceMap);
@@ -309,12 +310,13 @@ fn replied<F: Files>(
     }
 }
 
-/// The reply to words, on the bytes of a map, and for `Compose` on those of the file that it names, or
-/// on why they could not be read: with status 0 what the command that the words ask for says, as by
-/// `apply`. With status 1 the text of the refusal and a newline. The first of these comes: the bytes
-/// hold no map, as by `decode_slice`, which is `Io` for a faulty junk header alone; the file was not
-/// read; its bytes hold no map; what `apply` refuses. With status 2 the usage, whatever the bytes are,
-/// for words that ask for no command. Only want of memory refuses.
+/// The reply to words, on the bytes of a map. For `Compose` what was read of the file that it names
+/// counts too, its bytes or why there are none, and for no other words. With status 0 what the
+/// command that the words ask for says, as by `apply`. With status 1 the text of a refusal and a
+/// newline, that of the first of these: the bytes hold no map, as by `decode_slice`, which is `Io`
+/// for a faulty junk header alone; the file was not read; its bytes hold no map; `apply` refuses.
+/// With status 2 the usage, whatever the bytes are, for words that ask for no command. Only want of
+/// memory refuses.
 pub fn reply_to<F: Files>(
     rt: &F,
     alloc: Global,
@@ -411,10 +413,10 @@ fn report<W: Write>(alloc: Global, made: Result<Reply>, output: &mut W) -> Resul
     }
 }
 
-/// Prints the reply to words, on the map that an input gives, and answers its status: what `reply_to`
-/// makes of the words and of all bytes of the input, which is read only where the words ask for a
-/// command. The file of `Compose` is opened and read only once the input is decoded: what it has then
-/// counts, or why it cannot be read. A read's fault, and want of memory, are refused like a faulty map,
+/// Prints the reply to words, on the map that an input gives, and answers its status: what
+/// `reply_to` makes of the words, of all bytes of the input, which is read only where the words ask
+/// for a command, and for `Compose` of what a reading of its file then gives. That is opened and read
+/// only once the input is decoded. A read's fault, and want of memory, are refused like a faulty map,
 /// with status 1. All text is made before the first byte of it is written. The only error is a
 /// write's fault.
 pub fn run<F: Files, R: Read, W: Write>(
@@ -433,8 +435,8 @@ pub fn run<F: Files, R: Read, W: Write>(
     report(alloc, made, output)
 }
 
-/// Words and bytes have one reply, where those of a file that is read are given too: what replies for
-/// one ending that is right does for each. Only the texts of a header's fault are not known to be one.
+/// Words, bytes and what was read of a file have one reply: what replies for one ending that is right
+/// does for each. Only the texts of a header's fault are not known to be one.
 pub fn replies_are_determined()
     ensures { (words : List (List ℕ)) (bytes : List ℕ) (read : Result (List ℕ) Error) (a b : Ending)
         → Ends words bytes read a → Ends words bytes read b

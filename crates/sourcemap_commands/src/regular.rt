@@ -1,5 +1,5 @@
-//! Regular maps that the program makes of maps: one rewritten by default, one of an index, and one that
-//! another adjusts.
+//! Regular maps that the program makes of maps: one rewritten by default, one of an index, and one
+//! adjusted by another.
 ghost use Rattle.std.specs.Prelude.{◌≡◌, MatchResult, Some};
 ghost use Rattle.sourcemap.specs.Answer.{Gives, IsAnswer};
 ghost use Rattle.sourcemap.specs.Decoded.{index_value, map_tree};

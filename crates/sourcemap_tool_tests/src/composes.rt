@@ -9,8 +9,8 @@ use std::io;
 use std::io::ErrorKind;
 use std::test::Fail;
 
-// A map, the file's text, the status and text of the run, and whether the file was opened: not where
-// the first is faulty. Fault by fault, the first of them is told.
+// A map, the file's text, the status and text of the run, and whether the file was opened. It is
+// not where the map is faulty, whose fault comes first.
 const ROWS: &str =
     r#"{"sources":["o.js"],"mappings":"AAAA,KAAK"}|{"sources":["t.js"],"mappings":"EAAA"}|0 {"mappings":"EAAA,KAAK","names":[],"sources":["o.js"],"version":3}|opened
 {"sources":["a.js"],"mappings":"AAAO","rangeMappings":"B"}|{"sources":["t.js"],"mappings":"EAAU"}|0 {"mappings":"EAAiB","names":[],"rangeMappings":"B","sources":["a.js"],"version":3}|opened
