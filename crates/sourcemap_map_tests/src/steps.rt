@@ -59,7 +59,10 @@ fn told(alloc: Global, map: Result<SourceMap>, row: &Counted) -> Result<String> 
     counted(alloc, &map?, row)
 }
 
-const AMONG_NONE: [Counted; 2] = [((0, 0), 0, 2, "None true"), ((NONE, NONE), 0, 2, "None true")];
+const AMONG_NONE: [Counted; 2] = [
+    ((0, 0), 0, 2, "None true"),
+    ((NONE, NONE), 0, 2, "None true"),
+];
 
 const AMONG_THOUSAND: [Counted; 3] = [
     ((0, 0), 1, 22, "Some(0) true"),
@@ -84,27 +87,47 @@ const ON_TWO_LINES: [Counted; 4] = [
 #[test]
 fn no_tokens_take_two_comparisons(rt: HostRuntime) {
     for row in AMONG_NONE.iter() {
-        check(&rt, "none", told(rt.alloc(), equal_tokens(rt.alloc(), 0), row), row.3);
+        check(
+            &rt,
+            "none",
+            told(rt.alloc(), equal_tokens(rt.alloc(), 0), row),
+            row.3,
+        );
     }
 }
 
 #[test]
 fn a_thousand_equal_tokens_take_few_comparisons(rt: HostRuntime) {
     for row in AMONG_THOUSAND.iter() {
-        check(&rt, "thousand", told(rt.alloc(), equal_tokens(rt.alloc(), 1000), row), row.3);
+        check(
+            &rt,
+            "thousand",
+            told(rt.alloc(), equal_tokens(rt.alloc(), 1000), row),
+            row.3,
+        );
     }
 }
 
 #[test]
 fn a_million_equal_tokens_take_few_comparisons(rt: HostRuntime) {
     for row in AMONG_MILLION.iter() {
-        check(&rt, "million", told(rt.alloc(), equal_tokens(rt.alloc(), 1000000), row), row.3);
+        check(
+            &rt,
+            "million",
+            told(rt.alloc(), equal_tokens(rt.alloc(), 1000000), row),
+            row.3,
+        );
     }
 }
 
 #[test]
 fn lines_without_tokens_take_few_comparisons(rt: HostRuntime) {
     for row in ON_TWO_LINES.iter() {
-        check(&rt, "two lines", told(rt.alloc(), tokens_at(rt.alloc(), &PLACES), row), row.3);
+        check(
+            &rt,
+            "two lines",
+            told(rt.alloc(), tokens_at(rt.alloc(), &PLACES), row),
+            row.3,
+        );
     }
 }
