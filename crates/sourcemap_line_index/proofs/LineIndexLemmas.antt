@@ -85,6 +85,7 @@ window_halved number key first place left end half rest skipped some halved othe
             ];
           })
     ]
+
 -- no more is skipped than the first half
 pub skipped_at_most : (a b n skipped : ℕ) → skipped ≡ (if nat_lt a b then n else 0) → skipped ≤ n
 skipped_at_most a b n skipped is =

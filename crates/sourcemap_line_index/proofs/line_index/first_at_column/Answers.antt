@@ -14,10 +14,10 @@ loop-left-preserved g c =
       at_least = let least = c.loop-left.invariant.at_least in omega arith;
       within = omega arith;
       window = λ d. rw c.skip_by_column-place.ensures.kept
-      (window_halved (col_at c.args.tokens.now d) (g.P.Probe.position c.loop-left.probe).1 c.args.first c.loop-left.place c.loop-left.left c.args.end _ _ _
-      (omega arith) refl refl c.loop-left.invariant.at_least (c.requires.rises d) (c.loop-left.invariant.window d)
-      (c.skip_by_column-place.ensures.answer ∙ ap (λ (t : RawToken). if nat_lt t.dst_col (g.P.Probe.position c.loop-left.probe).1 then c.loop-left.left - c.loop-left.left / 2 else 0)
-      (get_or_default c.args.tokens.now (c.loop-left.place + (c.loop-left.left - c.loop-left.left / 2) - 1) _ d (omega arith))));
+          (window_halved (col_at c.args.tokens.now d) (g.P.Probe.position c.loop-left.probe).1 c.args.first c.loop-left.place c.loop-left.left c.args.end _ _ _
+          (omega arith) refl refl c.loop-left.invariant.at_least (c.requires.rises d) (c.loop-left.invariant.window d)
+          (c.skip_by_column-place.ensures.answer ∙ ap (λ (t : RawToken). if nat_lt t.dst_col (g.P.Probe.position c.loop-left.probe).1 then c.loop-left.left - c.loop-left.left / 2 else 0)
+          (get_or_default c.args.tokens.now (c.loop-left.place + (c.loop-left.left - c.loop-left.left / 2) - 1) _ d (omega arith))));
       kept = c.skip_by_column-place.ensures.kept ∙ c.loop-left.invariant.kept;
       remains = λ d l. Remains-half _ _ _ _ _ (omega arith) counted (omega arith) (c.loop-left.invariant.remains d l);
       raised = raised_on _ _ _ c.loop-left.invariant.raised counted;

@@ -10,8 +10,8 @@ loop-left-preserved g c =
     record {
       within = omega arith;
       window = rw c.skip_by_line-row.ensures.kept
-      (window_halved (slice_index c.args.lines.now) (g.P.Probe.position c.loop-left.probe).0 0 c.loop-left.row c.loop-left.left (length c.args.lines.now) _ _ _
-      (omega arith) refl refl (omega arith) c.requires c.loop-left.invariant.window c.skip_by_line-row.ensures.answer);
+          (window_halved (slice_index c.args.lines.now) (g.P.Probe.position c.loop-left.probe).0 0 c.loop-left.row c.loop-left.left (length c.args.lines.now) _ _ _
+          (omega arith) refl refl (omega arith) c.requires c.loop-left.invariant.window c.skip_by_line-row.ensures.answer);
       kept = c.skip_by_line-row.ensures.kept ∙ c.loop-left.invariant.kept;
       remains = λ d l. Remains-half _ _ _ _ _ (omega arith) counted (omega arith) (c.loop-left.invariant.remains d l);
       raised = raised_on _ _ _ c.loop-left.invariant.raised counted;
