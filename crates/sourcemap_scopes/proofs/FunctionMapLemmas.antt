@@ -6,7 +6,7 @@ use Rattle.std.specs.Cmp.Lexicographic.{pointwise_decides}
 use Rattle.sourcemap_lists.specs.Search.{closest}
 use Rattle.sourcemap_lists.specs.Tokens.{position_cmp}
 use Rattle.sourcemap_lists.proofs.SearchLemmas.{item-closest}
-use Rattle.sourcemap_lists.proofs.TokenListLemmas.{decides_both}
+use Rattle.sourcemap_lists.proofs.DecidesLemmas.{decides_both}
 use Rattle.sourcemap_scopes.specs.declared.offsets.HermesScopeOffset.{HermesScopeOffset}
 use Rattle.sourcemap_scopes.specs.FunctionMap.{offset_place, closest_offset, same_offset, same_offsets}
 
