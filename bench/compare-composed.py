@@ -16,12 +16,14 @@ programs differ, the reason is told; without one the pair is told as UNEXPLAINED
   on at the line's start
 - cut range: the reference has the tokens of the rules, but for range tokens that are cut, which lead there to
   where they did whole
+- stable sort: the reference has the tokens of the rules for another order of those tokens of the adjustment
+  that come from one place, of which the last one counts; here they stay as they stood
 - range bits: the tokens differ in which of them are range tokens, and in nothing else
 - panic: the reference panicked, and there are range tokens
 """
 import argparse, json, pathlib
 from comparing import Note, PANICKED, TOOL, answer, build_missing, compare_all, noted, reference_program
-from composing import composed, tokens_of_record, without_repeats
+from composing import composed, tokens_of_record, with_others_last, without_repeats
 from index_maps import record_of
 
 ORIGINAL, ADJUSTMENT = '.original.map', '.adjustment.map'
@@ -64,7 +66,14 @@ class Pair:
         if told == without_marks(self.due):
             return 'range bits' if is_ranged else None
         whole = composed(self.original, self.adjustment, takes_cut=False)
-        return 'cut range' if is_ranged and told == without_marks(whole) else None
+        if told == without_marks(whole):
+            return 'cut range' if is_ranged else None
+        return 'stable sort' if not is_ranged and self.is_reordered(told) else None
+
+    def is_reordered(self, told):
+        """Whether tokens without range tokens are what the rules say for another order of the adjustment's."""
+        adjustment = with_others_last(self.original, self.adjustment, told)
+        return set(told) == set(composed(self.original, adjustment))
 
 
 def compare_pair(reference, path, name, data):

@@ -1,13 +1,15 @@
 #!/usr/bin/env python3
 """Times this library and a reference program side by side, and writes the ratios as Markdown.
 
-    bench/compare-speed.py REFERENCE [MAP..] [--rounds N] [--no-made] [--growth N..] [--instructions]
+    bench/compare-speed.py REFERENCE [MAP..] [--pairs FOLDER] [--rounds N] [--no-made] [--growth N..] [--instructions]
 
 REFERENCE       bench/reference, which is then built, from the public registry if it needs one; or a program
                 over the Rust crate that knows its words `bench OPERATION N`, `stat`, and `slice` and
-                `stream` before `lookup LINE COL`, `rewrite` and `flatten`
+                `stream` before `lookup LINE COL`, `rewrite`, `flatten` and `compose FILE`
 MAP             maps to take, as files, index maps too; without any, those that bench/get-maps.sh gathers, and
                 small and odd ones and indexes that bench/make-map.py makes
+--pairs         a folder with pairs NAME.original.map and NAME.adjustment.map, at any depth, each of which is
+                composed in a whole run
 --rounds        rounds of each figure, of which the least counts (7)
 --no-made       no small and odd maps, and no indexes
 --growth        tokens of the smallest of four made maps, each with twice the tokens of the one before;
@@ -26,7 +28,7 @@ The reference is taken at its strongest: its time is that of `slice`, which read
 it, and its memory is that of `stream`, which holds no more of the input than it decodes at a time. A checksum
 that the two programs do not share is told on standard error, and the status is then 1.
 """
-import argparse, os, shutil, subprocess, sys, tempfile
+import argparse, os, pathlib, shutil, subprocess, sys, tempfile
 from comparing import BENCH, CRATES, TOOL, build_missing, reference_program
 
 SCRIPTS = CRATES.parent / 'bench'
@@ -182,6 +184,16 @@ def map_table(programs, path, rounds, counted):
             print(row('instructions, ' + TITLES[operation], programs.counts(path, operation), 'million', 1), flush=True)
 
 
+def pair_table(programs, path, rounds):
+    adjustment = str(path).replace('.original.map', '.adjustment.map')
+    size, other = (os.path.getsize(each) / 1e6 for each in (path, adjustment))
+    print(f'\n`{path.name}`, {size:.1f} MB, adjusted by one of {other:.1f} MB:\n')
+    print('| Operation | Here | Reference | Ratio |\n|---|---|---|---|')
+    words = ['compose', adjustment]
+    print(row('run of `compose FILE`', programs.whole(path, words, rounds), 'ms', 1e3), flush=True)
+    print(row('its most memory', programs.memory(path, words), 'MB', 1), flush=True)
+
+
 def growth_row(title, programs, figures):
     """A line for each program, of pairs of figures on maps of 1, 2, 4 and 8 times the tokens."""
     if None in figures:
@@ -211,6 +223,7 @@ def main():
     words = argparse.ArgumentParser(usage=__doc__)
     words.add_argument('reference')
     words.add_argument('maps', nargs='*')
+    words.add_argument('--pairs', type=pathlib.Path)
     words.add_argument('--rounds', type=int, default=7)
     words.add_argument('--no-made', action='store_true')
     words.add_argument('--growth', type=int, nargs='+', default=[75000, 250000])
@@ -224,6 +237,8 @@ def main():
             paths += [made_map(made, folder, name) for name, made in MADE.items()]
         for path in paths:
             map_table(programs, path, given.rounds, given.instructions)
+    for path in sorted(given.pairs.rglob('*.original.map')) if given.pairs else []:
+        pair_table(programs, path, given.rounds)
     for smallest in given.growth:
         if smallest:
             growth_table(programs, smallest, given.rounds)

@@ -69,19 +69,49 @@ def pair_token(adjustment, original, takes_cut):
     return token._replace(line=adjustment.token.line, column=column, source_column=source_column)
 
 
+class Originals:
+    """The stretches of the map that is adjusted."""
+
+    def __init__(self, tokens):
+        self.stretches = stretches(tokens, lambda token: token[:2])
+        self.starts = [stretch.start for stretch in self.stretches]
+        self.ends = [stretch.end for stretch in self.stretches]
+
+    def pairs(self, stretch, takes_cut):
+        """The tokens of one stretch of an adjustment: both lists rise, so those that overlap are neighbours."""
+        first, last = bisect.bisect_right(self.ends, stretch.start), bisect.bisect_left(self.starts, stretch.end)
+        return [pair_token(stretch, other, takes_cut) for other in self.stretches[first:last]]
+
+
+def source_of(token):
+    return token[2:4]
+
+
 def composed(original, adjustment, takes_cut=True):
     """The tokens of a map adjusted by those of another one, None where one would pass the end of its line. With
     `takes_cut` a range token that is cut leads to where its rest does, else to where it did."""
-    originals = stretches(original, lambda token: token[:2])
-    starts, ends = [stretch.start for stretch in originals], [stretch.end for stretch in originals]
-    tokens = []
-    for stretch in stretches(adjustment, lambda token: token[2:4]):
-        # both lists rise, so those that begin and end in time are neighbours
-        near = originals[bisect.bisect_right(ends, stretch.start):bisect.bisect_left(starts, stretch.end)]
-        tokens += [pair_token(stretch, other, takes_cut) for other in near]
+    originals = Originals(original)
+    tokens = [token for stretch in stretches(adjustment, source_of) for token in originals.pairs(stretch, takes_cut)]
     if any(token.column > LAST for token in tokens):
         return None
     return sorted(tokens, key=lambda token: token[:2])
+
+
+def with_others_last(original, adjustment, told):
+    """The tokens of an adjustment in an order in which, of those that come from one place, one stands last of which
+    all tokens are told, where there is one. The last one covers what follows that place, the others nothing."""
+    originals, told, ordered = Originals(original), set(told), []
+    for _, group in itertools.groupby(stretches(adjustment, source_of), key=lambda stretch: stretch.start):
+        group = list(group)
+        end = group[-1].end
+        fits = [stretch.token for stretch in reversed(group)
+                if told.issuperset(originals.pairs(stretch._replace(end=end), False))]
+        tokens = [stretch.token for stretch in group]
+        if fits:
+            tokens.remove(fits[0])
+            tokens.append(fits[0])
+        ordered += tokens
+    return ordered
 
 
 def without_repeats(tokens):

@@ -186,11 +186,16 @@ fn ask_for(alloc: Global, line: &str, command: Option<Command>) -> Result<bool, 
     Ok(parse_words(alloc, words.as_slice())? == command)
 }
 
-// Whether a command says this of the map.
-fn says(rt: &HostRuntime, command: Command, want: &str) -> Result<bool, Fail> {
-    let map = decode_slice(rt.alloc(), MAP.as_bytes())?;
-    let text = apply(rt, rt.alloc(), &command, map, None)?;
-    Ok(text.as_str() == want)
+// Whether a command that takes one map says this of the map.
+fn says(rt: &HostRuntime, command: &Command, want: &str) -> Result<bool, Fail> {
+    match command {
+        Command::Compose(_) => Ok(false),
+        command => {
+            let map = decode_slice(rt.alloc(), MAP.as_bytes())?;
+            let text = apply(rt, rt.alloc(), command, map, None)?;
+            Ok(text.as_str() == want)
+        }
+    }
 }
 
 #[test]
@@ -209,8 +214,14 @@ fn words_ask_for_commands(rt: HostRuntime) -> Result<(), Fail> {
 
 #[test]
 fn commands_are_applied(rt: HostRuntime) -> Result<(), Fail> {
-    assert!(rt; says(&rt, Command::Lookup(0, 18), "coolstuff.js:2:2 name=alert\n")?);
-    assert!(rt; says(&rt, Command::Tokens, LINES)?);
-    assert!(rt; says(&rt, Command::Rewrite, REWRITTEN)?);
+    assert!(rt;
+        says(
+            &rt,
+            &Command::Lookup(0, 18),
+            "coolstuff.js:2:2 name=alert\n"
+        )?
+    );
+    assert!(rt; says(&rt, &Command::Tokens, LINES)?);
+    assert!(rt; says(&rt, &Command::Rewrite, REWRITTEN)?);
     Ok(())
 }

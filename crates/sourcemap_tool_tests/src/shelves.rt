@@ -1,4 +1,6 @@
 // A file system of one file, whose reads may fail, and which tells whether the file was opened.
+ghost use Rattle.std.specs.Prelude.{IsErr};
+
 use std::alloc::Allocator;
 use std::cell::Cell;
 use std::fs::{Metadata, OpenFile, OpenOptions};
@@ -13,7 +15,9 @@ pub struct Page<'a> {
     pub left: Option<usize>,
 }
 
-fn unsupported<T>() -> io::Result<T> {
+fn unsupported<T>() -> io::Result<T>
+    ensures { IsErr result }
+{
     Err(io::Error::from(ErrorKind::Unsupported))
 }
 
