@@ -2,7 +2,7 @@
 ghost use Rattle.std.specs.Prelude.{◌≡◌, ◌≤◌, Ok, Result, List, IfOk, IsTrue, ◌↔◌, length, map, option_map, string_bytes, vec_len};
 ghost use Rattle.serde_json.specs.View.{view, number_view};
 ghost use Rattle.sourcemap_errors.specs.Answer.{IsAnswer, Gives};
-ghost use Rattle.sourcemap_lists.specs.Tokens.{AllWithin};
+ghost use Rattle.sourcemap_lists.specs.Tokens.{AllWithin, AreInOrder};
 ghost use Rattle.sourcemap_mappings.specs.Read.{MappingsAnswer};
 ghost use Rattle.sourcemap_records.specs.Jsontypes.{tree, flat, text_view};
 ghost use Rattle.sourcemap_texts.specs.Texts.{texts_of};
@@ -14,6 +14,7 @@ use crate::parts::Parts;
 use serde_json::{Number, Value};
 use sourcemap_errors::errors::{Error, Result};
 use sourcemap_line_index::token_list::TokenList;
+use sourcemap_lists::tokens::RawToken;
 use sourcemap_mappings::read::parse_mappings;
 use sourcemap_parts::contents::Contents;
 use sourcemap_parts::heading::Heading;
@@ -77,7 +78,7 @@ pub fn parts_of_record(alloc: Global, rsm: RawSourceMap) -> Result<Parts>
     }
     let sources = lists.sources.len() as u32;
     let names = lists.names.len() as u32;
-    match tokens_in(alloc, texts, sources, names) {
+    match token_list(alloc, texts, sources, names) {
         Err(fault) => Err(fault),
         Ok(tokens) => parts_with(alloc, heading, lists, tokens),
     }
@@ -115,16 +116,27 @@ fn has_room(lists: &RecordLists) -> bool
     names & sources & contents
 }
 
-// The tokens that these texts stand for. The texts are let go.
-fn tokens_in(alloc: Global, texts: RecordTexts, sources: u32, names: u32) -> Result<TokenList>
+// The tokens that these texts stand for, in order. The texts are let go.
+fn tokens_in(alloc: Global, texts: RecordTexts, sources: u32, names: u32) -> Result<Vec<RawToken>>
+    ensures answer { IsAnswer (λ tokens. tokens.items)
+        (MappingsAnswer (string_bytes texts.mappings) (string_bytes texts.ranges)
+        (record { sources = sources; names = names })) result }
+    ensures in_order { IfOk result (λ tokens. AreInOrder tokens.items) }
+    ensures within { IfOk result (λ tokens. AllWithin sources names tokens.items) }
+{
+    let mappings = texts.mappings.as_str();
+    let ranges = texts.ranges.as_str();
+    parse_mappings(alloc, mappings, ranges, sources, names)
+}
+
+// The list of these tokens, whose table is made when the texts are gone.
+fn token_list(alloc: Global, texts: RecordTexts, sources: u32, names: u32) -> Result<TokenList>
     ensures answer { IsAnswer (λ list. list)
         (MappingsAnswer (string_bytes texts.mappings) (string_bytes texts.ranges)
         (record { sources = sources; names = names })) result }
     ensures within { IfOk result (AllWithin sources names) }
 {
-    let mappings = texts.mappings.as_str();
-    let ranges = texts.ranges.as_str();
-    match parse_mappings(alloc, mappings, ranges, sources, names) {
+    match tokens_in(alloc, texts, sources, names) {
         Err(fault) => Err(fault),
         Ok(tokens) => TokenList::of_ordered(tokens),
     }
