@@ -54,7 +54,7 @@ impl SourceMapIndex {
         let section = self.closest_section(line, col)?;
         let (line, col) = lowered(section.offset, line, col);
         match &section.map {
-            Some(map) => map.closest_token(line, col),
+            Some(map) => map.closest_among_many(line, col),
             None => None,
         }
     }
@@ -80,14 +80,25 @@ impl SourceMapIndex {
 impl DecodedMap {
     ghost use Rattle.sourcemap_index.specs.Family.{map_tree};
 
-    // The closest token, by the kind of the map.
-    #[cycle(lookup)]
+    // The closest token. A map alone goes by the table of its lines.
     fn closest_token(&self, line: u32, col: u32) -> Option<Token<'_>>
         ensures { IsInOrder (map_tree self.now)
             → option_map token_value result ≡ lookup (map_tree self.now) (line, col) }
     {
         match self {
             DecodedMap::Regular(map) => map.lookup_token(line, col),
+            index => index.closest_among_many(line, col),
+        }
+    }
+
+    // The same of a map that is one of many.
+    #[cycle(lookup)]
+    fn closest_among_many(&self, line: u32, col: u32) -> Option<Token<'_>>
+        ensures { IsInOrder (map_tree self.now)
+            → option_map token_value result ≡ lookup (map_tree self.now) (line, col) }
+    {
+        match self {
+            DecodedMap::Regular(map) => map.lookup_token_among_many(line, col),
             DecodedMap::Index(index) => index.closest_token(line, col),
         }
     }

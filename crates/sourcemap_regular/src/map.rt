@@ -1,5 +1,5 @@
 //! A regular map over its parts: its getters, and the lookup of a position.
-ghost use Rattle.std.specs.Prelude.{◌≡◌, ◌==◌, not, ◌<◌, ◌≤◌, ◌+◌, ◌*◌, [], IfOk, Ok, length, min, option_map, unwrap_or, vec_len};
+ghost use Rattle.std.specs.Prelude.{◌≡◌, ◌==◌, not, ◌<◌, ◌≤◌, ◌+◌, ◌*◌, ◌^◌, [], IfOk, IfSome, Ok, Some, length, min, option_map, slice_get, unwrap_or, vec_len};
 ghost use Rattle.std.specs.Option.{option_copied, ForSome};
 ghost use Rattle.sourcemap_errors.specs.Answer.{Gives};
 ghost use Rattle.sourcemap_texts.specs.Texts.{texts_of, contents_in};
@@ -52,7 +52,7 @@ fn distance(token: RawToken, line: u32, col: u32) -> u32
 }
 
 impl SourceMap {
-    ghost use Rattle.sourcemap_lists.specs.Tokens.{AllWithin};
+    ghost use Rattle.sourcemap_lists.specs.Tokens.{AllWithin, closest_token};
     ghost use Rattle.sourcemap_line_index.specs.LineIndex.{binary_digits};
     ghost use Rattle.sourcemap_regular.specs.Map.{IsWellFormed, made_of, meaning, name_of, source_of, contents_of};
     ghost use Rattle.sourcemap_regular.specs.MapStored.{map_over};
@@ -178,19 +178,44 @@ impl SourceMap {
         ensures asked { 0 < length self.now.tokens → 0 < result.1 }
     {
         let (found, steps) = self.tokens.closest_steps(line, col);
+        (self.found_token(found, line, col), steps)
+    }
+
+    // The closest token to a line and a column, which was found with its place in the list.
+    fn found_token(
+        &self,
+        found: Option<(usize, RawToken)>,
+        line: u32,
+        col: u32,
+    ) -> Option<Token<'_>>
+        requires closest { found ≡ closest_token self.now.tokens (line, col) }
+        requires own_index { IfSome found (λ at. slice_get self.now.tokens at.0 ≡ Some at.1) }
+        requires small { IfSome found (λ at. at.0 + 1 < 2 ^ 64) }
+        ensures value { option_map token_value result ≡ lookup self.now (line, col) }
+        ensures meaning { option_map answers result ≡ meaning self.now (line, col) }
+    {
         match found {
-            None => (None, steps),
+            None => None,
             Some((index, raw)) => {
                 let behind = distance(raw, line, col);
-                let token = Token {
+                Some(Token {
                     map: self,
                     raw,
                     index,
                     behind,
-                };
-                (Some(token), steps)
+                })
             }
         }
+    }
+
+    /// The same token as by `lookup_token`, found without the table of lines. It serves where many
+    /// maps are asked in turn, as the sections of an index are, and none is in the processor's cache.
+    pub fn lookup_token_among_many(&self, line: u32, col: u32) -> Option<Token<'_>>
+        ensures value { option_map token_value result ≡ lookup self.now (line, col) }
+        ensures meaning { option_map answers result ≡ meaning self.now (line, col) }
+    {
+        let found = self.tokens.closest_among_many(line, col);
+        self.found_token(found, line, col)
     }
 
     /// How many sources there are.

@@ -15,9 +15,9 @@ SourceMapIndex::closest_token-returns-in_err-section t c =
     index_answers (index_value c.args.self.now) (c.args.line, c.args.col) None (option_map token_value c.from_residual.result)
     c.in_err-section.ensures.closest (λ _. ap (option_map token_value) c.from_residual.ensures)
 
-pub SourceMapIndex::closest_token-closest_token-requires :
-    goal.SourceMapIndex::closest_token-closest_token-requires
-SourceMapIndex::closest_token-closest_token-requires t c =
+pub SourceMapIndex::closest_token-closest_among_many-requires :
+    goal.SourceMapIndex::closest_token-closest_among_many-requires
+SourceMapIndex::closest_token-closest_among_many-requires t c =
     let s = c.in_ok-section.section.now in
     let is : (section_value s).map ≡ Some (map_tree c.deref.result.now) =
     section_map s ∙ ap (option_map (λ b. map_tree b.value)) c.in-Some.is ∙ ap (λ m. Some (map_tree m)) (sym c.deref.ensures) in
@@ -31,10 +31,10 @@ SourceMapIndex::closest_token-returns-in-Some t c =
     let p : ℕ × ℕ = (c.args.line, c.args.col) in
     let is : (section_value s).map ≡ Some (map_tree c.deref.result.now) =
     section_map s ∙ ap (option_map (λ b. map_tree b.value)) c.in-Some.is ∙ ap (λ m. Some (map_tree m)) (sym c.deref.ensures) in
-    index_answers (index_value c.args.self.now) p (Some (section_value s)) (option_map token_value c.closest_token.result)
+    index_answers (index_value c.args.self.now) p (Some (section_value s)) (option_map token_value c.closest_among_many.result)
     c.in_ok-section.ensures.closest
     (λ inner.
-    c.closest_token.ensures (subst (λ m. IfSome m IsInOrder) is inner)
+    c.closest_among_many.ensures (subst (λ m. IfSome m IsInOrder) is inner)
     ∙ ap (lookup (map_tree c.deref.result.now)) (c.lowered-line.ensures ∙ ap (λ o. lowered o p) (sym (section_at s)))
     ∙ ap (λ m. answer_of m (lowered (section_offset (section_value s)) p)) (sym is))
 
