@@ -1,0 +1,363 @@
+-- The first prefix that is wide enough: how a walk along the characters finds it.
+use Rattle.std.proofs.Common.{◌≡◌, refl, sym, ap, subst, ◌∙◌, ℕ, zero, suc, ◌+◌, ◌-◌, ◌<◌, ◌≤◌, List, [], ◌∷◌, ◌++◌, length, take, drop, nat_le, nat_lt, Bool, true, false, cond, Some, None, Option, option_map, map, arith, inl, inr, chars, encode_utf8_all, encode_utf8, IsUtf8, IsAscii, IsCharBoundary, append_assoc, append-nil, slice_index, MatchBool, MatchOption, find, min, IsSome, slice_get, get_or, add-one, le_refl, ap₂, ◌&&◌}
+use Rattle.std.specs.Bool.{⊤}
+use Rattle.std.proofs.lemmas.Bool.{cases_Bool, cases_lt, and_parts, and_from, le-leb, lt-leb, leb-true, leb-false}
+use Rattle.std.proofs.lemmas.Bool.Decides.{nat_tests}
+use Rattle.std.specs.Char.{len_utf8}
+use Rattle.std.proofs.lemmas.Str.{encodes-append, length-encode, len_utf8_bounds, chars_past_char, IsUtf8-past_char, chars-append, IsCharBoundary-at_seam, IsUtf8-take, IsUtf8-drop, encodes-chars, chars-encodes, chars-IsAscii, encodes-IsAscii, IsCharBoundary-from_ascii, IsUtf8-from_ascii, IsAscii-take, IsCharBoundary-from_drop, IsCharBoundary-start, IsCharBoundary-after_ascii, chars-nil, scalars-chars}
+use Rattle.std.specs.Str.{all_scalars}
+use lib.Utf8.{scalar}
+use Rattle.std.proofs.lemmas.Option.{none-some, same_Some}
+use Rattle.std.proofs.lemmas.List.{append_cancel_left, append_cancel_right, take-append-drop, length-append, length-take-le, take_at, drop_at, get_or-take, length-drop, take_all}
+use Rattle.sourcemap_views.specs.Columns.{units_of, width, prefixes, first_reaching, column_place, part_between, slice_of}
+
+-- ---- searching lists
+
+find-map : {X Y : Type 0} (test : Y → Bool) (f : X → Y) (xs : List X) → find test (map f xs) ≡ option_map f (find (λ x. test (f x)) xs)
+find-map test f [] = refl
+find-map test f (x ∷ xs) =
+    let later = find-map test f xs in
+    elim (cases_Bool (test (f x))) [ inl e ↦ rw e refl | inr e ↦ rw e later ]
+
+find-same : {X : Type 0} (test other : X → Bool) → ((x : X) → test x ≡ other x) → (xs : List X) → find test xs ≡ find other xs
+find-same test other same [] = refl
+find-same test other same (x ∷ xs) =
+    let later = find-same test other same xs in
+    let here = same x in
+    elim (cases_Bool (other x)) [ inl e ↦ rw (here, e) refl | inr e ↦ rw (here, e) later ]
+
+-- ---- one character further
+
+less_wide : (col units rest : ℕ) → nat_le col (units + rest) ≡ nat_le (col - units) rest
+less_wide col units rest = grind (arith, nat_tests)
+
+pub reaching-nothing : (cs : List ℕ) → first_reaching 0 cs ≡ Some []
+reaching-nothing [] = refl
+reaching-nothing (c ∷ cs) = refl
+
+pub reaching-past : (col : ℕ) → 0 < col → first_reaching col [] ≡ None
+reaching-past col l = let e = lt-leb col 0 l in rw e refl
+
+reaching-step : (col c : ℕ) (cs : List ℕ) → 0 < col → first_reaching col (c ∷ cs) ≡ option_map (λ prefix. c ∷ prefix) (first_reaching (col - units_of c) cs)
+reaching-step col c cs l =
+    let e = lt-leb col 0 l in
+    let same = find-same (λ prefix. nat_le col (width (c ∷ prefix))) (λ prefix. nat_le (col - units_of c) (width prefix)) (λ prefix. less_wide col (units_of c) (width prefix)) (prefixes cs) in
+    rw e (find-map (λ prefix. nat_le col (width prefix)) (λ prefix. c ∷ prefix) (prefixes cs) ∙ ap (option_map (λ prefix. c ∷ prefix)) same)
+
+option_map-map : {X Y Z : Type 0} (f : Y → Z) (g : X → Y) (o : Option X) → option_map f (option_map g o) ≡ option_map (λ x. f (g x)) o
+option_map-map f g None = refl
+option_map-map f g (Some x) = refl
+
+option_map-id : {X : Type 0} (o : Option X) → option_map (λ x. x) o ≡ o
+option_map-id None = refl
+option_map-id (Some x) = refl
+
+-- ---- characters that do not reach a column before their end
+
+-- each of these characters begins before the column
+abbrev pub BeginBefore : ℕ → List ℕ → Type 0
+BeginBefore col [] = ⊤
+BeginBefore col (c ∷ cs) = (0 < col) × BeginBefore (col - units_of c) cs
+
+minus_minus : (a b c : ℕ) → a - b - c ≡ a - (b + c)
+minus_minus a b c = omega arith
+
+pub reaching-behind : (xs cs : List ℕ) (col : ℕ) → BeginBefore col xs → first_reaching col (xs ++ cs) ≡ option_map (λ prefix. xs ++ prefix) (first_reaching (col - width xs) cs)
+reaching-behind [] cs col b =
+    let same : col ≡ col - 0 = omega arith in
+    sym (option_map-id (first_reaching col cs)) ∙ ap (λ n. option_map (λ prefix. prefix) (first_reaching n cs)) same
+reaching-behind (x ∷ xs) cs col b =
+    let later = reaching-behind xs cs (col - units_of x) b.1 in
+    let to = minus_minus col (units_of x) (width xs) in
+    reaching-step col x (xs ++ cs) b.0 ∙ ap (option_map (λ prefix. x ∷ prefix)) later
+    ∙ option_map-map (λ prefix. x ∷ prefix) (λ prefix. xs ++ prefix) (first_reaching (col - units_of x - width xs) cs)
+    ∙ ap (λ n. option_map (λ prefix. x ∷ (xs ++ prefix)) (first_reaching n cs)) to
+
+pub BeginBefore-more : (xs : List ℕ) (c col : ℕ) → width xs < col → BeginBefore col (xs ++ c ∷ [])
+BeginBefore-more [] c col l = (l, tt)
+BeginBefore-more (x ∷ xs) c col l = (omega arith, BeginBefore-more xs c (col - units_of x) (omega arith))
+
+BeginBefore-none : (xs : List ℕ) (n : ℕ) → BeginBefore 0 xs → BeginBefore n xs
+BeginBefore-none [] n b = tt
+BeginBefore-none (x ∷ xs) n b = let never = b.0 in absurd (omega arith)
+
+pub BeginBefore-further : (xs : List ℕ) (col more : ℕ) → BeginBefore col xs → BeginBefore (col + more) xs
+BeginBefore-further [] col more b = tt
+BeginBefore-further (x ∷ xs) col more b =
+    let first = b.0 in
+    let later : BeginBefore (col + more - units_of x) xs = elim (cases_lt (units_of x) col) [
+      | inl l ↦ (let e : col - units_of x + more ≡ col + more - units_of x = omega arith in subst (λ n. BeginBefore n xs) e (BeginBefore-further xs (col - units_of x) more b.1))
+      | inr g ↦ (let e : col - units_of x ≡ 0 = omega arith in BeginBefore-none xs (col + more - units_of x) (subst (λ n. BeginBefore n xs) e b.1))
+    ] in
+    (omega arith, later)
+
+-- the prefix that is found is one, and its characters begin before the column
+record Found (col : ℕ) (cs prefix : List ℕ) : Type 0 where
+  rest : List ℕ
+  is : cs ≡ prefix ++ rest
+  begin : BeginBefore col prefix
+
+found_more : (col c : ℕ) (cs prefix tail : List ℕ) → 0 < col → c ∷ tail ≡ prefix → Found (col - units_of c) cs tail → Found col (c ∷ cs) prefix
+found_more col c cs prefix tail l e f =
+    subst (λ p. Found col (c ∷ cs) p) e (record { rest = f.rest; is = ap (λ r. c ∷ r) f.is; begin = (l, f.begin) })
+
+some_from_map : {X Y : Type 0} (f : X → Y) (o : Option X) (y : Y) → option_map f o ≡ Some y → (x : X) × (o ≡ Some x) × (f x ≡ y)
+some_from_map f None y e = absurd (none-some y e)
+some_from_map f (Some x) y e = (x, refl, same_Some (f x) y e)
+
+found_none : (cs prefix : List ℕ) (col : ℕ) → col ≡ 0 → first_reaching col cs ≡ Some prefix → Found col cs prefix
+found_none cs prefix col none e =
+    let empty : [] ≡ prefix = same_Some [] prefix (sym (reaching-nothing cs) ∙ ap (λ n. first_reaching n cs) (sym none) ∙ e) in
+    subst (λ p. Found col cs p) empty (record { rest = cs; is = refl; begin = tt })
+
+found : (cs prefix : List ℕ) (col : ℕ) → first_reaching col cs ≡ Some prefix → Found col cs prefix
+found [] prefix col e =
+    elim (cases_lt 0 col) [
+      | inl l ↦ absurd (none-some prefix (sym (reaching-past col l) ∙ e))
+      | inr g ↦ found_none [] prefix col (omega arith) e
+    ]
+found (c ∷ cs) prefix col e =
+    elim (cases_lt 0 col) [
+      | inl l ↦
+          let m = some_from_map (λ p. c ∷ p) (first_reaching (col - units_of c) cs) prefix (sym (reaching-step col c cs l) ∙ e) in
+          found_more col c cs prefix m.0 l m.2 (found cs m.0 (col - units_of c) m.1)
+      | inr g ↦ found_none (c ∷ cs) prefix col (omega arith) e
+    ]
+
+encoded_more : (done : List ℕ) (c : ℕ) → encode_utf8_all (done ++ c ∷ []) ≡ encode_utf8_all done ++ encode_utf8 c
+encoded_more done c = encodes-append done (c ∷ []) ∙ ap (λ t. encode_utf8_all done ++ t) (append-nil (encode_utf8 c))
+
+-- ---- places
+
+-- UTF-16 units are no more than bytes
+units_few : (c : ℕ) → units_of c ≤ len_utf8 c
+units_few c = grind (arith, nat_tests)
+
+pub width-bytes : (cs : List ℕ) → width cs ≤ length (encode_utf8_all cs)
+width-bytes [] = omega arith
+width-bytes (c ∷ cs) =
+    let later = width-bytes cs in
+    let here = units_few c in
+    let is = length-encode c in
+    let all = length-append (encode_utf8 c) (encode_utf8_all cs) in
+    omega arith
+
+pub width-append : (xs ys : List ℕ) → width (xs ++ ys) ≡ width xs + width ys
+width-append [] ys = omega arith
+width-append (x ∷ xs) ys = let later = width-append xs ys in omega arith
+
+width_more : (done : List ℕ) (c : ℕ) → width (done ++ c ∷ []) ≡ width done + units_of c
+width_more done c = let e = width-append done (c ∷ []) in omega arith
+
+-- a walk along a line has gone over these characters, and the rest of the line is left
+pub record Walked (line : List ℕ) (col : ℕ) (rest : List ℕ) (units : ℕ) : Type 0 where
+  pub done : List ℕ
+  pub bytes : line ≡ encode_utf8_all done ++ rest
+  pub spelt : chars line ≡ done ++ chars rest
+  pub counted : units ≡ width done
+  pub begin : BeginBefore col done
+  pub utf8 : IsUtf8 rest
+
+pub Walked-start : (line : List ℕ) (col : ℕ) → IsUtf8 line → Walked line col line 0
+Walked-start line col u = record { done = []; bytes = refl; spelt = refl; counted = refl; begin = tt; utf8 = u }
+
+pub Walked-step : (line rest left : List ℕ) (col units c : ℕ) → units < col → rest ≡ encode_utf8 c ++ left → Walked line col rest units → Walked line col left (units + units_of c)
+Walked-step line rest left col units c l e w =
+    let counted = w.counted in
+    record {
+      done = w.done ++ c ∷ [];
+      bytes = w.bytes ∙ ap (λ r. encode_utf8_all w.done ++ r) e ∙ sym (append_assoc (encode_utf8_all w.done) (encode_utf8 c) left) ∙ ap (λ front. front ++ left) (sym (encoded_more w.done c));
+      spelt = w.spelt ∙ ap (λ r. w.done ++ r) (chars_past_char rest left c w.utf8 e) ∙ sym (append_assoc w.done (c ∷ []) (chars left));
+      counted = ap (λ n. n + units_of c) w.counted ∙ sym (width_more w.done c);
+      begin = BeginBefore-more w.done c col (subst (λ n. n < col) w.counted l);
+      utf8 = IsUtf8-past_char rest left c w.utf8 e;
+    }
+
+pub Walked-few : (line rest : List ℕ) (col units : ℕ) → Walked line col rest units → units + length rest ≤ length line
+Walked-few line rest col units w =
+    let counted = w.counted in
+    let few = width-bytes w.done in
+    let all : length line ≡ length (encode_utf8_all w.done) + length rest = ap length w.bytes ∙ length-append (encode_utf8_all w.done) rest in
+    omega arith
+
+place_is : (line rest : List ℕ) (col units : ℕ) (w : Walked line col rest units) → length (encode_utf8_all w.done) ≡ length line - length rest
+place_is line rest col units w =
+    let all : length line ≡ length (encode_utf8_all w.done) + length rest = ap length w.bytes ∙ length-append (encode_utf8_all w.done) rest in
+    omega arith
+
+-- the walk ends at a place
+pub Walked-reaches : (line rest : List ℕ) (col units : ℕ) → col ≤ units → Walked line col rest units → Some (length line - length rest) ≡ column_place line col
+Walked-reaches line rest col units l w =
+    let counted = w.counted in
+    let enough : col - width w.done ≡ 0 = omega arith in
+    let all = reaching-behind w.done (chars rest) col w.begin in
+    let here : first_reaching col (chars line) ≡ Some (w.done ++ []) =
+    ap (first_reaching col) w.spelt ∙ all ∙ ap (λ n. option_map (λ prefix. w.done ++ prefix) (first_reaching n (chars rest))) enough ∙ ap (option_map (λ prefix. w.done ++ prefix)) (reaching-nothing (chars rest)) in
+    sym (ap (option_map (λ prefix. length (encode_utf8_all prefix))) here ∙ ap (λ prefix. Some (length (encode_utf8_all prefix))) (append-nil w.done) ∙ ap Some (place_is line rest col units w))
+
+pub Walked-boundary : (line rest : List ℕ) (col units : ℕ) → Walked line col rest units → IsCharBoundary line (length line - length rest)
+Walked-boundary line rest col units w =
+    subst (λ n. IsCharBoundary line n) (place_is line rest col units w) (IsCharBoundary-at_seam line (encode_utf8_all w.done) rest w.bytes w.utf8)
+
+pub Walked-units : (line rest : List ℕ) (col units : ℕ) → IsUtf8 line → Walked line col rest units → units ≡ width (chars (take (length line - length rest) line))
+Walked-units line rest col units u w =
+    let place = length line - length rest in
+    let front : take place line ≡ encode_utf8_all w.done = ap (take place) w.bytes ∙ take_at (encode_utf8_all w.done) rest place (place_is line rest col units w) in
+    let utf8 : IsUtf8 (encode_utf8_all w.done) = subst IsUtf8 front (IsUtf8-take line place u (Walked-boundary line rest col units w)) in
+    let cut : chars (encode_utf8_all w.done) ++ chars rest ≡ w.done ++ chars rest = sym (chars-append (encode_utf8_all w.done) rest utf8) ∙ sym (ap chars w.bytes) ∙ w.spelt in
+    let same = append_cancel_right (chars (encode_utf8_all w.done)) w.done (chars rest) cut in
+    w.counted ∙ ap width (sym (ap chars front ∙ same))
+
+-- it ends before the column
+pub Walked-short : (line rest : List ℕ) (col units : ℕ) → units < col → length rest ≡ 0 → Walked line col rest units → None ≡ column_place line col
+Walked-short line [] col units l e w =
+    let counted = w.counted in
+    let all = reaching-behind w.done [] col w.begin in
+    let none = reaching-past (col - width w.done) (omega arith) in
+    let here : first_reaching col (chars line) ≡ None =
+    ap (first_reaching col) (w.spelt ∙ ap (λ r. w.done ++ r) chars-nil) ∙ all ∙ ap (option_map (λ prefix. w.done ++ prefix)) none in
+    sym (ap (option_map (λ prefix. length (encode_utf8_all prefix))) here)
+Walked-short line (b ∷ rest) col units l e w = absurd (omega arith)
+
+-- ---- lines of ASCII
+
+ascii_begin : (xs : List ℕ) (col : ℕ) → length xs ≤ col → IsAscii xs → BeginBefore col xs × (width xs ≡ length xs)
+ascii_begin [] col l a = (tt, refl)
+ascii_begin (x ∷ xs) col l a =
+    let first : x < 128 = a 0 in
+    let one : units_of x ≡ 1 = grind (arith, nat_tests) in
+    let later = ascii_begin xs (col - 1) (omega arith) (λ i. a (suc i)) in
+    ((omega arith, subst (λ n. BeginBefore (col - n) xs) (sym one) later.0), (let w = later.1 in omega arith))
+
+-- a line may be cut behind ASCII
+IsCharBoundary-in_ascii : (line : List ℕ) (n : ℕ) → IsUtf8 line → n ≤ length line → IsAscii (take n line) → IsCharBoundary line n
+IsCharBoundary-in_ascii line zero u l a = IsCharBoundary-start line u
+IsCharBoundary-in_ascii line (suc n) u l a =
+    let last : get_or line n 0 < 128 = subst (λ b. b < 128) (get_or-take (suc n) line n 0 (omega arith)) (a n) in
+    subst (λ m. IsCharBoundary line m) (add-one n) (IsCharBoundary-after_ascii line n u (omega arith) last)
+
+-- the first characters are as many bytes
+pub Walked-ascii : (line : List ℕ) (col n : ℕ) → IsUtf8 line → n ≤ length line → n ≤ col → IsAscii (take n line) → Walked line col (drop n line) n
+Walked-ascii line col n u l m a =
+    let len : length (take n line) ≡ n = length-take-le n line l in
+    let begin = ascii_begin (take n line) col (omega arith) a in
+    let whole : take n line ++ drop n line ≡ line = take-append-drop n line in
+    let front : IsUtf8 (take n line) = IsUtf8-from_ascii (take n line) a in
+    let boundary : IsCharBoundary line n = IsCharBoundary-in_ascii line n u l a in
+    record {
+      done = take n line;
+      bytes = sym whole ∙ ap (λ t. t ++ drop n line) (sym (encodes-IsAscii (take n line) a));
+      spelt = ap chars (sym whole) ∙ chars-append (take n line) (drop n line) front ∙ ap (λ t. t ++ chars (drop n line)) (chars-IsAscii (take n line) a);
+      counted = sym (begin.1 ∙ len);
+      begin = begin.0;
+      utf8 = IsUtf8-drop line n u boundary;
+    }
+
+-- a column within ASCII is its own place
+pub record IsOwnPlace (line : List ℕ) (col : ℕ) : Type 0 where
+  pub place : Some col ≡ column_place line col
+  pub boundary : IsCharBoundary line col
+  pub units : col ≡ width (chars (take col line))
+
+pub ascii-place : (line : List ℕ) (col : ℕ) → IsUtf8 line → col ≤ length line → IsAscii (take col line) → IsOwnPlace line col
+ascii-place line col u l a =
+    let walked = Walked-ascii line col col u l (le_refl col) a in
+    let left = length-drop col line in
+    let place : length line - length (drop col line) ≡ col = omega arith in
+    record {
+      place = subst (λ n. Some n ≡ column_place line col) place (Walked-reaches line (drop col line) col col (le_refl col) walked);
+      boundary = IsCharBoundary-in_ascii line col u l a;
+      units = subst (λ n. col ≡ width (chars (take n line))) place (Walked-units line (drop col line) col col u walked);
+    }
+
+pub ascii-short : (line : List ℕ) (col : ℕ) → IsUtf8 line → length line < col → IsAscii (take col line) → None ≡ column_place line col
+ascii-short line col u l a =
+    let ascii : IsAscii (take (length line) line) = subst IsAscii (take_all col line (omega arith) ∙ sym (take_all (length line) line (le_refl (length line)))) a in
+    let left = length-drop (length line) line in
+    Walked-short line (drop (length line) line) col (length line) l (omega arith) (Walked-ascii line col (length line) u (le_refl (length line)) (omega arith) ascii)
+
+-- ---- slices
+
+option_map-same : {X Y : Type 0} (f g : X → Y) → ((x : X) → f x ≡ g x) → (o : Option X) → option_map f o ≡ option_map g o
+option_map-same f g same None = refl
+option_map-same f g same (Some x) = ap Some (same x)
+
+bytes_behind : (front prefix : List ℕ) (place : ℕ) → length (encode_utf8_all front) ≡ place → length (encode_utf8_all (front ++ prefix)) ≡ place + length (encode_utf8_all prefix)
+bytes_behind front prefix place e = ap length (encodes-append front prefix) ∙ length-append (encode_utf8_all front) (encode_utf8_all prefix) ∙ ap (λ n. n + length (encode_utf8_all prefix)) e
+
+scalars_parts : (xs ys : List ℕ) → all_scalars (xs ++ ys) ≡ true → (all_scalars xs ≡ true) × (all_scalars ys ≡ true)
+scalars_parts [] ys e = (refl, e)
+scalars_parts (x ∷ xs) ys e =
+    let here = and_parts (scalar x) (all_scalars (xs ++ ys)) e in
+    let later = scalars_parts xs ys here.1 in
+    (and_from (scalar x) (all_scalars xs) here.0 later.0, later.1)
+
+-- what stands before the place of a column, and behind it
+record Cut (line : List ℕ) (col place : ℕ) : Type 0 where
+  front : List ℕ
+  back : List ℕ
+  is : chars line ≡ front ++ back
+  begin : BeginBefore col front
+  place_is : length (encode_utf8_all front) ≡ place
+  before : chars (take place line) ≡ front
+  behind : chars (drop place line) ≡ back
+
+cut_at : (line front back : List ℕ) (col place : ℕ) → IsUtf8 line → chars line ≡ front ++ back → BeginBefore col front → length (encode_utf8_all front) ≡ place → Cut line col place
+cut_at line front back col place u is begin e =
+    let spelt : line ≡ encode_utf8_all front ++ encode_utf8_all back = sym (encodes-chars line u) ∙ ap encode_utf8_all is ∙ encodes-append front back in
+    let scalars = scalars_parts front back (ap all_scalars (sym is) ∙ scalars-chars line u) in
+    record {
+      front = front;
+      back = back;
+      is = is;
+      begin = begin;
+      place_is = e;
+      before = ap (λ t. chars (take place t)) spelt ∙ ap chars (take_at (encode_utf8_all front) (encode_utf8_all back) place e) ∙ chars-encodes front scalars.0;
+      behind = ap (λ t. chars (drop place t)) spelt ∙ ap chars (drop_at (encode_utf8_all front) (encode_utf8_all back) place e) ∙ chars-encodes back scalars.1;
+    }
+
+place_cuts : (line : List ℕ) (col place : ℕ) → IsUtf8 line → Some place ≡ column_place line col → Cut line col place
+place_cuts line col place u e =
+    let m = some_from_map (λ prefix. length (encode_utf8_all prefix)) (first_reaching col (chars line)) place (sym e) in
+    let f = found (chars line) m.0 col m.1 in
+    cut_at line m.0 f.rest col place u f.is f.begin m.2
+
+-- a column that is further on stands as far behind the place of the first
+pub place-further : (line : List ℕ) (col more place units : ℕ) → IsUtf8 line
+    → Some place ≡ column_place line col → units ≡ width (chars (take place line))
+    → column_place line (col + more) ≡ option_map (λ n. place + n) (column_place (drop place line) (col + more - units))
+place-further line col more place units u e w =
+    let cut = place_cuts line col place u e in
+    let wide : width cut.front ≡ units = sym (w ∙ ap width cut.before) in
+    let behind = reaching-behind cut.front cut.back (col + more) (BeginBefore-further cut.front col more cut.begin) in
+    let bytes = λ (prefix : List ℕ). length (encode_utf8_all prefix) in
+    let moved = option_map-same (λ prefix. bytes (cut.front ++ prefix)) (λ prefix. place + bytes prefix) (λ prefix. bytes_behind cut.front prefix place cut.place_is) (first_reaching (col + more - width cut.front) cut.back) in
+    ap (λ cs. option_map bytes (first_reaching (col + more) cs)) cut.is
+    ∙ ap (option_map bytes) behind
+    ∙ option_map-map bytes (λ prefix. cut.front ++ prefix) (first_reaching (col + more - width cut.front) cut.back)
+    ∙ moved
+    ∙ sym (option_map-map (λ n. place + n) bytes (first_reaching (col + more - width cut.front) cut.back))
+    ∙ ap₂ (λ n cs. option_map (λ m. place + m) (option_map bytes (first_reaching (col + more - n) cs))) wide (sym cut.behind)
+
+pub slice-none : (line : List ℕ) (col span : ℕ) → None ≡ column_place line col → None ≡ slice_of line col span
+slice-none line col span e = ap (λ start. part_between line start (column_place line (col + span))) e
+
+slice_at_place : (line : List ℕ) (col span place : ℕ) → Some place ≡ column_place line col → (end : Option ℕ) → column_place line (col + span) ≡ end → slice_of line col span ≡ part_between line (Some place) end
+slice_at_place line col span place e end f = ap₂ (part_between line) (sym e) f
+
+pub slice-short : (line : List ℕ) (col span place units : ℕ) → IsUtf8 line
+    → Some place ≡ column_place line col → units ≡ width (chars (take place line))
+    → None ≡ column_place (drop place line) (col + span - units)
+    → None ≡ slice_of line col span
+slice-short line col span place units u e w f =
+    let end = place-further line col span place units u e w ∙ ap (option_map (λ n. place + n)) (sym f) in
+    sym (slice_at_place line col span place e None end)
+
+pub slice-there : (line : List ℕ) (col span place units len : ℕ) → IsUtf8 line
+    → Some place ≡ column_place line col → units ≡ width (chars (take place line))
+    → Some len ≡ column_place (drop place line) (col + span - units)
+    → Some (take len (drop place line)) ≡ slice_of line col span
+slice-there line col span place units len u e w f =
+    let end = place-further line col span place units u e w ∙ ap (option_map (λ n. place + n)) (sym f) in
+    let between : place + len - place ≡ len = omega arith in
+    sym (slice_at_place line col span place e (Some (place + len)) end ∙ ap (λ n. Some (take n (drop place line))) between)

@@ -1,0 +1,3 @@
+pub mod ColumnsLemmas
+pub mod IdentifiersLemmas
+pub mod LinesLemmas

@@ -1,0 +1,71 @@
+//! Places in a line by UTF-16 columns.
+ghost use Rattle.std.specs.Prelude.{◌≡◌, ◌≤◌, IfSome, IsAscii, option_map, take};
+ghost use Rattle.std.specs.Str.{IsCharBoundary, chars};
+ghost use Rattle.sourcemap_views.specs.Columns.{column_place, slice_of, width};
+
+/// A place in a line, in bytes, and how many UTF-16 units stand before it.
+#[derive(Debug, Clone, Copy)]
+pub struct Reached {
+    pub place: usize,
+    pub units: u64,
+}
+
+/// The place of a column, none if the line is too short.
+pub fn reach(line: &str, col: u64) -> Option<Reached>
+    ensures value { option_map (λ at. at.place) result ≡ column_place line.now col }
+    ensures boundary { IfSome result (λ at. IsCharBoundary line.now at.place) }
+    ensures units { IfSome result (λ at. at.units ≡ width (chars (take at.place line.now))) }
+{
+    let near = col.min(line.len() as u64) as usize;
+    if line.as_bytes()[..near].is_ascii() {
+        return reach_in_ascii(line, col);
+    }
+    reach_by_characters(line, col)
+}
+
+// The same where each byte before the column is a character.
+fn reach_in_ascii(line: &str, col: u64) -> Option<Reached>
+    requires { IsAscii (take col line.now) }
+    ensures value { option_map (λ at. at.place) result ≡ column_place line.now col }
+    ensures boundary { IfSome result (λ at. IsCharBoundary line.now at.place) }
+    ensures units { IfSome result (λ at. at.units ≡ width (chars (take at.place line.now))) }
+{
+    if col > line.len() as u64 {
+        return None;
+    }
+    Some(Reached {
+        place: col as usize,
+        units: col,
+    })
+}
+
+// The same of any line, character by character.
+fn reach_by_characters(line: &str, col: u64) -> Option<Reached>
+    ensures value { option_map (λ at. at.place) result ≡ column_place line.now col }
+    ensures boundary { IfSome result (λ at. IsCharBoundary line.now at.place) }
+    ensures units { IfSome result (λ at. at.units ≡ width (chars (take at.place line.now))) }
+{
+    let length = line.len();
+    let mut units = 0;
+    let mut rest = line.chars();
+    while units < col {
+        let character = rest.next()?;
+        units += character.len_utf16() as u64;
+    }
+    Some(Reached {
+        place: length - rest.as_str().len(),
+        units,
+    })
+}
+
+/// The part of a line from the place of a column to that of the column `span` further on, counted
+/// in UTF-16 units, so none of a pair is cut. None if the line is too short for either.
+pub fn slice_at(line: &str, col: u32, span: u32) -> Option<&str>
+    ensures { option_map (λ part. part.now) result ≡ slice_of line.now col span }
+{
+    let start = reach(line, u64::from(col))?;
+    let rest = &line[start.place..];
+    let end = (u64::from(col) + u64::from(span)).saturating_sub(start.units);
+    let length = reach(rest, end)?.place;
+    Some(&rest[..length])
+}

@@ -1,0 +1,6 @@
+//! Views of texts: their lines, places by UTF-16 columns, and the identifiers at such places.
+#![tactic(auto)]
+
+pub mod columns;
+pub mod js_identifiers;
+pub mod lines;
