@@ -1,14 +1,14 @@
 -- The first prefix that is wide enough: how a walk along the characters finds it.
-use Rattle.std.proofs.Common.{◌≡◌, refl, sym, ap, subst, ◌∙◌, ℕ, zero, suc, ◌+◌, ◌-◌, ◌<◌, ◌≤◌, List, [], ◌∷◌, ◌++◌, length, take, drop, nat_le, nat_lt, Bool, true, false, cond, Some, None, Option, option_map, map, arith, inl, inr, chars, encode_utf8_all, encode_utf8, IsUtf8, IsAscii, IsCharBoundary, append_assoc, append-nil, slice_index, MatchBool, MatchOption, find, min, IsSome, slice_get, get_or, add-one, le_refl, ap₂, ◌&&◌}
+use Rattle.std.proofs.Common.{◌≡◌, refl, sym, ap, subst, ◌∙◌, ℕ, zero, suc, ◌+◌, ◌-◌, ◌<◌, ◌≤◌, List, [], ◌∷◌, ◌++◌, length, take, drop, nat_le, Bool, true, Some, None, Option, option_map, map, arith, inl, inr, chars, encode_utf8_all, encode_utf8, IsUtf8, IsAscii, IsCharBoundary, append_assoc, append-nil, find, get_or, add-one, le_refl, ap₂}
 use Rattle.std.specs.Bool.{⊤}
-use Rattle.std.proofs.lemmas.Bool.{cases_Bool, cases_lt, and_parts, and_from, le-leb, lt-leb, leb-true, leb-false}
+use Rattle.std.proofs.lemmas.Bool.{cases_Bool, cases_lt, and_parts, and_from, lt-leb}
 use Rattle.std.proofs.lemmas.Bool.Decides.{nat_tests}
 use Rattle.std.specs.Char.{len_utf8}
-use Rattle.std.proofs.lemmas.Str.{encodes-append, length-encode, len_utf8_bounds, chars_past_char, IsUtf8-past_char, chars-append, IsCharBoundary-at_seam, IsUtf8-take, IsUtf8-drop, encodes-chars, chars-encodes, chars-IsAscii, encodes-IsAscii, IsCharBoundary-from_ascii, IsUtf8-from_ascii, IsAscii-take, IsCharBoundary-from_drop, IsCharBoundary-start, IsCharBoundary-after_ascii, chars-nil, scalars-chars}
+use Rattle.std.proofs.lemmas.Str.{encodes-append, length-encode, chars_past_char, IsUtf8-past_char, chars-append, IsCharBoundary-at_seam, IsUtf8-take, IsUtf8-drop, encodes-chars, chars-encodes, chars-IsAscii, encodes-IsAscii, IsUtf8-from_ascii, IsCharBoundary-start, IsCharBoundary-after_ascii, chars-nil, scalars-chars}
 use Rattle.std.specs.Str.{all_scalars}
 use lib.Utf8.{scalar}
 use Rattle.std.proofs.lemmas.Option.{none-some, same_Some}
-use Rattle.std.proofs.lemmas.List.{append_cancel_left, append_cancel_right, take-append-drop, length-append, length-take-le, take_at, drop_at, get_or-take, length-drop, take_all}
+use Rattle.std.proofs.lemmas.List.{append_cancel_right, take-append-drop, length-append, length-take-le, take_at, drop_at, get_or-take, length-drop, take_all}
 use Rattle.sourcemap_views.specs.Columns.{units_of, width, prefixes, first_reaching, column_place, part_between, slice_of}
 
 -- ---- searching lists

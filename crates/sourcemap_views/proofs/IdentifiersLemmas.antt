@@ -1,7 +1,7 @@
 -- Which characters an identifier may hold, and how far it reaches.
-use Rattle.std.proofs.Common.{◌≡◌, refl, sym, ap, subst, ◌∙◌, ℕ, ◌+◌, ◌-◌, ◌<◌, ◌≤◌, ◌≢◌, ◌==◌, nat_le, nat_lt, ◌&&◌, ◌||◌, not, Bool, true, false, cond, List, [], ◌∷◌, ◌++◌, length, take, drop, take_while, arith, inl, inr, one-add, Some, None, Option, option_map, IsUtf8, IsCharBoundary, chars, encode_utf8, encode_utf8_all, slice_range}
+use Rattle.std.proofs.Common.{◌≡◌, refl, sym, ap, subst, ◌∙◌, ℕ, ◌+◌, ◌-◌, ◌≤◌, ◌≢◌, ◌==◌, nat_lt, ◌&&◌, ◌||◌, Bool, true, false, cond, List, [], ◌∷◌, ◌++◌, length, take, drop, take_while, arith, inl, inr, one-add, Some, None, IsUtf8, IsCharBoundary, chars, encode_utf8, encode_utf8_all, slice_range}
 use Rattle.std.specs.List.{prefix_len, list_all}
-use Rattle.std.specs.Char.{len_utf8, is_whitespace, is_not_whitespace}
+use Rattle.std.specs.Char.{is_whitespace, is_not_whitespace}
 use Rattle.std.specs.Str.{skip_leading_whitespace, trim_start, all_scalars}
 use lib.Utf8.{scalar}
 use Rattle.std.proofs.lemmas.Bool.{cases_Bool, or_cases, and_parts, eqb-true, agree_below_at, both_ways, cases_lt, ltb-true}

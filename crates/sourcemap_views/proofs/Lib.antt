@@ -1,3 +1,4 @@
 pub mod ColumnsLemmas
 pub mod IdentifiersLemmas
 pub mod LinesLemmas
+pub mod ViewsLemmas

@@ -1,11 +1,15 @@
 -- A text is cut at its first terminator, then at the first of what follows.
-use Rattle.std.proofs.Common.{◌≡◌, refl, sym, ap, subst, ◌∙◌, ℕ, zero, suc, ◌+◌, ◌-◌, ◌<◌, ◌≤◌, ◌==◌, List, [], ◌∷◌, ◌++◌, length, take, drop, get_or, slice_index, Bool, true, false, cond, arith, inl, inr, append_assoc, IsUtf8, IsCharBoundary, slice_get, Some, None, Option, slice_range, add-one, ap₂}
-use Rattle.std.proofs.lemmas.Bool.{cases_Bool, and_parts, eqb-true, or_cases}
+use Rattle.std.proofs.Common.{◌≡◌, refl, sym, ap, subst, ◌∙◌, ℕ, zero, suc, ◌+◌, ◌-◌, ◌<◌, ◌≤◌, ◌==◌, List, [], ◌∷◌, ◌++◌, length, take, drop, get_or, true, false, cond, arith, inl, inr, append_assoc, add-one, IsUtf8, IsCharBoundary, slice_get, Some, None, slice_range, ap₂, subst₂, IsAscii, append-nil, map}
+use Rattle.std.specs.Bool.{⊤}
+use Rattle.std.proofs.lemmas.Bool.{cases_Bool, cases_lt, both_ways, and_parts, eqb-true}
+use Rattle.std.proofs.lemmas.Option.{none-some, same_Some, slice_get_past}
+use Rattle.std.proofs.lemmas.Str.{IsCharBoundary-start, IsCharBoundary-end, IsCharBoundary-before_ascii, IsCharBoundary-after_ascii}
 use Rattle.std.proofs.lemmas.Bool.Decides.{nat_tests}
 use Rattle.std.proofs.lemmas.Bool.{false_from_ne_true}
-use Rattle.std.proofs.lemmas.List.{length-take-le, length-drop, take_rest, drop-drop}
+use Rattle.std.proofs.lemmas.List.{length-take-le, length-drop, take_rest, drop-drop, drop_at, take_at, length-append, length-map, get_or-drop, get_or-append-add, get_or_append_left}
 use Rattle.memchr.specs.Find.{NoneBefore, Nowhere, Passes, is_byte2}
-use Rattle.sourcemap_views.specs.Lines.{Line, ended_by, with_body, with_return, is_terminator, is_pair, starts_with_pair, lines_of, joined, ranges_from, line_ranges}
+use Rattle.sourcemap_views.specs.Lines.{Line, ended_by, with_body, with_return, is_terminator, is_pair, starts_with_pair, lines_of, joined, ranges_from, line_ranges, line_bodies, count_ends, IsUncut}
+use Rattle.std.specs.List.{AllByRecursion, list_any}
 
 -- how many bytes a terminator has at the front of a text
 abbrev pub terminator_len : List ℕ → ℕ
@@ -147,3 +151,256 @@ table-last text start ranges more within pushed none left =
     let len = length-drop start text in
     let end : start + length (drop start text) ≡ length text = omega arith in
     sym (pushed ∙ ap (λ n. ranges ++ (start, n) ∷ []) (sym end) ∙ ap (λ xs. ranges ++ xs) (sym (ranges-uncut (drop start text) start none)) ∙ left)
+
+-- ---- lines in their text
+
+-- what ends a line is ASCII
+abbrev pub IsEnd : List ℕ → Type 0
+IsEnd terminator = (0 < length terminator) × IsAscii terminator
+
+-- something ends each line but the last
+abbrev pub AreEnded : List Line → Type 0
+AreEnded [] = ⊤
+AreEnded (line ∷ []) = line.terminator ≡ []
+AreEnded (line ∷ next ∷ lines) = IsEnd line.terminator × AreEnded (next ∷ lines)
+
+AreEnded-more : (terminator : List ℕ) (lines : List Line) → IsEnd terminator → 0 < length lines → AreEnded lines → AreEnded (ended_by terminator lines)
+AreEnded-more terminator [] e l a = absurd (omega arith)
+AreEnded-more terminator (line ∷ lines) e l a = (e, a)
+
+AreEnded-body : (byte : ℕ) (lines : List Line) → 0 < length lines → AreEnded lines → AreEnded (with_body byte lines)
+AreEnded-body byte [] l a = absurd (omega arith)
+AreEnded-body byte (line ∷ []) l a = a
+AreEnded-body byte (line ∷ next ∷ lines) l a = a
+
+length-with_body : (byte : ℕ) (lines : List Line) → length (with_body byte lines) ≡ length lines
+length-with_body byte [] = refl
+length-with_body byte (line ∷ lines) = refl
+
+length-with_return : (lines : List Line) → length (with_return lines) ≡ length lines
+length-with_return [] = refl
+length-with_return (line ∷ lines) = refl
+
+pub some_lines : (text : List ℕ) → 0 < length (lines_of text)
+some_lines [] = omega arith
+some_lines (byte ∷ text) =
+    let later = some_lines text in
+    let body = length-with_body byte (lines_of text) in
+    let return = length-with_return (lines_of text) in
+    elim (cases_Bool (is_pair byte text)) [
+      | inl p ↦ rw p (omega arith)
+      | inr p ↦ elim (cases_Bool (is_terminator byte)) [ inl e ↦ rw (p, e) (omega arith) | inr e ↦ rw (p, e) (omega arith) ]
+    ]
+
+ascii_end : (byte : ℕ) → is_terminator byte ≡ true → byte < 128
+ascii_end byte e = grind (arith, nat_tests)
+
+ascii_one : (byte : ℕ) → byte < 128 → IsAscii (byte ∷ [])
+ascii_one byte l zero = l
+ascii_one byte l (suc i) = omega arith
+
+ascii_two : (byte next : ℕ) → byte < 128 → next < 128 → IsAscii (byte ∷ next ∷ [])
+ascii_two byte next l m zero = l
+ascii_two byte next l m (suc i) = ascii_one next m i
+
+lines_of-pair : (byte next : ℕ) (text : List ℕ) → is_pair byte (next ∷ text) ≡ true → lines_of (byte ∷ next ∷ text) ≡ ended_by (13 ∷ 10 ∷ []) (lines_of text)
+lines_of-pair byte next text p =
+    let both = and_parts (byte == 13) (next == 10) p in
+    subst₂ (λ b n. lines_of (b ∷ n ∷ text) ≡ ended_by (13 ∷ 10 ∷ []) (lines_of text)) (sym (eqb-true byte 13 both.0)) (sym (eqb-true next 10 both.1)) refl
+
+no_pair_alone : (byte : ℕ) → is_pair byte [] ≡ false
+no_pair_alone byte = elim (cases_Bool (is_pair byte [])) [ inl p ↦ absurd (grind (arith, nat_tests)) | inr p ↦ p ]
+
+lines_of-one : (byte : ℕ) (text : List ℕ) → is_pair byte text ≡ false → is_terminator byte ≡ true → lines_of (byte ∷ text) ≡ ended_by (byte ∷ []) (lines_of text)
+lines_of-one byte text p e = rw (p, e) refl
+
+AreEnded-cut : (byte : ℕ) (text : List ℕ) → is_pair byte text ≡ false → AreEnded (lines_of text) → AreEnded (lines_of (byte ∷ text))
+AreEnded-cut byte text p a =
+    elim (cases_Bool (is_terminator byte)) [
+      | inl e ↦ subst AreEnded (sym (lines_of-one byte text p e)) (AreEnded-more (byte ∷ []) (lines_of text) (omega arith, ascii_one byte (ascii_end byte e)) (some_lines text) a)
+      | inr e ↦ subst AreEnded (sym (lines_of-more byte text e)) (AreEnded-body byte (lines_of text) (some_lines text) a)
+    ]
+
+pub AreEnded-lines_of : (text : List ℕ) → AreEnded (lines_of text)
+AreEnded-lines_of [] = refl
+AreEnded-lines_of (byte ∷ []) = AreEnded-cut byte [] (no_pair_alone byte) refl
+AreEnded-lines_of (byte ∷ next ∷ text) =
+    let later = AreEnded-lines_of text in
+    let after = AreEnded-lines_of (next ∷ text) in
+    elim (cases_Bool (is_pair byte (next ∷ text))) [
+      | inl p ↦ subst AreEnded (sym (lines_of-pair byte next text p)) (AreEnded-more (13 ∷ 10 ∷ []) (lines_of text) (omega arith, ascii_two 13 10 (omega arith) (omega arith)) (some_lines text) later)
+      | inr p ↦ AreEnded-cut byte (next ∷ text) p after
+    ]
+
+-- lines with what ends them make the text
+joined-body : (byte : ℕ) (lines : List Line) → 0 < length lines → joined (with_body byte lines) ≡ byte ∷ joined lines
+joined-body byte [] l = absurd (omega arith)
+joined-body byte (line ∷ lines) l = refl
+
+tail_same : (a b : ℕ) (xs ys : List ℕ) → a ∷ xs ≡ b ∷ ys → xs ≡ ys
+tail_same a b xs ys e = ap (drop 1) e
+
+joined_behind : (next : ℕ) (text : List ℕ) → next ≡ 10 → joined (lines_of (next ∷ text)) ≡ next ∷ text → joined (lines_of text) ≡ text
+joined_behind next text then e =
+    let here : joined (lines_of (10 ∷ text)) ≡ 10 ∷ text = subst (λ n. joined (lines_of (n ∷ text)) ≡ n ∷ text) then e in
+    tail_same 10 10 (joined (lines_of text)) text here
+
+joined-pair : (byte : ℕ) (text : List ℕ) → is_pair byte text ≡ true → joined (lines_of text) ≡ text → joined (lines_of (byte ∷ text)) ≡ byte ∷ text
+joined-pair byte [] p e = absurd (both_ways _ (no_pair_alone byte) p)
+joined-pair byte (next ∷ text) p e =
+    let both = and_parts (byte == 13) (next == 10) p in
+    let is = eqb-true byte 13 both.0 in
+    let then = eqb-true next 10 both.1 in
+    let rest : joined (lines_of text) ≡ text = joined_behind next text then e in
+    ap joined (lines_of-pair byte next text p) ∙ ap (λ t. 13 ∷ 10 ∷ t) rest ∙ ap₂ (λ a b. a ∷ b ∷ text) (sym is) (sym then)
+
+pub joined-lines_of : (text : List ℕ) → joined (lines_of text) ≡ text
+joined-lines_of [] = refl
+joined-lines_of (byte ∷ text) =
+    let later = joined-lines_of text in
+    let some = some_lines text in
+    elim (cases_Bool (is_pair byte text)) [
+      | inl p ↦ joined-pair byte text p later
+      | inr p ↦ elim (cases_Bool (is_terminator byte)) [
+        | inl e ↦ ap joined (lines_of-one byte text p e) ∙ ap (λ t. byte ∷ t) later
+        | inr e ↦ ap joined (lines_of-more byte text e) ∙ joined-body byte (lines_of text) some ∙ ap (λ t. byte ∷ t) later
+      ]
+    ]
+
+-- the line at this place of a list, as it stands in the text
+pub record StandsAt (text : List ℕ) (lines : List Line) (row : ℕ) (range : ℕ × ℕ) : Type 0 where
+  pub ordered : range.0 ≤ range.1
+  pub start : IsCharBoundary text range.0
+  pub end : IsCharBoundary text range.1
+  pub body : slice_get (map (λ line. line.body) lines) row ≡ Some (slice_range text range.0 range.1)
+
+front_byte : (body terminator rest : List ℕ) → 0 < length terminator → get_or (body ++ (terminator ++ rest)) (length body) 0 ≡ get_or terminator 0 0
+front_byte body terminator rest l =
+    let at : length body + 0 ≡ length body = omega arith in
+    ap (λ n. get_or (body ++ (terminator ++ rest)) n 0) (sym at) ∙ get_or-append-add body (terminator ++ rest) 0 0 ∙ get_or_append_left terminator rest 0 0 l
+
+within : {X : Type 0} (xs : List X) (row : ℕ) → row < length xs → slice_get xs row ≡ None → ⊥
+within [] row l e = absurd (omega arith)
+within (x ∷ xs) zero l e = none-some x (sym e)
+within (x ∷ xs) (suc row) l e = within xs row (omega arith) e
+
+past_length : {X Y : Type 0} (xs : List X) (ys : List Y) (row : ℕ) → length xs ≡ length ys → slice_get xs row ≡ None → length ys ≤ row
+past_length xs ys row same none =
+    elim (cases_lt row (length ys)) [
+      | inl l ↦ absurd (within xs row (omega arith) none)
+      | inr g ↦ g
+    ]
+
+-- the end of a line
+end_boundary : (text : List ℕ) (start : ℕ) (line : Line) (lines : List Line) → drop start text ≡ joined (line ∷ lines) → start ≤ length text → AreEnded (line ∷ lines) → IsCharBoundary text (start + length line.body)
+end_boundary text start line [] e l a =
+    let all : length (drop start text) ≡ length line.body = ap length (e ∙ ap (λ t. line.body ++ (t ++ [])) a ∙ append-nil line.body) in
+    let left = length-drop start text in
+    let at : start + length line.body ≡ length text = omega arith in
+    subst (λ n. IsCharBoundary text n) (sym at) (IsCharBoundary-end text)
+end_boundary text start line (next ∷ lines) e l a =
+    let left = length-drop start text in
+    let all : length (drop start text) ≡ length line.body + (length line.terminator + length (joined (next ∷ lines))) = ap length e ∙ length-append line.body (line.terminator ++ joined (next ∷ lines)) ∙ ap (λ n. length line.body + n) (length-append line.terminator (joined (next ∷ lines))) in
+    let some = a.0.0 in
+    let byte : get_or text (start + length line.body) 0 ≡ get_or line.terminator 0 0 =
+    sym (get_or-drop start text (length line.body) 0) ∙ ap (λ t. get_or t (length line.body) 0) e
+    ∙ front_byte line.body line.terminator (joined (next ∷ lines)) some in
+    IsCharBoundary-before_ascii text (start + length line.body) (omega arith) (subst (λ b. b < 128) (sym byte) (a.0.1 0))
+
+-- where the next line starts
+next_boundary : (text : List ℕ) (start : ℕ) (line next : Line) (lines : List Line) → IsUtf8 text → drop start text ≡ joined (line ∷ next ∷ lines) → start ≤ length text → AreEnded (line ∷ next ∷ lines)
+    → IsCharBoundary text (start + length line.body + length line.terminator) × (start + length line.body + length line.terminator ≤ length text)
+next_boundary text start line next lines u e l a =
+    let left = length-drop start text in
+    let all : length (drop start text) ≡ length line.body + (length line.terminator + length (joined (next ∷ lines))) = ap length e ∙ length-append line.body (line.terminator ++ joined (next ∷ lines)) ∙ ap (λ n. length line.body + n) (length-append line.terminator (joined (next ∷ lines))) in
+    let some = a.0.0 in
+    let last = length line.terminator - 1 in
+    let byte : get_or text (start + (length line.body + last)) 0 ≡ get_or line.terminator last 0 =
+    sym (get_or-drop start text (length line.body + last) 0) ∙ ap (λ t. get_or t (length line.body + last) 0) e
+    ∙ get_or-append-add line.body (line.terminator ++ joined (next ∷ lines)) last 0 ∙ get_or_append_left line.terminator (joined (next ∷ lines)) 0 last (omega arith) in
+    let behind = IsCharBoundary-after_ascii text (start + (length line.body + last)) u (omega arith) (subst (λ b. b < 128) (sym byte) (a.0.1 last)) in
+    let at : start + (length line.body + last) + 1 ≡ start + length line.body + length line.terminator = omega arith in
+    (subst (λ n. IsCharBoundary text n) at behind, omega arith)
+
+next_rest : (text : List ℕ) (start : ℕ) (line : Line) (lines : List Line) → drop start text ≡ joined (line ∷ lines) → drop (start + length line.body + length line.terminator) text ≡ joined lines
+next_rest text start line lines e =
+    let at : start + (length line.body + length line.terminator) ≡ start + length line.body + length line.terminator = omega arith in
+    ap (λ n. drop n text) (sym at) ∙ sym (drop-drop (length line.body + length line.terminator) start text)
+    ∙ ap (drop (length line.body + length line.terminator)) (e ∙ sym (append_assoc line.body line.terminator (joined lines)))
+    ∙ drop_at (line.body ++ line.terminator) (joined lines) (length line.body + length line.terminator) (length-append line.body line.terminator)
+
+body_there : (text : List ℕ) (start : ℕ) (line : Line) (lines : List Line) → drop start text ≡ joined (line ∷ lines) → line.body ≡ slice_range text start (start + length line.body)
+body_there text start line lines e =
+    let len : start + length line.body - start ≡ length line.body = omega arith in
+    sym (ap (λ n. take n (drop start text)) len ∙ ap (take (length line.body)) e ∙ take_at line.body (line.terminator ++ joined lines) (length line.body) refl)
+
+pub stands_at : (text : List ℕ) (start : ℕ) (lines : List Line) (row : ℕ) (range : ℕ × ℕ) → IsUtf8 text → drop start text ≡ joined lines → start ≤ length text → IsCharBoundary text start → AreEnded lines
+    → slice_get (ranges_from start lines) row ≡ Some range → StandsAt text lines row range
+stands_at text start [] row range u e l b a found = absurd (none-some range found)
+stands_at text start (line ∷ lines) zero range u e l b a found =
+    subst (StandsAt text (line ∷ lines) 0) (same_Some _ _ found) (record {
+      ordered = omega arith;
+      start = b;
+      end = end_boundary text start line lines e l a;
+      body = ap Some (body_there text start line lines e);
+    })
+stands_at text start (line ∷ []) (suc row) range u e l b a found = absurd (none-some range found)
+stands_at text start (line ∷ next ∷ lines) (suc row) range u e l b a found =
+    let behind = next_boundary text start line next lines u e l a in
+    let later = stands_at text (start + length line.body + length line.terminator) (next ∷ lines) row range u (next_rest text start line (next ∷ lines) e) behind.1 behind.0 a.1 found in
+    record { ordered = later.ordered; start = later.start; end = later.end; body = later.body }
+
+-- each line of a text
+pub line-stands : (text : List ℕ) (row : ℕ) (range : ℕ × ℕ) → IsUtf8 text → slice_get (line_ranges text) row ≡ Some range → StandsAt text (lines_of text) row range
+line-stands text row range u found =
+    stands_at text 0 (lines_of text) row range u (sym (joined-lines_of text)) (omega arith) (IsCharBoundary-start text u) (AreEnded-lines_of text) found
+
+length-ranges : (start : ℕ) (lines : List Line) → length (ranges_from start lines) ≡ length lines
+length-ranges start [] = refl
+length-ranges start (line ∷ lines) = ap suc (length-ranges (start + length line.body + length line.terminator) lines)
+
+-- as many ranges as lines
+pub length-line_ranges : (text : List ℕ) → length (line_ranges text) ≡ length (line_bodies text)
+length-line_ranges text = length-ranges 0 (lines_of text) ∙ sym (length-map (lines_of text) (λ line. line.body))
+
+pub line-missing : (text : List ℕ) (row : ℕ) → slice_get (line_ranges text) row ≡ None → slice_get (line_bodies text) row ≡ None
+line-missing text row e = slice_get_past (line_bodies text) row (past_length (line_ranges text) (line_bodies text) row (length-line_ranges text) e)
+
+-- ---- laws
+
+pair_ends : (byte : ℕ) (text : List ℕ) → is_pair byte text ≡ true → is_terminator byte ≡ true
+pair_ends byte text p = grind (arith, nat_tests)
+
+pub count-lines_of : (text : List ℕ) → length (lines_of text) ≡ count_ends text + 1
+count-lines_of [] = refl
+count-lines_of (byte ∷ text) =
+    let later = count-lines_of text in
+    let return = length-with_return (lines_of text) in
+    let body = length-with_body byte (lines_of text) in
+    elim (cases_Bool (is_pair byte text)) [
+      | inl p ↦ (let some = pair_ends byte text p in rw (p, some) (return ∙ later))
+      | inr p ↦ elim (cases_Bool (is_terminator byte)) [
+        | inl e ↦ rw (p, e) (ap suc later ∙ sym (add-one (count_ends text + 1)))
+        | inr e ↦ rw (p, e) (body ∙ later)
+      ]
+    ]
+
+uncut_return : (lines : List Line) → AllByRecursion IsUncut lines → AllByRecursion IsUncut (with_return lines)
+uncut_return [] a = tt
+uncut_return (line ∷ lines) a = a
+
+uncut_body : (byte : ℕ) (lines : List Line) → is_terminator byte ≡ false → AllByRecursion IsUncut lines → AllByRecursion IsUncut (with_body byte lines)
+uncut_body byte [] e a = tt
+uncut_body byte (line ∷ lines) e a = ((rw e a.0), a.1)
+
+pub uncut-lines_of : (text : List ℕ) → AllByRecursion IsUncut (lines_of text)
+uncut-lines_of [] = (refl, tt)
+uncut-lines_of (byte ∷ text) =
+    let later = uncut-lines_of text in
+    elim (cases_Bool (is_pair byte text)) [
+      | inl p ↦ rw p (uncut_return (lines_of text) later)
+      | inr p ↦ elim (cases_Bool (is_terminator byte)) [
+        | inl e ↦ rw (p, e) (refl, later)
+        | inr e ↦ rw (p, e) (uncut_body byte (lines_of text) e later)
+      ]
+    ]

@@ -1,5 +1,5 @@
 -- Columns in UTF-16 units, the places that they stand for in a line, and slices between two.
-use Rattle.std.specs.Prelude.{ℕ, ◌+◌, ◌-◌, Bool, cond, nat_lt, nat_le, List, [], ◌∷◌, length, take, drop, map, Option, None, Some, option_map}
+use Rattle.std.specs.Prelude.{ℕ, ◌+◌, ◌-◌, cond, nat_lt, nat_le, List, [], ◌∷◌, length, take, drop, map, Option, None, Some, option_map}
 use Rattle.std.specs.List.{find}
 use Rattle.std.specs.Str.{chars, encode_utf8_all}
 

@@ -1,5 +1,5 @@
 -- Identifiers of JavaScript.
-use Rattle.std.specs.Prelude.{ℕ, ◌==◌, nat_le, Bool, true, false, ◌&&◌, ◌||◌, cond, List, [], ◌∷◌, Option, None, Some, option_map}
+use Rattle.std.specs.Prelude.{ℕ, ◌==◌, nat_le, Bool, true, ◌&&◌, ◌||◌, cond, List, [], ◌∷◌, Option, None, Some}
 use Rattle.std.specs.List.{list_all, take_while}
 use Rattle.std.specs.Char.{is_ascii_alphabetic, is_ascii_digit, is_not_whitespace}
 use Rattle.std.specs.Str.{chars, encode_utf8_all, skip_leading_whitespace}

@@ -1,5 +1,6 @@
 -- The lines of a text, and where they stand in it.
-use Rattle.std.specs.Prelude.{ℕ, ◌+◌, ◌==◌, Bool, ◌&&◌, ◌||◌, cond, List, [], ◌∷◌, ◌++◌, length, slice_index, drop, map}
+use Rattle.std.specs.Prelude.{ℕ, ◌+◌, ◌==◌, Bool, ◌&&◌, ◌||◌, cond, List, [], ◌∷◌, ◌++◌, length, slice_index, drop, map, not, false, ◌≡◌}
+use Rattle.std.specs.List.{list_any}
 
 -- a line: its own text, and what ends it, `\n`, `\r` or `\r\n`; nothing ends the last line
 pub record Line : Type 0 where
@@ -55,3 +56,12 @@ line_ranges text = ranges_from 0 (lines_of text)
 -- the lines of a text without what ends them
 abbrev pub line_bodies : List ℕ → List (List ℕ)
 line_bodies text = map (λ line. line.body) (lines_of text)
+
+-- how often a line of the text is ended: at each `\n`, and at each `\r` that no `\n` follows
+abbrev pub count_ends : List ℕ → ℕ
+count_ends [] = 0
+count_ends (byte ∷ text) = cond (is_terminator byte && not (is_pair byte text)) (count_ends text + 1) (count_ends text)
+
+-- a line that holds nothing that ends one
+abbrev pub IsUncut : Line → Type 0
+IsUncut line = list_any is_terminator line.body ≡ false

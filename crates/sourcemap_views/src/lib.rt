@@ -1,6 +1,7 @@
 //! Views of texts: their lines, places by UTF-16 columns, and the identifiers at such places.
 #![tactic(auto)]
 
-pub mod columns;
+mod columns;
 pub mod js_identifiers;
 pub mod lines;
+pub mod sourceview;

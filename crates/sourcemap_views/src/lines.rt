@@ -1,8 +1,9 @@
 //! A table of the lines of a text.
-ghost use Rattle.std.specs.Prelude.{◌≡◌, ◌<◌, ◌==◌, Ok, cond, length, slice_get};
+ghost use Rattle.std.specs.Prelude.{◌≡◌, ◌+◌, ◌<◌, ◌==◌, Ok, cond, length, slice_get};
+ghost use Rattle.std.specs.List.{AllByRecursion};
 ghost use Rattle.sourcemap_errors.specs.Answer.{Gives};
 ghost use Rattle.sourcemap_views.specs.Columns.{column_place};
-ghost use Rattle.sourcemap_views.specs.Lines.{line_ranges, starts_with_pair};
+ghost use Rattle.sourcemap_views.specs.Lines.{IsUncut, count_ends, joined, line_ranges, lines_of, starts_with_pair};
 
 use crate::columns::reach;
 use memchr::memchr2;
@@ -65,6 +66,15 @@ impl LineTable {
     {
         Some(reach(line, col)?.place)
     }
+
+    // The same table once more, with memory of its own.
+    pub(crate) fn copy(&self) -> Result<LineTable>
+        ensures { Gives (λ table. table) result (Ok self.now) }
+    {
+        let alloc = *self.ranges.allocator();
+        let ranges = Vec::from_slice(alloc, self.ranges.as_slice())?;
+        Ok(LineTable { ranges })
+    }
 }
 
 // How many bytes the line terminator takes with which a text starts.
@@ -76,3 +86,11 @@ fn terminator_length(text: &[u8]) -> usize
         _ => 1,
     }
 }
+
+/// A law: the lines of a text, each with what ends it, make the text again; there is one line more
+/// than ends, and no line holds an end.
+pub fn lines_make_their_text(text: &str)
+    ensures joined { joined (lines_of text.now) ≡ text.now }
+    ensures counted { length (lines_of text.now) ≡ count_ends text.now + 1 }
+    ensures uncut { AllByRecursion IsUncut (lines_of text.now) }
+{}

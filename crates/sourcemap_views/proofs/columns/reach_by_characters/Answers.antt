@@ -1,8 +1,8 @@
-use Rattle.std.proofs.Common.{◌≡◌, sym, ap, subst, ◌∙◌, ℕ, ◌<◌, ◌≤◌, ◌+◌, ◌-◌, Some, None, option_map, arith, rules, length, take, chars, IsCharBoundary}
+use Rattle.std.proofs.Common.{◌≡◌, sym, ap, subst, ◌∙◌, ℕ, ◌<◌, ◌≤◌, ◌+◌, ◌-◌, Some, option_map, arith, length, take, chars, IsCharBoundary}
 use Rattle.std.specs.Str.Iter.{chars_rest}
 use Rattle.std.proofs.lemmas.Bool.Decides.{nat_tests}
 use Rattle.sourcemap_views.specs.Columns.{column_place, units_of, width}
-use Rattle.sourcemap_views.proofs.ColumnsLemmas.{Walked, Walked-start, Walked-step, Walked-few, Walked-reaches, Walked-boundary, Walked-units, Walked-short}
+use Rattle.sourcemap_views.proofs.ColumnsLemmas.{Walked, Walked-step, Walked-few, Walked-reaches, Walked-boundary, Walked-units, Walked-short}
 use Rattle.sourcemap_views.proofs.columns.reach_by_characters.Goals as goal
 
 units_is : (c r : ℕ) → (c < 65536 → r ≡ 1) → (65536 ≤ c → r ≡ 2) → r ≡ units_of c

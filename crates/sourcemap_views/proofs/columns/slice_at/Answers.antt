@@ -1,5 +1,5 @@
-use Rattle.std.proofs.Common.{◌≡◌, ◌∙◌, ◌+◌, ◌-◌, sym, ap, ap₂, subst, subst₂, None, Some, option_map, take, drop}
-use Rattle.sourcemap_views.specs.Columns.{column_place, slice_of}
+use Rattle.std.proofs.Common.{◌≡◌, ◌∙◌, ◌+◌, ◌-◌, ap, ap₂, subst, subst₂, None, Some, option_map, take, drop}
+use Rattle.sourcemap_views.specs.Columns.{column_place}
 use Rattle.sourcemap_views.proofs.ColumnsLemmas.{slice-short, slice-there}
 use Rattle.sourcemap_views.proofs.IdentifiersLemmas.{slice_front}
 use Rattle.sourcemap_views.proofs.columns.slice_at.Goals as goal

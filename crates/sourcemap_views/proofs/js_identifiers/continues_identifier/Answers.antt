@@ -1,4 +1,4 @@
-use Rattle.std.proofs.Common.{◌≡◌, ◌≤◌, ◌≢◌, ◌∙◌, sym, arith}
+use Rattle.std.proofs.Common.{◌∙◌, sym, arith}
 use Rattle.sourcemap_views.proofs.IdentifiersLemmas.{is_part-past_ascii}
 use Rattle.sourcemap_views.proofs.js_identifiers.continues_identifier.Goals as goal
 use Rattle.sourcemap_views.proofs.js_identifiers.continues_identifier.Goals.{in_default-via-then-character-lt8204, in_default-via-else-character-lt8204+else-character-lt8206}

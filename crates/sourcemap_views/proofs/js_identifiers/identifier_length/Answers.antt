@@ -1,4 +1,4 @@
-use Rattle.std.proofs.Common.{◌≡◌, ◌∙◌, ◌+◌, sym, ap, ap₂, subst, arith, drop, length, encode_utf8, IsCharBoundary, IsUtf8, chars}
+use Rattle.std.proofs.Common.{◌∙◌, ◌+◌, sym, ap, ap₂, chars}
 use Rattle.std.proofs.lemmas.Str.{IsCharBoundary-start}
 use Rattle.sourcemap_views.specs.Identifiers.{is_part}
 use Rattle.sourcemap_views.proofs.IdentifiersLemmas.{identifier-there, behind_first, passing_bytes}

@@ -1,4 +1,3 @@
-use Rattle.std.proofs.Common.{◌∙◌}
 use Rattle.sourcemap_views.proofs.IdentifiersLemmas.{is_identifier-bytes}
 use Rattle.sourcemap_views.proofs.js_identifiers.is_valid_javascript_identifier.Goals as goal
 

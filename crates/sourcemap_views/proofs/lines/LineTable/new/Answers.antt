@@ -1,4 +1,4 @@
-use Rattle.std.proofs.Common.{Ok, ap, subst, sym, ◌∙◌}
+use Rattle.std.proofs.Common.{Ok, ap, sym, ◌∙◌}
 use Rattle.sourcemap_views.specs.Lines.{line_ranges}
 use Rattle.sourcemap_views.proofs.LinesLemmas.{end_found, none_found, table-more, table-last}
 use Rattle.sourcemap_views.proofs.lines.LineTable.new.Goals as goal
