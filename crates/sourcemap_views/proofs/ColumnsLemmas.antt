@@ -1,15 +1,17 @@
 -- The first prefix that is wide enough: how a walk along the characters finds it.
-use Rattle.std.proofs.Common.{◌≡◌, refl, sym, ap, subst, ◌∙◌, ℕ, zero, suc, ◌+◌, ◌-◌, ◌<◌, ◌≤◌, List, [], ◌∷◌, ◌++◌, length, take, drop, nat_le, Bool, true, Some, None, Option, option_map, map, arith, inl, inr, chars, encode_utf8_all, encode_utf8, IsUtf8, IsAscii, IsCharBoundary, append_assoc, append-nil, find, get_or, add-one, le_refl, ap₂}
+use Rattle.std.proofs.Common.{◌≡◌, refl, sym, ap, subst, ◌∙◌, ℕ, zero, suc, ◌+◌, ◌-◌, ◌<◌, ◌≤◌, List, [], ◌∷◌, ◌++◌, length, take, drop, nat_le, Bool, true, Some, None, Option, option_map, map, arith, inl, inr, chars, encode_utf8_all, encode_utf8, IsUtf8, IsAscii, IsCharBoundary, append_assoc, append-nil, find, get_or, add-one, le_refl, ap₂, slice_range}
+use Rattle.std.specs.Char.{IsScalar}
 use Rattle.std.specs.Bool.{⊤}
 use Rattle.std.proofs.lemmas.Bool.{cases_Bool, cases_lt, and_parts, and_from, lt-leb}
 use Rattle.std.proofs.lemmas.Bool.Decides.{nat_tests}
 use Rattle.std.specs.Char.{len_utf8}
-use Rattle.std.proofs.lemmas.Str.{encodes-append, length-encode, chars_past_char, IsUtf8-past_char, chars-append, IsCharBoundary-at_seam, IsUtf8-take, IsUtf8-drop, encodes-chars, chars-encodes, chars-IsAscii, encodes-IsAscii, IsUtf8-from_ascii, IsCharBoundary-start, IsCharBoundary-after_ascii, chars-nil, scalars-chars}
+use Rattle.std.proofs.lemmas.Str.{encodes-append, length-encode, chars_past_char, IsUtf8-past_char, chars-append, IsCharBoundary-at_seam, IsUtf8-take, IsUtf8-drop, encodes-chars, chars-encodes, chars-IsAscii, encodes-IsAscii, IsUtf8-from_ascii, IsCharBoundary-start, IsCharBoundary-after_ascii, IsCharBoundary-before_ascii, IsCharBoundary-from_take, IsUtf8-encode, chars-nil, scalars-chars}
 use Rattle.std.specs.Str.{all_scalars}
 use lib.Utf8.{scalar}
 use Rattle.std.proofs.lemmas.Option.{none-some, same_Some}
-use Rattle.std.proofs.lemmas.List.{append_cancel_right, take-append-drop, length-append, length-take-le, take_at, drop_at, get_or-take, length-drop, take_all}
-use Rattle.sourcemap_views.specs.Columns.{units_of, width, prefixes, first_reaching, column_place, part_between, slice_of}
+use Rattle.std.proofs.lemmas.List.{append_cancel_right, take-append-drop, length-append, length-take-le, take_at, drop_at, get_or-take, get_or-drop, length-drop, take_all, take-take}
+use Rattle.std.proofs.Common.{take-add}
+use Rattle.sourcemap_views.specs.Columns.{IsPlace, units_of, width, prefixes, first_reaching, column_place, part_between, slice_of}
 
 -- ---- searching lists
 
@@ -361,3 +363,115 @@ slice-there line col span place units len u e w f =
     let end = place-further line col span place units u e w ∙ ap (option_map (λ n. place + n)) (sym f) in
     let between : place + len - place ≡ len = omega arith in
     sym (slice_at_place line col span place e (Some (place + len)) end ∙ ap (λ n. Some (take n (drop place line))) between)
+
+within_back : (place len all : ℕ) → place ≤ all → place - len ≤ all
+within_back place len all l = omega arith
+
+sum_back : (place count : ℕ) → count ≤ place → place ≡ place - count + count
+sum_back place count l = omega arith
+
+chars-one : (c : ℕ) → IsScalar c → chars (encode_utf8 c) ≡ c ∷ []
+chars-one c s =
+    let one : encode_utf8 c ≡ encode_utf8 c ++ [] = sym (append-nil (encode_utf8 c)) in
+    chars_past_char (encode_utf8 c) [] c (IsUtf8-encode c s) one ∙ ap (λ cs. c ∷ cs) chars-nil
+
+ascii_boundary : (line : List ℕ) (place count : ℕ) → IsUtf8 line → IsCharBoundary line place → count ≤ place → IsAscii (take count (drop (place - count) line)) → IsCharBoundary line (place - count)
+ascii_boundary line place zero u b l a = let same : place ≡ place - 0 = omega arith in subst (λ n. IsCharBoundary line n) same b
+ascii_boundary line place (suc count) u b l a =
+    let at = place - suc count in
+    let inside = b.0 in
+    let start : at + 0 ≡ at = omega arith in
+    let first : get_or line at 0 < 128 = subst (λ n. n < 128) (get_or-take (suc count) (drop at line) 0 0 (omega arith) ∙ get_or-drop at line 0 0 ∙ ap (λ n. get_or line n 0) start) (a 0) in
+    IsCharBoundary-before_ascii line at (omega arith) first
+
+-- ---- back to a column that is not behind a place
+
+units_some : (c : ℕ) → 0 < units_of c
+units_some c = grind (arith, nat_tests)
+
+BeginBefore-own : (xs : List ℕ) → BeginBefore (width xs) xs
+BeginBefore-own [] = tt
+BeginBefore-own (x ∷ xs) =
+    let some = units_some x in
+    let left : width xs ≡ units_of x + width xs - units_of x = omega arith in
+    (omega arith, subst (λ n. BeginBefore n xs) left (BeginBefore-own xs))
+
+-- a place is that of a column that each character before it begins before
+pub place-reached : (line : List ℕ) (place units col : ℕ) → IsUtf8 line → IsPlace line place units → col ≤ units → BeginBefore col (chars (take place line)) → Some place ≡ column_place line col
+place-reached line place units col u p l b =
+    let before = IsUtf8-take line place u p.0 in
+    let front = chars (take place line) in
+    let back = chars (drop place line) in
+    let whole : chars line ≡ front ++ back = sym (ap chars (take-append-drop place line)) ∙ chars-append (take place line) (drop place line) before in
+    let wide = p.1 in
+    let enough : col - width front ≡ 0 = omega arith in
+    let here : first_reaching col (chars line) ≡ Some (front ++ []) =
+    ap (first_reaching col) whole ∙ reaching-behind front back col b ∙ ap (λ n. option_map (λ prefix. front ++ prefix) (first_reaching n back)) enough ∙ ap (option_map (λ prefix. front ++ prefix)) (reaching-nothing back) in
+    let bytes : length (encode_utf8_all (front ++ [])) ≡ place =
+    ap (λ prefix. length (encode_utf8_all prefix)) (append-nil front) ∙ ap length (encodes-chars (take place line) before) ∙ length-take-le place line p.0.0 in
+    sym (ap (option_map (λ prefix. length (encode_utf8_all prefix))) here ∙ ap Some bytes)
+
+-- the column of a place itself
+pub place-own : (line : List ℕ) (place units : ℕ) → IsUtf8 line → IsPlace line place units → Some place ≡ column_place line units
+place-own line place units u p =
+    place-reached line place units units u p (le_refl units) (subst (λ n. BeginBefore n (chars (take place line))) (sym p.1) (BeginBefore-own (chars (take place line))))
+
+-- one character back
+pub record SteppedBack (line : List ℕ) (place units c : ℕ) : Type 0 where
+  pub some : length (encode_utf8 c) ≤ place
+  pub wide : units_of c ≤ units
+  pub at : IsPlace line (place - length (encode_utf8 c)) (units - units_of c)
+  pub short : (col : ℕ) → col ≤ units → units - units_of c < col → Some place ≡ column_place line col
+
+pub stepped-back : (line rest : List ℕ) (place units c : ℕ) → IsUtf8 line → IsPlace line place units → IsScalar c → take place line ≡ rest ++ encode_utf8 c → SteppedBack line place units c
+stepped-back line rest place units c u p s e =
+    let front = IsUtf8-take line place u p.0 in
+    let seam = IsCharBoundary-at_seam (take place line) rest (encode_utf8 c) e (IsUtf8-encode c s) in
+    let rest_is : take (length rest) (take place line) ≡ rest = ap (take (length rest)) e ∙ take_at rest (encode_utf8 c) (length rest) refl in
+    let utf8 : IsUtf8 rest = subst IsUtf8 rest_is (IsUtf8-take (take place line) (length rest) front seam) in
+    let spelt : chars (take place line) ≡ chars rest ++ c ∷ [] = ap chars e ∙ chars-append rest (encode_utf8 c) utf8 ∙ ap (λ cs. chars rest ++ cs) (chars-one c s) in
+    let wide : units ≡ width (chars rest) + units_of c = p.1 ∙ ap width spelt ∙ width_more (chars rest) c in
+    let len : place ≡ length rest + length (encode_utf8 c) = sym (length-take-le place line p.0.0) ∙ ap length e ∙ length-append rest (encode_utf8 c) in
+    let back : length rest ≡ place - length (encode_utf8 c) = omega arith in
+    let left : width (chars rest) ≡ units - units_of c = omega arith in
+    let cut : take (place - length (encode_utf8 c)) line ≡ rest = sym (take-take (place - length (encode_utf8 c)) place line (omega arith)) ∙ ap (λ n. take n (take place line)) (sym back) ∙ rest_is in
+    record {
+      some = omega arith;
+      wide = omega arith;
+      at = (IsCharBoundary-from_take line (place - length (encode_utf8 c)) u (within_back place (length (encode_utf8 c)) (length line) p.0.0) (subst IsUtf8 (sym cut) utf8), sym (ap (λ t. width (chars t)) cut ∙ left));
+      short = λ col l m. place-reached line place units col u p l (subst (BeginBefore col) (sym spelt) (BeginBefore-more (chars rest) c col (subst (λ n. n < col) (sym left) m)));
+    }
+
+-- a column that is left of a place by bytes of ASCII
+pub ascii-back : (line : List ℕ) (place units count col : ℕ) → IsUtf8 line → IsPlace line place units → col + count ≡ units → count ≤ place → IsAscii (slice_range line (place - count) place)
+    → (Some (place - count) ≡ column_place line col) × IsPlace line (place - count) col
+ascii-back line place units count col u p e l a =
+    let at = place - count in
+    let len : place - at ≡ count = omega arith in
+    let ascii : IsAscii (take count (drop at line)) = subst (λ n. IsAscii (take n (drop at line))) len a in
+    let inside = p.0.0 in
+    let boundary = ascii_boundary line place count u p.0 l ascii in
+    let whole : take place line ≡ take at line ++ take count (drop at line) = ap (λ n. take n line) (sum_back place count l) ∙ take-add at count line in
+    let before = IsUtf8-take line at u boundary in
+    let left = length-drop at line in
+    let many : length (take count (drop at line)) ≡ count = length-take-le count (drop at line) (omega arith) in
+    let spelt : chars (take place line) ≡ chars (take at line) ++ take count (drop at line) = ap chars whole ∙ chars-append (take at line) (take count (drop at line)) before ∙ ap (λ cs. chars (take at line) ++ cs) (chars-IsAscii (take count (drop at line)) ascii) in
+    let wide : units ≡ width (chars (take at line)) + width (take count (drop at line)) = p.1 ∙ ap width spelt ∙ width-append (chars (take at line)) (take count (drop at line)) in
+    let own = (ascii_begin (take count (drop at line)) count (omega arith) ascii).1 in
+    let units_is : col ≡ width (chars (take at line)) = omega arith in
+    let here : IsPlace line at col = (boundary, units_is) in
+    (place-own line at col u here, here)
+
+nothing_taken : (xs : List ℕ) → length xs ≡ 0 → xs ≡ []
+nothing_taken [] e = refl
+nothing_taken (x ∷ xs) e = absurd (omega arith)
+
+pub no_step : (line : List ℕ) (place units col : ℕ) → IsUtf8 line → IsPlace line place units → col ≤ units → length (take place line) ≡ 0 → Some place ≡ column_place line col
+no_step line place units col u p l e =
+    let front = nothing_taken (take place line) e in
+    let wide : units ≡ 0 = p.1 ∙ ap (λ t. width (chars t)) front ∙ ap width chars-nil in
+    let none : col ≡ 0 = omega arith in
+    subst (λ n. Some place ≡ column_place line n) (wide ∙ sym none) (place-own line place units u p)
+
+pub units_is : (c r : ℕ) → (c < 65536 → r ≡ 1) → (65536 ≤ c → r ≡ 2) → r ≡ units_of c
+units_is c r one two = grind (arith, nat_tests)

@@ -9,7 +9,7 @@ use Rattle.std.proofs.lemmas.Bool.{false_from_ne_true}
 use Rattle.std.proofs.lemmas.List.{length-take-le, length-drop, take_rest, drop-drop, drop_at, take_at, length-append, length-map, get_or-drop, get_or-append-add, get_or_append_left}
 use Rattle.memchr.specs.Find.{NoneBefore, Nowhere, Passes, is_byte2}
 use Rattle.sourcemap_views.specs.Lines.{Line, ended_by, with_body, with_return, is_terminator, is_pair, starts_with_pair, lines_of, joined, ranges_from, line_ranges, line_bodies, count_ends, IsUncut}
-use Rattle.std.specs.List.{AllByRecursion, list_any}
+use Rattle.std.specs.List.{AllByRecursion}
 
 -- how many bytes a terminator has at the front of a text
 abbrev pub terminator_len : List ℕ → ℕ

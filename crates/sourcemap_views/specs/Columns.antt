@@ -1,7 +1,7 @@
 -- Columns in UTF-16 units, the places that they stand for in a line, and slices between two.
-use Rattle.std.specs.Prelude.{ℕ, ◌+◌, ◌-◌, cond, nat_lt, nat_le, List, [], ◌∷◌, length, take, drop, map, Option, None, Some, option_map}
+use Rattle.std.specs.Prelude.{◌≡◌, ℕ, ◌+◌, ◌-◌, cond, nat_lt, nat_le, List, [], ◌∷◌, length, take, drop, map, Option, None, Some, option_map}
 use Rattle.std.specs.List.{find}
-use Rattle.std.specs.Str.{chars, encode_utf8_all}
+use Rattle.std.specs.Str.{IsCharBoundary, chars, encode_utf8_all}
 
 -- how many UTF-16 units a character takes
 abbrev pub units_of : ℕ → ℕ
@@ -24,6 +24,10 @@ first_reaching col characters = find (λ prefix. nat_le col (width prefix)) (pre
 -- the place of a column in a line, in bytes
 abbrev pub column_place : List ℕ → ℕ → Option ℕ
 column_place line col = option_map (λ prefix. length (encode_utf8_all prefix)) (first_reaching col (chars line))
+
+-- a place where a line may be cut, and how many units stand before it
+abbrev pub IsPlace : List ℕ → (place units : ℕ) → Type 0
+IsPlace line place units = IsCharBoundary line place × (units ≡ width (chars (take place line)))
 
 -- what stands between two places, if both are there
 abbrev pub part_between : List ℕ → Option ℕ → Option ℕ → Option (List ℕ)

@@ -3,3 +3,5 @@ pub mod Identifiers
 pub mod Lines
 pub mod Sourceview
 pub mod Views
+pub mod Walk
+pub mod Walks

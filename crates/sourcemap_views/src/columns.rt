@@ -1,7 +1,8 @@
 //! Places in a line by UTF-16 columns.
-ghost use Rattle.std.specs.Prelude.{◌≡◌, ◌≤◌, IfSome, IsAscii, option_map, take};
+ghost use Rattle.std.specs.Prelude.{◌≡◌, ◌<◌, ◌≤◌, ◌-◌, IfNone, IfSome, IsAscii, Some, length, option_map, slice_range, take};
+ghost use Rattle.std.specs.Bool.{OnTrue};
 ghost use Rattle.std.specs.Str.{IsCharBoundary, chars};
-ghost use Rattle.sourcemap_views.specs.Columns.{column_place, slice_of, width};
+ghost use Rattle.sourcemap_views.specs.Columns.{IsPlace, column_place, slice_of, width};
 
 /// A place in a line, in bytes, and how many UTF-16 units stand before it.
 #[derive(Debug, Clone, Copy)]
@@ -68,4 +69,58 @@ pub fn slice_at(line: &str, col: u32, span: u32) -> Option<&str>
     let end = (u64::from(col) + u64::from(span)).saturating_sub(start.units);
     let length = reach(rest, end)?.place;
     Some(&rest[..length])
+}
+
+/// The place of a column that is not behind this place of the line, without a walk from its start.
+pub fn reach_back(line: &str, from: Reached, col: u64) -> Reached
+    requires place { IsPlace line.now from.place from.units }
+    requires ahead { col ≤ from.units }
+    ensures value { Some result.place ≡ column_place line.now col }
+    ensures place { IsPlace line.now result.place result.units }
+{
+    let distance = from.units - col;
+    if is_ascii_before(line, from.place, distance) {
+        return Reached {
+            place: from.place - distance as usize,
+            units: col,
+        };
+    }
+    let mut at = from;
+    while let Some(before) = step_back(line, at, col) {
+        at = before;
+    }
+    at
+}
+
+// Whether as many bytes before a place are there, and all of ASCII.
+fn is_ascii_before(line: &str, place: usize, count: u64) -> bool
+    requires { place ≤ length line.now }
+    ensures { OnTrue result ((count ≤ place) × IsAscii (slice_range line.now (place - count) place)) }
+{
+    if count > place as u64 {
+        return false;
+    }
+    line.as_bytes()[place - count as usize..place].is_ascii()
+}
+
+// One character back, unless that is before the column.
+fn step_back(line: &str, at: Reached, col: u64) -> Option<Reached>
+    requires place { IsPlace line.now at.place at.units }
+    requires ahead { col ≤ at.units }
+    ensures place { IfSome result (λ before. IsPlace line.now before.place before.units) }
+    ensures ahead { IfSome result (λ before. (col ≤ before.units) × (before.units < at.units)) }
+    ensures there { IfNone result (Some at.place ≡ column_place line.now col) }
+{
+    if at.units == col {
+        return None;
+    }
+    let character = line[..at.place].chars().next_back()?;
+    let units = at.units - character.len_utf16() as u64;
+    if units < col {
+        return None;
+    }
+    Some(Reached {
+        place: at.place - character.len_utf8(),
+        units,
+    })
 }

@@ -5,3 +5,4 @@ mod columns;
 pub mod js_identifiers;
 pub mod lines;
 pub mod sourceview;
+pub mod walk;
