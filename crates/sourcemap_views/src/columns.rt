@@ -95,7 +95,8 @@ pub fn reach_back(line: &str, from: Reached, col: u64) -> Reached
 // Whether as many bytes before a place are there, and all of ASCII.
 fn is_ascii_before(line: &str, place: usize, count: u64) -> bool
     requires { place ≤ length line.now }
-    ensures { OnTrue result ((count ≤ place) × IsAscii (slice_range line.now (place - count) place)) }
+    ensures { OnTrue result
+        ((count ≤ place) × IsAscii (slice_range line.now (place - count) place)) }
 {
     if count > place as u64 {
         return false;
@@ -111,9 +112,6 @@ fn step_back(line: &str, at: Reached, col: u64) -> Option<Reached>
     ensures ahead { IfSome result (λ before. (col ≤ before.units) × (before.units < at.units)) }
     ensures there { IfNone result (Some at.place ≡ column_place line.now col) }
 {
-    if at.units == col {
-        return None;
-    }
     let character = line[..at.place].chars().next_back()?;
     let units = at.units - character.len_utf16() as u64;
     if units < col {

@@ -79,7 +79,8 @@ impl<'view> Stand<'view> {
 
 // A line of a view at a column, found from the start of the line.
 fn stand_at<'view>(view: &'view SourceView, line: u32, col: u32) -> Option<Stand<'view>>
-    ensures value { option_map (λ s. (s.line.now, s.at.place)) result ≡ place_in view.now (line, col) }
+    ensures value { option_map (λ s. (s.line.now, s.at.place)) result
+        ≡ place_in view.now (line, col) }
     ensures kept { IfSome result (λ s. StandsIn view.now s.number s.line.now) }
 {
     let text = view.get_line(line)?;
@@ -100,7 +101,8 @@ fn stand_next<'view>(
     col: u32,
 ) -> Option<Stand<'view>>
     requires { IfSome last (λ s. StandsIn view.now s.number s.line.now) }
-    ensures value { option_map (λ s. (s.line.now, s.at.place)) result ≡ place_in view.now (line, col) }
+    ensures value { option_map (λ s. (s.line.now, s.at.place)) result
+        ≡ place_in view.now (line, col) }
     ensures kept { IfSome result (λ s. StandsIn view.now s.number s.line.now) }
 {
     match last {
@@ -119,7 +121,8 @@ pub struct RevTokenIter<'view, T> {
     view: &'view SourceView,
     token: Option<T>,
     stand: Option<Stand<'view>>,
-    ghost kept: { IfSome stand (λ s. StandsIn view.now s.number s.line.now) } by { Prim.hlevel (props, StandsIn-prop) },
+    ghost kept: { IfSome stand (λ s. StandsIn view.now s.number s.line.now) }
+        by { Prim.hlevel (props, StandsIn-prop) },
 }
 
 impl<'view, T: WalkedToken> Iterator for RevTokenIter<'view, T> {

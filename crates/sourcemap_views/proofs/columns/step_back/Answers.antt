@@ -1,13 +1,9 @@
 use Rattle.std.specs.Char.{IsScalar}
 use Rattle.std.proofs.Common.{rules, ◌≡◌, ◌∙◌, ◌-◌, ◌<◌, sym, ap, subst, subst₂, Some, arith, length, take}
 use Rattle.sourcemap_views.specs.Columns.{IsPlace, column_place}
-use Rattle.sourcemap_views.proofs.ColumnsLemmas.{stepped-back, place-own, no_step, units_is}
+use Rattle.sourcemap_views.proofs.ColumnsLemmas.{stepped-back, no_step, units_is}
 use Rattle.sourcemap_views.proofs.IdentifiersLemmas.{slice_front}
 use Rattle.sourcemap_views.proofs.columns.step_back.Goals as goal
-
-pub returns-then-at-col-clause-there : goal.returns-then-at-col-clause-there
-returns-then-at-col-clause-there c =
-    subst (λ n. Some c.args.at.place ≡ column_place c.args.line.now n) c.if-at-col.true (place-own c.args.line.now c.args.at.place c.args.at.units c.utf8.line c.requires.place)
 
 pub returns-in_err-character-clause-there : goal.returns-in_err-character-clause-there
 returns-in_err-character-clause-there c =
