@@ -386,7 +386,7 @@ ascii_boundary line place (suc count) u b l a =
 
 -- ---- back to a column that is not behind a place
 
-units_some : (c : ℕ) → 0 < units_of c
+pub units_some : (c : ℕ) → 0 < units_of c
 units_some c = grind (arith, nat_tests)
 
 BeginBefore-own : (xs : List ℕ) → BeginBefore (width xs) xs

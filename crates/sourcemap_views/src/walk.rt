@@ -121,8 +121,7 @@ pub struct RevTokenIter<'view, T> {
     view: &'view SourceView,
     token: Option<T>,
     stand: Option<Stand<'view>>,
-    ghost kept: { IfSome stand (λ s. StandsIn view.now s.number s.line.now) }
-        by { Prim.hlevel (props, StandsIn-prop) },
+    ghost kept: { IfSome stand (λ s. StandsIn view.now s.number s.line.now) } by { Prim.hlevel (props, StandsIn-prop) },
 }
 
 impl<'view, T: WalkedToken> Iterator for RevTokenIter<'view, T> {

@@ -1,7 +1,7 @@
 use Rattle.std.specs.Char.{IsScalar}
-use Rattle.std.proofs.Common.{rules, ◌≡◌, ◌∙◌, ◌-◌, ◌<◌, sym, ap, subst, subst₂, Some, arith, length, take}
-use Rattle.sourcemap_views.specs.Columns.{IsPlace, column_place}
-use Rattle.sourcemap_views.proofs.ColumnsLemmas.{stepped-back, no_step, units_is}
+use Rattle.std.proofs.Common.{rules, ◌≡◌, ◌∙◌, ◌-◌, ◌<◌, sym, ap, subst, subst₂, arith, length, take}
+use Rattle.sourcemap_views.specs.Columns.{IsPlace}
+use Rattle.sourcemap_views.proofs.ColumnsLemmas.{stepped-back, no_step, units_is, units_some}
 use Rattle.sourcemap_views.proofs.IdentifiersLemmas.{slice_front}
 use Rattle.sourcemap_views.proofs.columns.step_back.Goals as goal
 
@@ -35,3 +35,13 @@ returns-clause-place c =
     (sym (c.chars.ensures.rest ∙ c.range.ensures.value ∙ slice_front _ _) ∙ c.in_ok-character.ensures.steps) in
     let units = units_is _ _ c.len_utf16.ensures.bmp c.len_utf16.ensures.surrogate_pair in
     subst₂ (λ m n. IsPlace c.args.line.now (c.args.at.place - m) (c.args.at.units - n)) (sym c.len_utf8.ensures.len) (sym units) stepped.at
+
+pub returns-clause-ahead : goal.returns-clause-ahead
+returns-clause-ahead c =
+    let scalar : IsScalar c.in_ok-character.character = search rules in
+    let stepped = stepped-back c.args.line.now _ c.args.at.place c.args.at.units c.in_ok-character.character c.utf8.line c.requires.place scalar
+    (sym (c.chars.ensures.rest ∙ c.range.ensures.value ∙ slice_front _ _) ∙ c.in_ok-character.ensures.steps) in
+    let units = units_is _ _ c.len_utf16.ensures.bmp c.len_utf16.ensures.surrogate_pair in
+    let some = units_some c.in_ok-character.character in
+    let wide = stepped.wide in
+    (c.if-units-col.false, omega (arith, units, some, wide))
