@@ -5,7 +5,7 @@ use sourcemap_views::js_identifiers::{get_javascript_token, is_valid_javascript_
 use std::alloc::Global;
 
 // A text, whether it is an identifier, and the one with which its first word starts.
-const TEXTS: [(&str, &str); 31] = [
+const TEXTS: [(&str, &str); 32] = [
     ("foo_$123", "true [foo_$123]"),
     (" foo", "false [foo]"),
     ("foo ", "false [foo]"),
@@ -37,6 +37,8 @@ const TEXTS: [(&str, &str); 31] = [
     // white space past ASCII parts words
     ("\u{a0}a\u{a0}b", "false [a]"),
     ("a\u{2028}b", "false [a]"),
+    // of ID_Start, and not of XID_Start
+    ("\u{37a}", "false none"),
     // a letter that takes two units
     ("𝒳1", "true [𝒳1]"),
     ("👌", "false none"),

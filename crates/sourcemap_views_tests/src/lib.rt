@@ -10,3 +10,5 @@ mod identifiers;
 mod lines;
 #[cfg(test)]
 mod views;
+#[cfg(test)]
+mod walks;

@@ -5,6 +5,7 @@ use sourcemap_views::sourceview::SourceView;
 use std::alloc::Global;
 
 const SMILES: &str = "abc👌def\nblah";
+
 const MIXED: &str = "\r\n\né👌👌x\r\n\r";
 
 // A text, and the part of a line from a column on, so many units long.
