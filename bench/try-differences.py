@@ -4,21 +4,22 @@
     bench/try-differences.py REFERENCE
 
 REFERENCE    bench/reference, which is then built, or a program over the Rust crate that knows the words
-             `lookup`, `tokens`, `rewrite` and `stream rewrite`, `flatten`, `shift`, and `roundtrip`, which
-             writes a map as it is
+             `lookup`, `tokens`, `rewrite` and `stream rewrite`, `flatten`, `compose`, `shift`, and
+             `roundtrip`, which writes a map as it is
 
 The programs of this repository are built where they are missing; SOURCEMAP_TOOL and SOURCEMAP_BENCH in the
 environment name others in their place. A row of the document whose last column names a word has a trial
 below, under the text of its first column; `none` there says that the row has no trial. A row that is not as
 it is told, a row without its trial and a trial without its row are printed, and then the status is 1.
 """
-import argparse, collections, json, os, pty, subprocess, sys, tty
+import argparse, collections, json, os, pty, subprocess, sys, tempfile, tty
 from comparing import BENCH, CRATES, TOOL, build_missing, is_reordered, reference_program
 
 DOCUMENT = CRATES.parent / 'docs/DIFFERENCES.md'
 
-# What is asked with which input, and of each answer its status and a text that is in it.
-Trial = collections.namedtuple('Trial', 'word data here there')
+# What is asked with which input, and of each answer its status and a text that is in it; the text of a second
+# file, if the word takes one.
+Trial = collections.namedtuple('Trial', 'word data here there file', defaults=[None])
 
 
 def record(mappings, **more):
@@ -101,6 +102,12 @@ TRIALS = {
         'shift 0', b'{"sections":[],"x_facebook_offsets":[5,null],"x_metro_module_paths":["a.js"]}',
         (0, '{"sections":[],"sources":null,"version":3,"x_facebook_offsets":[5,null],"x_metro_module_paths":["a.js"]}'),
         (0, '{"sections":[],"sources":null,"version":3}')),
+    'originals at (0,0) and (0,1), an adjustment at (0,4294967295) that comes from (0,0)': Trial(
+        'compose', record('AAAA,CAAC'), (1, 'encountered incompatible sourcemap format'),
+        (0, '"mappings":"AAAC,+/////HAAD"'), record('+/////HAAA')),
+    'a range token at (0,0) from column 7 of its source, an adjustment at (5,0) that comes from (0,10)': Trial(
+        'compose', record('AAAO', rangeMappings='B'), (0, '"mappings":";;;;;AAAiB"'), (0, '"mappings":";;;;;AAAO"'),
+        record(';;;;;AAAU')),
     'JSON keys': Trial(
         'rewrite', record('AAAA'), (0, '{"mappings":"AAAA","names":[],"sources":["a.js"],"version":3}\n'),
         (0, '{"version":3,"sources":["a.js"],"names":[],"mappings":"AAAA"}\n')),
@@ -129,6 +136,14 @@ def commands(word, title, reference):
     return [TOOL, *word.split()], [reference, *word.split()]
 
 
+def with_file(commands, text):
+    """Both programs' words, and behind them the path of a file of this text, if there is one."""
+    with tempfile.NamedTemporaryFile() as file:
+        file.write(text or b'')
+        file.flush()
+        yield from ([*command, *([file.name] if text else [])] for command in commands)
+
+
 def answer(command, data):
     given = {'stdin': data()} if callable(data) else {'input': data}
     told = subprocess.run(command, stdout=subprocess.PIPE, stderr=subprocess.DEVNULL, **given)
@@ -145,7 +160,8 @@ def is_told(due, status, text, other):
 
 def wrong(title, trial, reference):
     """What is not as the row tells, None if all is."""
-    here, there = (answer(command, trial.data) for command in commands(trial.word, title, reference))
+    both = with_file(commands(trial.word, title, reference), trial.file)
+    here, there = (answer(command, trial.data) for command in both)
     if is_told(trial.here, *here, b'') and is_told(trial.there, *there, here[1]):
         return None
     return f'{title}\n    here  {here}\n    there {there}'

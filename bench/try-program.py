@@ -12,9 +12,11 @@ from comparing import CRATES, TOOL, build_missing
 
 HOME = CRATES.parent
 MAP = HOME / 'examples/readme.map'
-USAGE = b'usage: lookup LINE COL | tokens | rewrite | flatten | compose FILE\n'
+USAGE = b'usage: lookup LINE COL | tokens | rewrite | flatten | compose FILE | shift ROWS\n'
 ANSWER = b'coolstuff.js:0:4 name=x\n'
 LOOKUP = [b'lookup', b'0', b'5']
+MISSING = b'No such file or directory (os error 2)\n'
+COMPOSED = b'{"mappings":"","names":["x","alert"],"sources":["coolstuff.js"],"version":3}\n'
 
 
 def ended(command, **more):
@@ -50,6 +52,7 @@ def through_link(words):
         link = pathlib.Path(folder, 'link')
         link.symlink_to(HOME / 'sourcemap')
         pathlib.Path(folder, 'here.map').write_bytes(MAP.read_bytes())
+        pathlib.Path(folder, 'empty.map').write_text('{}')
         pathlib.Path(folder, 'inner').mkdir()
         return ended(['bash', '-c', 'exec ../link "$@" < ../here.map', 'bash', *words], cwd=f'{folder}/inner')
 
@@ -67,6 +70,10 @@ TRIALS = [
     ('a closed input', lambda: on_closed(LOOKUP, '<&-'), (1, b'Bad file descriptor (os error 9)\n', b'')),
     ('a folder as input', lambda: on_closed(LOOKUP, '< /'), (1, b'Is a directory (os error 21)\n', b'')),
     ('the wrapper through a link', lambda: through_link(LOOKUP), (0, ANSWER, b'')),
+    ('a second map, named from the folder of the caller', lambda: through_link([b'compose', b'../empty.map']),
+     (0, COMPOSED, b'')),
+    ('a second map that is missing', lambda: ended([TOOL, b'compose', b'no.map']), (1, MISSING, b'')),
+    ('a folder as a second map', lambda: ended([TOOL, b'compose', b'/']), (1, b'Is a directory (os error 21)\n', b'')),
     ('a word that is not UTF-8 through it', lambda: through_link([b'lookup', b'0', b'\xff']), (2, USAGE, b'')),
 ]
 

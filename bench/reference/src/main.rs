@@ -17,7 +17,7 @@ use std::os::fd::AsFd;
 use std::process::ExitCode;
 
 const USAGE: &str = "usage, with a map on standard input:
-    [slice | stream] (lookup LINE COL | tokens | rewrite | flatten | shift ROWS)
+    [slice | stream] (lookup LINE COL | tokens | rewrite | flatten | compose FILE | shift ROWS)
     | roundtrip | stat | batch FILE | dst FILE | positions N SEED [wild] | bench OPERATION N
 OPERATION: decode | decode-reader | lookup | tokens | encode | rewrite | flatten
 ";
@@ -200,6 +200,14 @@ fn shifted(mut map: SourceMapIndex, rows: u32) -> Result<DecodedMap> {
     }
 }
 
+/// The map adjusted by the one in a file.
+fn composed(map: DecodedMap, file: &str) -> Result<DecodedMap> {
+    let adjustment = decode_slice(&fs::read(file)?)?;
+    let (mut map, adjustment) = (regular(map)?, regular(adjustment)?);
+    map.adjust_mappings(&adjustment);
+    Ok(DecodedMap::Regular(map))
+}
+
 /// Writes what the words ask for. None if they ask for nothing.
 fn answer(form: Form, words: &[&str], output: &mut Output) -> Option<Result<()>> {
     let map = || decoded(form);
@@ -218,6 +226,9 @@ fn answer(form: Form, words: &[&str], output: &mut Output) -> Option<Result<()>>
         ["flatten"] => map()
             .and_then(index)
             .and_then(|map| write_json(&DecodedMap::Regular(map.flatten()?), form, output)),
+        ["compose", file] => map()
+            .and_then(|map| composed(map, file))
+            .and_then(|map| write_json(&map, form, output)),
         ["shift", rows] => {
             let rows = rows.parse().ok()?;
             map()

@@ -8,6 +8,7 @@ pub use Rattle.sourcemap_lists.specs.Tokens
 pub use Rattle.sourcemap_composition.specs.Stretches
 pub use Rattle.sourcemap_composition.specs.Composition
 pub use Rattle.sourcemap_composition.specs.Moved
+pub use Rattle.sourcemap_line_index.specs.LineIndex
 pub mod Mappings
 pub use Rattle.sourcemap_mappings.specs.Write as MappingsWritten
 pub use Rattle.sourcemap_texts.specs.Paths

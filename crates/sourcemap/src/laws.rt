@@ -2,9 +2,9 @@
 //! function calls it; the call does nothing when it runs.
 
 pub use sourcemap_core::laws::{
-    bits_are_determined, composed_tokens_stay_within, mappings_determine_one_answer,
-    moved_positions_answer_as_before, one_stable_order, reduced_answers_alike,
-    segments_are_determined, written_texts_are_determined,
+    binary_digits_are_fewest, bits_are_determined, composed_tokens_stay_within,
+    mappings_determine_one_answer, moved_positions_answer_as_before, one_stable_order,
+    reduced_answers_alike, segments_are_determined, written_texts_are_determined,
 };
 pub use sourcemap_headers::data_url::data_urls_have_one_answer;
 pub use sourcemap_index::decode::{answers_are_determined, no_other_fault_is_of_urls};

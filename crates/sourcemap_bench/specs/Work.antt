@@ -1,32 +1,48 @@
 -- What rounds of an operation come to.
 use Rattle.std.specs.Prelude.{◌≡◌, ℕ, suc, zero, List, length, min, Ok}
 use Rattle.sourcemap.specs.Bytes.{IsEncoded}
+use Rattle.sourcemap.specs.Decoded.{index_value, map_tree}
 use Rattle.sourcemap.specs.Decoder.{BytesDecode}
-use Rattle.sourcemap.specs.Encoder.{RecordAnswer}
+use Rattle.sourcemap.specs.Flat.{FlatAnswer}
 use Rattle.sourcemap.specs.Rewrite.{no_removal, rewritten}
-use Rattle.sourcemap.specs.Trees.{regular}
+use Rattle.sourcemap.specs.TreeEncoder.{RecordAnswer}
+use Rattle.sourcemap.specs.Trees.{IsInOrder, MapTree, index, index_tree, regular, section_list}
 use Rattle.sourcemap.specs.Types.{MapValue}
 use Rattle.sourcemap_bench.specs.Sums.{mixed, lookup_sum, token_sum}
 use Rattle.sourcemap_bench.specs.declared.work.Work.{Work}
-use Rattle.sourcemap_bench.specs.declared.work.Work.TheVariants.{Decode, DecodeReader, Lookup, Tokens, Encode, Rewrite}
+use Rattle.sourcemap_bench.specs.declared.work.Work.TheVariants.{Decode, DecodeReader, Lookup, Tokens, Encode, Rewrite, Flatten}
 
 -- a sum with a count
 abbrev pub counted : ℕ → ℕ → ℕ
 counted sum count = mixed sum (min count 4294967295)
 
--- the sum with the count of the tokens of the regular map that bytes stand for
-abbrev pub CountsTokens : List ℕ → ℕ → ℕ → Type 0
-CountsTokens bytes old new = (m : MapValue) × BytesDecode bytes (Ok (regular m)) × (new ≡ counted old (length m.tokens))
+-- how many tokens a regular map has, and how many sections an index
+abbrev pub size : MapTree → ℕ
+size (regular m) = length m.tokens
+size (index _ sections) = length (section_list sections)
 
--- the sum behind a round
+-- the sum with the size of the map that bytes stand for
+abbrev pub SizeOfDecoded : List ℕ → ℕ → ℕ → Type 0
+SizeOfDecoded bytes old new = (t : MapTree) × BytesDecode bytes (Ok t) × (new ≡ counted old (size t))
+
+-- the sum with the length of the text that a map is written as
+abbrev pub LengthOfText : MapTree → ℕ → ℕ → Type 0
+LengthOfText t old new = (text : List ℕ) × IsEncoded (RecordAnswer t) text × (new ≡ counted old (length text))
+
+-- the sum with the count of the tokens of the map that an index is made flat to
+abbrev pub SizeOfFlat : MapTree → ℕ → ℕ → Type 0
+SizeOfFlat t old new = (m : MapValue) × FlatAnswer t (Ok m) × (new ≡ counted old (length m.tokens))
+
+-- the sum behind a round; of lookups in a map in order at every level
 abbrev pub RoundGives : Work → ℕ → ℕ → Type 0
-RoundGives (Decode bytes) old new = CountsTokens bytes.items old new
-RoundGives (DecodeReader bytes) old new = CountsTokens bytes.items old new
-RoundGives (Lookup m positions) old new = new ≡ lookup_sum m positions.items old
+RoundGives (Decode bytes) old new = SizeOfDecoded bytes.items old new
+RoundGives (DecodeReader bytes) old new = SizeOfDecoded bytes.items old new
+RoundGives (Lookup m positions) old new =
+    IsInOrder (map_tree m) → new ≡ lookup_sum (map_tree m) positions.items old
 RoundGives (Tokens m) old new = new ≡ token_sum m old
-RoundGives (Encode m) old new =
-    (text : List ℕ) × IsEncoded (RecordAnswer m) text × (new ≡ counted old (length text))
+RoundGives (Encode m) old new = LengthOfText (map_tree m) old new
 RoundGives (Rewrite m) old new = new ≡ mixed old (length (rewritten no_removal m).sources)
+RoundGives (Flatten i) old new = SizeOfFlat (index_tree (index_value i)) old new
 
 -- the sum of so many rounds, from 0 on
 abbrev pub RoundsGive : Work → ℕ → ℕ → Type 0

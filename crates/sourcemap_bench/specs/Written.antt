@@ -1,5 +1,5 @@
 -- What a map's bytes are written as.
-use Rattle.std.specs.Prelude.{ℕ, List, Option, Result, Ok, Err, ◌⊎◌}
+use Rattle.std.specs.Prelude.{ℕ, List, Option, Ok, Err, ◌⊎◌}
 use Rattle.std.specs.Io.KnownBytes.{Appends}
 use Rattle.sourcemap.specs.Bytes.{IsEncoded, IsIo}
 use Rattle.sourcemap.specs.Decoder.{BytesDecode}

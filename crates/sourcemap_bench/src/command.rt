@@ -17,6 +17,8 @@ pub enum Operation {
     Encode,
     /// `rewrite`: a copy of the map is rewritten with default options.
     Rewrite,
+    /// `flatten`: the index is made flat.
+    Flatten,
 }
 
 /// What a run is asked for.
@@ -41,6 +43,7 @@ fn operation_of(word: &str) -> Option<Operation>
         "tokens" => Some(Operation::Tokens),
         "encode" => Some(Operation::Encode),
         "rewrite" => Some(Operation::Rewrite),
+        "flatten" => Some(Operation::Flatten),
         _ => None,
     }
 }

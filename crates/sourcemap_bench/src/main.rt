@@ -18,7 +18,7 @@ use work::{prepared, repeated};
 use written::write_map;
 
 const USAGE: &str =
-    "usage: decode N | decode-reader N | lookup N | tokens N | encode N | rewrite N | write";
+    "usage: decode N | decode-reader N | lookup N | tokens N | encode N | rewrite N | flatten N | write";
 
 // The checksum of what so many rounds of an operation computed of these bytes.
 fn checksum<F: Files>(

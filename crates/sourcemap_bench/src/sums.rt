@@ -1,9 +1,11 @@
 //! Checksums of answers.
 ghost use Rattle.std.specs.Prelude.{◌≡◌, ℕ, fold, option_map};
-ghost use Rattle.sourcemap.specs.Token.{lookup, token_value, tokens_from};
+ghost use Rattle.sourcemap.specs.Decoded.{map_tree};
+ghost use Rattle.sourcemap.specs.Token.{token_value};
+ghost use Rattle.sourcemap.specs.Trees.{IsInOrder, lookup};
 ghost use Rattle.sourcemap_bench.specs.Sums.{mixed, worth, lookup_sum, token_sum};
 
-use sourcemap::{SourceMap, Token};
+use sourcemap::{DecodedMap, SourceMap, Token};
 
 /// A sum with one more number.
 #[inline]
@@ -31,16 +33,18 @@ pub fn worth(token: Option<Token<'_>>) -> u32
 
 // A sum with the answer to the lookup of one position.
 #[inline]
-fn asked(map: &SourceMap, sum: u32, position: (u32, u32)) -> u32
-    ensures { result ≡ mixed sum (worth (lookup map.now position)) }
+fn asked(map: &DecodedMap, sum: u32, position: (u32, u32)) -> u32
+    ensures { IsInOrder (map_tree map.now)
+        → result ≡ mixed sum (worth (lookup (map_tree map.now) position)) }
 {
     let (line, column) = position;
     mixed(sum, worth(map.lookup_token(line, column)))
 }
 
-/// A sum with the answers to lookups of these positions.
-pub fn lookup_sum(map: &SourceMap, positions: &[(u32, u32)], start: u32) -> u32
-    ensures { result ≡ lookup_sum map.now positions.now start }
+/// A sum with the answers to lookups of these positions, in a map in order at every level.
+pub fn lookup_sum(map: &DecodedMap, positions: &[(u32, u32)], start: u32) -> u32
+    ensures { IsInOrder (map_tree map.now)
+        → result ≡ lookup_sum (map_tree map.now) positions.now start }
 {
     let mut sum = start;
     for position in positions {

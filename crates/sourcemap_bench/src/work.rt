@@ -1,12 +1,14 @@
 //! The operations that are repeated.
 ghost use Rattle.std.specs.Prelude.{◌≡◌, ℕ, ◌<◌, IfOk, length, min};
-ghost use Rattle.sourcemap_bench.specs.Work.{RoundGives, RoundsGive};
+ghost use Rattle.sourcemap.specs.Decoded.{index_value, map_tree};
+ghost use Rattle.sourcemap.specs.Trees.{index_tree};
+ghost use Rattle.sourcemap_bench.specs.Work.{LengthOfText, RoundGives, RoundsGive, SizeOfDecoded, SizeOfFlat, size};
 
 use crate::command::Operation;
 use crate::draws::drawn_positions;
 use crate::sums::{lookup_sum, mixed, token_sum};
 use sourcemap::encoder::encode_to;
-use sourcemap::{Result, SourceMap, decode, decode_slice};
+use sourcemap::{DecodedMap, Error, Result, SourceMap, SourceMapIndex, decode, decode_slice};
 use sourcemap_commands::regular::{regular_of, rewritten};
 use std::alloc::Global;
 use std::rt::Files;
@@ -19,13 +21,15 @@ pub enum Work {
     /// The bytes to decode from a reader.
     DecodeReader(Vec<u8>),
     /// The map to ask, and the positions.
-    Lookup(SourceMap, Vec<(u32, u32)>),
+    Lookup(DecodedMap, Vec<(u32, u32)>),
     /// The map to go through.
     Tokens(SourceMap),
     /// The map to write.
-    Encode(SourceMap),
+    Encode(DecodedMap),
     /// The map to copy and rewrite.
     Rewrite(SourceMap),
+    /// The index to make flat.
+    Flatten(SourceMapIndex),
 }
 
 // The regular map that bytes hold.
@@ -33,20 +37,90 @@ fn regular_map(alloc: Global, bytes: Vec<u8>) -> Result<SourceMap> {
     regular_of(decode_slice(alloc, bytes.as_slice())?)
 }
 
-/// What an operation works on, of the bytes of a regular map.
+// The index that bytes hold.
+fn index_of(alloc: Global, bytes: Vec<u8>) -> Result<SourceMapIndex> {
+    match decode_slice(alloc, bytes.as_slice())? {
+        DecodedMap::Index(index) => Ok(index),
+        DecodedMap::Regular(_) => Err(Error::IncompatibleSourceMap),
+    }
+}
+
+// Positions at tokens of the map, of an index at those of its flat map.
+fn positions_in(alloc: Global, map: &DecodedMap) -> Result<Vec<(u32, u32)>> {
+    match map {
+        DecodedMap::Regular(map) => drawn_positions(alloc, map),
+        DecodedMap::Index(index) => {
+            let flat = index.flatten()?;
+            drawn_positions(alloc, &flat)
+        }
+    }
+}
+
+/// What an operation works on, of the bytes of a map.
 pub fn prepared(alloc: Global, operation: Operation, bytes: Vec<u8>) -> Result<Work> {
     match operation {
         Operation::Decode => Ok(Work::Decode(bytes)),
         Operation::DecodeReader => Ok(Work::DecodeReader(bytes)),
         Operation::Lookup => {
-            let map = regular_map(alloc, bytes)?;
-            let positions = drawn_positions(alloc, &map)?;
+            let map = decode_slice(alloc, bytes.as_slice())?;
+            let positions = positions_in(alloc, &map)?;
             Ok(Work::Lookup(map, positions))
         }
         Operation::Tokens => Ok(Work::Tokens(regular_map(alloc, bytes)?)),
-        Operation::Encode => Ok(Work::Encode(regular_map(alloc, bytes)?)),
+        Operation::Encode => Ok(Work::Encode(decode_slice(alloc, bytes.as_slice())?)),
         Operation::Rewrite => Ok(Work::Rewrite(regular_map(alloc, bytes)?)),
+        Operation::Flatten => Ok(Work::Flatten(index_of(alloc, bytes)?)),
     }
+}
+
+// How many sections an index has.
+fn section_count(index: &SourceMapIndex) -> u32
+    ensures { result ≡ min (size (index_tree (index_value index.now))) 4294967295 }
+{
+    index.get_section_count()
+}
+
+// How many tokens a regular map has, and how many sections an index.
+fn size_of(map: &DecodedMap) -> u32
+    ensures { result ≡ min (size (map_tree map.now)) 4294967295 }
+{
+    match map {
+        DecodedMap::Regular(map) => map.get_token_count(),
+        DecodedMap::Index(index) => section_count(index),
+    }
+}
+
+// The sum behind the decoding of a slice.
+fn slice_sum(alloc: Global, bytes: &Vec<u8>, sum: u32) -> Result<u32>
+    ensures { IfOk result (SizeOfDecoded bytes.now.items sum) }
+{
+    let map = decode_slice(alloc, bytes.as_slice())?;
+    Ok(mixed(sum, size_of(&map)))
+}
+
+// The sum behind the decoding of a reader.
+fn reader_sum(alloc: Global, bytes: &Vec<u8>, sum: u32) -> Result<u32>
+    ensures { IfOk result (SizeOfDecoded bytes.now.items sum) }
+{
+    let map = decode(alloc, bytes.as_slice())?;
+    Ok(mixed(sum, size_of(&map)))
+}
+
+// The sum behind the writing of a map.
+fn text_sum(alloc: Global, map: &DecodedMap, sum: u32) -> Result<u32>
+    ensures { IfOk result (LengthOfText (map_tree map.now) sum) }
+{
+    let mut text = Vec::new(alloc);
+    encode_to(alloc, map, &mut text)?;
+    Ok(mixed(sum, u32::try_from(text.len()).unwrap_or(u32::MAX)))
+}
+
+// The sum behind an index made flat.
+fn flat_sum(index: &SourceMapIndex, sum: u32) -> Result<u32>
+    ensures { IfOk result (SizeOfFlat (index_tree (index_value index.now)) sum) }
+{
+    let flat = index.flatten()?;
+    Ok(mixed(sum, flat.get_token_count()))
 }
 
 // The sum behind a round.
@@ -54,25 +128,16 @@ fn round<F: Files>(rt: &F, alloc: Global, work: &Work, sum: u32) -> Result<u32>
     ensures { IfOk result (RoundGives work.now sum) }
 {
     match work {
-        Work::Decode(bytes) => {
-            let map = regular_of(decode_slice(alloc, bytes.as_slice())?)?;
-            Ok(mixed(sum, map.get_token_count()))
-        }
-        Work::DecodeReader(bytes) => {
-            let map = regular_of(decode(alloc, bytes.as_slice())?)?;
-            Ok(mixed(sum, map.get_token_count()))
-        }
+        Work::Decode(bytes) => slice_sum(alloc, bytes, sum),
+        Work::DecodeReader(bytes) => reader_sum(alloc, bytes, sum),
         Work::Lookup(map, positions) => Ok(lookup_sum(map, positions.as_slice(), sum)),
         Work::Tokens(map) => Ok(token_sum(map, sum)),
-        Work::Encode(map) => {
-            let mut text = Vec::new(alloc);
-            encode_to(alloc, map, &mut text)?;
-            Ok(mixed(sum, u32::try_from(text.len()).unwrap_or(u32::MAX)))
-        }
+        Work::Encode(map) => text_sum(alloc, map, sum),
         Work::Rewrite(map) => {
             let new = rewritten(rt, map.clone()?)?;
             Ok(mixed(sum, new.get_source_count()))
         }
+        Work::Flatten(index) => flat_sum(index, sum),
     }
 }
 

@@ -12,8 +12,8 @@ ghost use Rattle.sourcemap_regular.specs.Token.{answers, token_value};
 ghost use Rattle.sourcemap_builder.specs.Builder.{changed_to, name_if, id_if};
 
 use sourcemap_errors::errors::Result;
+use sourcemap_line_index::token_list::TokenList;
 use sourcemap_lists::interner::Interner;
-use sourcemap_lists::token_list::TokenList;
 use sourcemap_lists::tokens::{NO_ID, RawToken};
 use sourcemap_parts::contents::Contents;
 use sourcemap_parts::fitting::put;

@@ -1,9 +1,9 @@
 -- Words ask for one command.
-use Rattle.std.proofs.Common.{◌≡◌, ℕ, List, [], ◌∷◌, Bool, true, false, bytes_eq, codes, get_or, refl, sym, ◌∙◌, ap}
+use Rattle.std.proofs.Common.{◌≡◌, ℕ, List, [], Bool, true, false, bytes_eq, codes, get_or, string_bytes, refl, sym, ◌∙◌, ap}
 use Rattle.std.specs.Str.Parse.{digits_value}
-use Rattle.sourcemap_commands.specs.Command.{IsNumber, AskFor}
+use Rattle.sourcemap_commands.specs.Command.{IsNumber, AskFor, IsSameCommand}
 use Rattle.sourcemap_commands.specs.declared.command.Command.{Command}
-use Rattle.sourcemap_commands.specs.declared.command.Command.TheVariants.{Lookup, Tokens, Rewrite, Flatten, Shift}
+use Rattle.sourcemap_commands.specs.declared.command.Command.TheVariants.{Lookup, Tokens, Rewrite, Flatten, Compose, Shift}
 
 number_once : (a b : List ℕ) (m n : ℕ) → a ≡ b → IsNumber a m → IsNumber b n → m ≡ n
 number_once a b m n same p q = p.2 ∙ ap (digits_value 10) same ∙ sym q.2
@@ -12,7 +12,7 @@ number_once a b m n same p q = p.2 ∙ ap (digits_value 10) same ∙ sym q.2
 abbrev is_rewrite : List (List ℕ) → Bool
 is_rewrite words = bytes_eq (get_or words 0 []) (codes "rewrite")
 
-pub command_once : (words : List (List ℕ)) (a b : Command) → AskFor words a → AskFor words b → a ≡ b
+pub command_once : (words : List (List ℕ)) (a b : Command) → AskFor words a → AskFor words b → IsSameCommand a b
 command_once words (Lookup line col) (Lookup line' col') (l, c, is, at_line, at_col) (l', c', is', at_line', at_col') =
     let lines : l ≡ l' = cc in
     let cols : c ≡ c' = cc in
@@ -23,6 +23,19 @@ command_once words (Shift rows) (Shift rows') (r, is, at_rows) (r', is', at_rows
     let same : r ≡ r' = cc in
     let e : rows ≡ rows' = number_once r r' rows rows' same at_rows at_rows' in
     cc
+command_once words (Compose path) (Compose other) p q =
+    let same : string_bytes path ≡ string_bytes other = let words = sym p ∙ q in cc in
+    same
+command_once words (Compose path) (Lookup line col) p q = absurd (let no = sym p ∙ q.2 in cc)
+command_once words (Compose path) Tokens p q = absurd (let no = sym p ∙ q in cc)
+command_once words (Compose path) Rewrite p q = absurd (let no = sym p ∙ q in cc)
+command_once words (Compose path) Flatten p q = absurd (let no = sym p ∙ q in cc)
+command_once words (Compose path) (Shift rows) p q = absurd (let no = sym p ∙ q.1 in cc)
+command_once words (Lookup line col) (Compose path) p q = absurd (let no = sym p.2 ∙ q in cc)
+command_once words Tokens (Compose path) p q = absurd (let no = sym p ∙ q in cc)
+command_once words Rewrite (Compose path) p q = absurd (let no = sym p ∙ q in cc)
+command_once words Flatten (Compose path) p q = absurd (let no = sym p ∙ q in cc)
+command_once words (Shift rows) (Compose path) p q = absurd (let no = sym p.1 ∙ q in cc)
 command_once words (Lookup line col) Tokens p q = absurd (let no = sym q ∙ p.2 in cc)
 command_once words (Lookup line col) Rewrite p q = absurd (let no = sym q ∙ p.2 in cc)
 command_once words (Lookup line col) Flatten p q = absurd (let no = sym q ∙ p.2 in cc)

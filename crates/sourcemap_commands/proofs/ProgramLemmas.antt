@@ -1,12 +1,13 @@
 -- From what calls answered to the reply that is due, and from the reply to what a run printed.
 use Rattle.std.proofs.Common.{◌≡◌, ◌≢◌, ◌⊎◌, inl, inr, refl, sym, ap, subst, ◌∙◌, ℕ, List, [], ◌++◌, codes, Option, Some, None, Result, Ok, Err, IfSome, IsOkAnd, MatchOption, MatchResult, IfOk, string_bytes, String, Global, Vec}
-use Rattle.std.specs.Io.KnownBytes.{Appends}
+use Rattle.std.specs.declared.io.Error.{Error as IoError}
 use Rattle.sourcemap.specs.Answer.{UnlessMemory, IsAnswer}
+use Rattle.sourcemap.specs.Decoded.{map_tree}
 use Rattle.sourcemap.specs.Decoder.{AreSame, BytesDecode, Reading, UnlessRead}
 use Rattle.sourcemap.specs.Jsontypes.{Tree, record_of}
 use Rattle.sourcemap.specs.Reading.{IsSameFault}
-use Rattle.sourcemap.specs.Errors.{error_text}
-use Rattle.sourcemap.specs.Flat.{flat, FlatAnswer}
+use Rattle.sourcemap.specs.Errors.{error_text, FromIo}
+use Rattle.sourcemap.specs.Flat.{FlatAnswer}
 use Rattle.sourcemap.specs.Rewrite.{no_removal, rewritten}
 use Rattle.sourcemap.specs.Shift.{HaveRowsLeft, shifted}
 use Rattle.sourcemap.specs.TreeDecoder.{Then, TreeDecodes}
@@ -14,10 +15,11 @@ use Rattle.sourcemap.specs.Trees.{MapTree, regular, index, IndexParts, IndexValu
 use Rattle.sourcemap.specs.Types.{MapValue}
 use Rattle.sourcemap.specs.declared.errors.Error.{Error}
 use Rattle.sourcemap.specs.declared.errors.Error.TheVariants.{BadJson, CannotFlatten, IncompatibleSourceMap, Io, OutOfMemory}
-use Rattle.sourcemap_commands.specs.Command.{AskFor}
-use Rattle.sourcemap_commands.specs.Program.{AskForNone, CommandAnswers, Ending, answered, misused, Ends, MayEnd, IsCutShort, IsReply, IsReplyOf, IsReplyTo, IsReported, IsRefusal, IsWriteFault, PrintsRefusal, IsFoundLine, IsJsonLine, PrintsMap, Runs, Says, ShiftAnswer, found_text, newline}
+use Rattle.sourcemap_index.specs.declared.family.DecodedMap.{DecodedMap}
+use Rattle.sourcemap_commands.specs.Command.{AskFor, IsSameCommand, TakesAdjustment}
+use Rattle.sourcemap_commands.specs.Program.{AskForNone, CommandAnswers, Ending, answered, misused, Ends, FileDecodes, MayBeRead, MayEnd, IsCutShort, IsReply, IsReplyOf, IsReplyTo, IsReported, IsRefusal, IsWriteFault, IsFoundLine, IsJsonLine, PrintsMap, Runs, Says, SaysWith, ShiftAnswer, WithFile, adjusted_by, file_read, found_text, newline}
 use Rattle.sourcemap_commands.specs.declared.command.Command.{Command}
-use Rattle.sourcemap_commands.specs.declared.command.Command.TheVariants.{Flatten, Lookup, Rewrite, Shift, Tokens}
+use Rattle.sourcemap_commands.specs.declared.command.Command.TheVariants.{Compose, Flatten, Lookup, Rewrite, Shift, Tokens}
 use Rattle.sourcemap_commands.specs.declared.program.Reply.{Reply}
 use Rattle.sourcemap_errors.proofs.AnswerLemmas.{UnlessMemory-weaker, UnlessMemory-from}
 use Rattle.sourcemap_index.proofs.DecodeLemmas.{bytes_decode_once}
@@ -46,78 +48,221 @@ prints_map t (Err e) h = no_memory e (PrintsMap t (Err e)) h
 
 pub says_rewritten : (m n : MapValue) (t : MapTree) (r : Result (String Global) Error) → n ≡ rewritten no_removal m → t ≡ regular n
     → MatchResult r (λ text. IsJsonLine t (string_bytes text)) (λ e. e ≡ OutOfMemory)
-    → IsAnswer string_bytes (Says Rewrite (regular m)) r
+    → IsAnswer string_bytes (Says Rewrite (regular m) None) r
 says_rewritten m n t r is of h =
     subst (λ x. IsAnswer string_bytes (PrintsMap x) r) (of ∙ ap regular is) (prints_map t r h)
 
-then_prints : (First : Result MapValue Error → Type 0) (m : MapValue) (r : Result (String Global) Error) → First (Ok m)
-    → IsAnswer string_bytes (PrintsMap (regular m)) r
+-- what comes of a first answer, and of its fault
+then_made : {X : Type 0} (First : Result X Error → Type 0) (Next : X → Result (List ℕ) Error → Type 0) (x : X)
+    (r : Result (String Global) Error) → First (Ok x) → IsAnswer string_bytes (Next x) r
+    → IsAnswer string_bytes (Then First Next) r
+then_made First Next x (Ok text) first h = inl (x, first, h)
+then_made First Next x (Err e) first h = UnlessMemory-weaker e (λ says. inl (x, first, says)) h
+
+then_refused : {X : Type 0} (First : Result X Error → Type 0) (Next : X → Result (List ℕ) Error → Type 0) (e : Error)
+    → UnlessMemory e (First (Err e)) → UnlessMemory e (Then First Next (Err e))
+then_refused First Next e h = UnlessMemory-weaker e (λ refused. inr refused) h
+
+then_prints : (First : Result MapValue Error → Type 0) (m : MapValue) (t : MapTree) (r : Result (String Global) Error)
+    → First (Ok m) → t ≡ regular m
+    → MatchResult r (λ text. IsJsonLine t (string_bytes text)) (λ e. e ≡ OutOfMemory)
     → IsAnswer string_bytes (Then First (λ m a. PrintsMap (regular m) a)) r
-then_prints First m (Ok text) first h = inl (m, first, h)
-then_prints First m (Err e) first h = UnlessMemory-weaker e (λ says. inl (m, first, says)) h
+then_prints First m t r made of h =
+    then_made First (λ m a. PrintsMap (regular m) a) m r made
+    (subst (λ x. IsAnswer string_bytes (PrintsMap x) r) of (prints_map t r h))
 
 pub says_flat : (i : IndexValue) (m : MapValue) (t : MapTree) (r : Result (String Global) Error)
     → FlatAnswer (index_tree i) (Ok m) → t ≡ regular m
     → MatchResult r (λ text. IsJsonLine t (string_bytes text)) (λ e. e ≡ OutOfMemory)
-    → IsAnswer string_bytes (Says Flatten (index_tree i)) r
-says_flat i m t r made of h =
-    then_prints (FlatAnswer (index_tree i)) m r made (subst (λ x. IsAnswer string_bytes (PrintsMap x) r) of (prints_map t r h))
+    → IsAnswer string_bytes (Says Flatten (index_tree i) None) r
+says_flat i m t r made of h = then_prints (FlatAnswer (index_tree i)) m t r made of h
 
 pub says_no_flat : (i : IndexValue) (e : Error) → UnlessMemory e (FlatAnswer (index_tree i) (Err e))
-    → UnlessMemory e (Says Flatten (index_tree i) (Err e))
-says_no_flat i e h = UnlessMemory-weaker e (λ refused. inr refused) h
+    → UnlessMemory e (Says Flatten (index_tree i) None (Err e))
+says_no_flat i e h = then_refused (FlatAnswer (index_tree i)) (λ m a. PrintsMap (regular m) a) e h
+
+pub says_adjusted : (path : String Global) (t : MapTree) (other : Option MapTree) (m : MapValue) (u : MapTree)
+    (r : Result (String Global) Error) → adjusted_by t other ≡ Ok m → u ≡ regular m
+    → MatchResult r (λ text. IsJsonLine u (string_bytes text)) (λ e. e ≡ OutOfMemory)
+    → IsAnswer string_bytes (Says (Compose path) t other) r
+says_adjusted path t other m u r made of h = then_prints (λ a. a ≡ adjusted_by t other) m u r (sym made) of h
+
+pub says_no_adjusted : (path : String Global) (t : MapTree) (other : Option MapTree) (e : Error)
+    → UnlessMemory e (adjusted_by t other ≡ Err e) → UnlessMemory e (Says (Compose path) t other (Err e))
+says_no_adjusted path t other e h =
+    then_refused (λ a. a ≡ adjusted_by t other) (λ m a. PrintsMap (regular m) a) e (UnlessMemory-weaker e (λ is. sym is) h)
+
+none_adjusted : (t : MapTree) → adjusted_by t None ≡ Err IncompatibleSourceMap
+none_adjusted (regular m) = refl
+none_adjusted (index parts ss) = refl
+
+-- one map alone is adjusted by none
+pub says_alone : (path : String Global) (t : MapTree) → Says (Compose path) t None (Err IncompatibleSourceMap)
+says_alone path t = inr (sym (none_adjusted t))
+
+-- a second map is that of `compose`
+pub says_of_two : {X : Type 0} (x : X) (command : Command) (t u : MapTree) (r : Result (String Global) Error)
+    → TakesAdjustment command (Some x)
+    → ((path : String Global) → IsAnswer string_bytes (Says (Compose path) t (Some u)) r)
+    → IsAnswer string_bytes (Says command t (Some u)) r
+says_of_two x (Compose path) t u r takes h = h path
+says_of_two x command t u r takes h = absurd cc
 
 -- the sections of an index as its tree has them
 says_shift : (rows : ℕ) (i : IndexValue) (answer : Result (List ℕ) Error) → ShiftAnswer rows i.parts i.sections answer
-    → Says (Shift rows) (index_tree i) answer
+    → Says (Shift rows) (index_tree i) None answer
 says_shift rows i answer h = subst (λ ss. ShiftAnswer rows i.parts ss answer) (sym (section_list-from i.sections)) h
 
 pub says_shifted : (rows : ℕ) (i : IndexValue) (t : MapTree) (r : Result (String Global) Error) → HaveRowsLeft rows i.sections
     → t ≡ index i.parts (sections_from (shifted rows i.sections))
     → MatchResult r (λ text. IsJsonLine t (string_bytes text)) (λ e. e ≡ OutOfMemory)
-    → IsAnswer string_bytes (Says (Shift rows) (index_tree i)) r
+    → IsAnswer string_bytes (Says (Shift rows) (index_tree i) None) r
 says_shifted rows i t (Ok text) left of h =
     says_shift rows i (Ok (string_bytes text)) (inl (left, subst (λ x. IsJsonLine x (string_bytes text)) of h))
-says_shifted rows i t (Err e) left of h = no_memory e (Says (Shift rows) (index_tree i) (Err e)) h
+says_shifted rows i t (Err e) left of h = no_memory e (Says (Shift rows) (index_tree i) None (Err e)) h
 
 pub says_no_shift : (rows : ℕ) (i : IndexValue) → ¬ HaveRowsLeft rows i.sections
-    → Says (Shift rows) (index_tree i) (Err IncompatibleSourceMap)
+    → Says (Shift rows) (index_tree i) None (Err IncompatibleSourceMap)
 says_no_shift rows i past = says_shift rows i (Err IncompatibleSourceMap) (inr (past, refl))
 
+-- Facts of what a file gives.
+
+pub with_file : (held : Option (Result (List ℕ) Error)) (P Q : Result (List ℕ) Error → Type 0)
+    → ((file : Result (List ℕ) Error) → P file → Q file) → WithFile held P → WithFile held Q
+with_file (Some file) P Q f h = f file h
+with_file None P Q f (file, may, h) = (file, may, f file h)
+
+pub any_file : (held : Option (Result (List ℕ) Error)) (P : Result (List ℕ) Error → Type 0)
+    → ((file : Result (List ℕ) Error) → P file) → WithFile held P
+any_file (Some file) P f = f file
+any_file None P f = (Ok [], tt, f (Ok []))
+
+pub may_be_read : (known : Option (List ℕ)) (r : Result (Vec ℕ Global) Error)
+    → MatchResult r (λ bytes. IfSome known (λ told. bytes.items ≡ told)) (λ e. UnlessRead e ⊥) → MayBeRead (file_read r)
+may_be_read known (Ok bytes) h = tt
+may_be_read known (Err e) h = h
+
+-- a fault of opening a file is one of a reader
+pub may_not_open : (cause : IoError) (e : Error) → FromIo cause e → UnlessRead e ⊥
+may_not_open cause OutOfMemory h = tt
+may_not_open cause (Io kept) h = tt
+may_not_open cause e h = absurd h
+
+-- the map in a file, and what kept its bytes from being there or from being one
+pub file_of_map : (held : Option (Result (List ℕ) Error)) (bytes : List ℕ) (r : Result DecodedMap Error)
+    → WithFile held (λ file. Ok bytes ≡ file) → IsAnswer map_tree (BytesDecode bytes) r
+    → WithFile held (λ file. IsAnswer map_tree (FileDecodes file) r)
+file_of_map held bytes r read h =
+    with_file held (λ file. Ok bytes ≡ file) (λ file. IsAnswer map_tree (FileDecodes file) r)
+    (λ file is. subst (λ x. IsAnswer map_tree (FileDecodes x) r) is h) read
+
+pub file_of_fault : (held : Option (Result (List ℕ) Error)) (e : Error)
+    → WithFile held (λ file. Err e ≡ file) → WithFile held (λ file. UnlessMemory e (FileDecodes file (Err e)))
+file_of_fault held e read =
+    with_file held (λ file. Err e ≡ file) (λ file. UnlessMemory e (FileDecodes file (Err e)))
+    (λ file is. subst (λ x. UnlessMemory e (FileDecodes x (Err e))) is (UnlessMemory-from e refl)) read
+
+-- what is said of a map and of the one in a file, or of why there is none in it
+pub said_of_two : (path : String Global) (file : Result (List ℕ) Error) (t u : MapTree) (r : Result (String Global) Error)
+    → FileDecodes file (Ok u) → IsAnswer string_bytes (Says (Compose path) t (Some u)) r
+    → IsAnswer string_bytes (SaysWith file (Compose path) t) r
+said_of_two path file t u r is h = then_made (FileDecodes file) (λ other a. Says (Compose path) t (Some other) a) u r is h
+
+pub said_of_fault : (path : String Global) (file : Result (List ℕ) Error) (t : MapTree) (e : Error)
+    → UnlessMemory e (FileDecodes file (Err e)) → UnlessMemory e (SaysWith file (Compose path) t (Err e))
+said_of_fault path file t e is = then_refused (FileDecodes file) (λ other a. Says (Compose path) t (Some other) a) e is
+
+pub said_with_file : (held : Option (Result (List ℕ) Error)) (path : String Global) (t : MapTree)
+    (found : Result DecodedMap Error) (r : Result (String Global) Error)
+    → ((path : String Global) (file : Result (List ℕ) Error) → IsAnswer map_tree (FileDecodes file) found
+    → IsAnswer string_bytes (SaysWith file (Compose path) t) r)
+    → WithFile held (λ file. IsAnswer map_tree (FileDecodes file) found)
+    → WithFile held (λ file. IsAnswer string_bytes (SaysWith file (Compose path) t) r)
+said_with_file held path t found r said of =
+    with_file held (λ file. IsAnswer map_tree (FileDecodes file) found) (λ file. IsAnswer string_bytes (SaysWith file (Compose path) t) r)
+    (said path) of
+
+-- what is said of one map, whatever is in a file
+pub said_of_one : (held : Option (Result (List ℕ) Error)) (command : Command) (t : MapTree) (r : Result (String Global) Error)
+    → ((path : String Global) → command ≢ Compose path) → IsAnswer string_bytes (Says command t None) r
+    → WithFile held (λ file. IsAnswer string_bytes (SaysWith file command t) r)
+said_of_one held (Compose path) t r other h = absurd (other path refl)
+said_of_one held command t r other h = any_file held (λ file. IsAnswer string_bytes (SaysWith file command t) r) (λ file. h)
+
 -- what is said of the map that bytes hold
-pub answer_of_map : (command : Command) (bytes : List ℕ) (m : MapTree) (r : Result (String Global) Error)
-    → BytesDecode bytes (Ok m) → IsAnswer string_bytes (Says command m) r
-    → IsAnswer string_bytes (CommandAnswers command bytes) r
-answer_of_map command bytes m (Ok text) stand h = (Ok m, stand, h)
-answer_of_map command bytes m (Err e) stand h = UnlessMemory-weaker e (λ says. (Ok m, stand, says)) h
+pub answer_of_map : (held : Option (Result (List ℕ) Error)) (command : Command) (bytes : List ℕ) (m : MapTree) (r : Result (String Global) Error)
+    → BytesDecode bytes (Ok m) → WithFile held (λ file. IsAnswer string_bytes (SaysWith file command m) r)
+    → WithFile held (λ file. IsAnswer string_bytes (CommandAnswers command bytes file) r)
+answer_of_map held command bytes m r stand h =
+    with_file held (λ file. IsAnswer string_bytes (SaysWith file command m) r) (λ file. IsAnswer string_bytes (CommandAnswers command bytes file) r)
+    (λ file says. then_made (BytesDecode bytes) (λ t a. SaysWith file command t a) m r stand says) h
 
 -- what keeps bytes from holding a map
-pub answer_of_fault : (command : Command) (bytes : List ℕ) (e : Error)
-    → UnlessMemory e (BytesDecode bytes (Err e)) → UnlessMemory e (CommandAnswers command bytes (Err e))
-answer_of_fault command bytes e h = UnlessMemory-weaker e (λ stand. (Err e, stand, refl)) h
+pub answer_of_fault : (held : Option (Result (List ℕ) Error)) (command : Command) (bytes : List ℕ) (e : Error)
+    → UnlessMemory e (BytesDecode bytes (Err e)) → WithFile held (λ file. UnlessMemory e (CommandAnswers command bytes file (Err e)))
+answer_of_fault held command bytes e h =
+    any_file held (λ file. UnlessMemory e (CommandAnswers command bytes file (Err e)))
+    (λ file. then_refused (BytesDecode bytes) (λ t a. SaysWith file command t a) e h)
 
-pub reply_of_command : (words : List (List ℕ)) (bytes : List ℕ) (command : Command)
+reply_on_file : (words : List (List ℕ)) (bytes : List ℕ) (file : Result (List ℕ) Error) (command : Command)
     (answer : Result (String Global) Error) (r : Result Reply Error)
-    → AskFor words command → IsAnswer string_bytes (CommandAnswers command bytes) answer
+    → AskFor words command → IsAnswer string_bytes (CommandAnswers command bytes file) answer
     → MatchResult r (IsReplyOf answer) (λ e. e ≡ OutOfMemory)
-    → MatchResult r (IsReplyTo words bytes) (λ e. e ≡ OutOfMemory)
-reply_of_command words bytes command answer (Err e) asked given is = is
-reply_of_command words bytes command (Ok text) (Ok reply) asked given is =
+    → MatchResult r (IsReplyTo words bytes file) (λ e. e ≡ OutOfMemory)
+reply_on_file words bytes file command answer (Err e) asked given is = is
+reply_on_file words bytes file command (Ok text) (Ok reply) asked given is =
     (answered (Ok (string_bytes text)), (command, asked, given), is)
-reply_of_command words bytes command (Err e) (Ok reply) asked given is =
-    (answered (Err e), (command, asked, with_memory e (CommandAnswers command bytes (Err e)) is.0 given), is.1)
+reply_on_file words bytes file command (Err e) (Ok reply) asked given is =
+    (answered (Err e), (command, asked, with_memory e (CommandAnswers command bytes file (Err e)) is.0 given), is.1)
+
+pub reply_of_command : (held : Option (Result (List ℕ) Error)) (words : List (List ℕ)) (bytes : List ℕ) (command : Command)
+    (answer : Result (String Global) Error) (r : Result Reply Error)
+    → AskFor words command → WithFile held (λ file. IsAnswer string_bytes (CommandAnswers command bytes file) answer)
+    → MatchResult r (IsReplyOf answer) (λ e. e ≡ OutOfMemory)
+    → WithFile held (λ file. MatchResult r (IsReplyTo words bytes file) (λ e. e ≡ OutOfMemory))
+reply_of_command held words bytes command answer r asked given is =
+    with_file held (λ file. IsAnswer string_bytes (CommandAnswers command bytes file) answer)
+    (λ file. MatchResult r (IsReplyTo words bytes file) (λ e. e ≡ OutOfMemory))
+    (λ file says. reply_on_file words bytes file command answer r asked says is) given
+
+pub no_reply : (held : Option (Result (List ℕ) Error)) (words : List (List ℕ)) (bytes : List ℕ) (r : Result Reply Error) (e : Error)
+    → r ≡ Err e → e ≡ OutOfMemory → WithFile held (λ file. MatchResult r (IsReplyTo words bytes file) (λ e. e ≡ OutOfMemory))
+no_reply held words bytes r e is out =
+    any_file held (λ file. MatchResult r (IsReplyTo words bytes file) (λ e. e ≡ OutOfMemory)) (λ file. rw is out)
+
+-- the reply to other words is the usage
+pub reply_to_others : (held : Option (Result (List ℕ) Error)) (words : List (List ℕ)) (bytes : List ℕ) (r : Result Reply Error)
+    → AskForNone words → MatchResult r (IsReply misused) (λ e. e ≡ OutOfMemory)
+    → WithFile held (λ file. MatchResult r (IsReplyTo words bytes file) (λ e. e ≡ OutOfMemory))
+reply_to_others held words bytes (Ok reply) none is =
+    any_file held (λ file. IsReplyTo words bytes file reply) (λ file. (misused, none, is))
+reply_to_others held words bytes (Err e) none is = any_file held (λ file. e ≡ OutOfMemory) (λ file. is)
 
 -- Words and bytes have one reply.
 
--- answers that print alike: one text, or faults of one text
-abbrev PrintAlike : (a b : Result (List ℕ) Error) → Type 0
+-- two answers that print alike: one value, or faults of which each prints what the other does
+abbrev PrintAlike : {X : Type 0} → (a b : Result X Error) → Type 0
 PrintAlike (Ok s) (Ok t) = s ≡ t
-PrintAlike (Err e) (Err f) = error_text e ≡ error_text f
+PrintAlike (Err e) (Err f) = (text : List ℕ) → IsRefusal e text → IsRefusal f text
 PrintAlike _ _ = ⊥
 
-alike : (a b : Result (List ℕ) Error) → a ≡ b → PrintAlike a b
+alike : {X : Type 0} (a b : Result X Error) → a ≡ b → PrintAlike a b
 alike (Ok s) b is = subst (PrintAlike (Ok s)) is refl
-alike (Err e) b is = subst (PrintAlike (Err e)) is refl
+alike (Err e) b is = subst (PrintAlike (Err e)) is (λ text h. h)
+
+-- what comes of first answers that print alike
+then_alike : {X : Type 0} (First : Result X Error → Type 0) (Next : X → Result (List ℕ) Error → Type 0)
+    → ((a b : Result X Error) → First a → First b → PrintAlike a b)
+    → ((x : X) (a b : Result (List ℕ) Error) → First (Ok x) → Next x a → Next x b → PrintAlike a b)
+    → (a b : Result (List ℕ) Error) → Then First Next a → Then First Next b → PrintAlike a b
+then_alike First Next one next a b (inl (x, made, p)) (inl (y, made', q)) =
+    let same : x ≡ y = one (Ok x) (Ok y) made made' in
+    next y a b made' (subst (λ x. Next x a) same p) q
+then_alike First Next one next (Err e) (Err f) (inr h) (inr k) = one (Err e) (Err f) h k
+then_alike First Next one next a (Err f) (inl (x, made, p)) (inr k) = absurd (one (Ok x) (Err f) made k)
+then_alike First Next one next a (Ok text) p (inr k) = absurd k
+then_alike First Next one next (Err e) b (inr h) (inl (y, made, q)) = absurd (one (Err e) (Ok y) h made)
+then_alike First Next one next (Ok text) b (inr h) q = absurd h
 
 json_once : (t : MapTree) (a b : List ℕ) → IsJsonLine t a → IsJsonLine t b → a ≡ b
 json_once t a b (j, of_a, is) (k, of_b, is') = is ∙ ap (λ json. json ++ newline) (written_text_once t j k of_a of_b) ∙ sym is'
@@ -133,27 +278,21 @@ found_alike t p (Ok a) (Ok b) ordered (x, is, of) (y, is', of') =
 found_alike t p (Err e) b ordered h k = absurd h
 found_alike t p (Ok a) (Err f) ordered h k = absurd k
 
-flat_faults_alike : (t : MapTree) (e f : Error) → FlatAnswer t (Err e) → FlatAnswer t (Err f) → error_text e ≡ error_text f
-flat_faults_alike t (CannotFlatten e) (CannotFlatten f) h k =
+-- faults of one text
+texts_alike : (e f : Error) → error_text e ≡ error_text f → (text : List ℕ) → IsRefusal e text → IsRefusal f text
+texts_alike e f same text refused =
+    (refused.0, subst (λ said. IfSome said (λ line. refused.0 ≡ line)) same refused.1, refused.2)
+
+flat_once : (t : MapTree) (a b : Result MapValue Error) → FlatAnswer t a → FlatAnswer t b → PrintAlike a b
+flat_once t (Ok m) (Ok n) h k = let both = sym h ∙ k in cc
+flat_once t (Err (CannotFlatten e)) (Err (CannotFlatten f)) h k =
     let same : string_bytes e ≡ string_bytes f = let both = sym h ∙ k in cc in
-    ap (λ reason. Some (codes "cannot flatten the indexed sourcemap: " ++ reason)) same
-flat_faults_alike t (CannotFlatten e) f h k = absurd k
-flat_faults_alike t e f h k = absurd h
-
-made_or_refused : (t : MapTree) (m : MapValue) (e : Error) → FlatAnswer t (Ok m) → FlatAnswer t (Err e) → ⊥
-made_or_refused t m (CannotFlatten e) made refused = let both = sym made ∙ refused in cc
-made_or_refused t m e made refused = refused
-
-flat_alike : (t : MapTree) (a b : Result (List ℕ) Error) → Then (FlatAnswer t) (λ m a. PrintsMap (regular m) a) a
-    → Then (FlatAnswer t) (λ m a. PrintsMap (regular m) a) b → PrintAlike a b
-flat_alike t a b (inl (m, made, p)) (inl (n, made', q)) =
-    let same : m ≡ n = let both = sym made ∙ made' in cc in
-    maps_alike (regular n) a b (subst (λ m. PrintsMap (regular m) a) same p) q
-flat_alike t (Err e) (Err f) (inr h) (inr k) = flat_faults_alike t e f h k
-flat_alike t a (Err f) (inl (m, made, p)) (inr k) = absurd (made_or_refused t m f made k)
-flat_alike t (Err e) b (inr h) (inl (m, made, q)) = absurd (made_or_refused t m e made h)
-flat_alike t a (Ok text) p (inr k) = absurd k
-flat_alike t (Ok text) b (inr h) q = absurd h
+    texts_alike (CannotFlatten e) (CannotFlatten f) (ap (λ reason. Some (codes "cannot flatten the indexed sourcemap: " ++ reason)) same)
+flat_once t (Ok m) (Err (CannotFlatten f)) h k = absurd (let both = sym h ∙ k in cc)
+flat_once t (Err (CannotFlatten e)) (Ok n) h k = absurd (let both = sym h ∙ k in cc)
+flat_once t (Ok m) (Err f) h k = absurd k
+flat_once t (Err (CannotFlatten e)) (Err f) h k = absurd k
+flat_once t (Err e) b h k = absurd h
 
 shift_alike : (rows : ℕ) (parts : IndexParts) (ss : List MapSection) (a b : Result (List ℕ) Error) → ShiftAnswer rows parts ss a
     → ShiftAnswer rows parts ss b → PrintAlike a b
@@ -162,22 +301,32 @@ shift_alike rows parts ss a b (inr (past, is)) (inr (past', is')) = alike a b (i
 shift_alike rows parts ss a b (inl (left, p)) (inr (past, is)) = absurd (past left)
 shift_alike rows parts ss a b (inr (past, is)) (inl (left, q)) = absurd (past left)
 
+-- what a map is adjusted to is one, and so is its text
+prints_alike : (First : Result MapValue Error → Type 0) → ((a b : Result MapValue Error) → First a → First b → PrintAlike a b)
+    → (a b : Result (List ℕ) Error) → Then First (λ m a. PrintsMap (regular m) a) a
+    → Then First (λ m a. PrintsMap (regular m) a) b → PrintAlike a b
+prints_alike First one a b p q =
+    then_alike First (λ m a. PrintsMap (regular m) a) one (λ m a b made p q. maps_alike (regular m) a b p q) a b p q
+
 -- of a map in order a command says one thing
-says_alike : (command : Command) (t : MapTree) (a b : Result (List ℕ) Error) → IsInOrder t → Says command t a → Says command t b → PrintAlike a b
-says_alike (Lookup line col) t a b ordered p q = found_alike t (line, col) a b ordered p q
-says_alike Tokens (regular m) a b ordered p q = alike a b (p ∙ sym q)
-says_alike Tokens (index parts ss) a b ordered p q = alike a b (p ∙ sym q)
-says_alike Rewrite (regular m) a b ordered p q = maps_alike (regular (rewritten no_removal m)) a b p q
-says_alike Rewrite (index parts ss) a b ordered p q = alike a b (p ∙ sym q)
-says_alike Flatten (regular m) a b ordered p q = alike a b (p ∙ sym q)
-says_alike Flatten (index parts ss) a b ordered p q = flat_alike (index parts ss) a b p q
-says_alike (Shift rows) (regular m) a b ordered p q = alike a b (p ∙ sym q)
-says_alike (Shift rows) (index parts ss) a b ordered p q = shift_alike rows parts (section_list ss) a b p q
+says_alike : (command : Command) (t : MapTree) (other : Option MapTree) (a b : Result (List ℕ) Error) → IsInOrder t
+    → Says command t other a → Says command t other b → PrintAlike a b
+says_alike (Lookup line col) t other a b ordered p q = found_alike t (line, col) a b ordered p q
+says_alike Tokens (regular m) other a b ordered p q = alike a b (p ∙ sym q)
+says_alike Tokens (index parts ss) other a b ordered p q = alike a b (p ∙ sym q)
+says_alike Rewrite (regular m) other a b ordered p q = maps_alike (regular (rewritten no_removal m)) a b p q
+says_alike Rewrite (index parts ss) other a b ordered p q = alike a b (p ∙ sym q)
+says_alike Flatten (regular m) other a b ordered p q = alike a b (p ∙ sym q)
+says_alike Flatten (index parts ss) other a b ordered p q =
+    prints_alike (FlatAnswer (index parts ss)) (flat_once (index parts ss)) a b p q
+says_alike (Compose path) t other a b ordered p q =
+    prints_alike (λ a. a ≡ adjusted_by t other) (λ a b h k. alike a b (h ∙ sym k)) a b p q
+says_alike (Shift rows) (regular m) other a b ordered p q = alike a b (p ∙ sym q)
+says_alike (Shift rows) (index parts ss) other a b ordered p q = shift_alike rows parts (section_list ss) a b p q
 
 reply_alike : (a b : Result (List ℕ) Error) → PrintAlike a b → (reply : Reply) → IsReply (answered a) reply → IsReply (answered b) reply
 reply_alike (Ok a) (Ok b) same reply is = (is.0 ∙ same, is.1)
-reply_alike (Err e) (Err f) same reply (refused, status) =
-    ((refused.0, subst (λ said. IfSome said (λ text. refused.0 ≡ text)) same refused.1, refused.2), status)
+reply_alike (Err e) (Err f) same reply (refused, status) = (same (string_bytes reply.text) refused, status)
 reply_alike (Ok a) (Err f) same reply is = absurd same
 reply_alike (Err e) (Ok b) same reply is = absurd same
 
@@ -185,19 +334,26 @@ refusal_alike : (e f : Error) (text : List ℕ) → IsSameFault e f → IsRefusa
 refusal_alike (Io e) (Io f) text same h = h
 refusal_alike e f text same h = subst (λ x. IsRefusal x text) same h
 
-held_alike : (command : Command) (a b : Result (List ℕ) Error) (held held' : Result MapTree Error) → AreSame held held'
-    → ((t : MapTree) → held ≡ Ok t → IsInOrder t)
-    → MatchResult held (λ t. Says command t a) (λ e. a ≡ Err e)
-    → MatchResult held' (λ t. Says command t b) (λ e. b ≡ Err e)
-    → (reply : Reply) → IsReply (answered a) reply → IsReply (answered b) reply
-held_alike command a b (Ok t) (Ok u) same ordered p q reply is =
-    reply_alike a b (says_alike command t a b (ordered t refl) p (subst (λ x. Says command x b) (sym same) q)) reply is
-held_alike command a b (Err e) (Err f) same ordered p q reply is =
-    let refused : IsReply (answered (Err e)) reply = subst (λ x. IsReply (answered x) reply) p is in
-    subst (λ x. IsReply (answered x) reply) (sym q)
-    (refusal_alike e f (string_bytes reply.text) same refused.0, refused.1)
-held_alike command a b (Ok t) (Err f) same ordered p q reply is = absurd same
-held_alike command a b (Err e) (Ok u) same ordered p q reply is = absurd same
+-- bytes stand for one map, and so does a file
+decoded_alike : (a b : Result MapTree Error) → AreSame a b → PrintAlike a b
+decoded_alike (Ok t) (Ok u) same = same
+decoded_alike (Err e) (Err f) same = λ text refused. refusal_alike e f text same refused
+decoded_alike (Ok t) (Err f) same = absurd same
+decoded_alike (Err e) (Ok u) same = absurd same
+
+bytes_alike : (bytes : List ℕ) (a b : Result MapTree Error) → BytesDecode bytes a → BytesDecode bytes b → PrintAlike a b
+bytes_alike bytes a b h k = decoded_alike a b (bytes_decode_once bytes a b h k)
+
+file_alike : (file : Result (List ℕ) Error) (a b : Result MapTree Error) → FileDecodes file a → FileDecodes file b → PrintAlike a b
+file_alike (Ok bytes) a b h k = bytes_alike bytes a b h k
+file_alike (Err e) a b h k = alike a b (h ∙ sym k)
+
+says_with_alike : (file : Result (List ℕ) Error) (command : Command) (t : MapTree) (a b : Result (List ℕ) Error) → IsInOrder t
+    → SaysWith file command t a → SaysWith file command t b → PrintAlike a b
+says_with_alike file (Compose path) t a b ordered p q =
+    then_alike (FileDecodes file) (λ other a. Says (Compose path) t (Some other) a) (file_alike file)
+    (λ other a b held p q. says_alike (Compose path) t (Some other) a b ordered p q) a b p q
+says_with_alike file command t a b ordered p q = says_alike command t None a b ordered p q
 
 -- a map that bytes stand for is in order
 bytes_in_order : (bytes : List ℕ) (t : MapTree) → BytesDecode bytes (Ok t) → IsInOrder t
@@ -208,23 +364,29 @@ bytes_in_order bytes t (inl (d, holds, stands)) = of_record (record_of d) stands
     of_record (Some r) is = well_formed_in_order t (decoded_well r t is)
 bytes_in_order bytes t (inr none) = absurd none
 
-pub replies_alike : (words : List (List ℕ)) (bytes : List ℕ) (a b : Ending) → Ends words bytes a → Ends words bytes b
-    → (reply : Reply) → IsReply a reply → IsReply b reply
-replies_alike words bytes (answered a) (answered b) (c, asked, (held, stand, says)) (d, asked', (held', stand', says')) reply is =
-    let same : d ≡ c = command_once words d c asked' asked in
-    let due = subst (λ x. MatchResult held' (λ m. Says x m b) (λ e. b ≡ Err e)) same says' in
-    held_alike c a b held held' (bytes_decode_once bytes held held' stand stand')
-    (λ t is. bytes_in_order bytes t (subst (BytesDecode bytes) is stand)) says due reply is
-replies_alike words bytes (answered a) misused p none reply is = absurd (none p.0 p.1)
-replies_alike words bytes misused (answered b) none q reply is = absurd (none q.0 q.1)
-replies_alike words bytes misused misused p q reply is = is
+-- a command with another room for its path answers the same
+same_command : (c d : Command) (bytes : List ℕ) (file a : Result (List ℕ) Error) → IsSameCommand c d
+    → CommandAnswers c bytes file a → CommandAnswers d bytes file a
+same_command (Compose path) (Compose other) bytes file a same h = h
+same_command c d bytes file a same h = subst (λ x. CommandAnswers x bytes file a) same h
+
+pub replies_alike : (words : List (List ℕ)) (bytes : List ℕ) (file : Result (List ℕ) Error) (a b : Ending)
+    → Ends words bytes file a → Ends words bytes file b → (reply : Reply) → IsReply a reply → IsReply b reply
+replies_alike words bytes file (answered a) (answered b) (c, asked, says) (d, asked', says') reply is =
+    let due = same_command d c bytes file b (command_once words d c asked' asked) says' in
+    let both = then_alike (BytesDecode bytes) (λ t a. SaysWith file c t a) (bytes_alike bytes)
+    (λ t a b held p q. says_with_alike file c t a b (bytes_in_order bytes t held) p q) a b says due in
+    reply_alike a b both reply is
+replies_alike words bytes file (answered a) misused p none reply is = absurd (none p.0 p.1)
+replies_alike words bytes file misused (answered b) none q reply is = absurd (none q.0 q.1)
+replies_alike words bytes file misused misused p q reply is = is
 
 -- no other reply is right
-pub only_reply : (words : List (List ℕ)) (bytes : List ℕ) (r : Result Reply Error)
-    → MatchResult r (IsReplyTo words bytes) (λ e. e ≡ OutOfMemory)
-    → IfOk r (λ reply. (due : Ending) → Ends words bytes due → IsReply due reply)
-only_reply words bytes (Ok reply) (ending, ends, is) = λ due right. replies_alike words bytes ending due ends right reply is
-only_reply words bytes (Err e) h = tt
+pub only_reply : (words : List (List ℕ)) (bytes : List ℕ) (file : Result (List ℕ) Error) (r : Result Reply Error)
+    → MatchResult r (IsReplyTo words bytes file) (λ e. e ≡ OutOfMemory)
+    → IfOk r (λ reply. (due : Ending) → Ends words bytes file due → IsReply due reply)
+only_reply words bytes file (Ok reply) (ending, ends, is) = λ due right. replies_alike words bytes file ending due ends right reply is
+only_reply words bytes file (Err e) h = tt
 
 -- From a reader's bytes to what was printed.
 
@@ -243,36 +405,37 @@ bytes_read words command input (Ok bytes) asked h = inr h
 bytes_read words command input (Err e) asked h = UnlessMemory-from e (command, asked, h)
 
 -- the reply to other words is the same on all bytes
-any_bytes : (words : List (List ℕ)) (a b : List ℕ) (reply : Reply) → AskForNone words
-    → IsReplyTo words a reply → IsReplyTo words b reply
-any_bytes words a b reply none (answered answer, ends, is) = absurd (none ends.0 ends.1)
-any_bytes words a b reply none (misused, ends, is) = (misused, ends, is)
+any_bytes : (words : List (List ℕ)) (a b : List ℕ) (file : Result (List ℕ) Error) (reply : Reply) → AskForNone words
+    → IsReplyTo words a file reply → IsReplyTo words b file reply
+any_bytes words a b file reply none (answered answer, ends, is) = absurd (none ends.0 ends.1)
+any_bytes words a b file reply none (misused, ends, is) = (misused, ends, is)
 
 replied_on : (words : List (List ℕ)) (a b : List ℕ) (r : Result Reply Error)
-    → ((reply : Reply) → IsReplyTo words a reply → IsReplyTo words b reply)
-    → MatchResult r (IsReplyTo words a) (λ e. e ≡ OutOfMemory)
-    → MatchResult r (IsReplyTo words b) (IsCutShort words)
-replied_on words a b (Ok reply) f h = f reply h
-replied_on words a b (Err e) f h = out_of_memory words e h
+    → ((file : Result (List ℕ) Error) (reply : Reply) → IsReplyTo words a file reply → IsReplyTo words b file reply)
+    → WithFile None (λ file. MatchResult r (IsReplyTo words a file) (λ e. e ≡ OutOfMemory))
+    → WithFile None (λ file. MatchResult r (IsReplyTo words b file) (IsCutShort words))
+replied_on words a b (Ok reply) f (file, may, h) = (file, may, f file reply h)
+replied_on words a b (Err e) f (file, may, h) = (file, may, out_of_memory words e h)
 
 pub reply_of_reader : (words : List (List ℕ)) (input : Option (List ℕ)) (bytes : List ℕ) (r : Result Reply Error)
     → AskForNone words ⊎ IfSome input (λ known. bytes ≡ known)
-    → MatchResult r (IsReplyTo words bytes) (λ e. e ≡ OutOfMemory)
-    → Reading input (λ bytes. MatchResult r (IsReplyTo words bytes) (IsCutShort words))
+    → WithFile None (λ file. MatchResult r (IsReplyTo words bytes file) (λ e. e ≡ OutOfMemory))
+    → Reading input (λ bytes. WithFile None (λ file. MatchResult r (IsReplyTo words bytes file) (IsCutShort words)))
 reply_of_reader words input bytes r (inl none) h =
     let has = some_bytes input in
-    (has.0, has.1, replied_on words bytes has.0 r (λ reply is. any_bytes words bytes has.0 reply none is) h)
-reply_of_reader words input bytes r (inr told) h = (bytes, told, replied_on words bytes bytes r (λ reply is. is) h)
+    (has.0, has.1, replied_on words bytes has.0 r (λ file reply is. any_bytes words bytes has.0 file reply none is) h)
+reply_of_reader words input bytes r (inr told) h = (bytes, told, replied_on words bytes bytes r (λ file reply is. is) h)
 
 pub cut_short : (words : List (List ℕ)) (input : Option (List ℕ)) (e : Error) (r : Result Reply Error)
     → r ≡ Err e → IsCutShort words e
-    → Reading input (λ bytes. MatchResult r (IsReplyTo words bytes) (IsCutShort words))
-cut_short words input e r is h = let has = some_bytes input in (has.0, has.1, rw is h)
+    → Reading input (λ bytes. WithFile None (λ file. MatchResult r (IsReplyTo words bytes file) (IsCutShort words)))
+cut_short words input e r is h = let has = some_bytes input in (has.0, has.1, (Ok [], tt, rw is h))
 
-may_end : (words : List (List ℕ)) (bytes : List ℕ) (ending : Ending) → Ends words bytes ending → MayEnd words bytes ending
-may_end words bytes (answered (Ok text)) h = h
-may_end words bytes (answered (Err e)) h = inl h
-may_end words bytes misused h = h
+may_end : (words : List (List ℕ)) (bytes : List ℕ) (file : Result (List ℕ) Error) (ending : Ending)
+    → Ends words bytes file ending → MayEnd words bytes file ending
+may_end words bytes file (answered (Ok text)) h = h
+may_end words bytes file (answered (Err e)) h = inl h
+may_end words bytes file misused h = h
 
 told_short : (words : List (List ℕ)) (e said : Error) → (said ≡ e) ⊎ (said ≡ OutOfMemory) → IsCutShort words e → IsCutShort words said
 told_short words e said (inl same) h = subst (λ x. IsCutShort words x) (sym same) h
@@ -281,11 +444,11 @@ told_short words e said (inr out) h = out_of_memory words said out
 -- a reply was printed, or why there is none
 pub runs : (words : List (List ℕ)) (input : Option (List ℕ)) (made : Result Reply Error)
     (old new : Option (List ℕ)) (result : Result ℕ Error)
-    → Reading input (λ bytes. MatchResult made (IsReplyTo words bytes) (IsCutShort words))
+    → Reading input (λ bytes. WithFile None (λ file. MatchResult made (IsReplyTo words bytes file) (IsCutShort words)))
     → MatchResult result (λ status. IsReported made status old new) IsWriteFault
     → IfOk result (λ status. Runs words input status old new)
-runs words input (Ok reply) old new (Ok status) (bytes, told, (ending, ends, is)) said =
-    (bytes, told, (ending, may_end words bytes ending ends, said.0 ∙ is.1, (string_bytes reply.text, is.0, said.1)))
-runs words input (Err e) old new (Ok status) (bytes, told, short) (is, (fault, same, printed)) =
-    (bytes, told, (answered (Err fault), inr (told_short words e fault same short), is, printed))
+runs words input (Ok reply) old new (Ok status) (bytes, told, (file, may, (ending, ends, is))) said =
+    (bytes, told, (file, may, (ending, may_end words bytes file ending ends, said.0 ∙ is.1, (string_bytes reply.text, is.0, said.1))))
+runs words input (Err e) old new (Ok status) (bytes, told, (file, may, short)) (is, (fault, same, printed)) =
+    (bytes, told, (file, may, (answered (Err fault), inr (told_short words e fault same short), is, printed)))
 runs words input made old new (Err fault) h said = tt

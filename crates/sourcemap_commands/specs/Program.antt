@@ -1,7 +1,8 @@
 -- What a run prints, and the status that it ends with.
-use Rattle.std.specs.Prelude.{◌≡◌, ◌≢◌, ℕ, List, [], ◌∷◌, ◌++◌, codes, flat_map, if◌then◌else◌, Option, Some, None, IfSome, Result, Ok, Err, IsOkAnd, MatchResult, String, string_bytes, ◌⊎◌}
+use Rattle.std.specs.Prelude.{◌≡◌, ◌≢◌, ℕ, List, [], ◌∷◌, ◌++◌, codes, flat_map, if◌then◌else◌, Option, Some, None, IfSome, Result, Ok, Err, IsOkAnd, String, Vec, string_bytes, ◌⊎◌}
 use Rattle.std.specs.Fmt.{decimal}
 use Rattle.std.specs.Io.KnownBytes.{Appends}
+use Rattle.sourcemap.specs.Adjust.{adjusted}
 use Rattle.sourcemap.specs.Decoded.{IsTextOf}
 use Rattle.sourcemap.specs.Answer.{UnlessMemory}
 use Rattle.sourcemap.specs.Errors.{error_text, FromIo}
@@ -19,7 +20,7 @@ use Rattle.std.specs.declared.alloc.Global.{Global}
 use Rattle.std.specs.declared.io.Error.{Error as IoError}
 use Rattle.sourcemap_commands.specs.Command.{AskFor}
 use Rattle.sourcemap_commands.specs.declared.command.Command.{Command}
-use Rattle.sourcemap_commands.specs.declared.command.Command.TheVariants.{Lookup, Tokens, Rewrite, Flatten, Shift}
+use Rattle.sourcemap_commands.specs.declared.command.Command.TheVariants.{Lookup, Tokens, Rewrite, Flatten, Compose, Shift}
 use Rattle.sourcemap_commands.specs.declared.program.Reply.{Reply}
 
 abbrev pub newline : List ℕ
@@ -60,24 +61,41 @@ ShiftAnswer rows parts ss answer =
     (HaveRowsLeft rows ss × PrintsMap (index parts (sections_from (shifted rows ss))) answer)
     ⊎ ((¬ HaveRowsLeft rows ss) × (answer ≡ Err IncompatibleSourceMap))
 
--- what a command says of a map: its text, or why it refuses, a map of the wrong kind before all else
-abbrev pub Says : Command → MapTree → Result (List ℕ) Error → Type 0
-Says (Lookup line col) t answer = IsOkAnd answer (IsFoundLine t (line, col))
-Says Tokens (regular m) answer = answer ≡ Ok (flat_map token_line (tokens_from m 0))
-Says Tokens (index _ _) answer = answer ≡ Err IncompatibleSourceMap
-Says Rewrite (regular m) answer = PrintsMap (regular (rewritten no_removal m)) answer
-Says Rewrite (index _ _) answer = answer ≡ Err IncompatibleSourceMap
-Says Flatten (regular _) answer = answer ≡ Err IncompatibleSourceMap
-Says Flatten (index parts ss) answer = Then (FlatAnswer (index parts ss)) (λ m a. PrintsMap (regular m) a) answer
-Says (Shift _) (regular _) answer = answer ≡ Err IncompatibleSourceMap
-Says (Shift rows) (index parts ss) answer = ShiftAnswer rows parts (section_list ss) answer
+-- a regular map adjusted by another one; maps of other kinds are refused
+abbrev pub adjusted_by : MapTree → Option MapTree → Result MapValue Error
+adjusted_by (regular m) (Some (regular n)) = adjusted m n
+adjusted_by _ _ = Err IncompatibleSourceMap
 
--- what a command says of the map that bytes stand for, or why they stand for none
-abbrev pub CommandAnswers : Command → List ℕ → Result (List ℕ) Error → Type 0
-CommandAnswers command bytes answer = (held : Result MapTree Error) × BytesDecode bytes held
-    × MatchResult held (λ t. Says command t answer) (λ e. answer ≡ Err e)
+-- what a command says of a map, and of a second one where it takes one: its text, or why it refuses, a
+-- map of the wrong kind before all else
+abbrev pub Says : Command → MapTree → Option MapTree → Result (List ℕ) Error → Type 0
+Says (Lookup line col) t _ answer = IsOkAnd answer (IsFoundLine t (line, col))
+Says Tokens (regular m) _ answer = answer ≡ Ok (flat_map token_line (tokens_from m 0))
+Says Tokens (index _ _) _ answer = answer ≡ Err IncompatibleSourceMap
+Says Rewrite (regular m) _ answer = PrintsMap (regular (rewritten no_removal m)) answer
+Says Rewrite (index _ _) _ answer = answer ≡ Err IncompatibleSourceMap
+Says Flatten (regular _) _ answer = answer ≡ Err IncompatibleSourceMap
+Says Flatten (index parts ss) _ answer = Then (FlatAnswer (index parts ss)) (λ m a. PrintsMap (regular m) a) answer
+Says (Compose _) t adjustment answer = Then (λ a. a ≡ adjusted_by t adjustment) (λ m a. PrintsMap (regular m) a) answer
+Says (Shift _) (regular _) _ answer = answer ≡ Err IncompatibleSourceMap
+Says (Shift rows) (index parts ss) _ answer = ShiftAnswer rows parts (section_list ss) answer
 
--- Runs: words, and bytes that hold a map.
+-- the map in a file, given its bytes or why they could not be read; or why there is none
+abbrev pub FileDecodes : Result (List ℕ) Error → Result MapTree Error → Type 0
+FileDecodes (Ok bytes) held = BytesDecode bytes held
+FileDecodes (Err e) held = held ≡ Err e
+
+-- what a command says of a map, and of the one in its file where it takes one
+abbrev pub SaysWith : Result (List ℕ) Error → Command → MapTree → Result (List ℕ) Error → Type 0
+SaysWith file (Compose path) t answer = Then (FileDecodes file) (λ other a. Says (Compose path) t (Some other) a) answer
+SaysWith file command t answer = Says command t None answer
+
+-- what a command says of the map that bytes stand for, or why they stand for none; that comes before
+-- all that is said of the file
+abbrev pub CommandAnswers : Command → (bytes : List ℕ) → (file : Result (List ℕ) Error) → Result (List ℕ) Error → Type 0
+CommandAnswers command bytes file answer = Then (BytesDecode bytes) (λ t a. SaysWith file command t a) answer
+
+-- Runs: words, and bytes that hold a map; for `compose` also those of a file, or why they could not be read.
 
 -- words that ask for no command
 abbrev pub AskForNone : List (List ℕ) → Type 0
@@ -88,11 +106,11 @@ pub data Ending : Type 0 where
   answered : Result (List ℕ) Error → Ending
   misused : Ending
 
--- how a run of these words on these bytes ends
-abbrev pub Ends : List (List ℕ) → List ℕ → Ending → Type 0
-Ends words bytes (answered answer) =
-    (command : Command) × AskFor words command × CommandAnswers command bytes answer
-Ends words bytes misused = AskForNone words
+-- how a run of these words on these bytes ends, and on those of the file
+abbrev pub Ends : List (List ℕ) → (bytes : List ℕ) → (file : Result (List ℕ) Error) → Ending → Type 0
+Ends words bytes file (answered answer) =
+    (command : Command) × AskFor words command × CommandAnswers command bytes file answer
+Ends words bytes file misused = AskForNone words
 
 -- the line of a refusal; std does not say what its own faults print
 abbrev pub IsRefusal : Error → List ℕ → Type 0
@@ -114,24 +132,40 @@ abbrev pub IsReply : Ending → Reply → Type 0
 IsReply ending reply = Prints ending (string_bytes reply.text) × (reply.status ≡ status_of ending)
 
 -- a reply to these words on these bytes
-abbrev pub IsReplyTo : List (List ℕ) → List ℕ → Reply → Type 0
-IsReplyTo words bytes reply = (ending : Ending) × Ends words bytes ending × IsReply ending reply
+abbrev pub IsReplyTo : List (List ℕ) → (bytes : List ℕ) → (file : Result (List ℕ) Error) → Reply → Type 0
+IsReplyTo words bytes file reply = (ending : Ending) × Ends words bytes file ending × IsReply ending reply
 
 -- the reply to a command that was answered; want of memory has none
 abbrev pub IsReplyOf : Result (String Global) Error → Reply → Type 0
 IsReplyOf (Ok text) reply = IsReply (answered (Ok (string_bytes text))) reply
 IsReplyOf (Err e) reply = (e ≢ OutOfMemory) × IsReply (answered (Err e)) reply
 
--- Runs over a reader and a writer: a read may fail, and memory may run out.
+-- Runs over a reader and a writer: a read may fail, and memory may run out. No clause of std says which
+-- bytes a file has.
+
+-- what was read of a file, as contracts see it
+abbrev pub file_read : Result (Vec ℕ Global) Error → Result (List ℕ) Error
+file_read (Ok bytes) = Ok bytes.items
+file_read (Err e) = Err e
+
+-- what a reading of a file may give: bytes, or a fault of a reader
+abbrev pub MayBeRead : Result (List ℕ) Error → Type 0
+MayBeRead (Ok bytes) = Unit {0}
+MayBeRead (Err e) = UnlessRead e ⊥
+
+-- a fact of what a file gives: what is at hand of it, or else what a reading may give
+abbrev pub WithFile : Option (Result (List ℕ) Error) → (Result (List ℕ) Error → Type 0) → Type 0
+WithFile (Some file) P = P file
+WithFile None P = (file : Result (List ℕ) Error) × MayBeRead file × P file
 
 -- an error for which no reply is made: memory ran out, or words ask for a command and a read failed
 abbrev pub IsCutShort : List (List ℕ) → Error → Type 0
 IsCutShort words e = UnlessMemory e ((command : Command) × AskFor words command × UnlessRead e ⊥)
 
 -- how a run of these words on a reader's bytes may end
-abbrev pub MayEnd : List (List ℕ) → List ℕ → Ending → Type 0
-MayEnd words bytes (answered (Err e)) = Ends words bytes (answered (Err e)) ⊎ IsCutShort words e
-MayEnd words bytes ending = Ends words bytes ending
+abbrev pub MayEnd : List (List ℕ) → (bytes : List ℕ) → (file : Result (List ℕ) Error) → Ending → Type 0
+MayEnd words bytes file (answered (Err e)) = Ends words bytes file (answered (Err e)) ⊎ IsCutShort words e
+MayEnd words bytes file ending = Ends words bytes file ending
 
 -- a refusal was printed, or, where memory ran out for its text, that it did
 abbrev pub PrintsRefusal : Error → Option (List ℕ) → Option (List ℕ) → Type 0
@@ -150,5 +184,6 @@ IsWriteFault e = (cause : IoError) × FromIo cause e
 
 -- what a run of these words on a reader's bytes did: a reader that does not tell its bytes has some
 abbrev pub Runs : List (List ℕ) → Option (List ℕ) → ℕ → Option (List ℕ) → Option (List ℕ) → Type 0
-Runs words input status old new = Reading input (λ bytes. (ending : Ending) × MayEnd words bytes ending
-    × (status ≡ status_of ending) × ((printed : List ℕ) × Prints ending printed × Appends old new printed))
+Runs words input status old new = Reading input (λ bytes. WithFile None (λ file.
+    (ending : Ending) × MayEnd words bytes file ending
+    × (status ≡ status_of ending) × ((printed : List ℕ) × Prints ending printed × Appends old new printed)))

@@ -1,13 +1,13 @@
 //! The commands of the program, and the words that ask for them.
-ghost use Rattle.std.specs.Prelude.{◌≡◌, List, [], ◌∷◌, ℕ, map, string_bytes, MatchOption, MatchResult};
+ghost use Rattle.std.specs.Prelude.{◌≡◌, List, [], ◌∷◌, ℕ, codes, map, string_bytes, MatchOption, MatchResult};
 ghost use Rattle.sourcemap.specs.declared.errors.Error.TheVariants.{OutOfMemory};
-ghost use Rattle.sourcemap_commands.specs.Command.{IsNumber, AskFor};
+ghost use Rattle.sourcemap_commands.specs.Command.{IsNumber, IsSameCommand, AskFor};
 
 use sourcemap::Result;
 use std::alloc::Global;
 
 /// What a run is asked for.
-#[derive(Clone, Copy, Debug, PartialEq, Eq)]
+#[derive(Debug, PartialEq, Eq, Drop)]
 pub enum Command {
     /// `lookup LINE COL`: the closest token to a line and a column of the generated text.
     Lookup(u32, u32),
@@ -17,6 +17,8 @@ pub enum Command {
     Rewrite,
     /// `flatten`: the regular map that an index is made flat to, as JSON text.
     Flatten,
+    /// `compose FILE`: the regular map adjusted by the one in the file of this path, as JSON text.
+    Compose(String),
     /// `shift ROWS`: the index with each of its sections so many rows further down, as JSON text.
     Shift(u32),
 }
@@ -45,16 +47,38 @@ fn lone(word: &str) -> Option<Command>
     }
 }
 
-// The command that a word and a number ask for.
-fn counted(verb: &str, count: &str) -> Option<Command>
-    ensures { MatchOption result
-        ((command : _) → ¬ AskFor (verb.now ∷ count.now ∷ []) command)
-        (AskFor (verb.now ∷ count.now ∷ [])) }
+// The command that is asked to take a second map from the file of a path.
+fn composed(alloc: Global, path: &str) -> Result<Command>
+    ensures { MatchResult result
+        (AskFor (codes "compose" ∷ path.now ∷ []))
+        (λ e. e ≡ OutOfMemory) }
 {
-    if verb != "shift" {
-        return None;
+    let path = String::from_str(alloc, path)?;
+    Ok(Command::Compose(path))
+}
+
+// The command that is asked to move sections so many rows.
+fn shifted(rows: &str) -> Option<Command>
+    ensures { MatchOption result
+        ((command : _) → ¬ AskFor (codes "shift" ∷ rows.now ∷ []) command)
+        (AskFor (codes "shift" ∷ rows.now ∷ [])) }
+{
+    Some(Command::Shift(number_of(rows)?))
+}
+
+// The command that a word and one more ask for.
+fn paired(alloc: Global, verb: &str, word: &str) -> Result<Option<Command>>
+    ensures { MatchResult result
+        (λ found. MatchOption found
+        ((command : _) → ¬ AskFor (verb.now ∷ word.now ∷ []) command)
+        (AskFor (verb.now ∷ word.now ∷ [])))
+        (λ e. e ≡ OutOfMemory) }
+{
+    match verb {
+        "compose" => Ok(Some(composed(alloc, word)?)),
+        "shift" => Ok(shifted(word)),
+        _ => Ok(None),
     }
-    Some(Command::Shift(number_of(count)?))
 }
 
 // The command that a word and two numbers ask for.
@@ -70,8 +94,8 @@ fn placed(verb: &str, line: &str, col: &str) -> Option<Command>
 }
 
 /// The command that the words ask for, none for other words. LINE, COL and ROWS are decimal
-/// digits, at least one, of a number below 2^32. Only want of memory refuses.
-pub fn parse_words(_alloc: Global, words: &[String]) -> Result<Option<Command>>
+/// digits, at least one, of a number below 2^32; FILE is any word. Only want of memory refuses.
+pub fn parse_words(alloc: Global, words: &[String]) -> Result<Option<Command>>
     ensures { MatchResult result
         (λ found. MatchOption found
         ((command : _) → ¬ AskFor (map string_bytes words.now) command)
@@ -80,7 +104,7 @@ pub fn parse_words(_alloc: Global, words: &[String]) -> Result<Option<Command>>
 {
     match words {
         [word] => Ok(lone(word.as_str())),
-        [verb, count] => Ok(counted(verb.as_str(), count.as_str())),
+        [verb, word] => paired(alloc, verb.as_str(), word.as_str()),
         [verb, line, col] => Ok(placed(verb.as_str(), line.as_str(), col.as_str())),
         _ => Ok(None),
     }
@@ -88,5 +112,6 @@ pub fn parse_words(_alloc: Global, words: &[String]) -> Result<Option<Command>>
 
 // Words ask for one command.
 fn words_are_determined()
-    ensures { (words : List (List ℕ)) (a b : _) → AskFor words a → AskFor words b → a ≡ b }
+    ensures { (words : List (List ℕ)) (a b : _) → AskFor words a → AskFor words b
+        → IsSameCommand a b }
 {}

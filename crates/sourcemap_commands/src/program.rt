@@ -1,22 +1,25 @@
 //! What a command says of a map, and a whole run: words and input in, text and status out.
-ghost use Rattle.std.specs.Prelude.{◌≡◌, ◌++◌, ◌⊎◌, ℕ, List, IfErr, IfOk, IfSome, IsNone, MatchResult, map, string_bytes};
+ghost use Rattle.std.specs.Prelude.{◌≡◌, ◌++◌, ◌⊎◌, ℕ, List, Result, None, Some, IfErr, IfOk, IfSome, MatchResult, map, option_map, string_bytes};
 ghost use Rattle.std.specs.Io.KnownBytes.{Appends};
 ghost use Rattle.sourcemap.specs.Answer.{IsAnswer};
 ghost use Rattle.sourcemap.specs.Decoded.{index_value, map_tree};
 ghost use Rattle.sourcemap.specs.Decoder.{Reading};
 ghost use Rattle.sourcemap.specs.Token.{token_value};
 ghost use Rattle.sourcemap.specs.Trees.{index_tree, regular};
+ghost use Rattle.sourcemap.specs.declared.errors.Error.{Error};
 ghost use Rattle.sourcemap.specs.declared.errors.Error.TheVariants.{OutOfMemory};
-ghost use Rattle.sourcemap_commands.specs.declared.command.Command.TheVariants.{Flatten, Lookup, Rewrite, Shift, Tokens};
+ghost use Rattle.sourcemap_commands.specs.Command.{TakesAdjustment};
+ghost use Rattle.sourcemap_commands.specs.declared.command.Command.TheVariants.{Compose, Flatten, Lookup, Rewrite, Shift, Tokens};
 ghost use Rattle.sourcemap_commands.specs.declared.program.Reply.{Reply};
-ghost use Rattle.sourcemap_commands.specs.Program.{AskForNone, CommandAnswers, Ending, Ends, IsCutShort, IsJsonLine, IsRefusal, IsReply, IsReplyOf, IsReplyTo, IsReported, IsWriteFault, PrintsRefusal, Runs, Says, range_mark, token_line};
+ghost use Rattle.sourcemap_commands.specs.Program.{AskForNone, CommandAnswers, Ending, Ends, FileDecodes, IsCutShort, IsJsonLine, IsRefusal, IsReply, IsReplyOf, IsReplyTo, IsReported, IsWriteFault, MayBeRead, PrintsRefusal, Runs, Says, SaysWith, WithFile, file_read, misused, range_mark, token_line};
 
 use crate::command::{Command, parse_words};
-use crate::regular::{flattened, rewritten};
+use crate::regular::{adjusted, flattened, rewritten};
 use sourcemap::decoder::decode_vec;
 use sourcemap::{DecodedMap, Error, Result, SourceMap, SourceMapIndex, Token};
 use sourcemap_records::bytes::read_all;
 use std::alloc::Global;
+use std::fs;
 use std::io::{Read, Write};
 use std::rt::Files;
 
@@ -38,12 +41,14 @@ pub struct Reply {
 /// an index in no order it is that of some token or `none`. For `Tokens` the tokens line by line,
 /// each with where it stands in the generated text, its own text, and ` range` if it is a range
 /// token. For `Rewrite` the compact JSON text of the map rewritten with default options, for
-/// `Flatten` that of the regular map that the index is made flat to, for `Shift` that of the index
-/// with its sections so many rows further down, each with a newline.
+/// `Flatten` that of the regular map that the index is made flat to, for `Compose` that of the map
+/// adjusted by the second one, for `Shift` that of the index with its sections so many rows further
+/// down, each with a newline. `Compose` takes a second map, and no other command does.
 ///
-/// `IncompatibleSourceMap` for an index in `Tokens` and `Rewrite`, for a regular map in `Flatten` and
-/// `Shift`, and where `Shift` would put a section on a row beyond 4294967295. `CannotFlatten` as by
-/// `SourceMapIndex::flatten`. Else only want of memory refuses. No command so far takes a second map.
+/// `IncompatibleSourceMap` for an index in `Tokens` and `Rewrite` and as either map of `Compose`, for
+/// a regular map in `Flatten` and `Shift`, where `Compose` would put a token past column 4294967295,
+/// and where `Shift` would put a section past row 4294967295. `CannotFlatten` as by
+/// `SourceMapIndex::flatten`. Else only want of memory refuses.
 pub fn apply<F: Files>(
     rt: &F,
     alloc: Global,
@@ -51,32 +56,37 @@ pub fn apply<F: Files>(
     map: DecodedMap,
     adjustment: Option<DecodedMap>,
 ) -> Result<String>
-    requires { IsNone adjustment }
-    ensures { IsAnswer string_bytes (Says command.now (map_tree map)) result }
+    requires { TakesAdjustment command.now adjustment }
+    ensures { IsAnswer string_bytes
+        (Says command.now (map_tree map) (option_map map_tree adjustment)) result }
 {
-    said(rt, alloc, *command, map)
+    match adjustment {
+        Some(adjustment) => composed_text(alloc, map, adjustment),
+        None => said(rt, alloc, command, map),
+    }
 }
 
-// What a command says of a map.
-fn said<F: Files>(rt: &F, alloc: Global, command: Command, map: DecodedMap) -> Result<String>
-    ensures { IsAnswer string_bytes (Says command (map_tree map)) result }
+// What a command says of one map. One that takes two has been asked with both.
+fn said<F: Files>(rt: &F, alloc: Global, command: &Command, map: DecodedMap) -> Result<String>
+    ensures { IsAnswer string_bytes (Says command.now (map_tree map) None) result }
 {
     match (command, map) {
-        (Command::Lookup(line, col), map) => lookup_text(alloc, &map, line, col),
+        (Command::Lookup(line, col), map) => lookup_text(alloc, &map, *line, *col),
         (Command::Tokens, DecodedMap::Regular(map)) => tokens_text(alloc, &map),
         (Command::Rewrite, DecodedMap::Regular(map)) => rewritten_text(rt, alloc, map),
         (Command::Flatten, DecodedMap::Index(index)) => flat_text(alloc, index),
-        (Command::Shift(rows), DecodedMap::Index(index)) => shifted_text(alloc, index, rows),
+        (Command::Shift(rows), DecodedMap::Index(index)) => shifted_text(alloc, index, *rows),
         (Command::Tokens, DecodedMap::Index(_)) => Err(Error::IncompatibleSourceMap),
         (Command::Rewrite, DecodedMap::Index(_)) => Err(Error::IncompatibleSourceMap),
         (Command::Flatten, DecodedMap::Regular(_)) => Err(Error::IncompatibleSourceMap),
         (Command::Shift(_), DecodedMap::Regular(_)) => Err(Error::IncompatibleSourceMap),
+        (Command::Compose(_), _) => Err(Error::IncompatibleSourceMap),
     }
 }
 
 // The text of the closest token to a place, or that there is none.
 fn lookup_text(alloc: Global, map: &DecodedMap, line: u32, col: u32) -> Result<String>
-    ensures { IsAnswer string_bytes (Says (Lookup line col) (map_tree map.now)) result }
+    ensures { IsAnswer string_bytes (Says (Lookup line col) (map_tree map.now) None) result }
 {
     match map.lookup_token(line, col) {
         Some(token) => Ok(format!(in alloc; "{token}\n")?),
@@ -86,7 +96,7 @@ fn lookup_text(alloc: Global, map: &DecodedMap, line: u32, col: u32) -> Result<S
 
 // The lines of all tokens.
 fn tokens_text(alloc: Global, map: &SourceMap) -> Result<String>
-    ensures { IsAnswer string_bytes (Says Tokens (regular map.now)) result }
+    ensures { IsAnswer string_bytes (Says Tokens (regular map.now) None) result }
 {
     let mut text = String::new(alloc);
     for token in map.tokens() {
@@ -117,7 +127,7 @@ fn range_mark(token: &Token<'_>) -> &'static str
 
 // The JSON text of the map rewritten with default options.
 fn rewritten_text<F: Files>(rt: &F, alloc: Global, map: SourceMap) -> Result<String>
-    ensures { IsAnswer string_bytes (Says Rewrite (regular map)) result }
+    ensures { IsAnswer string_bytes (Says Rewrite (regular map) None) result }
 {
     let rewritten = rewritten(rt, map)?;
     json_line(alloc, DecodedMap::Regular(rewritten))
@@ -125,15 +135,25 @@ fn rewritten_text<F: Files>(rt: &F, alloc: Global, map: SourceMap) -> Result<Str
 
 // The JSON text of the regular map that an index is made flat to.
 fn flat_text(alloc: Global, index: SourceMapIndex) -> Result<String>
-    ensures { IsAnswer string_bytes (Says Flatten (index_tree (index_value index))) result }
+    ensures { IsAnswer string_bytes (Says Flatten (index_tree (index_value index)) None) result }
 {
     let flat = flattened(index)?;
     json_line(alloc, DecodedMap::Regular(flat))
 }
 
+// The JSON text of a map adjusted by another one.
+fn composed_text(alloc: Global, map: DecodedMap, adjustment: DecodedMap) -> Result<String>
+    ensures { (path : _) → IsAnswer string_bytes
+        (Says (Compose path) (map_tree map) (Some (map_tree adjustment))) result }
+{
+    let adjusted = adjusted(map, adjustment)?;
+    json_line(alloc, DecodedMap::Regular(adjusted))
+}
+
 // The JSON text of an index with its sections so many rows further down.
 fn shifted_text(alloc: Global, mut index: SourceMapIndex, rows: u32) -> Result<String>
-    ensures { IsAnswer string_bytes (Says (Shift rows) (index_tree (index_value index))) result }
+    ensures { IsAnswer string_bytes
+        (Says (Shift rows) (index_tree (index_value index)) None) result }
 {
     if !index.adjust_sections_offset_rows(rows) {
         return Err(Error::IncompatibleSourceMap);
@@ -164,12 +184,87 @@ fn refusal_text(alloc: Global, error: &Error) -> Result<String>
     Ok(text)
 }
 
-// What a command says of the map that bytes hold.
-fn answer<F: Files>(rt: &F, alloc: Global, command: &Command, bytes: Vec<u8>) -> Result<String>
-    ensures { IsAnswer string_bytes (CommandAnswers command.now bytes.items) result }
+// The bytes of a file. A fault of opening or reading it is `Io`.
+fn read_file<F: Files>(rt: &F, alloc: Global, path: &str) -> Result<Vec<u8>>
+    ensures { MayBeRead (file_read result) }
+{
+    let file = fs::open(rt, path)?;
+    read_all(alloc, file)
+}
+
+// What is at hand of a file, or what is read of it now.
+fn file_bytes<F: Files>(
+    rt: &F,
+    alloc: Global,
+    path: &str,
+    at_hand: Option<Result<Vec<u8>>>,
+) -> Result<Vec<u8>>
+    ensures { WithFile (option_map file_read at_hand) (λ file. file_read result ≡ file) }
+{
+    match at_hand {
+        Some(read) => read,
+        None => read_file(rt, alloc, path),
+    }
+}
+
+// The map in a file.
+fn file_map<F: Files>(
+    rt: &F,
+    alloc: Global,
+    path: &str,
+    at_hand: Option<Result<Vec<u8>>>,
+) -> Result<DecodedMap>
+    ensures { WithFile (option_map file_read at_hand)
+        (λ file. IsAnswer map_tree (FileDecodes file) result) }
+{
+    let bytes = file_bytes(rt, alloc, path, at_hand)?;
+    decode_vec(alloc, bytes)
+}
+
+// The JSON text of a map adjusted by that in a file, or why there is none in it.
+fn composed_with(alloc: Global, map: DecodedMap, adjustment: Result<DecodedMap>) -> Result<String>
+    ensures { (path : _) (read : _) → IsAnswer map_tree (FileDecodes read) adjustment
+        → IsAnswer string_bytes (SaysWith read (Compose path) (map_tree map)) result }
+{
+    match adjustment {
+        Ok(adjustment) => composed_text(alloc, map, adjustment),
+        Err(error) => Err(error),
+    }
+}
+
+// What a command says of a map, and of the one in its file where it takes one.
+fn said_with<F: Files>(
+    rt: &F,
+    alloc: Global,
+    command: &Command,
+    map: DecodedMap,
+    at_hand: Option<Result<Vec<u8>>>,
+) -> Result<String>
+    ensures { WithFile (option_map file_read at_hand)
+        (λ file. IsAnswer string_bytes (SaysWith file command.now (map_tree map)) result) }
+{
+    match command {
+        Command::Compose(path) => {
+            let adjustment = file_map(rt, alloc, path.as_str(), at_hand);
+            composed_with(alloc, map, adjustment)
+        }
+        command => apply(rt, alloc, command, map, None),
+    }
+}
+
+// What a command says of the map that bytes hold. A file is read once that map is decoded.
+fn answer<F: Files>(
+    rt: &F,
+    alloc: Global,
+    command: &Command,
+    bytes: Vec<u8>,
+    at_hand: Option<Result<Vec<u8>>>,
+) -> Result<String>
+    ensures { WithFile (option_map file_read at_hand)
+        (λ file. IsAnswer string_bytes (CommandAnswers command.now bytes.items file) result) }
 {
     let map = decode_vec(alloc, bytes)?;
-    apply(rt, alloc, command, map, None)
+    said_with(rt, alloc, command, map, at_hand)
 }
 
 // The reply to a command that was answered or refused.
@@ -186,37 +281,58 @@ fn reply_of(alloc: Global, answered: Result<String>) -> Result<Reply>
     }
 }
 
-// The reply to words, on the bytes of a map.
-fn replied<F: Files>(rt: &F, alloc: Global, words: &[String], bytes: Vec<u8>) -> Result<Reply>
-    ensures { MatchResult result
-        (IsReplyTo (map string_bytes words.now) bytes.items)
-        (λ e. e ≡ OutOfMemory) }
+// The reply to words that ask for no command.
+fn usage_reply(alloc: Global) -> Result<Reply>
+    ensures { MatchResult result (IsReply misused) (λ e. e ≡ OutOfMemory) }
+{
+    let text = String::from_str(alloc, USAGE)?;
+    Ok(Reply { text, status: 2 })
+}
+
+// The reply to words, on the bytes of a map, and on what is at hand of a file.
+fn replied<F: Files>(
+    rt: &F,
+    alloc: Global,
+    words: &[String],
+    bytes: Vec<u8>,
+    at_hand: Option<Result<Vec<u8>>>,
+) -> Result<Reply>
+    ensures { WithFile (option_map file_read at_hand) (λ file. MatchResult result
+        (IsReplyTo (map string_bytes words.now) bytes.items file)
+        (λ e. e ≡ OutOfMemory)) }
 {
     match parse_words(alloc, words)? {
         Some(command) => {
-            let answered = answer(rt, alloc, &command, bytes);
+            let answered = answer(rt, alloc, &command, bytes, at_hand);
             reply_of(alloc, answered)
         }
-        None => {
-            let text = String::from_str(alloc, USAGE)?;
-            Ok(Reply { text, status: 2 })
-        }
+        None => usage_reply(alloc),
     }
 }
 
-/// The reply to words, on the bytes of a map: with status 0 what the command that they ask for says
-/// of the map, as by `apply`. With status 1 the text of the refusal and a newline, where the bytes
-/// hold no map, as by `decode_slice`: `Io` for a faulty junk header alone. With status 2 the usage,
-/// whatever the bytes are, for words that ask for no command. Only want of memory refuses.
-pub fn reply_to<F: Files>(rt: &F, alloc: Global, words: &[String], bytes: Vec<u8>) -> Result<Reply>
+/// The reply to words, on the bytes of a map. For `Compose` what was read of the file that it names
+/// counts too, its bytes or why there are none, and for no other words. With status 0 what the
+/// command that the words ask for says, as by `apply`. With status 1 the text of a refusal and a
+/// newline, that of the first of these: the bytes hold no map, as by `decode_slice`, which is `Io`
+/// for a faulty junk header alone; the file was not read; its bytes hold no map; `apply` refuses.
+/// With status 2 the usage, whatever the bytes are, for words that ask for no command. Only want of
+/// memory refuses.
+pub fn reply_to<F: Files>(
+    rt: &F,
+    alloc: Global,
+    words: &[String],
+    bytes: Vec<u8>,
+    file: Result<Vec<u8>>,
+) -> Result<Reply>
     ensures answer { MatchResult result
-        (IsReplyTo (map string_bytes words.now) bytes.items)
+        (IsReplyTo (map string_bytes words.now) bytes.items (file_read file))
         (λ e. e ≡ OutOfMemory) }
     // No other reply is right.
     ensures only { IfOk result (λ reply. (due : Ending)
-        → Ends (map string_bytes words.now) bytes.items due → IsReply due reply) }
+        → Ends (map string_bytes words.now) bytes.items (file_read file) due
+        → IsReply due reply) }
 {
-    replied(rt, alloc, words, bytes)
+    replied(rt, alloc, words, bytes, Some(file))
 }
 
 // The bytes of an input, which is read only for words that ask for a command; else none.
@@ -240,13 +356,14 @@ fn reply_from<F: Files, R: Read>(
     words: &[String],
     input: &mut R,
 ) -> Result<Reply>
-    ensures answer { Reading (R.remaining input.old) (λ bytes. MatchResult result
-        (IsReplyTo (map string_bytes words.now) bytes)
-        (IsCutShort (map string_bytes words.now))) }
+    ensures answer { Reading (R.remaining input.old) (λ bytes. WithFile None (λ file.
+        MatchResult result
+        (IsReplyTo (map string_bytes words.now) bytes file)
+        (IsCutShort (map string_bytes words.now)))) }
     ensures unread { AskForNone (map string_bytes words.now) → input.new ≡ input.old }
 {
     let bytes = bytes_for(alloc, words, input)?;
-    reply_to(rt, alloc, words, bytes)
+    replied(rt, alloc, words, bytes, None)
 }
 
 // Writes all of a text.
@@ -296,10 +413,12 @@ fn report<W: Write>(alloc: Global, made: Result<Reply>, output: &mut W) -> Resul
     }
 }
 
-/// Prints the reply to words, on the map that an input gives, and answers its status: what `reply_to`
-/// makes of the words and of all bytes of the input, which is read only where the words ask for a
-/// command. A read's fault, and want of memory, are refused like a faulty map, with status 1. All
-/// text is made before the first byte of it is written. The only error is a write's fault.
+/// Prints the reply to words, on the map that an input gives, and answers its status: what
+/// `reply_to` makes of the words, of all bytes of the input, which is read only where the words ask
+/// for a command, and for `Compose` of what a reading of its file then gives. That is opened and read
+/// only once the input is decoded. A read's fault, and want of memory, are refused like a faulty map,
+/// with status 1. All text is made before the first byte of it is written. The only error is a
+/// write's fault.
 pub fn run<F: Files, R: Read, W: Write>(
     rt: &F,
     alloc: Global,
@@ -316,10 +435,10 @@ pub fn run<F: Files, R: Read, W: Write>(
     report(alloc, made, output)
 }
 
-/// Words and bytes have one reply: what replies for one ending that is right does for each. Only the
-/// texts of a header's fault are not known to be one.
+/// Words, bytes and what was read of a file have one reply: what replies for one ending that is right
+/// does for each. Only the texts of a header's fault are not known to be one.
 pub fn replies_are_determined()
-    ensures { (words : List (List ℕ)) (bytes : List ℕ) (a b : Ending)
-        → Ends words bytes a → Ends words bytes b
+    ensures { (words : List (List ℕ)) (bytes : List ℕ) (read : Result (List ℕ) Error) (a b : Ending)
+        → Ends words bytes read a → Ends words bytes read b
         → (reply : Reply) → IsReply a reply → IsReply b reply }
 {}

@@ -1,11 +1,13 @@
-//! Regular maps that the program makes of a map: one rewritten by default, and one of an index.
-ghost use Rattle.std.specs.Prelude.{◌≡◌, MatchResult};
-ghost use Rattle.sourcemap.specs.Answer.{IsAnswer};
+//! Regular maps that the program makes of maps: one rewritten by default, one of an index, and one
+//! adjusted by another.
+ghost use Rattle.std.specs.Prelude.{◌≡◌, MatchResult, Some};
+ghost use Rattle.sourcemap.specs.Answer.{Gives, IsAnswer};
 ghost use Rattle.sourcemap.specs.Decoded.{index_value, map_tree};
 ghost use Rattle.sourcemap.specs.Flat.{FlatAnswer};
 ghost use Rattle.sourcemap.specs.Rewrite.{no_removal, rewritten};
 ghost use Rattle.sourcemap.specs.Trees.{IndexValue, index_tree, regular};
 ghost use Rattle.sourcemap.specs.declared.errors.Error.TheVariants.{IncompatibleSourceMap, OutOfMemory};
+ghost use Rattle.sourcemap_commands.specs.Program.{adjusted_by};
 
 use sourcemap::{DecodedMap, Error, Result, RewriteOptions, SourceMap, SourceMapIndex};
 use std::rt::Files;
@@ -34,4 +36,15 @@ pub fn flattened(index: SourceMapIndex) -> Result<SourceMap>
     ensures { IsAnswer (λ m. m) (FlatAnswer (index_tree (index_value index))) result }
 {
     index.flatten()
+}
+
+/// The map adjusted by another one, as by `SourceMap::adjust_mappings`: an index as either one is
+/// `IncompatibleSourceMap`.
+pub fn adjusted(map: DecodedMap, adjustment: DecodedMap) -> Result<SourceMap>
+    ensures { Gives (λ m. m) result (adjusted_by (map_tree map) (Some (map_tree adjustment))) }
+{
+    let mut map = regular_of(map)?;
+    let adjustment = regular_of(adjustment)?;
+    map.adjust_mappings(&adjustment)?;
+    Ok(map)
 }

@@ -13,7 +13,7 @@ ghost use Rattle.sourcemap_conversions.specs.FromRecordSteps.{ArePartsIn, HaveRo
 use crate::parts::Parts;
 use serde_json::{Number, Value};
 use sourcemap_errors::errors::{Error, Result};
-use sourcemap_lists::token_list::TokenList;
+use sourcemap_line_index::token_list::TokenList;
 use sourcemap_mappings::read::parse_mappings;
 use sourcemap_parts::contents::Contents;
 use sourcemap_parts::heading::Heading;
@@ -126,7 +126,7 @@ fn tokens_in(alloc: Global, texts: RecordTexts, sources: u32, names: u32) -> Res
     let ranges = texts.ranges.as_str();
     match parse_mappings(alloc, mappings, ranges, sources, names) {
         Err(fault) => Err(fault),
-        Ok(tokens) => Ok(TokenList::of_ordered(tokens)),
+        Ok(tokens) => TokenList::of_ordered(tokens),
     }
 }
 

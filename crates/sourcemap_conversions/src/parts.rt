@@ -1,5 +1,5 @@
 //! All parts of a map together.
-use sourcemap_lists::token_list::TokenList;
+use sourcemap_line_index::token_list::TokenList;
 use sourcemap_parts::contents::Contents;
 use sourcemap_parts::heading::Heading;
 use sourcemap_parts::sources::Sources;

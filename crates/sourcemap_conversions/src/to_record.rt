@@ -19,7 +19,7 @@ ghost use Rattle.sourcemap_conversions.specs.ToRecordSteps.{AreWritten, AreLists
 use crate::parts::Parts;
 use serde_json::Value;
 use sourcemap_errors::errors::Result;
-use sourcemap_lists::token_list::TokenList;
+use sourcemap_line_index::token_list::TokenList;
 use sourcemap_lists::tokens::RawToken;
 use sourcemap_mappings::write::{write_mappings, write_range_mappings};
 use sourcemap_parts::contents::Contents;

@@ -4,7 +4,7 @@ use sourcemap_core::errors::Result;
 use sourcemap_core::line_index::LineIndex;
 use sourcemap_core::probe::{KeyProbe, Probe};
 use sourcemap_core::tokens::{NO_ID, RawToken};
-use sourcemap_lists::token_list::TokenList;
+use sourcemap_line_index::token_list::TokenList;
 use std::alloc::Global;
 
 // A token at this place, known by its column in the source.

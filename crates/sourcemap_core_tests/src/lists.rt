@@ -4,7 +4,7 @@ use sourcemap_core::errors::Result;
 use sourcemap_core::interner::Interner;
 use sourcemap_core::tokens::{NO_ID, RawToken, tokens_in_order};
 use sourcemap_core::utils::greatest_lower_bound;
-use sourcemap_lists::token_list::TokenList;
+use sourcemap_line_index::token_list::TokenList;
 use std::alloc::Global;
 
 // Places, whose tokens are known by their column in the source: 0, 1, 2 and 3.
@@ -87,7 +87,7 @@ fn compared(list: &TokenList) -> Result<(bool, bool)> {
     let is_same = copy == *list;
     let mut fewer = copy.into_vec();
     let _last = fewer.pop();
-    Ok((is_same, TokenList::of_ordered(fewer) == *list))
+    Ok((is_same, TokenList::of_ordered(fewer)? == *list))
 }
 
 fn ends(alloc: Global) -> Result<String> {

@@ -1,5 +1,5 @@
 -- What a table holds when one text more is entered.
-use Rattle.std.proofs.Common.{◌≡◌, ◌≢◌, refl, sym, ap, subst, ◌∙◌, ℕ, suc, ◌+◌, ◌<◌, ◌≤◌, List, [], ◌∷◌, ◌++◌, append_assoc, length, map, fold, Bool, true, false, ◌&&◌, cond, nat_lt, Some, None, Option, arith, inl, inr, slice_get, slice_set, get_or, is_some, option_map, option_and_then, take, drop, Bor}
+use Rattle.std.proofs.Common.{◌≡◌, ◌≢◌, refl, sym, ap, subst, ◌∙◌, ℕ, suc, ◌+◌, ◌<◌, ◌≤◌, List, [], ◌∷◌, ◌++◌, append_assoc, length, map, fold, Bool, true, false, ◌&&◌, cond, nat_lt, Some, None, Option, arith, inl, inr, slice_get, slice_set, get_or, is_some, option_map, option_and_then, take, drop, vec_len, Bor}
 use Rattle.std.specs.List.{AllByRecursion}
 use Rattle.std.specs.Option.{option_or, option_copied}
 use Rattle.std.specs.Str.{bytes_eq}
@@ -394,3 +394,12 @@ pub entered-next : (before : List TextEntry) (entries : List Entry) (i : ℕ) (d
 entered-next before entries i d within numbers numbers' number old new so_far entered pushed =
     subst (λ xs. AreEntered (before ++ xs) xs numbers' new) (sym (map_more entry_value entries i d within))
     (all-entered-more before (entry_values (take i entries)) (entry_value (get_or entries i d)) numbers numbers' number old new so_far entered pushed)
+
+-- a table has as many entries as texts
+pub table-few : (entered : List TextEntry) (t : Table) → IsTable entered t → vec_len t.entries ≤ 4294967295
+table-few entered t is =
+    let values : length (entry_values t.entries.items) ≡ length t.entries.items = length-map t.entries.items _ in
+    let texts : length (entries_kept entered) ≡ length (texts_entered entered) = length-map (texts_entered entered) _ in
+    let kept = ap length is.kept in
+    let few = is.few in
+    omega arith

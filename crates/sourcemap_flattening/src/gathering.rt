@@ -13,7 +13,7 @@ use crate::entries::{contents_of, names_of, sources_of, texts_of};
 use crate::moving::{Move, move_all, pass_over};
 use crate::table::{Entry, Table};
 use sourcemap_errors::errors::Result;
-use sourcemap_lists::token_list::TokenList;
+use sourcemap_line_index::token_list::TokenList;
 use sourcemap_lists::tokens::RawToken;
 use sourcemap_parts::contents::Contents;
 use sourcemap_parts::heading::Heading;

@@ -110,6 +110,28 @@ digits_suffice (suc most) n l =
 pub binary_digits_suffice : (n : ℕ) → n < 2 ^ (binary_digits n)
 binary_digits_suffice n = digits_suffice n n (omega arith)
 
+half_below : (n power : ℕ) → n < 2 * power → n / 2 < power
+half_below n power l = omega arith
+
+fewest_within : (most n d : ℕ) → n ≤ most → n < 2 ^ d → digits_within most n ≤ d
+fewest_within zero n d l small = omega arith
+fewest_within (suc most) n d l small =
+    elim (cases_eq n 0) [
+      | inl none ↦ rw (eq-eqb n 0 none) (omega arith)
+      | inr some ↦ rw (ne_eqb n 0 some) (elim (cases_eq d 0) [
+        | inl empty ↦ let one : n < 2 ^ 0 = subst (λ k. n < 2 ^ k) empty small in absurd (omega arith)
+        | inr more ↦
+            let back : suc (d - 1) ≡ d = omega arith in
+            let twice : n < 2 * 2 ^ (d - 1) = subst (λ k. n < k) (pow-succ' 2 (d - 1)) (subst (λ k. n < 2 ^ k) (sym back) small) in
+            let later : digits_within most (n / 2) ≤ d - 1 = fewest_within most (n / 2) (d - 1) (half_of n most l) (half_below n (2 ^ (d - 1)) twice) in
+            omega arith
+      ])
+    ]
+
+-- and no fewer digits are
+pub binary_digits_fewest : (n d : ℕ) → n < 2 ^ d → binary_digits n ≤ d
+binary_digits_fewest n d small = fewest_within n n d (omega arith) small
+
 -- the comparisons of a search for a line, one with the line, those for a column, and one with the column
 pub count_in_all : (start found left end d : ℕ) → found ≤ start + (d + 1) → left ≤ found + d → end ≡ min (left + 1) 4294967295 → end ≤ start + 2 * (d + 1)
 count_in_all start found left end d f l e = omega arith

@@ -1,3 +1,5 @@
 pub mod ClosestLemmas
 pub mod LineIndexLemmas
+pub mod ProbeLemmas
 pub mod TableLemmas
+pub mod TokenListLemmas

@@ -1,11 +1,10 @@
 -- What a table of lines says of tokens, and how halving bounds a count.
-use Rattle.std.proofs.Common.{◌≡◌, sym, subst, ℕ, suc, ◌<◌, ◌≤◌, ◌+◌, ◌-◌, ◌*◌, ◌/◌, ◌^◌, arith, inl, inr, min, true, false, List, length, get_or}
-use Rattle.std.proofs.lemmas.List.{get_or_default}
-use Rattle.sourcemap_lists.specs.declared.tokens.RawToken.{RawToken}
-use Rattle.std.specs.Ordering.{nat_cmp, is_gt, is_eq}
+use Rattle.std.proofs.Common.{◌≡◌, sym, subst, ◌∙◌, ℕ, suc, ◌<◌, ◌≤◌, ◌+◌, ◌-◌, ◌*◌, ◌/◌, ◌^◌, arith, inl, inr, min, true, false, nat_lt, if◌then◌else◌}
+use Rattle.std.specs.Ordering.{nat_cmp, is_eq}
 use Rattle.std.proofs.Math.Nat.{pow-succ'}
-use Rattle.std.proofs.lemmas.Bool.{cases_eq}
+use Rattle.std.proofs.lemmas.Bool.{cases_eq, cases_lt}
 use Rattle.std.proofs.lemmas.Bool.Decides.{nat_tests}
+use Rattle.sourcemap_line_index.specs.LineIndex.{Rises}
 
 -- a search in `size` places has made `made` comparisons, and will make at most `most` in all
 pub record Remains (most made size : ℕ) : Type 0 where
@@ -46,22 +45,65 @@ Remains-half most made size next half some counted halved r =
 pub Remains-end : (most made size : ℕ) → Remains most made size → made ≤ most
 Remains-end most made size r = let within = r.enough in omega arith
 
+-- the numbers left of a place are below the key, and those from as many places on as are left are not
+pub record IsWindow (number : ℕ → ℕ) (key first place left end : ℕ) : Type 0 where
+  pub before : first < place → number (place - 1) < key
+  pub from : place + left < end → key ≤ number (place + left)
+
+if_less : (a b n : ℕ) → a < b → (if nat_lt a b then n else 0) ≡ n
+if_less a b n l = grind (arith, nat_tests)
+
+if_not_less : (a b n : ℕ) → b ≤ a → (if nat_lt a b then n else 0) ≡ 0
+if_not_less a b n ge = grind (arith, nat_tests)
+
+-- the number at the last of the first half tells whether to skip that half
+pub window_halved : (number : ℕ → ℕ) (key first place left end half rest skipped : ℕ) → 0 < left → half ≡ left / 2 → rest ≡ left - half → first ≤ place → Rises number first end → IsWindow number key first place left end
+    → skipped ≡ (if nat_lt (number (place + rest - 1)) key then rest else 0) → IsWindow number key first (place + skipped) half end
+window_halved number key first place left end half rest skipped some halved others low rises w is =
+    elim (cases_lt (number (place + rest - 1)) key) [
+      | inl l ↦
+          let all : skipped ≡ rest = is ∙ if_less (number (place + rest - 1)) key rest l in
+          let whole : place + rest + half ≡ place + left = omega arith in
+          rw all (record {
+            before = λ m. l;
+            from = λ m. rw whole (w.from (omega arith));
+          })
+      | inr ge ↦
+          let none : skipped ≡ 0 = is ∙ if_not_less (number (place + rest - 1)) key rest ge in
+          let same : place + skipped ≡ place = omega arith in
+          rw same (record {
+            before = w.before;
+            from = λ m. elim (cases_eq half rest) [
+              | inl even ↦
+                  let next : place + rest - 1 + 1 ≡ place + half = omega arith in
+                  let up : number (place + rest - 1) ≤ number (place + rest - 1 + 1) = rises (place + rest - 1) (omega arith) (omega arith) in
+                  let up' : number (place + rest - 1) ≤ number (place + half) = subst (λ k. number (place + rest - 1) ≤ number k) next up in
+                  omega arith
+              | inr odd ↦
+                  let here : place + rest - 1 ≡ place + half = omega arith in
+                  subst (λ k. key ≤ number k) here ge
+            ];
+          })
+    ]
+
+-- no more is skipped than the first half
+pub skipped_at_most : (a b n skipped : ℕ) → skipped ≡ (if nat_lt a b then n else 0) → skipped ≤ n
+skipped_at_most a b n skipped is =
+    elim (cases_lt a b) [
+      | inl l ↦ let all = is ∙ if_less a b n l in omega arith
+      | inr ge ↦ let none = is ∙ if_not_less a b n ge in omega arith
+    ]
+
+-- a count that is raised stays as high as it was, and one more
+pub raised_on : (old now next : ℕ) → min old 4294967295 ≤ now → next ≡ min (now + 1) 4294967295 → min old 4294967295 ≤ next
+raised_on old now next l e = omega arith
+
+pub raised_once : (old now next : ℕ) → min old 4294967295 ≤ now → next ≡ min (now + 1) 4294967295 → min (old + 1) 4294967295 ≤ next
+raised_once old now next l e = omega arith
+
 -- what the answers of a comparison say of its numbers
-pub lt_from_is_gt : (p x : ℕ) → is_gt (nat_cmp p x) ≡ true → x < p
-lt_from_is_gt p x e = grind (arith, nat_tests)
-
-pub le_from_not_gt : (p x : ℕ) → is_gt (nat_cmp p x) ≡ false → p ≤ x
-le_from_not_gt p x e = grind (arith, nat_tests)
-
 pub eq_from_is_eq : (p x : ℕ) → is_eq (nat_cmp p x) ≡ true → p ≡ x
 eq_from_is_eq p x e = grind (arith, nat_tests)
 
 pub lt_from_not_eq : (p x : ℕ) → p ≤ x → is_eq (nat_cmp p x) ≡ false → p < x
 lt_from_not_eq p x l e = grind (arith, nat_tests)
-
--- what such an answer says of the column of a token
-pub col_lt_from_is_gt : (tokens : List RawToken) (k : ℕ) (d e : RawToken) (p : ℕ) → k < length tokens → is_gt (nat_cmp p (get_or tokens k e).dst_col) ≡ true → (get_or tokens k d).dst_col < p
-col_lt_from_is_gt tokens k d e p l test = subst (λ t. t.dst_col < p) (get_or_default tokens k e d l) (lt_from_is_gt p (get_or tokens k e).dst_col test)
-
-pub le_col_from_not_gt : (tokens : List RawToken) (k : ℕ) (d e : RawToken) (p : ℕ) → k < length tokens → is_gt (nat_cmp p (get_or tokens k e).dst_col) ≡ false → p ≤ (get_or tokens k d).dst_col
-le_col_from_not_gt tokens k d e p l test = subst (λ t. p ≤ t.dst_col) (get_or_default tokens k e d l) (le_from_not_gt p (get_or tokens k e).dst_col test)

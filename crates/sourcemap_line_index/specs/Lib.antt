@@ -1,1 +1,2 @@
 pub mod LineIndex
+pub mod TokenList

@@ -51,6 +51,14 @@ pub record IsSpan (tokens : List RawToken) (line low high : ℕ) : Type 0 where
   pub on_line : (place : ℕ) (d : RawToken) → low ≤ place → place < high
       → (slice_index_or tokens place d).dst_line ≡ line
 
+-- numbers by places do not fall from one place to the next, from low up to, not including, high
+abbrev pub Rises : (ℕ → ℕ) → (low high : ℕ) → Type 0
+Rises number low high = (place : ℕ) → low ≤ place → place + 1 < high → number place ≤ number (place + 1)
+
+-- the column of the token at this place, of d where there is none
+abbrev pub col_at : List RawToken → RawToken → ℕ → ℕ
+col_at tokens d place = (slice_index_or tokens place d).dst_col
+
 -- the number of binary digits of n, at most `most`
 abbrev pub digits_within : (most n : ℕ) → ℕ
 digits_within zero n = 0

@@ -3,3 +3,4 @@
 
 pub mod line_index;
 pub mod probe;
+pub mod token_list;

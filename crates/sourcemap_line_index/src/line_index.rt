@@ -1,9 +1,9 @@
 //! A table of the lines that hold tokens, and the lookup by it.
-ghost use Rattle.std.specs.Prelude.{◌≡◌, ℕ, ◌<◌, ◌≤◌, ◌+◌, ◌-◌, ◌*◌, ◌^◌, IfErr, IfOk, IfSome, false, length, option_map, slice_index, slice_index_or, true};
+ghost use Rattle.std.specs.Prelude.{◌≡◌, ℕ, ◌<◌, ◌≤◌, ◌+◌, ◌-◌, ◌*◌, ◌^◌, IfErr, IfOk, IfSome, false, length, min, option_map, slice_index, true};
 ghost use Rattle.sourcemap_errors.specs.declared.errors.Error.TheVariants.{OutOfMemory};
 ghost use Rattle.sourcemap_lists.specs.Tokens.{AreInOrder, closest_token};
 ghost use Rattle.sourcemap_lists.specs.declared.tokens.RawToken.{RawToken};
-ghost use Rattle.sourcemap_line_index.specs.LineIndex.{BeginsLine, GoesOnLine, IsMadeFrom, IsSpan, binary_digits};
+ghost use Rattle.sourcemap_line_index.specs.LineIndex.{BeginsLine, GoesOnLine, IsMadeFrom, IsSpan, Rises, binary_digits, col_at};
 
 use crate::probe::Probe;
 use sourcemap_errors::errors::Result;
@@ -58,6 +58,8 @@ impl LineIndex {
         ensures kept { P.position probe.new ≡ P.position probe.old }
         ensures counted { P.comparisons probe.new
             ≤ P.comparisons probe.old + 2 * (binary_digits (length tokens.now) + 1) }
+        ensures asked { 0 < length tokens.now
+            → min (P.comparisons probe.old + 1) 4294967295 ≤ P.comparisons probe.new }
     {
         let (first, end) = self.span_of(tokens, probe);
         let place = first_at_column(tokens, first, end, probe);
@@ -75,6 +77,8 @@ impl LineIndex {
         ensures kept { P.position probe.new ≡ P.position probe.old }
         ensures counted { (d : ℕ) → length tokens.now < 2 ^ d
             → P.comparisons probe.new ≤ P.comparisons probe.old + (d + 1) }
+        ensures asked { 0 < length tokens.now
+            → min (P.comparisons probe.old + 1) 4294967295 ≤ P.comparisons probe.new }
     {
         let lines = self.lines.as_slice();
         let row = first_at_line(lines, probe);
@@ -109,6 +113,7 @@ fn begins_line(tokens: &[RawToken], place: usize) -> bool
 
 // The row of the first line that is not before the probe's, behind all rows if there is none.
 fn first_at_line<P: Probe>(lines: &[u32], probe: &mut P) -> usize
+    requires { Rises (slice_index lines.now) 0 (length lines.now) }
     ensures within { result ≤ length lines.now }
     ensures before { 0 < result → slice_index lines.now (result - 1) < (P.position probe.old).0 }
     ensures from { result < length lines.now
@@ -116,18 +121,18 @@ fn first_at_line<P: Probe>(lines: &[u32], probe: &mut P) -> usize
     ensures kept { P.position probe.new ≡ P.position probe.old }
     ensures counted { (d : ℕ) → length lines.now < 2 ^ d
         → P.comparisons probe.new ≤ P.comparisons probe.old + d }
+    ensures asked { 0 < length lines.now
+        → min (P.comparisons probe.old + 1) 4294967295 ≤ P.comparisons probe.new }
 {
-    let mut low = 0;
-    let mut high = lines.len();
-    while low < high {
-        let middle = low + (high - low) / 2;
-        if probe.line(lines[middle]).is_gt() {
-            low = middle + 1;
-        } else {
-            high = middle;
-        }
+    let mut row = 0;
+    let mut left = lines.len();
+    while left > 0 {
+        let half = left / 2;
+        let rest = left - half;
+        row += probe.skip_by_line(lines[row + rest - 1], rest);
+        left = half;
     }
-    low
+    row
 }
 
 // The place of the first of the tokens from `first` up to `end` that is not left of the probe's
@@ -135,25 +140,31 @@ fn first_at_line<P: Probe>(lines: &[u32], probe: &mut P) -> usize
 fn first_at_column<P: Probe>(tokens: &[RawToken], first: usize, end: usize, probe: &mut P) -> usize
     requires ordered { first ≤ end }
     requires within { end ≤ length tokens.now }
+    requires rises { (d : RawToken) → Rises (col_at tokens.now d) first end }
     ensures at_least { first ≤ result }
     ensures at_most { result ≤ end }
     ensures before { (d : RawToken) → first < result
-        → (slice_index_or tokens.now (result - 1) d).dst_col < (P.position probe.old).1 }
+        → col_at tokens.now d (result - 1) < (P.position probe.old).1 }
     ensures from { (d : RawToken) → result < end
-        → (P.position probe.old).1 ≤ (slice_index_or tokens.now result d).dst_col }
+        → (P.position probe.old).1 ≤ col_at tokens.now d result }
     ensures kept { P.position probe.new ≡ P.position probe.old }
     ensures counted { (d : ℕ) → end - first < 2 ^ d
         → P.comparisons probe.new ≤ P.comparisons probe.old + d }
+    ensures raised { min (P.comparisons probe.old) 4294967295 ≤ P.comparisons probe.new }
 {
-    let mut low = first;
-    let mut high = end;
-    while low < high {
-        let middle = low + (high - low) / 2;
-        if probe.column(tokens[middle].dst_col).is_gt() {
-            low = middle + 1;
-        } else {
-            high = middle;
-        }
+    let mut place = first;
+    let mut left = end - first;
+    while left > 0 {
+        let half = left / 2;
+        let rest = left - half;
+        place += probe.skip_by_column(tokens[place + rest - 1].dst_col, rest);
+        left = half;
     }
-    low
+    place
 }
+
+/// A law: the binary digits of a count are enough to write it, and no fewer are.
+pub fn binary_digits_are_fewest()
+    ensures enough { (count : ℕ) → count < 2 ^ binary_digits count }
+    ensures fewest { (count digits : ℕ) → count < 2 ^ digits → binary_digits count ≤ digits }
+{}

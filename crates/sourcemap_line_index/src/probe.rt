@@ -1,5 +1,5 @@
 //! What a lookup looks for, met through counted comparisons alone.
-ghost use Rattle.std.specs.Prelude.{◌≡◌, ℕ, ◌+◌, min};
+ghost use Rattle.std.specs.Prelude.{◌≡◌, ℕ, ◌+◌, if◌then◌else◌, min, nat_lt};
 ghost use Rattle.std.specs.Ordering.{nat_cmp};
 
 use std::cmp::Ordering;
@@ -24,6 +24,25 @@ pub trait Probe {
         ensures answer { result ≡ nat_cmp (position self.old).1 col }
         ensures kept { position self.new ≡ position self.old }
         ensures counted { comparisons self.new ≡ min (comparisons self.old + 1) 4294967295 };
+
+    /// How many of so many places to skip: all of them where the line that is looked for is behind
+    /// this one, else none. It counts as a comparison.
+    fn skip_by_line(&mut self, line: u32, places: usize) -> usize
+        ensures answer { result ≡ (if nat_lt line (position self.old).0 then places else 0) }
+        ensures kept { position self.new ≡ position self.old }
+        ensures counted { comparisons self.new ≡ min (comparisons self.old + 1) 4294967295 }
+    {
+        if self.line(line).is_gt() { places } else { 0 }
+    }
+
+    /// The same by columns: all places where the column that is looked for is behind this one.
+    fn skip_by_column(&mut self, col: u32, places: usize) -> usize
+        ensures answer { result ≡ (if nat_lt col (position self.old).1 then places else 0) }
+        ensures kept { position self.new ≡ position self.old }
+        ensures counted { comparisons self.new ≡ min (comparisons self.old + 1) 4294967295 }
+    {
+        if self.column(col).is_gt() { places } else { 0 }
+    }
 
     /// How many comparisons were made so far. The count stays at 4294967295 once it is there.
     fn count(&self) -> u32
@@ -67,7 +86,33 @@ impl Probe for KeyProbe {
         self.col.cmp(&col)
     }
 
+    fn skip_by_line(&mut self, line: u32, places: usize) -> usize {
+        self.count = self.count.saturating_add(1);
+        if_less(line, self.line, places)
+    }
+
+    fn skip_by_column(&mut self, col: u32, places: usize) -> usize {
+        self.count = self.count.saturating_add(1);
+        if_less(col, self.col, places)
+    }
+
     fn count(&self) -> u32 {
         self.count
     }
+}
+
+// From so many places on, what they hold is out of the processor's cache.
+const FAR: usize = 4096;
+
+// So many places where the one number is less than the other, else none. A branch lets the processor
+// fetch ahead what lies far away. What is near is there, and half of all guesses would be wrong.
+fn if_less(a: u32, b: u32, places: usize) -> usize
+    ensures { result ≡ (if nat_lt a b then places else 0) }
+{
+    if places > FAR {
+        return if a < b { places } else { 0 };
+    }
+    // 32 bits set where the difference is negative
+    let mask = u64::from(a).wrapping_sub(u64::from(b)) >> 32;
+    places & mask as usize
 }

@@ -1,6 +1,6 @@
 pub mod AllLemmas
+pub mod DecidesLemmas
 pub mod InternerLemmas
 pub mod SearchLemmas
 pub mod SortLemmas
-pub mod TokenListLemmas
 pub mod TokensLemmas

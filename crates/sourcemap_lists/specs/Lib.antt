@@ -1,4 +1,3 @@
 pub mod Interner
 pub mod Search
-pub mod TokenList
 pub mod Tokens

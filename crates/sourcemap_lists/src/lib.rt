@@ -3,5 +3,4 @@
 
 pub mod interner;
 pub mod search;
-pub mod token_list;
 pub mod tokens;

@@ -17,4 +17,6 @@ mod order;
 #[cfg(test)]
 mod samples;
 #[cfg(test)]
+mod steps;
+#[cfg(test)]
 mod writing;

@@ -62,10 +62,10 @@ Reads-some : (c : ℕ) (cs : List ℕ) (ns : List ℤ) → Reads (c ∷ cs) ns �
 Reads-some c cs [] h = absurd (let e : suc (length cs) ≡ 0 = ap length h in omega arith)
 Reads-some c cs (n ∷ ns) h = (h, λ e. absurd (let k : suc (length ns) ≡ 0 = ap length e in omega arith))
 
-Reads-same : (c : ℕ) (cs : List ℕ) (ns ms : List ℤ) → Reads (c ∷ cs) ns → Reads (c ∷ cs) ms → ns ≡ ms
+pub Reads-same : (c : ℕ) (cs : List ℕ) (ns ms : List ℤ) → Reads (c ∷ cs) ns → Reads (c ∷ cs) ms → ns ≡ ms
 Reads-same c cs ns ms h k = let e = SegmentAnswers-same (c ∷ cs) (Ok ns) (Ok ms) (Reads-some c cs ns h) (Reads-some c cs ms k) in cc
 
-Reads-sound : (c : ℕ) (cs : List ℕ) (ns : List ℤ) (e : Error) → Reads (c ∷ cs) ns → HasFault (c ∷ cs) e → ⊥
+pub Reads-sound : (c : ℕ) (cs : List ℕ) (ns : List ℤ) (e : Error) → Reads (c ∷ cs) ns → HasFault (c ∷ cs) e → ⊥
 Reads-sound c cs ns e h k = let mixed = SegmentAnswers-same (c ∷ cs) (Ok ns) (Err e) (Reads-some c cs ns h) k in cc
 
 HasFault-same : (c : ℕ) (cs : List ℕ) (d e : Error) → HasFault (c ∷ cs) d → HasFault (c ∷ cs) e → d ≡ e

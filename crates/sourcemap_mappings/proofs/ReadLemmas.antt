@@ -34,7 +34,7 @@ lines_of-first text line behind e h = ap lines_of e ∙ slice_split_at (λ b. b 
 regrouped : (P : List Segment → Type 0) (before here : List Segment) (s : Segment) → P (before ++ (here ++ s ∷ [])) → P ((before ++ here) ++ s ∷ [])
 regrouped P before here s h = subst P (sym (append_assoc before here (s ∷ []))) h
 
-Reads-nil : (numbers : List ℤ) → 0 < length numbers → Reads [] numbers → ⊥
+pub Reads-nil : (numbers : List ℤ) → 0 < length numbers → Reads [] numbers → ⊥
 Reads-nil [] some reads = omega arith
 Reads-nil (n ∷ ns) some (group, rest, is, split, reads) =
     let none : 0 ≡ length group + length rest = ap length split ∙ length-append group rest in

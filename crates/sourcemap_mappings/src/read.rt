@@ -21,9 +21,9 @@ use std::alloc::Global;
 // the allocator keeps at hand is moved, and its pages are touched twice.
 const FIRST_TOKENS: usize = 1 << 23;
 
-// The first line of a text, and the text behind it if there is more.
+/// The first line of a text, up to its `;` or its end, and the text behind that `;` if there is one.
 #[inline]
-fn cut(text: &str) -> (&str, Option<&str>)
+pub fn cut(text: &str) -> (&str, Option<&str>)
     ensures split { lines_of text.now ≡ result.0.now ∷ lines_left result.1 }
     ensures shorter { option_map_or (λ rest. length rest.now + 1) result.1 0 ≤ length text.now }
 {

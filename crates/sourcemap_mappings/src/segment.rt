@@ -38,11 +38,13 @@ pub(crate) struct Sums {
     pub(crate) name: u32,
 }
 
-// How many numbers a segment has, saturated, and the first five as steps modulo 2^32.
+/// The numbers of one part of a line.
 #[derive(Clone, Copy)]
-pub(crate) struct Numbers {
-    pub(crate) count: u32,
-    pub(crate) steps: [u32; 5],
+pub struct Numbers {
+    /// How many there are; 4294967295 stands for more than that too.
+    pub count: u32,
+    /// The first five as steps modulo 2^32, 0 for a missing one.
+    pub steps: [u32; 5],
 }
 
 // A number as a step modulo 2^32.
@@ -137,10 +139,12 @@ pub(crate) fn read_numbers(line: &[u8]) -> Result<(Numbers, Option<&[u8]>)>
     }
 }
 
-// The same for a part of any form.
+/// The numbers of a line's first part, which may be any number of them, and the line behind its `,`
+/// if there is one; else the first fault of that part's digits: `InvalidBase64`, `VlqOverflow` or
+/// `VlqLeftover`. An empty part has no numbers.
 #[cold]
 #[inline(never)]
-fn any_part(line: &[u8]) -> Result<(Numbers, Option<&[u8]>)>
+pub fn any_part(line: &[u8]) -> Result<(Numbers, Option<&[u8]>)>
     ensures read { IfOk result (λ read. HasFirstPart line.now read.0 read.1) }
     ensures fault { IfErr result (λ e. HasPartFault line.now e) }
 {

@@ -6,7 +6,7 @@ use Rattle.std.specs.Cmp.Lexicographic.{pointwise_decides}
 use Rattle.sourcemap_parts.specs.Contents.{same_contents}
 use Rattle.sourcemap_parts.specs.Heading.{HeadingValue, same_heading}
 use Rattle.sourcemap_parts.specs.Sources.{SourcesValue, same_sources}
-use Rattle.sourcemap_lists.proofs.TokenListLemmas.{decides_both}
+use Rattle.sourcemap_lists.proofs.DecidesLemmas.{decides_both}
 use Rattle.sourcemap_parts.proofs.TextListsLemmas.{options_decide, texts_decide, text_lists_decide}
 
 pub contents_decide : (a b : List (Option (List ℕ))) → Decides (same_contents a b) (a ≡ b)

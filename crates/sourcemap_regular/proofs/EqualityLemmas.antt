@@ -1,9 +1,9 @@
 -- The test decides whether maps are equal.
 use Rattle.std.proofs.Common.{◌≡◌, ap}
 use Rattle.std.specs.Bool.{Decides}
-use Rattle.sourcemap_lists.proofs.TokenListLemmas.{tokens_decide}
+use Rattle.sourcemap_line_index.proofs.TokenListLemmas.{tokens_decide}
 use Rattle.sourcemap_parts.proofs.EqualityLemmas.{contents_decide, sources_decide, heading_decides}
-use Rattle.sourcemap_lists.proofs.TokenListLemmas.{decides_both}
+use Rattle.sourcemap_lists.proofs.DecidesLemmas.{decides_both}
 use Rattle.sourcemap_parts.proofs.TextListsLemmas.{text_lists_decide}
 use Rattle.sourcemap_regular.specs.Map.{MapValue}
 use Rattle.sourcemap_regular.specs.Equality.{heading_of, sources_of, same_map}

@@ -5,7 +5,7 @@ use Rattle.std.specs.Cmp.{IsEquivalence}
 use Rattle.std.specs.Cmp.Rules.{comparing}
 use Rattle.std.specs.Cmp.Lexicographic.{pointwise}
 use Rattle.std.proofs.Common.{rules}
-use Rattle.sourcemap_lists.specs.TokenList.{same_tokens}
+use Rattle.sourcemap_line_index.specs.TokenList.{same_tokens}
 use Rattle.sourcemap_parts.specs.Contents.{same_contents}
 use Rattle.sourcemap_parts.specs.Heading.{HeadingValue, same_heading}
 use Rattle.sourcemap_parts.specs.Sources.{SourcesValue, same_sources}

@@ -1,5 +1,5 @@
 -- The lists of a map as they are lent.
-use Rattle.std.specs.Prelude.{◌≡◌, ◌≤◌, length, map, option_map, string_bytes}
+use Rattle.std.specs.Prelude.{◌≡◌, map, option_map, string_bytes}
 use Rattle.sourcemap_regular.specs.Map.{MapValue, shown_sources}
 use Rattle.sourcemap_regular.specs.declared.lists.MapLists.{MapLists}
 

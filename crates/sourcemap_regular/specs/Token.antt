@@ -2,7 +2,6 @@
 use Rattle.std.specs.Prelude.{ℕ, List, [], ◌++◌, drop, map, codes, slice_get, Option, option_map, unwrap_or}
 use Rattle.std.specs.List.{enumerate_from}
 use Rattle.std.specs.Fmt.{decimal}
-use Rattle.sourcemap_lists.specs.declared.tokens.RawToken.{RawToken}
 use Rattle.sourcemap_regular.specs.Map.{MapValue, Meaning}
 use Rattle.sourcemap_regular.specs.declared.token.Token.{Token}
 pub use Rattle.sourcemap_regular.specs.Map.{TokenValue, says, lookup}

@@ -10,7 +10,7 @@ ghost use Rattle.sourcemap_regular.specs.Map.{IsWellFormed, meaning};
 use crate::map::SourceMap;
 use sourcemap_composition::composition::compose;
 use sourcemap_errors::errors::Result;
-use sourcemap_lists::token_list::TokenList;
+use sourcemap_line_index::token_list::TokenList;
 
 impl SourceMap {
     /// Adjusts the map to what became of the text that its tokens stand in: `adjustment` is the map
@@ -31,7 +31,8 @@ impl SourceMap {
         let _ = self.sources.len();
         let alloc = self.allocator();
         let tokens = compose(alloc, self.tokens.as_slice(), adjustment.tokens.as_slice())?;
-        self.tokens = TokenList::of_ordered(tokens);
+        let list = TokenList::of_ordered(tokens)?;
+        self.tokens = list;
         Ok(())
     }
 }

@@ -1,5 +1,5 @@
 //! A regular map over its parts: its getters, and the lookup of a position.
-ghost use Rattle.std.specs.Prelude.{◌≡◌, ◌==◌, not, ◌≤◌, [], IfOk, Ok, length, min, option_map, unwrap_or, vec_len};
+ghost use Rattle.std.specs.Prelude.{◌≡◌, ◌==◌, not, ◌<◌, ◌≤◌, ◌+◌, ◌*◌, [], IfOk, Ok, length, min, option_map, unwrap_or, vec_len};
 ghost use Rattle.std.specs.Option.{option_copied, ForSome};
 ghost use Rattle.sourcemap_errors.specs.Answer.{Gives};
 ghost use Rattle.sourcemap_texts.specs.Texts.{texts_of, contents_in};
@@ -7,7 +7,7 @@ ghost use Rattle.sourcemap_regular.specs.Map.{distance};
 
 use crate::token::Token;
 use sourcemap_errors::errors::Result;
-use sourcemap_lists::token_list::TokenList;
+use sourcemap_line_index::token_list::TokenList;
 use sourcemap_lists::tokens::RawToken;
 use sourcemap_parts::contents::Contents;
 use sourcemap_parts::heading::Heading;
@@ -53,6 +53,7 @@ fn distance(token: RawToken, line: u32, col: u32) -> u32
 
 impl SourceMap {
     ghost use Rattle.sourcemap_lists.specs.Tokens.{AllWithin};
+    ghost use Rattle.sourcemap_line_index.specs.LineIndex.{binary_digits};
     ghost use Rattle.sourcemap_regular.specs.Map.{IsWellFormed, made_of, meaning, name_of, source_of, contents_of};
     ghost use Rattle.sourcemap_regular.specs.MapStored.{map_over};
     ghost use Rattle.sourcemap_regular.specs.Token.{answers, lookup, token_at, token_value};
@@ -164,16 +165,30 @@ impl SourceMap {
         ensures value { option_map token_value result ≡ lookup self.now (line, col) }
         ensures meaning { option_map answers result ≡ meaning self.now (line, col) }
     {
-        match self.tokens.closest(line, col) {
-            None => None,
+        self.lookup_token_steps(line, col).0
+    }
+
+    /// The same token, and by how many comparisons of that line and that column with a number it was
+    /// found: with d binary digits in the count of tokens at most 2 (d + 1), however many are equal.
+    /// It takes no memory.
+    pub fn lookup_token_steps(&self, line: u32, col: u32) -> (Option<Token<'_>>, u32)
+        ensures value { option_map token_value result.0 ≡ lookup self.now (line, col) }
+        ensures meaning { option_map answers result.0 ≡ meaning self.now (line, col) }
+        ensures counted { result.1 ≤ 2 * (binary_digits (length self.now.tokens) + 1) }
+        ensures asked { 0 < length self.now.tokens → 0 < result.1 }
+    {
+        let (found, steps) = self.tokens.closest_steps(line, col);
+        match found {
+            None => (None, steps),
             Some((index, raw)) => {
                 let behind = distance(raw, line, col);
-                Some(Token {
+                let token = Token {
                     map: self,
                     raw,
                     index,
                     behind,
-                })
+                };
+                (Some(token), steps)
             }
         }
     }

@@ -5,7 +5,7 @@ ghost use Rattle.sourcemap_rewriting.specs.Renumbering.{IsRenumbered};
 
 use crate::numbering::{NewNumbers, Numbering};
 use sourcemap_errors::errors::Result;
-use sourcemap_lists::token_list::TokenList;
+use sourcemap_line_index::token_list::TokenList;
 use sourcemap_lists::tokens::RawToken;
 use std::alloc::Global;
 
@@ -58,5 +58,6 @@ pub(crate) fn renumber(
 {
     let mut tokens = tokens.into_vec();
     let numbers = renumber_each(alloc, tokens.as_mut_slice(), sources, names)?;
-    Ok((TokenList::of_ordered(tokens), numbers))
+    let tokens = TokenList::of_ordered(tokens)?;
+    Ok((tokens, numbers))
 }

@@ -14,7 +14,7 @@ use crate::numbering::NewNumbers;
 use crate::options::RewriteOptions;
 use crate::renumbering::renumber;
 use sourcemap_errors::errors::Result;
-use sourcemap_lists::token_list::TokenList;
+use sourcemap_line_index::token_list::TokenList;
 use std::alloc::Global;
 
 // The sources as they are shown.

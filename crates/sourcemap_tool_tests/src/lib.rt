@@ -3,8 +3,12 @@
 #![tactic(auto)]
 
 #[cfg(test)]
+mod composes;
+#[cfg(test)]
 mod faults;
 #[cfg(test)]
 mod runs;
+#[cfg(test)]
+mod shelves;
 #[cfg(test)]
 mod starts;

@@ -84,7 +84,9 @@ shift
 shift +1
 shift 4294967296
 shift 1 1
-compose a.map";
+compose
+compose a.map b.map
+Compose a.map";
 
 pub fn words_of(alloc: Global, line: &str) -> Result<Vec<String>, AllocError> {
     let mut words = Vec::new(alloc);
@@ -118,7 +120,7 @@ fn is_reply(
     text: &str,
 ) -> Result<bool, Fail> {
     let bytes = Vec::from_slice(rt.alloc(), input.as_bytes())?;
-    let reply = reply_to(rt, rt.alloc(), words, bytes)?;
+    let reply = reply_to(rt, rt.alloc(), words, bytes, Ok(Vec::new(rt.alloc())))?;
     Ok(reply.status == status && reply.text.as_str() == text)
 }
 
@@ -199,6 +201,8 @@ fn words_ask_for_commands(rt: HostRuntime) -> Result<(), Fail> {
     assert!(rt; ask_for(alloc, "rewrite", Some(Command::Rewrite))?);
     assert!(rt; ask_for(alloc, "flatten", Some(Command::Flatten))?);
     assert!(rt; ask_for(alloc, "shift 7", Some(Command::Shift(7)))?);
+    let path = String::from_str(alloc, "a.map")?;
+    assert!(rt; ask_for(alloc, "compose a.map", Some(Command::Compose(path)))?);
     assert!(rt; ask_for(alloc, "tokens tokens", None)?);
     Ok(())
 }

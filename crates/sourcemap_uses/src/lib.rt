@@ -11,4 +11,5 @@ pub mod linking;
 pub mod merging;
 pub mod places;
 pub mod publishing;
+pub mod quick;
 pub mod shrinking;

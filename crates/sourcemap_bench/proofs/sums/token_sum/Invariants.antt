@@ -1,7 +1,6 @@
 use Rattle.std.proofs.Common.{◌≡◌}
-use Rattle.std.specs.List.{fold}
 use Rattle.sourcemap.specs.Iterators.{tokens_left}
-use Rattle.sourcemap_bench.specs.Sums.{mixed, worth, token_sum, with_all}
+use Rattle.sourcemap_bench.specs.Sums.{token_sum, with_all}
 use Rattle.sourcemap_bench.proofs.sums.token_sum.Given as goal
 
 abbrev pub invariant-loop-token : goal.invariant-loop-token

@@ -1,5 +1,5 @@
 -- The token that was found, and its text.
-use Rattle.std.proofs.Common.{Some, rules}
+use Rattle.std.proofs.Common.{Some}
 use Rattle.sourcemap.specs.Token.{token_value}
 use Rattle.sourcemap_commands.proofs.program.lookup_text.Goals as goal
 

@@ -7,7 +7,7 @@ use Rattle.sourcemap_commands.proofs.program.reply_from.Goals as goal
 pub returns-clause-answer : goal.returns-clause-answer
 returns-clause-answer g c =
     reply_of_reader (map string_bytes c.args.words.now) (g.R.Read.remaining c.args.input.now)
-    c.in_ok-bytes.bytes.items c.reply_to.result c.in_ok-bytes.ensures.bytes c.reply_to.ensures.answer
+    c.in_ok-bytes.bytes.items c.replied.result c.in_ok-bytes.ensures.bytes c.replied.ensures
 
 pub returns-in_err-bytes-clause-answer : goal.returns-in_err-bytes-clause-answer
 returns-in_err-bytes-clause-answer g c =

@@ -1,28 +1,34 @@
-use Rattle.std.proofs.Common.{◌≡◌, sym, ap, ◌∙◌, ◌+◌, ◌-◌, ◌/◌, arith}
-use Rattle.std.specs.Ordering.{is_gt}
-use Rattle.sourcemap_line_index.proofs.LineIndexLemmas.{Remains-half, col_lt_from_is_gt, le_col_from_not_gt}
+use Rattle.std.proofs.Common.{◌≡◌, refl, ap, subst, ◌∙◌, ◌<◌, ◌≤◌, ◌+◌, ◌-◌, ◌/◌, arith, if◌then◌else◌, nat_lt}
+use Rattle.std.proofs.lemmas.List.{get_or_default}
+use Rattle.sourcemap_lists.specs.declared.tokens.RawToken.{RawToken}
+use Rattle.sourcemap_line_index.specs.LineIndex.{col_at}
+use Rattle.sourcemap_line_index.proofs.LineIndexLemmas.{Remains-half, raised_on, skipped_at_most, window_halved}
 use Rattle.sourcemap_line_index.proofs.line_index.first_at_column.Goals as goal
 
-pub loop-low-preserved-then-is_gt : goal.loop-low-preserved-then-is_gt
-loop-low-preserved-then-is_gt g c =
-    let back : c.loop-low.low + (c.loop-low.high - c.loop-low.low) / 2 + 1 - 1 ≡ c.loop-low.low + (c.loop-low.high - c.loop-low.low) / 2 = omega arith in
+pub loop-left-preserved : goal.loop-left-preserved
+loop-left-preserved g c =
+    let within = c.loop-left.invariant.within in
+    let counted = c.skip_by_column-place.ensures.counted in
+    let few : c.skip_by_column-place.result ≤ c.loop-left.left - c.loop-left.left / 2 = skipped_at_most _ _ _ _ c.skip_by_column-place.ensures.answer in
     record {
-      ordered = omega arith;
-      at_least = omega arith;
-      at_most = c.loop-low.invariant.at_most;
-      before = λ d l. rw (back, c.column.ensures.kept) (col_lt_from_is_gt c.args.tokens.now _ d _ _ (omega arith) (ap is_gt (sym c.column.ensures.answer) ∙ sym c.is_gt.ensures ∙ c.if-is_gt.true));
-      from = λ d l. rw c.column.ensures.kept (c.loop-low.invariant.from d l);
-      kept = c.column.ensures.kept ∙ c.loop-low.invariant.kept;
-      remains = λ d l. Remains-half _ _ _ _ _ (omega arith) c.column.ensures.counted (omega arith) (c.loop-low.invariant.remains d l);
+      at_least = let least = c.loop-left.invariant.at_least in omega arith;
+      within = omega arith;
+      window = λ d. rw c.skip_by_column-place.ensures.kept
+          (window_halved (col_at c.args.tokens.now d) (g.P.Probe.position c.loop-left.probe).1 c.args.first c.loop-left.place c.loop-left.left c.args.end _ _ _
+          (omega arith) refl refl c.loop-left.invariant.at_least (c.requires.rises d) (c.loop-left.invariant.window d)
+          (c.skip_by_column-place.ensures.answer ∙ ap (λ (t : RawToken). if nat_lt t.dst_col (g.P.Probe.position c.loop-left.probe).1 then c.loop-left.left - c.loop-left.left / 2 else 0)
+          (get_or_default c.args.tokens.now (c.loop-left.place + (c.loop-left.left - c.loop-left.left / 2) - 1) _ d (omega arith))));
+      kept = c.skip_by_column-place.ensures.kept ∙ c.loop-left.invariant.kept;
+      remains = λ d l. Remains-half _ _ _ _ _ (omega arith) counted (omega arith) (c.loop-left.invariant.remains d l);
+      raised = raised_on _ _ _ c.loop-left.invariant.raised counted;
     }
 
-pub loop-low-preserved : goal.loop-low-preserved
-loop-low-preserved g c = record {
-  ordered = omega arith;
-  at_least = omega arith;
-  at_most = omega arith;
-  before = λ d l. rw c.column.ensures.kept (c.loop-low.invariant.before d l);
-  from = λ d l. rw c.column.ensures.kept (le_col_from_not_gt c.args.tokens.now _ d _ _ (omega arith) (ap is_gt (sym c.column.ensures.answer) ∙ sym c.is_gt.ensures ∙ c.if-is_gt.false));
-  kept = c.column.ensures.kept ∙ c.loop-low.invariant.kept;
-  remains = λ d l. Remains-half _ _ _ _ _ (omega arith) c.column.ensures.counted (omega arith) (c.loop-low.invariant.remains d l);
-}
+pub returns-clause-before : goal.returns-clause-before
+returns-clause-before g c = λ d l. subst (λ p. col_at c.args.tokens.now d (c.loop-left.place - 1) < p.1) c.loop-left.invariant.kept ((c.loop-left.invariant.window d).before l)
+
+pub returns-clause-from : goal.returns-clause-from
+returns-clause-from g c = λ d l.
+    let here : c.loop-left.place + c.loop-left.left ≡ c.loop-left.place = omega arith in
+    let from = (c.loop-left.invariant.window d).from (omega arith) in
+    subst (λ p. p.1 ≤ col_at c.args.tokens.now d c.loop-left.place) c.loop-left.invariant.kept
+    (subst (λ k. (g.P.Probe.position c.loop-left.probe).1 ≤ col_at c.args.tokens.now d k) here from)

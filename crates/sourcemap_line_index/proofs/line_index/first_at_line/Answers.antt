@@ -1,26 +1,19 @@
-use Rattle.std.proofs.Common.{◌≡◌, sym, ap, ◌∙◌, ◌+◌, ◌-◌, ◌/◌, arith}
-use Rattle.std.specs.Ordering.{is_gt}
-use Rattle.sourcemap_line_index.proofs.LineIndexLemmas.{Remains-half, le_from_not_gt, lt_from_is_gt}
+use Rattle.std.proofs.Common.{refl, ◌≤◌, ◌∙◌, ◌-◌, ◌/◌, arith, length, slice_index}
+use Rattle.sourcemap_line_index.proofs.LineIndexLemmas.{Remains-half, raised_on, raised_once, skipped_at_most, window_halved}
 use Rattle.sourcemap_line_index.proofs.line_index.first_at_line.Goals as goal
 
-pub loop-low-preserved-then-is_gt : goal.loop-low-preserved-then-is_gt
-loop-low-preserved-then-is_gt g c =
-    let back : c.loop-low.low + (c.loop-low.high - c.loop-low.low) / 2 + 1 - 1 ≡ c.loop-low.low + (c.loop-low.high - c.loop-low.low) / 2 = omega arith in
+pub loop-left-preserved : goal.loop-left-preserved
+loop-left-preserved g c =
+    let within = c.loop-left.invariant.within in
+    let counted = c.skip_by_line-row.ensures.counted in
+    let few : c.skip_by_line-row.result ≤ c.loop-left.left - c.loop-left.left / 2 = skipped_at_most _ _ _ _ c.skip_by_line-row.ensures.answer in
     record {
-      ordered = omega arith;
-      within = c.loop-low.invariant.within;
-      before = λ l. rw (back, c.line.ensures.kept) (lt_from_is_gt _ _ (ap is_gt (sym c.line.ensures.answer) ∙ sym c.is_gt.ensures ∙ c.if-is_gt.true));
-      from = λ l. rw c.line.ensures.kept (c.loop-low.invariant.from l);
-      kept = c.line.ensures.kept ∙ c.loop-low.invariant.kept;
-      remains = λ d l. Remains-half _ _ _ _ _ (omega arith) c.line.ensures.counted (omega arith) (c.loop-low.invariant.remains d l);
+      within = omega arith;
+      window = rw c.skip_by_line-row.ensures.kept
+          (window_halved (slice_index c.args.lines.now) (g.P.Probe.position c.loop-left.probe).0 0 c.loop-left.row c.loop-left.left (length c.args.lines.now) _ _ _
+          (omega arith) refl refl (omega arith) c.requires c.loop-left.invariant.window c.skip_by_line-row.ensures.answer);
+      kept = c.skip_by_line-row.ensures.kept ∙ c.loop-left.invariant.kept;
+      remains = λ d l. Remains-half _ _ _ _ _ (omega arith) counted (omega arith) (c.loop-left.invariant.remains d l);
+      raised = raised_on _ _ _ c.loop-left.invariant.raised counted;
+      asked = λ l. raised_once _ _ _ c.loop-left.invariant.raised counted;
     }
-
-pub loop-low-preserved : goal.loop-low-preserved
-loop-low-preserved g c = record {
-  ordered = omega arith;
-  within = omega arith;
-  before = λ l. rw c.line.ensures.kept (c.loop-low.invariant.before l);
-  from = λ l. rw c.line.ensures.kept (le_from_not_gt _ _ (ap is_gt (sym c.line.ensures.answer) ∙ sym c.is_gt.ensures ∙ c.if-is_gt.false));
-  kept = c.line.ensures.kept ∙ c.loop-low.invariant.kept;
-  remains = λ d l. Remains-half _ _ _ _ _ (omega arith) c.line.ensures.counted (omega arith) (c.loop-low.invariant.remains d l);
-}

@@ -5,6 +5,7 @@ use Rattle.sourcemap_lists.specs.Tokens.{AreInOrder}
 use Rattle.sourcemap_rewriting.specs.Numbering.{numbered_with}
 use Rattle.sourcemap_rewriting.specs.Renumbering.{IsRenumbered}
 use Rattle.sourcemap_rewriting.proofs.RenumberingLemmas.{AreInOrder-map}
+use Rattle.sourcemap_rewriting.proofs.RewrittenLemmas.{same_Ok}
 use Rattle.sourcemap_rewriting.proofs.renumbering.renumber.Goals as goal
 
 pub of_ordered-requires : goal.of_ordered-requires
@@ -30,4 +31,5 @@ returns-clause-ok c =
     subst (λ old. IsRenumbered S N old new r) (c.as_mut_slice.ensures.value ∙ c.into_vec-tokens.ensures.value) c.in_ok-numbers.ensures.ok in
     let many : length new ≡ c.into_vec-tokens.result.len =
     ap length ok.tokens ∙ length-map c.args.tokens (numbered_with S N r.sources r.names) ∙ ap length (sym c.into_vec-tokens.ensures.value) ∙ sym c.into_vec-tokens.result.ok.0 in
-    subst (λ now. IsRenumbered S N c.args.tokens now r) (sym (c.of_ordered.ensures ∙ with_items_is c.into_vec-tokens.result new many)) ok
+    let kept = same_Ok _ c.in_ok-tokens.tokens c.in_ok-tokens.ensures in
+    subst (λ now. IsRenumbered S N c.args.tokens now r) (sym (with_items_is c.into_vec-tokens.result new many) ∙ kept) ok

@@ -1,0 +1,107 @@
+"""What the scripts know of regular maps as lists of tokens, and of how one map adjusts another. Each is stated
+here anew, by the rules of the format, and takes nothing from the programs that are compared."""
+import bisect, collections, itertools
+from index_maps import LAST
+
+DIGITS = 'ABCDEFGHIJKLMNOPQRSTUVWXYZabcdefghijklmnopqrstuvwxyz0123456789+/'
+
+# where a token stands, where it leads, by which ids, and whether it is a range token; LAST where it has none
+Token = collections.namedtuple('Token', 'line column source_line source_column source name is_range')
+Stretch = collections.namedtuple('Stretch', 'token start end')
+
+
+def numbers_of(segment):
+    """The numbers that the digits of a segment stand for."""
+    numbers, raw, shift = [], 0, 0
+    for digit in map(DIGITS.index, segment):
+        raw, shift = raw | (digit & 31) << shift, shift + 5
+        if digit < 32:
+            numbers.append(-(raw >> 1) if raw & 1 else raw >> 1)
+            raw, shift = 0, 0
+    return numbers
+
+
+def digits_of(number):
+    raw, text = 2 * abs(number) + (number < 0), ''
+    while raw >= 32:
+        text, raw = text + DIGITS[raw % 32 + 32], raw // 32
+    return text + DIGITS[raw]
+
+
+def is_marked(bits, place):
+    """Whether the bits of a line mark the segment of this place, empty ones counted."""
+    return place // 6 < len(bits) and bool(DIGITS.index(bits[place // 6]) >> place % 6 & 1)
+
+
+def tokens_of_record(record):
+    """The tokens of a regular map that has no faults, in its order."""
+    lines = (record.get('mappings') or '').split(';')
+    marks = (record.get('rangeMappings') or '').split(';')
+    tokens, there = [], [0, 0, 0, 0]
+    for line, (text, bits) in enumerate(itertools.zip_longest(lines, marks[:len(lines)], fillvalue='')):
+        column = 0
+        for place, segment in enumerate(text.split(',')):
+            if not segment:
+                continue
+            first, *rest = numbers_of(segment)
+            column = (column + first) % 2**32
+            there = [(part + step) % 2**32 for part, step in itertools.zip_longest(there, rest, fillvalue=0)]
+            source, source_line, source_column, name = there if rest else [LAST] * 4
+            tokens.append(Token(line, column, source_line, source_column, source,
+                                name if len(rest) == 4 else LAST, is_marked(bits, place)))
+    return sorted(tokens, key=lambda token: token[:2])
+
+
+def stretches(tokens, place):
+    """The tokens in the order of a place, and what each covers: up to the next one, or to the end of its line."""
+    ordered = sorted(tokens, key=place)
+    ends = [place(token) for token in ordered[1:]] + [(2**33, 0)]
+    return [Stretch(token, place(token), min(end, (place(token)[0], LAST))) for token, end in zip(ordered, ends)]
+
+
+def pair_token(adjustment, original, takes_cut):
+    """The token of two stretches that overlap."""
+    start = max(adjustment.start, original.start)
+    column = start[1] - adjustment.token.source_column + adjustment.token.column
+    token, source_column = original.token, original.token.source_column
+    if takes_cut and token.is_range and token.source != LAST:
+        source_column = min(source_column + start[1] - original.start[1], LAST)
+    return token._replace(line=adjustment.token.line, column=column, source_column=source_column)
+
+
+def composed(original, adjustment, takes_cut=True):
+    """The tokens of a map adjusted by those of another one, None where one would pass the end of its line. With
+    `takes_cut` a range token that is cut leads to where its rest does, else to where it did."""
+    originals = stretches(original, lambda token: token[:2])
+    starts, ends = [stretch.start for stretch in originals], [stretch.end for stretch in originals]
+    tokens = []
+    for stretch in stretches(adjustment, lambda token: token[2:4]):
+        # both lists rise, so those that begin and end in time are neighbours
+        near = originals[bisect.bisect_right(ends, stretch.start):bisect.bisect_left(starts, stretch.end)]
+        tokens += [pair_token(stretch, other, takes_cut) for other in near]
+    if any(token.column > LAST for token in tokens):
+        return None
+    return sorted(tokens, key=lambda token: token[:2])
+
+
+def without_repeats(tokens):
+    """Tokens as they are written: none that is the one before once more."""
+    return [token for i, token in enumerate(tokens) if i == 0 or tokens[i - 1] != token]
+
+
+def written(tokens):
+    """The mappings and the range mappings of tokens that stand in any order within their lines."""
+    lines, marks, there = [], [], [0, 0, 0, 0]
+    for line in range(max((token.line for token in tokens), default=0) + 1):
+        segments, bits, column = [], [0] * (len(tokens) // 6 + 1), 0
+        for place, token in enumerate(token for token in tokens if token.line == line):
+            segment, column = digits_of(token.column - column), token.column
+            if token.source != LAST:
+                here = [token.source, token.source_line, token.source_column] + [token.name] * (token.name != LAST)
+                segment += ''.join(digits_of(part - old) for part, old in zip(here, there))
+                there = here + there[len(here):]
+            segments.append(segment)
+            bits[place // 6] |= token.is_range << place % 6
+        lines.append(','.join(segments))
+        marks.append(''.join(DIGITS[six] for six in bits).rstrip('A'))
+    return ';'.join(lines), ';'.join(marks).rstrip(';')

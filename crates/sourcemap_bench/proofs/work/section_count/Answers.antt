@@ -1,0 +1,6 @@
+use Rattle.sourcemap.specs.Decoded.{index_value}
+use Rattle.sourcemap_trees.proofs.MapTreeLemmas.{section_list-from}
+use Rattle.sourcemap_bench.proofs.work.section_count.Goals as goal
+
+pub returns : goal.returns
+returns c = rw (section_list-from (index_value c.args.index.now).sections) c.get_section_count.ensures

@@ -1,0 +1,133 @@
+// Lookups whose comparisons are counted.
+use crate::checks::check;
+use crate::samples::NONE;
+use sourcemap::errors::Result;
+use sourcemap::types::{RawToken, SourceMap};
+use std::alloc::Global;
+
+// A place, how many comparisons a lookup of it takes at least and at most, and the column in the
+// source that the closest token has.
+type Counted = ((u32, u32), u32, u32, &'static str);
+
+// A token at this place, known by its column in the source.
+fn token(place: (u32, u32), src_col: u32) -> RawToken {
+    RawToken {
+        dst_line: place.0,
+        dst_col: place.1,
+        src_line: 0,
+        src_col,
+        src_id: NONE,
+        name_id: NONE,
+        is_range: false,
+    }
+}
+
+// A map of as many tokens at line 0, column 0, known by their numbers from 0.
+fn equal_tokens(alloc: Global, count: u32) -> Result<SourceMap> {
+    let mut tokens = Vec::new(alloc);
+    for src_col in 0..count {
+        tokens.push(token((0, 0), src_col))?;
+    }
+    map_of(alloc, tokens)
+}
+
+// A map of tokens at these places, known by their numbers from 0.
+fn tokens_at(alloc: Global, places: &[(u32, u32)]) -> Result<SourceMap> {
+    let mut tokens = Vec::new(alloc);
+    for (at, place) in places.iter().enumerate() {
+        tokens.push(token(*place, at as u32))?;
+    }
+    map_of(alloc, tokens)
+}
+
+fn map_of(alloc: Global, tokens: Vec<RawToken>) -> Result<SourceMap> {
+    let names = Vec::new(alloc);
+    let sources = Vec::new(alloc);
+    SourceMap::new(alloc, None, tokens, names, sources, None)
+}
+
+// The closest token, and whether it took as many comparisons as it may.
+fn counted(alloc: Global, map: &SourceMap, row: &Counted) -> Result<String> {
+    let (place, least, most, _) = *row;
+    let (found, steps) = map.lookup_token_steps(place.0, place.1);
+    let is_counted = least <= steps && steps <= most;
+    let col = found.map(|token| token.get_src_col());
+    Ok(format!(in alloc; "{col:?} {is_counted}")?)
+}
+
+fn told(alloc: Global, map: Result<SourceMap>, row: &Counted) -> Result<String> {
+    counted(alloc, &map?, row)
+}
+
+const AMONG_NONE: [Counted; 2] = [
+    ((0, 0), 0, 2, "None true"),
+    ((NONE, NONE), 0, 2, "None true"),
+];
+
+const AMONG_THOUSAND: [Counted; 3] = [
+    ((0, 0), 1, 22, "Some(0) true"),
+    ((0, 1), 1, 22, "Some(999) true"),
+    ((7, 0), 1, 22, "Some(999) true"),
+];
+
+const AMONG_MILLION: [Counted; 2] = [
+    ((0, 0), 1, 42, "Some(0) true"),
+    ((0, 1), 1, 42, "Some(999999) true"),
+];
+
+const PLACES: [(u32, u32); 2] = [(0, 3), (2, 5)];
+
+const ON_TWO_LINES: [Counted; 4] = [
+    ((2, 4), 1, 6, "Some(0) true"),
+    ((1, 0), 1, 6, "Some(0) true"),
+    ((0, 2), 1, 6, "None true"),
+    ((2, 5), 1, 6, "Some(1) true"),
+];
+
+#[test]
+fn no_tokens_take_two_comparisons(rt: HostRuntime) {
+    for row in AMONG_NONE.iter() {
+        check(
+            &rt,
+            "none",
+            told(rt.alloc(), equal_tokens(rt.alloc(), 0), row),
+            row.3,
+        );
+    }
+}
+
+#[test]
+fn a_thousand_equal_tokens_take_few_comparisons(rt: HostRuntime) {
+    for row in AMONG_THOUSAND.iter() {
+        check(
+            &rt,
+            "thousand",
+            told(rt.alloc(), equal_tokens(rt.alloc(), 1000), row),
+            row.3,
+        );
+    }
+}
+
+#[test]
+fn a_million_equal_tokens_take_few_comparisons(rt: HostRuntime) {
+    for row in AMONG_MILLION.iter() {
+        check(
+            &rt,
+            "million",
+            told(rt.alloc(), equal_tokens(rt.alloc(), 1000000), row),
+            row.3,
+        );
+    }
+}
+
+#[test]
+fn lines_without_tokens_take_few_comparisons(rt: HostRuntime) {
+    for row in ON_TWO_LINES.iter() {
+        check(
+            &rt,
+            "two lines",
+            told(rt.alloc(), tokens_at(rt.alloc(), &PLACES), row),
+            row.3,
+        );
+    }
+}

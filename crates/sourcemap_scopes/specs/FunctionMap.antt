@@ -1,0 +1,36 @@
+-- The functions of a source by where they begin, and the one that a place stands in.
+use Rattle.std.specs.Prelude.{ℕ, ◌+◌, List, Bool, Option, IsSortedByKey, nat_eq}
+use Rattle.std.specs.Ordering.{on, eq_of_both}
+use Rattle.std.specs.Cmp.{IsEquivalence}
+use Rattle.std.specs.Cmp.Rules.{comparing}
+use Rattle.std.specs.Cmp.Lexicographic.{pointwise}
+use Rattle.std.proofs.Common.{rules}
+use Rattle.sourcemap_lists.specs.Search.{closest_item}
+use Rattle.sourcemap_lists.specs.Tokens.{position_cmp}
+use Rattle.sourcemap_scopes.specs.declared.offsets.HermesScopeOffset.{HermesScopeOffset}
+
+-- where an offset stands: its line, from 1, and its column, from 0
+abbrev pub offset_place : HermesScopeOffset → ℕ × ℕ
+offset_place offset = (offset.line, offset.column)
+
+-- no offset stands before the one that it follows
+abbrev pub AreOffsetsInOrder : List HermesScopeOffset → Type 0
+AreOffsetsInOrder offsets = IsSortedByKey offset_place position_cmp offsets
+
+-- the offset closest to a place in the source, whose line counts from 0
+abbrev pub closest_offset : List HermesScopeOffset → ℕ × ℕ → Option HermesScopeOffset
+closest_offset offsets p = closest_item offset_place position_cmp offsets (p.0 + 1, p.1)
+
+-- offsets of the same numbers
+abbrev pub same_offset : HermesScopeOffset → HermesScopeOffset → Bool
+same_offset =
+    eq_of_both (on (λ o. o.line) nat_eq)
+    (eq_of_both (on (λ o. o.column) nat_eq)
+    (on (λ o. o.name_index) nat_eq))
+
+-- lists of the same offsets
+abbrev pub same_offsets : List HermesScopeOffset → List HermesScopeOffset → Bool
+same_offsets = pointwise same_offset
+
+pub same_offsets_equiv : IsEquivalence same_offsets
+same_offsets_equiv = search (comparing, rules) depth 16

@@ -1,0 +1,7 @@
+pub mod FunctionMap
+pub mod Offsets
+pub mod OffsetsSteps
+pub mod Picks
+pub mod ScopeLists
+pub mod SourceScopes
+pub mod SourceScopesStored

@@ -1,0 +1,187 @@
+// Runs of `compose FILE`: what is asked of a map and of the one in a file, printed and refused.
+use crate::runs::words_of;
+use crate::shelves::Shelf;
+use sourcemap::decode_slice;
+use sourcemap_commands::command::Command;
+use sourcemap_commands::program::{apply, reply_to, run};
+use std::cell::Cell;
+use std::io;
+use std::io::ErrorKind;
+use std::test::Fail;
+
+// A map, the file's text, the status and text of the run, and whether the file was opened. It is
+// not where the map is faulty, whose fault comes first.
+const ROWS: &str =
+    r#"{"sources":["o.js"],"mappings":"AAAA,KAAK"}|{"sources":["t.js"],"mappings":"EAAA"}|0 {"mappings":"EAAA,KAAK","names":[],"sources":["o.js"],"version":3}|opened
+{"sources":["a.js"],"mappings":"AAAO","rangeMappings":"B"}|{"sources":["t.js"],"mappings":"EAAU"}|0 {"mappings":"EAAiB","names":[],"rangeMappings":"B","sources":["a.js"],"version":3}|opened
+{"sources":["a.js"],"mappings":"AAAO"}|{"sources":["t.js"],"mappings":"EAAU"}|0 {"mappings":"EAAO","names":[],"sources":["a.js"],"version":3}|opened
+{"sources":["o.js"],"mappings":"AAAA"}|{"mappings":"A"}|0 {"mappings":"","names":[],"sources":["o.js"],"version":3}|opened
+{"file":"f","sources":["o.js"],"names":["n"],"sourcesContent":["x"],"sourceRoot":"r","ignoreList":[0],"mappings":"AAAAA"}|{"file":"g","sources":["t.js"],"names":["z"],"mappings":"EAAAA"}|0 {"file":"f","ignoreList":[0],"mappings":"EAAAA","names":["n"],"sourceRoot":"r","sources":["o.js"],"sourcesContent":["x"],"version":3}|opened
+{"sources":["o.js"],"mappings":"AAAA"}|{"sources":["t.js"],"mappings":"+/////HAAA"}|0 {"mappings":"+/////HAAA","names":[],"sources":["o.js"],"version":3}|opened
+{"sources":["o.js"],"mappings":"AAAA,CAAC"}|{"sources":["t.js"],"mappings":"+/////HAAA"}|1 encountered incompatible sourcemap format|opened
+{"sections":[]}|{"sources":["t.js"],"mappings":"EAAA"}|1 encountered incompatible sourcemap format|opened
+{"sources":["o.js"],"mappings":"AAAA"}|{"sections":[]}|1 encountered incompatible sourcemap format|opened
+{"sections":[]}|{"sections":[]}|1 encountered incompatible sourcemap format|opened
+{"sections":[]}|{"mappings":"AAAA"}|1 bad reference to source #0|opened
+{}|[]|1 bad json: a field has the wrong type|opened
+{}||1 bad json: the text is not JSON|opened
+{"mappings":"AAAAAA"}|{"mappings":"AAAA"}|1 got 6 segments, expected 4 or 5|closed
+[]||1 bad json: a field has the wrong type|closed
+|[]|1 bad json: the text is not JSON|closed"#;
+
+// A row of the table.
+#[derive(Drop)]
+struct Row<'a> {
+    input: &'a str,
+    file: &'a str,
+    status: u8,
+    text: &'a str,
+    is_opened: bool,
+}
+
+fn row_of(line: &str) -> Result<Row<'_>, Fail> {
+    let (input, rest) = line.split_once('|').ok_or("a short row")?;
+    let (file, rest) = rest.split_once('|').ok_or("a short row")?;
+    let (want, opened) = rest.split_once('|').ok_or("a short row")?;
+    let (status, text) = want.split_once(' ').ok_or("a short row")?;
+    Ok(Row {
+        input,
+        file,
+        status: status.parse()?,
+        text,
+        is_opened: opened == "opened",
+    })
+}
+
+// A file system that has this text at `a.map`.
+fn shelf(text: &str) -> Shelf<'_> {
+    Shelf {
+        path: "a.map",
+        text,
+        left: None,
+        is_opened: Cell::new(false),
+    }
+}
+
+// Whether a text is this one and a newline.
+fn is_line(text: &[u8], want: &str) -> bool {
+    text.strip_suffix(b"\n") == Some(want.as_bytes())
+}
+
+// Whether the words are replied to as a row says, on the bytes of both of its maps.
+fn is_replied(rt: &HostRuntime, words: &[String], row: &Row<'_>) -> Result<bool, Fail> {
+    let bytes = Vec::from_slice(rt.alloc(), row.input.as_bytes())?;
+    let file = Vec::from_slice(rt.alloc(), row.file.as_bytes())?;
+    let reply = reply_to(rt, rt.alloc(), words, bytes, Ok(file))?;
+    Ok(reply.status == row.status && is_line(reply.text.as_bytes(), row.text))
+}
+
+// Whether a run over these files prints this line, and ends with this status.
+fn is_run(
+    rt: &HostRuntime,
+    files: &Shelf<'_>,
+    words: &[String],
+    input: &str,
+    status: u8,
+    text: &str,
+) -> Result<bool, Fail> {
+    let mut output = Vec::new(rt.alloc());
+    let ended = run(files, rt.alloc(), words, &mut input.as_bytes(), &mut output)?;
+    Ok(ended == status && is_line(output.as_slice(), text))
+}
+
+// Whether a run over the file of a row does what the row says.
+fn is_met(rt: &HostRuntime, words: &[String], row: &Row<'_>) -> Result<bool, Fail> {
+    let files = shelf(row.file);
+    let is_so = is_run(rt, &files, words, row.input, row.status, row.text)?;
+    Ok(is_so && files.is_opened.get() == row.is_opened)
+}
+
+#[test]
+fn maps_are_composed(rt: HostRuntime) -> Result<(), Fail> {
+    let words = words_of(rt.alloc(), "compose a.map")?;
+    for line in ROWS.lines() {
+        let row = row_of(line)?;
+        assert!(rt; is_replied(&rt, words.as_slice(), &row)?, "{line}");
+        assert!(rt; is_met(&rt, words.as_slice(), &row)?, "{line}");
+    }
+    Ok(())
+}
+
+// What `apply` says of a map and another one.
+const MAP: &str = r#"{"sources":["o.js"],"mappings":"AAAA,KAAK"}"#;
+
+const ADJUSTMENT: &str = r#"{"sources":["t.js"],"mappings":"EAAA"}"#;
+
+const COMPOSED: &str = r#"{"mappings":"EAAA,KAAK","names":[],"sources":["o.js"],"version":3}"#;
+
+#[test]
+fn a_second_map_is_applied(rt: HostRuntime) -> Result<(), Fail> {
+    let path = String::from_str(rt.alloc(), "any")?;
+    let map = decode_slice(rt.alloc(), MAP.as_bytes())?;
+    let adjustment = decode_slice(rt.alloc(), ADJUSTMENT.as_bytes())?;
+    let text = apply(
+        &rt,
+        rt.alloc(),
+        &Command::Compose(path),
+        map,
+        Some(adjustment),
+    )?;
+    assert!(rt; is_line(text.as_bytes(), COMPOSED));
+    Ok(())
+}
+
+// Whether a run whose file fails after so many bytes prints that it did, with status 1.
+fn is_refused(rt: &HostRuntime, words: &[String], left: usize) -> Result<bool, Fail> {
+    let mut files = shelf(ADJUSTMENT);
+    files.left = Some(left);
+    is_run(rt, &files, words, MAP, 1, "broken pipe")
+}
+
+#[test]
+fn a_file_that_fails_is_refused(rt: HostRuntime) -> Result<(), Fail> {
+    let words = words_of(rt.alloc(), "compose a.map")?;
+    for left in 0..=ADJUSTMENT.len() {
+        assert!(rt;
+            is_refused(&rt, words.as_slice(), left)?,
+            "after {left} bytes"
+        );
+    }
+    Ok(())
+}
+
+#[test]
+fn a_file_that_is_missing_is_refused(rt: HostRuntime) -> Result<(), Fail> {
+    let words = words_of(rt.alloc(), "compose b.map")?;
+    let files = shelf(ADJUSTMENT);
+    assert!(rt; is_run(&rt, &files, words.as_slice(), MAP, 1, "entity not found")?);
+    let faulty = is_run(
+        &rt,
+        &files,
+        words.as_slice(),
+        "",
+        1,
+        "bad json: the text is not JSON",
+    )?;
+    assert!(rt; faulty);
+    Ok(())
+}
+
+#[test]
+fn why_a_file_was_not_read_is_replied(rt: HostRuntime) -> Result<(), Fail> {
+    let words = words_of(rt.alloc(), "compose b.map")?;
+    let bytes = Vec::from_slice(rt.alloc(), MAP.as_bytes())?;
+    let fault = io::Error::from(ErrorKind::NotFound);
+    let reply = reply_to(&rt, rt.alloc(), words.as_slice(), bytes, Err(fault.into()))?;
+    assert!(rt; reply.status == 1 && is_line(reply.text.as_bytes(), "entity not found"));
+    Ok(())
+}
+
+#[test]
+fn no_other_command_opens_a_file(rt: HostRuntime) -> Result<(), Fail> {
+    let words = words_of(rt.alloc(), "lookup 0 5")?;
+    let files = shelf(ADJUSTMENT);
+    assert!(rt; is_run(&rt, &files, words.as_slice(), MAP, 0, "o.js:0:5")?);
+    assert!(rt; !files.is_opened.get());
+    Ok(())
+}
