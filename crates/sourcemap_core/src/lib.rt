@@ -1,5 +1,5 @@
 //! A door: what stands below records and maps, under the module names that users know. Behind it
-//! are the crates of faults, digits, lists, composition, tables of lines, mappings, texts and views.
+//! are the crates of faults, digits, lists, composition, tables of lines, mappings, texts, views.
 #![tactic(auto)]
 
 pub mod compose;
