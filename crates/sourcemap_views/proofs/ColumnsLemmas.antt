@@ -475,3 +475,74 @@ no_step line place units col u p l e =
 
 pub units_is : (c r : ℕ) → (c < 65536 → r ≡ 1) → (65536 ≤ c → r ≡ 2) → r ≡ units_of c
 units_is c r one two = grind (arith, nat_tests)
+
+-- ---- on by blocks
+
+BeginBefore-wide : (xs : List ℕ) (col : ℕ) → width xs ≤ col → BeginBefore col xs
+BeginBefore-wide [] col l = tt
+BeginBefore-wide (x ∷ xs) col l = let some = units_some x in (omega arith, BeginBefore-wide xs (col - units_of x) (omega arith))
+
+-- a walk may begin at a place that is not behind the column
+pub Walked-at : (line : List ℕ) (col place units : ℕ) → IsUtf8 line → IsPlace line place units → units ≤ col → Walked line col (drop place line) units
+Walked-at line col place units u p l =
+    let before = IsUtf8-take line place u p.0 in
+    let whole : take place line ++ drop place line ≡ line = take-append-drop place line in
+    record {
+      done = chars (take place line);
+      bytes = sym whole ∙ ap (λ t. t ++ drop place line) (sym (encodes-chars (take place line) before));
+      spelt = ap chars (sym whole) ∙ chars-append (take place line) (drop place line) before;
+      counted = p.1;
+      begin = BeginBefore-wide (chars (take place line)) col (subst (λ n. n ≤ col) p.1 l);
+      utf8 = IsUtf8-drop line place u p.0;
+    }
+
+pub place-start : (line : List ℕ) → IsUtf8 line → IsPlace line 0 0
+place-start line u = (IsCharBoundary-start line u, sym (ap width chars-nil))
+
+-- units before a place are no more than bytes
+pub place-few : (line : List ℕ) (place units : ℕ) → IsUtf8 line → IsPlace line place units → units ≤ place
+place-few line place units u p =
+    let few = width-bytes (chars (take place line)) in
+    let bytes : length (encode_utf8_all (chars (take place line))) ≡ place = ap length (encodes-chars (take place line) (IsUtf8-take line place u p.0)) ∙ length-take-le place line p.0.0 in
+    let wide = p.1 in
+    omega arith
+
+-- a place further on
+pub place-ahead : (line : List ℕ) (place units end more : ℕ) → IsUtf8 line → IsPlace line place units → IsCharBoundary line end → place ≤ end → more ≡ width (chars (slice_range line place end)) → IsPlace line end (units + more)
+place-ahead line place units end more u p b l m =
+    let between : place + (end - place) ≡ end = omega arith in
+    let whole : take end line ≡ take place line ++ slice_range line place end = ap (λ n. take n line) (sym between) ∙ take-add place (end - place) line in
+    let before = IsUtf8-take line place u p.0 in
+    let spelt : chars (take end line) ≡ chars (take place line) ++ chars (slice_range line place end) = ap chars whole ∙ chars-append (take place line) (slice_range line place end) before in
+    let wide : width (chars (take end line)) ≡ width (chars (take place line)) + width (chars (slice_range line place end)) = ap width spelt ∙ width-append (chars (take place line)) (chars (slice_range line place end)) in
+    let first = p.1 in
+    (b, omega arith)
+
+-- the units of a text, as far as they are counted
+pub record Counted (text rest : List ℕ) (total : ℕ) : Type 0 where
+  pub utf8 : IsUtf8 rest
+  pub left : total + width (chars rest) ≡ width (chars text)
+  pub few : total + length rest ≤ length text
+
+pub Counted-start : (text : List ℕ) → IsUtf8 text → Counted text text 0
+Counted-start text u = record { utf8 = u; left = omega arith; few = omega arith }
+
+pub Counted-step : (text rest left : List ℕ) (total c : ℕ) → rest ≡ encode_utf8 c ++ left → Counted text rest total → Counted text left (total + units_of c)
+Counted-step text rest left total c e t =
+    let cut : width (chars rest) ≡ units_of c + width (chars left) = ap width (chars_past_char rest left c t.utf8 e) in
+    let bytes : length rest ≡ length (encode_utf8 c) + length left = ap length e ∙ length-append (encode_utf8 c) left in
+    let small = units_few c in
+    let len = length-encode c in
+    let before = t.left in
+    let few = t.few in
+    record { utf8 = IsUtf8-past_char rest left c t.utf8 e; left = omega arith; few = omega arith }
+
+pub Counted-end : (text rest : List ℕ) (total : ℕ) → length rest ≡ 0 → Counted text rest total → total ≡ width (chars text)
+Counted-end text [] total e t =
+    let left = t.left in
+    let none = ap width chars-nil in
+    omega arith
+Counted-end text (b ∷ rest) total e t = absurd (omega arith)
+
+pub ascii-width : (text : List ℕ) → IsAscii text → length text ≡ width (chars text)
+ascii-width text a = sym (ap width (chars-IsAscii text a) ∙ (ascii_begin text (length text) (le_refl (length text)) a).1)

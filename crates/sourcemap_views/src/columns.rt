@@ -21,7 +21,7 @@ pub fn reach(line: &str, col: u64) -> Option<Reached>
     if line.as_bytes()[..near].is_ascii() {
         return reach_in_ascii(line, col);
     }
-    reach_by_characters(line, col)
+    reach_by_characters(line, skip_blocks(line, col), col)
 }
 
 // The same where each byte before the column is a character.
@@ -40,15 +40,17 @@ fn reach_in_ascii(line: &str, col: u64) -> Option<Reached>
     })
 }
 
-// The same of any line, character by character.
-fn reach_by_characters(line: &str, col: u64) -> Option<Reached>
+// The same of any line, character by character from a place that is not behind the column.
+fn reach_by_characters(line: &str, from: Reached, col: u64) -> Option<Reached>
+    requires place { IsPlace line.now from.place from.units }
+    requires before { from.units ≤ col }
     ensures value { option_map (λ at. at.place) result ≡ column_place line.now col }
     ensures boundary { IfSome result (λ at. IsCharBoundary line.now at.place) }
     ensures units { IfSome result (λ at. at.units ≡ width (chars (take at.place line.now))) }
 {
     let length = line.len();
-    let mut units = 0;
-    let mut rest = line.chars();
+    let mut units = from.units;
+    let mut rest = line[from.place..].chars();
     while units < col {
         let character = rest.next()?;
         units += character.len_utf16() as u64;
@@ -57,6 +59,63 @@ fn reach_by_characters(line: &str, col: u64) -> Option<Reached>
         place: length - rest.as_str().len(),
         units,
     })
+}
+
+// A place not behind the column, and not far before it if the line reaches it.
+fn skip_blocks(line: &str, col: u64) -> Reached
+    ensures place { IsPlace line.now result.place result.units }
+    ensures before { result.units ≤ col }
+{
+    let mut at = Reached { place: 0, units: 0 };
+    while let Some(next) = next_block(line, at, col) {
+        at = next;
+    }
+    at
+}
+
+// The place some thousand bytes on, if the line has as many and the column is not before it.
+fn next_block(line: &str, at: Reached, col: u64) -> Option<Reached>
+    requires { IsPlace line.now at.place at.units }
+    ensures place { IfSome result (λ next. IsPlace line.now next.place next.units) }
+    ensures before { IfSome result (λ next. next.units ≤ col) }
+    ensures ahead { IfSome result (λ next. (at.place < next.place) × (next.place ≤ length line.now)) }
+{
+    let end = block_end(line, at.place)?;
+    let units = at.units + units_in(&line[at.place..end]);
+    if units > col {
+        return None;
+    }
+    Some(Reached { place: end, units })
+}
+
+// Where the line may be cut a thousand bytes behind a place, none if it ends before.
+fn block_end(line: &str, place: usize) -> Option<usize>
+    ensures boundary { IfSome result (λ end. IsCharBoundary line.now end) }
+    ensures ahead { IfSome result (λ end. place < end) }
+{
+    let first = place.checked_add(1024)?;
+    for end in first..first.saturating_add(4) {
+        if line.is_char_boundary(end) {
+            return Some(end);
+        }
+    }
+    None
+}
+
+// How many UTF-16 units a text takes.
+fn units_in(text: &str) -> u64
+    ensures value { result ≡ width (chars text.now) }
+    ensures few { result ≤ length text.now }
+{
+    let length = text.len() as u64;
+    if text.is_ascii() {
+        return length;
+    }
+    let mut total = 0;
+    for character in text.chars() {
+        total += character.len_utf16() as u64;
+    }
+    total
 }
 
 /// The part of a line from the place of a column to that of the column `span` further on, counted

@@ -2,7 +2,7 @@ use Rattle.std.proofs.Common.{◌≡◌, sym, ap, subst, ◌∙◌, ℕ, ◌<◌
 use Rattle.std.specs.Str.Iter.{chars_rest}
 use Rattle.std.proofs.lemmas.Bool.Decides.{nat_tests}
 use Rattle.sourcemap_views.specs.Columns.{column_place, units_of, width}
-use Rattle.sourcemap_views.proofs.ColumnsLemmas.{Walked, Walked-step, Walked-few, Walked-reaches, Walked-boundary, Walked-units, Walked-short}
+use Rattle.sourcemap_views.proofs.ColumnsLemmas.{Walked, Walked-at, Walked-step, Walked-few, Walked-reaches, Walked-boundary, Walked-units, Walked-short}
 use Rattle.sourcemap_views.proofs.columns.reach_by_characters.Goals as goal
 
 units_is : (c r : ℕ) → (c < 65536 → r ≡ 1) → (65536 ≤ c → r ≡ 2) → r ≡ units_of c
@@ -37,3 +37,7 @@ returns-clause-boundary c =
 pub returns-clause-units : goal.returns-clause-units
 returns-clause-units c =
     subst (λ r. c.loop-units.units ≡ width (chars (take (length c.args.line.now - length r) c.args.line.now))) (sym c.as_str.ensures) (Walked-units _ _ _ _ c.utf8.line c.loop-units.invariant)
+
+pub loop-units-init : goal.loop-units-init
+loop-units-init c =
+    subst (λ rest. Walked c.args.line.now c.args.col rest c.args.from.units) (sym (c.chars-rest.ensures.rest ∙ c.range_from.ensures.value)) (Walked-at c.args.line.now c.args.col c.args.from.place c.args.from.units c.utf8.line c.requires.place c.requires.before)
