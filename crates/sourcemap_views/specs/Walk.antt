@@ -8,11 +8,13 @@ use Rattle.sourcemap_views.specs.Identifiers.{is_identifier, token_at_start}
 use Rattle.sourcemap_views.specs.Lines.{line_bodies}
 
 -- a text has this line at this number
-abbrev pub StandsIn : List ℕ → ℕ → List ℕ → Type 0
-StandsIn source number line = slice_get (line_bodies source) number ≡ Some line
+abbrev pub HasLine : List ℕ → ℕ → List ℕ → Type 0
+HasLine source number line = slice_get (line_bodies source) number ≡ Some line
 
-pub StandsIn-prop : (source : List ℕ) (number : ℕ) (line : List ℕ) → IsProp (StandsIn source number line)
-StandsIn-prop source number line = hlevel props
+pub HasLine-prop : (source : List ℕ) (number : ℕ) (line : List ℕ) → IsProp (HasLine source number line)
+HasLine-prop source number line = hlevel props
+
+pub ruleset sets = (props, HasLine-prop)
 
 -- a line and a column in a text: the line, and the place in it, if the text has both
 abbrev pub place_in : List ℕ → ℕ × ℕ → Option (List ℕ × ℕ)

@@ -78,7 +78,8 @@ fn next_block(line: &str, at: Reached, col: u64) -> Option<Reached>
     requires { IsPlace line.now at.place at.units }
     ensures place { IfSome result (λ next. IsPlace line.now next.place next.units) }
     ensures before { IfSome result (λ next. next.units ≤ col) }
-    ensures ahead { IfSome result (λ next. (at.place < next.place) × (next.place ≤ length line.now)) }
+    ensures ahead { IfSome result (λ next. at.place < next.place) }
+    ensures inside { IfSome result (λ next. next.place ≤ length line.now) }
 {
     let end = block_end(line, at.place)?;
     let units = at.units + units_in(&line[at.place..end]);

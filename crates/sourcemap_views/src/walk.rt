@@ -1,10 +1,9 @@
 //! The walk back along the tokens of a map, which guesses the name of a function.
 ghost use Rattle.std.specs.Prelude.{◌≡◌, ◌≤◌, ℕ, List, [], ◌∷◌, IfSome, Option, Some, drop, option_map, take};
 ghost use Rattle.std.specs.Option.{MatchOption, option_and_then, option_copied};
-ghost use Rattle.std.proofs.Props.{props};
 ghost use Rattle.sourcemap_views.specs.Columns.{IsPlace, column_place};
 ghost use Rattle.sourcemap_views.specs.Identifiers.{token_at_start};
-ghost use Rattle.sourcemap_views.specs.Walk.{StandsIn, StandsIn-prop, function_token, guessed_name, is_text, place_in, walked};
+ghost use Rattle.sourcemap_views.specs.Walk.{HasLine, function_token, guessed_name, is_text, place_in, sets, walked};
 
 use crate::columns::{Reached, reach, reach_back};
 use crate::js_identifiers::{get_javascript_token, is_valid_javascript_identifier};
@@ -81,7 +80,7 @@ impl<'view> Stand<'view> {
 fn stand_at<'view>(view: &'view SourceView, line: u32, col: u32) -> Option<Stand<'view>>
     ensures value { option_map (λ s. (s.line.now, s.at.place)) result
         ≡ place_in view.now (line, col) }
-    ensures kept { IfSome result (λ s. StandsIn view.now s.number s.line.now) }
+    ensures kept { IfSome result (λ s. HasLine view.now s.number s.line.now) }
 {
     let text = view.get_line(line)?;
     let at = reach(text, u64::from(col))?;
@@ -100,10 +99,10 @@ fn stand_next<'view>(
     line: u32,
     col: u32,
 ) -> Option<Stand<'view>>
-    requires { IfSome last (λ s. StandsIn view.now s.number s.line.now) }
+    requires { IfSome last (λ s. HasLine view.now s.number s.line.now) }
     ensures value { option_map (λ s. (s.line.now, s.at.place)) result
         ≡ place_in view.now (line, col) }
-    ensures kept { IfSome result (λ s. StandsIn view.now s.number s.line.now) }
+    ensures kept { IfSome result (λ s. HasLine view.now s.number s.line.now) }
 {
     match last {
         Some(stand) if stand.number == line && u64::from(col) <= stand.at.units => {
@@ -121,7 +120,7 @@ pub struct RevTokenIter<'view, T> {
     view: &'view SourceView,
     token: Option<T>,
     stand: Option<Stand<'view>>,
-    ghost kept: { IfSome stand (λ s. StandsIn view.now s.number s.line.now) } by { Prim.hlevel (props, StandsIn-prop) },
+    ghost own: { IfSome stand (λ s. HasLine view.now s.number s.line.now) } by { Prim.hlevel sets },
 }
 
 impl<'view, T: WalkedToken> Iterator for RevTokenIter<'view, T> {
