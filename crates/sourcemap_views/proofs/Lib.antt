@@ -1,0 +1,5 @@
+pub mod ColumnsLemmas
+pub mod IdentifiersLemmas
+pub mod LinesLemmas
+pub mod ViewsLemmas
+pub mod WalkLemmas

@@ -1,0 +1,78 @@
+//! Identifiers of JavaScript.
+ghost use Rattle.std.specs.Prelude.{◌≡◌, length, option_map};
+ghost use Rattle.std.specs.Str.{IsCharBoundary, chars, encode_utf8_all};
+ghost use Rattle.std.specs.List.{take_while};
+ghost use Rattle.sourcemap_views.specs.Identifiers.{identifier_at_start, is_identifier, is_part, is_start, token_at_start};
+
+use unicode_ident::{is_xid_continue, is_xid_start};
+
+/// Whether a text is an identifier, whole: it starts with `$`, `_`, a letter of ASCII or a
+/// character past ASCII that may start one, and goes on with these, digits, U+200C, U+200D and
+/// characters past ASCII that may continue one. The empty text counts as one.
+pub fn is_valid_javascript_identifier(text: &str) -> bool
+    ensures { result ≡ is_identifier (chars text.now) }
+{
+    identifier_length(text) == text.len()
+}
+
+/// The longest identifier with which the first word of a text starts; words stand between white
+/// space. None if there is no word, or it starts with no identifier.
+pub fn get_javascript_token(text: &str) -> Option<&str>
+    ensures { option_map (λ token. token.now) result ≡ token_at_start text.now }
+{
+    let words = text.trim_start();
+    let length = identifier_length(words);
+    if length == 0 {
+        return None;
+    }
+    Some(&words[..length])
+}
+
+// How many bytes the longest identifier takes with which a text starts, 0 if there is none.
+fn identifier_length(text: &str) -> usize
+    ensures value { result ≡ length (encode_utf8_all (identifier_at_start (chars text.now))) }
+    ensures boundary { IsCharBoundary text.now result }
+{
+    match text.chars().next() {
+        Some(first) if starts_identifier(first) => {
+            let width = first.len_utf8();
+            width + parts_length(&text[width..])
+        }
+        _ => 0,
+    }
+}
+
+// How many bytes those characters take with which a text starts that may continue an identifier.
+fn parts_length(text: &str) -> usize
+    ensures value { result ≡ length (encode_utf8_all (take_while is_part (chars text.now))) }
+    ensures boundary { IsCharBoundary text.now result }
+{
+    for (place, character) in text.char_indices() {
+        if !continues_identifier(character) {
+            return place;
+        }
+    }
+    text.len()
+}
+
+// Whether a character may start an identifier.
+fn starts_identifier(character: char) -> bool
+    ensures { result ≡ is_start character }
+{
+    match character {
+        '$' | '_' | 'a'..='z' | 'A'..='Z' => true,
+        '\0'..='\x7f' => false,
+        _ => is_xid_start(character),
+    }
+}
+
+// Whether a character may continue an identifier.
+fn continues_identifier(character: char) -> bool
+    ensures { result ≡ is_part character }
+{
+    match character {
+        '$' | '_' | 'a'..='z' | 'A'..='Z' | '0'..='9' | '\u{200c}' | '\u{200d}' => true,
+        '\0'..='\x7f' => false,
+        _ => is_xid_continue(character),
+    }
+}

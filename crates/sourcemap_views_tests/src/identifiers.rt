@@ -1,0 +1,59 @@
+//! Which texts are identifiers, and with which one a text starts.
+use crate::checks::{check, shown};
+use sourcemap_errors::errors::Result;
+use sourcemap_views::js_identifiers::{get_javascript_token, is_valid_javascript_identifier};
+use std::alloc::Global;
+
+// A text, whether it is an identifier, and the one with which its first word starts.
+const TEXTS: [(&str, &str); 32] = [
+    ("foo_$123", "true [foo_$123]"),
+    (" foo", "false [foo]"),
+    ("foo ", "false [foo]"),
+    ("[123]", "false none"),
+    ("foo.bar", "false [foo]"),
+    ("f _hi", "false [f]"),
+    ("[foo,bar]", "false none"),
+    ("한글변수", "true [한글변수]"),
+    ("变量名", "true [变量名]"),
+    ("变量名123", "true [变量名123]"),
+    ("ひらがな", "true [ひらがな]"),
+    ("へんすう_test", "true [へんすう_test]"),
+    ("결제사_연결():De", "false [결제사_연결]"),
+    // nothing counts as an identifier, and yet no word starts with one
+    ("", "true none"),
+    ("   ", "false none"),
+    ("1a", "false none"),
+    ("a1", "true [a1]"),
+    ("$", "true [$]"),
+    ("_", "true [_]"),
+    ("é", "true [é]"),
+    ("aé.b", "false [aé]"),
+    ("a\u{200c}b", "true [a\u{200c}b]"),
+    ("\u{200d}a", "false none"),
+    // a combining mark continues and does not start
+    ("e\u{301}", "true [e\u{301}]"),
+    ("\u{301}e", "false none"),
+    ("\t\n a b", "false [a]"),
+    // white space past ASCII parts words
+    ("\u{a0}a\u{a0}b", "false [a]"),
+    ("a\u{2028}b", "false [a]"),
+    // of ID_Start, and not of XID_Start
+    ("\u{37a}", "false none"),
+    // a letter that takes two units
+    ("𝒳1", "true [𝒳1]"),
+    ("👌", "false none"),
+    ("a👌", "false [a]"),
+];
+
+fn told(alloc: Global, text: &str) -> Result<String> {
+    let is_valid = is_valid_javascript_identifier(text);
+    let token = shown(alloc, get_javascript_token(text))?;
+    Ok(format!(in alloc; "{is_valid} {token}")?)
+}
+
+#[test]
+fn identifiers(rt: HostRuntime) {
+    for (text, want) in TEXTS.iter() {
+        check(&rt, text, told(rt.alloc(), text), want);
+    }
+}

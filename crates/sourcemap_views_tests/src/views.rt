@@ -1,0 +1,146 @@
+//! Views: their lines, slices of them, copies and what is shown of them.
+use crate::checks::{check, shown};
+use sourcemap_errors::errors::Result;
+use sourcemap_views::sourceview::SourceView;
+use std::alloc::Global;
+
+const SMILES: &str = "abc👌def\nblah";
+
+const MIXED: &str = "\r\n\né👌👌x\r\n\r";
+
+// A text, and the part of a line from a column on, so many units long.
+const SLICES: [(&str, (u32, u32, u32), &str); 49] = [
+    (SMILES, (0, 0, 3), "[abc]"),
+    (SMILES, (0, 3, 1), "[👌]"),
+    (SMILES, (0, 3, 2), "[👌]"),
+    (SMILES, (0, 3, 3), "[👌d]"),
+    (SMILES, (0, 0, 4), "[abc👌]"),
+    (SMILES, (0, 0, 5), "[abc👌]"),
+    (SMILES, (0, 0, 6), "[abc👌d]"),
+    (SMILES, (0, 4, 0), "[]"),
+    (SMILES, (0, 4, 1), "[]"),
+    (SMILES, (0, 4, 2), "[d]"),
+    (SMILES, (0, 5, 0), "[]"),
+    (SMILES, (0, 8, 0), "[]"),
+    (SMILES, (0, 9, 0), "none"),
+    (SMILES, (0, 5, 3), "[def]"),
+    (SMILES, (0, 5, 4), "none"),
+    (SMILES, (1, 0, 4), "[blah]"),
+    (SMILES, (1, 0, 5), "none"),
+    (SMILES, (1, 0, 12), "none"),
+    (SMILES, (1, 4, 0), "[]"),
+    (SMILES, (2, 0, 0), "none"),
+    (MIXED, (0, 0, 0), "[]"),
+    (MIXED, (0, 0, 1), "none"),
+    (MIXED, (1, 0, 0), "[]"),
+    (MIXED, (1, 1, 0), "none"),
+    (MIXED, (2, 0, 6), "[é👌👌x]"),
+    (MIXED, (2, 0, 7), "none"),
+    (MIXED, (2, 1, 1), "[👌]"),
+    (MIXED, (2, 1, 3), "[👌👌]"),
+    (MIXED, (2, 2, 0), "[]"),
+    (MIXED, (2, 2, 1), "[]"),
+    (MIXED, (2, 2, 2), "[👌]"),
+    (MIXED, (2, 4, 1), "[]"),
+    (MIXED, (2, 4, 2), "[x]"),
+    (MIXED, (3, 0, 0), "[]"),
+    (MIXED, (4, 0, 0), "[]"),
+    (MIXED, (4, 0, 1), "none"),
+    (MIXED, (5, 0, 0), "none"),
+    ("👌", (0, 0, 1), "[👌]"),
+    ("👌", (0, 1, 0), "[]"),
+    ("👌", (0, 2, 0), "[]"),
+    ("👌", (0, 3, 0), "none"),
+    ("👌", (0, 4294967295, 4294967295), "none"),
+    ("abc", (0, 4294967295, 4294967295), "none"),
+    ("abc", (0, 1, 4294967295), "none"),
+    ("abc", (0, 1, 1), "[b]"),
+    ("abc", (4294967295, 0, 0), "none"),
+    ("", (0, 0, 0), "[]"),
+    ("", (0, 1, 0), "none"),
+    ("x\r", (1, 0, 0), "[]"),
+];
+
+fn sliced(alloc: Global, text: &str, place: (u32, u32, u32)) -> Result<String> {
+    let view = SourceView::new(alloc, text)?;
+    shown(alloc, view.get_line_slice(place.0, place.1, place.2))
+}
+
+#[test]
+fn slices(rt: HostRuntime) {
+    for (text, place, want) in SLICES.iter() {
+        check(&rt, text, sliced(rt.alloc(), text, *place), want);
+    }
+}
+
+// A text, its count of lines, and its lines in turn.
+const LINES: [(&str, &str); 8] = [
+    ("a\nb\nc", "3 [a] [b] [c]"),
+    ("a\r\nb\r\nc", "3 [a] [b] [c]"),
+    ("a\rb\rc", "3 [a] [b] [c]"),
+    ("a\nb\nc\n", "4 [a] [b] [c] []"),
+    ("", "1 []"),
+    ("a\n\r\n\r", "4 [a] [] [] []"),
+    ("é\n👌", "2 [é] [👌]"),
+    ("no end", "1 [no end]"),
+];
+
+fn listed(alloc: Global, text: &str) -> Result<String> {
+    let view = SourceView::new(alloc, text)?;
+    let count = view.line_count();
+    let mut answer = format!(in alloc; "{count}")?;
+    for line in view.lines() {
+        push_line(&mut answer, line)?;
+    }
+    Ok(answer)
+}
+
+fn push_line(answer: &mut String, line: &str) -> Result<()> {
+    let alloc = *answer.allocator();
+    answer.push_str(format!(in alloc; " [{line}]")?.as_str())?;
+    Ok(())
+}
+
+#[test]
+fn lines_in_turn(rt: HostRuntime) {
+    for (text, want) in LINES.iter() {
+        check(&rt, text, listed(rt.alloc(), text), want);
+    }
+}
+
+// Lines of one view that are asked out of turn, and past its end.
+const ASKED: [(u32, &str); 6] = [
+    (0, "[a]"),
+    (0, "[a]"),
+    (2, "[c]"),
+    (1, "[b]"),
+    (3, "none"),
+    (4294967295, "none"),
+];
+
+fn asked(alloc: Global, line: u32) -> Result<String> {
+    let view = SourceView::from_string(alloc, String::from_str(alloc, "a\r\nb\nc")?)?;
+    shown(alloc, view.get_line(line))
+}
+
+#[test]
+fn lines_out_of_turn(rt: HostRuntime) {
+    for (line, want) in ASKED.iter() {
+        check(&rt, want, asked(rt.alloc(), *line), want);
+    }
+}
+
+fn copied(alloc: Global, text: &str, other: &str) -> Result<String> {
+    let view = SourceView::new(alloc, text)?;
+    let copy = view.clone()?;
+    let is_copy = copy == view;
+    let is_other = SourceView::new(alloc, other)? == view;
+    let source = copy.source();
+    Ok(format!(in alloc; "{is_copy} {is_other} {source} {copy:?}")?)
+}
+
+#[test]
+fn copies(rt: HostRuntime) {
+    let want = "true false a\nb SourceView { source: \"a\\nb\" }";
+    check(&rt, "copy", copied(rt.alloc(), "a\nb", "a\r\nb"), want);
+}

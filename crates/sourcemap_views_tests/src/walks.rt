@@ -1,0 +1,178 @@
+//! Walks back along tokens, and the names that they guess.
+use crate::checks::{check, shown};
+use sourcemap_errors::errors::Result;
+use sourcemap_views::sourceview::SourceView;
+use sourcemap_views::walk::WalkedToken;
+use std::alloc::Global;
+
+// A line, a column and a name.
+#[derive(Clone, Copy)]
+struct Spot {
+    line: u32,
+    col: u32,
+    name: Option<&'static str>,
+}
+
+// A spot, and those that a walk comes to behind it.
+#[derive(Clone, Copy)]
+struct Chain<'a> {
+    here: Spot,
+    behind: &'a [Spot],
+}
+
+impl<'a> WalkedToken for Chain<'a> {
+    type Name = &'static str;
+
+    ghost use Rattle.std.specs.Option.{option_copied};
+    ghost use Rattle.sourcemap_views_tests.specs.declared.walks.Spot.{Spot};
+
+    ghost Seen = { Spot };
+
+    ghost seen = { λ token. token.here };
+
+    ghost place_of = { λ spot. (spot.line, spot.col) };
+
+    ghost name_of = { λ spot. option_copied spot.name };
+
+    ghost text_of = { λ name. name.now };
+
+    ghost before = { λ token. token.behind.now };
+
+    fn place(&self) -> (u32, u32) {
+        (self.here.line, self.here.col)
+    }
+
+    fn name(&self) -> Option<&'static str> {
+        self.here.name
+    }
+
+    fn previous(&self) -> Option<Self> {
+        let (here, behind) = self.behind.split_first()?;
+        Some(Chain {
+            here: *here,
+            behind,
+        })
+    }
+}
+
+// Texts, places from the last one on, and the identifiers at them.
+const WALKS: [(&str, &[(u32, u32)], &str); 9] = [
+    ("abc👌def", &[(0, 5), (0, 4), (0, 3)], " [def] [def] none"),
+    ("abc👌def", &[(0, 3), (0, 4), (0, 5)], " none [def] [def]"),
+    ("function b(){}", &[(0, 9), (0, 0)], " [b] [function]"),
+    (
+        "a\nbb\r\nccc",
+        &[(2, 1), (1, 1), (1, 0), (0, 0)],
+        " [cc] [b] [bb] [a]",
+    ),
+    (
+        "a b",
+        &[(0, 3), (0, 2), (0, 1), (0, 0)],
+        " none [b] [b] [a]",
+    ),
+    ("a", &[(1, 0), (0, 4294967295), (0, 0)], " none none [a]"),
+    (
+        "👌👌x",
+        &[(0, 4), (0, 3), (0, 2), (0, 1)],
+        " [x] [x] none none",
+    ),
+    ("éa=b", &[(0, 3), (0, 1), (0, 0)], " [b] [a] [éa]"),
+    ("", &[(0, 0)], " none"),
+];
+
+fn walked(alloc: Global, text: &str, places: &[(u32, u32)]) -> Result<String> {
+    let mut spots = Vec::new(alloc);
+    for (line, col) in places {
+        spots.push(Spot {
+            line: *line,
+            col: *col,
+            name: None,
+        })?;
+    }
+    let view = SourceView::new(alloc, text)?;
+    along(alloc, &view, spots.as_slice())
+}
+
+fn along(alloc: Global, view: &SourceView, spots: &[Spot]) -> Result<String> {
+    let mut answer = String::new(alloc);
+    if let Some((here, behind)) = spots.split_first() {
+        let last = Chain {
+            here: *here,
+            behind,
+        };
+        for (_, identifier) in view.rev_token_iter(last) {
+            push_shown(&mut answer, identifier)?;
+        }
+    }
+    Ok(answer)
+}
+
+fn push_shown(answer: &mut String, identifier: Option<&str>) -> Result<()> {
+    let alloc = *answer.allocator();
+    let text = shown(alloc, identifier)?;
+    answer.push_str(format!(in alloc; " {text}")?.as_str())?;
+    Ok(())
+}
+
+#[test]
+fn walks(rt: HostRuntime) {
+    for (text, places, want) in WALKS.iter() {
+        check(&rt, text, walked(rt.alloc(), text, places), want);
+    }
+}
+
+// A name in the text `function b(){}`, how many tokens stand behind that text, the columns and the
+// names of those in it from the last one on, and the name that is guessed.
+const NAMES: [(&str, u32, &[(u32, &'static str)], &str); 10] = [
+    ("b", 0, &[(9, "foo"), (0, "bar")], "[foo]"),
+    ("c", 0, &[(9, "foo"), (0, "bar")], "none"),
+    ("b.c", 0, &[(9, "foo"), (0, "bar")], "none"),
+    ("", 0, &[(9, "foo"), (0, "bar")], "none"),
+    ("function", 0, &[(9, "foo"), (0, "bar")], "none"),
+    ("b", 126, &[(9, "foo"), (0, "bar")], "[foo]"),
+    ("b", 127, &[(9, "foo"), (0, "bar")], "none"),
+    ("b", 0, &[(9, "foo")], "none"),
+    ("b", 0, &[(9, "foo"), (12, "mid"), (0, "bar")], "none"),
+    ("b", 0, &[(9, "last"), (9, "foo"), (0, "bar")], "[foo]"),
+];
+
+fn named(alloc: Global, name: &str, count: u32, columns: &[(u32, &'static str)]) -> Result<String> {
+    let mut spots = Vec::new(alloc);
+    for behind in 0..count {
+        spots.push(Spot {
+            line: 1,
+            col: count - behind,
+            name: None,
+        })?;
+    }
+    for (col, name) in columns {
+        spots.push(Spot {
+            line: 0,
+            col: *col,
+            name: Some(*name),
+        })?;
+    }
+    guessed(alloc, spots.as_slice(), name)
+}
+
+fn guessed(alloc: Global, spots: &[Spot], name: &str) -> Result<String> {
+    let view = SourceView::new(alloc, "function b(){}")?;
+    match spots.split_first() {
+        None => shown(alloc, None),
+        Some((here, behind)) => {
+            let last = Chain {
+                here: *here,
+                behind,
+            };
+            shown(alloc, view.get_original_function_name(last, name))
+        }
+    }
+}
+
+#[test]
+fn names(rt: HostRuntime) {
+    for (name, count, columns, want) in NAMES.iter() {
+        let answer = named(rt.alloc(), name, *count, columns);
+        check(&rt, name, answer, want);
+    }
+}
