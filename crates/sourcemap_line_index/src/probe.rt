@@ -101,15 +101,12 @@ impl Probe for KeyProbe {
     }
 }
 
-// From so many places on, what they hold is out of the processor's cache.
-const FAR: usize = 4096;
-
-// So many places where the one number is less than the other, else none. A branch lets the processor
-// fetch ahead what lies far away. What is near is there, and half of all guesses would be wrong.
+// So many places where the one number is less than the other, else none. A branch would be foreseen
+// wrongly half of the time, so what counts is masked, up to what 32 bits can count.
 fn if_less(a: u32, b: u32, places: usize) -> usize
     ensures { result ≡ (if nat_lt a b then places else 0) }
 {
-    if places > FAR {
+    if places > u32::MAX as usize {
         return if a < b { places } else { 0 };
     }
     // 32 bits set where the difference is negative
