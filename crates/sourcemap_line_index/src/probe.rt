@@ -101,12 +101,15 @@ impl Probe for KeyProbe {
     }
 }
 
+// More places than these are chosen by an `if`, of which the compiler makes a conditional move.
+const FAR: usize = 4096;
+
 // So many places where the one number is less than the other, else none. A branch would be foreseen
-// wrongly half of the time, so what counts is masked, up to what 32 bits can count.
+// wrongly half of the time, so what counts is masked.
 fn if_less(a: u32, b: u32, places: usize) -> usize
     ensures { result ≡ (if nat_lt a b then places else 0) }
 {
-    if places > u32::MAX as usize {
+    if places > FAR {
         return if a < b { places } else { 0 };
     }
     // 32 bits set where the difference is negative
