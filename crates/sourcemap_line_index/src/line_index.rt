@@ -35,8 +35,9 @@ impl LineIndex {
         ensures table { IfOk result (λ index. IsMadeFrom tokens.now index) }
         ensures memory { IfErr result (λ cause. cause ≡ OutOfMemory) }
     {
-        let mut lines = Vec::new(alloc);
-        let mut firsts = Vec::new(alloc);
+        let rows = rows_at_most(tokens);
+        let mut lines = Vec::with_capacity(alloc, rows)?;
+        let mut firsts = Vec::with_capacity(alloc, rows)?;
         for place in 0..tokens.len() {
             if begins_line(tokens, place) {
                 lines.push(tokens[place].dst_line)?;
@@ -99,6 +100,16 @@ impl LineIndex {
         } else {
             end
         }
+    }
+}
+
+// How many lines may hold these tokens, which are in order. So rows need no room asked for twice.
+fn rows_at_most(tokens: &[RawToken]) -> usize {
+    match tokens.last() {
+        None => 0,
+        Some(token) => tokens
+            .len()
+            .min((token.dst_line as usize).saturating_add(1)),
     }
 }
 

@@ -101,11 +101,11 @@ impl Probe for KeyProbe {
     }
 }
 
-// From so many places on, what they hold is out of the processor's cache.
+// More places than these are chosen by an `if`, of which the compiler makes a conditional move.
 const FAR: usize = 4096;
 
-// So many places where the one number is less than the other, else none. A branch lets the processor
-// fetch ahead what lies far away. What is near is there, and half of all guesses would be wrong.
+// So many places where the one number is less than the other, else none. A branch would be foreseen
+// wrongly half of the time, so what counts is masked.
 fn if_less(a: u32, b: u32, places: usize) -> usize
     ensures { result ≡ (if nat_lt a b then places else 0) }
 {

@@ -31,10 +31,13 @@ fn equal_tokens(alloc: Global, count: u32) -> Result<SourceMap> {
     map_of(alloc, tokens)
 }
 
+// Where two tokens stand.
+const PLACES: [(u32, u32); 2] = [(0, 3), (2, 5)];
+
 // A map of tokens at these places, known by their numbers from 0.
-fn tokens_at(alloc: Global, places: &[(u32, u32)]) -> Result<SourceMap> {
+fn two_lines(alloc: Global) -> Result<SourceMap> {
     let mut tokens = Vec::new(alloc);
-    for (at, place) in places.iter().enumerate() {
+    for (at, place) in PLACES.iter().enumerate() {
         tokens.push(token(*place, at as u32))?;
     }
     map_of(alloc, tokens)
@@ -74,8 +77,6 @@ const AMONG_MILLION: [Counted; 2] = [
     ((0, 0), 1, 42, "Some(0) true"),
     ((0, 1), 1, 42, "Some(999999) true"),
 ];
-
-const PLACES: [(u32, u32); 2] = [(0, 3), (2, 5)];
 
 const ON_TWO_LINES: [Counted; 4] = [
     ((2, 4), 1, 6, "Some(0) true"),
@@ -126,7 +127,7 @@ fn lines_without_tokens_take_few_comparisons(rt: HostRuntime) {
         check(
             &rt,
             "two lines",
-            told(rt.alloc(), tokens_at(rt.alloc(), &PLACES), row),
+            told(rt.alloc(), two_lines(rt.alloc()), row),
             row.3,
         );
     }
