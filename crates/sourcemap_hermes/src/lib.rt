@@ -1,0 +1,8 @@
+//! Hermes maps: regular maps that know the functions of their sources.
+#![tactic(auto)]
+
+mod clone;
+pub mod decode;
+mod deref;
+mod equality;
+pub mod map;
