@@ -3,7 +3,7 @@ use Rattle.std.proofs.Common.{◌≡◌, List, Option, Some, None, Result, Ok, E
 use Rattle.sourcemap_errors.specs.Answer.{IsAnswer}
 use Rattle.sourcemap_errors.specs.declared.errors.Error.{Error}
 use Rattle.sourcemap_errors.proofs.AnswerLemmas.{UnlessMemory-weaker}
-use Rattle.sourcemap_records.specs.Jsontypes.{Fields, tree, flat, fields_view}
+use Rattle.sourcemap_records.specs.Jsontypes.{Fields, Tree, plain, indexed, tree, flat, fields_view}
 use Rattle.sourcemap_records.specs.declared.jsontypes.FacebookScopeMapping.{FacebookScopeMapping}
 use Rattle.sourcemap_records.specs.declared.jsontypes.RawSourceMap.{RawSourceMap, out-RawSourceMap, roll-RawSourceMap}
 use Rattle.sourcemap_records.proofs.JsontypesLemmas.{flat-tree, flat-roll}
@@ -13,7 +13,7 @@ use Rattle.sourcemap_regular.proofs.DecodeLemmas.{RecordDecodes-same}
 use Rattle.sourcemap_scopes.specs.ScopeLists.{ScopeEntry, entries_in}
 use Rattle.sourcemap_scopes.proofs.SourceScopesLemmas.{function_maps_same}
 use Rattle.sourcemap_hermes.specs.Map.{HermesValue, hermes_value}
-use Rattle.sourcemap_hermes.specs.Decode.{HermesDecodes, DecodesWith, EntriesDecode}
+use Rattle.sourcemap_hermes.specs.Decode.{HermesDecodes, DecodesWith, EntriesDecode, OnlyHermesDecodes}
 use Rattle.sourcemap_hermes.specs.declared.map.SourceMapHermes.{SourceMapHermes}
 
 -- What a record is decoded to is determined.
@@ -40,6 +40,10 @@ with_same r (Some entries) a b h k = EntriesDecode-same r entries a b h k
 
 pub HermesDecodes-same : (r : Fields) (a b : Result HermesValue Error) → HermesDecodes r a → HermesDecodes r b → a ≡ b
 HermesDecodes-same r a b h k = with_same r r.x_facebook_sources a b h k
+
+pub only_once : (t : Tree) (a b : Result HermesValue Error) → OnlyHermesDecodes t a → OnlyHermesDecodes t b → a ≡ b
+only_once (plain r) a b h k = HermesDecodes-same r a b h k
+only_once (indexed r sections) a b h k = h ∙ sym k
 
 -- The regular map of a record with other scopes is the same.
 

@@ -1,1 +1,2 @@
 pub mod DecodeLemmas
+pub mod EncodeLemmas

@@ -1,16 +1,12 @@
 -- The Hermes map that a record stands for.
-use Rattle.std.specs.Prelude.{◌≡◌, ◌≤◌, ◌⊎◌, List, length, Option, Some, None, Result, Ok, Err}
+use Rattle.std.specs.Prelude.{◌≡◌, ◌⊎◌, List, Option, Some, None, Result, Ok, Err}
 use Rattle.sourcemap_errors.specs.declared.errors.Error.{Error}
 use Rattle.sourcemap_errors.specs.declared.errors.Error.TheVariants.{IncompatibleSourceMap}
-use Rattle.sourcemap_records.specs.Jsontypes.{Fields}
+use Rattle.sourcemap_records.specs.Jsontypes.{Fields, Tree, plain, indexed}
 use Rattle.sourcemap_regular.specs.Decode.{RecordDecodes}
 use Rattle.sourcemap_scopes.specs.ScopeLists.{ScopeEntry}
 use Rattle.sourcemap_scopes.specs.SourceScopes.{AreOfEntries}
-use Rattle.sourcemap_hermes.specs.Map.{HermesValue}
-
--- as many sources have scopes as there are ids
-abbrev pub AreFewScopes : List ScopeEntry → Type 0
-AreFewScopes entries = length entries ≤ 4294967295
+use Rattle.sourcemap_hermes.specs.Map.{HermesValue, AreFewScopes}
 
 -- what a record with these scopes of its sources is decoded to: too many of them come first, then the regular map
 abbrev pub EntriesDecode : Fields → List ScopeEntry → Result HermesValue Error → Type 0
@@ -27,3 +23,8 @@ DecodesWith r (Some entries) answer = EntriesDecode r entries answer
 -- what a record is decoded to as a Hermes map
 abbrev pub HermesDecodes : Fields → Result HermesValue Error → Type 0
 HermesDecodes r answer = DecodesWith r r.x_facebook_sources answer
+
+-- the Hermes map that a record stands for, or why it stands for none; that of an index map is refused
+abbrev pub OnlyHermesDecodes : Tree → Result HermesValue Error → Type 0
+OnlyHermesDecodes (plain fields) answer = HermesDecodes fields answer
+OnlyHermesDecodes (indexed _ _) answer = answer ≡ Err IncompatibleSourceMap

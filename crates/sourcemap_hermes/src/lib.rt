@@ -4,5 +4,6 @@
 mod clone;
 pub mod decode;
 mod deref;
+mod encode;
 mod equality;
 pub mod map;
