@@ -4,9 +4,10 @@ use Rattle.sourcemap_errors.specs.declared.errors.Error.{Error}
 use Rattle.sourcemap_records.specs.Jsontypes.{Fields, Tree, plain, indexed, flat, AreInRange, IsFine}
 use Rattle.sourcemap_regular.specs.Decode.{RecordDecodes}
 use Rattle.sourcemap_regular.specs.Encode.{ReadsBack, RecordAnswer as RegularAnswer, Restores as RestoresRegular}
+use Rattle.sourcemap_regular.proofs.WriteLemmas.{record_once}
 use Rattle.sourcemap_scopes.specs.ScopeLists.{ScopeEntry}
 use Rattle.sourcemap_hermes.specs.Decode.{HermesDecodes}
-use Rattle.sourcemap_hermes.specs.Encode.{RecordAnswer, Restores, with_scopes, scoped}
+use Rattle.sourcemap_hermes.specs.Encode.{IsRecordOf, RecordAnswer, Restores, with_scopes, scoped}
 use Rattle.sourcemap_hermes.specs.Map.{HermesValue, IsWellFormed}
 use Rattle.sourcemap_hermes.proofs.DecodeLemmas.{record_alike}
 
@@ -50,3 +51,8 @@ answered_with entries = Ok entries
 
 pub copied : (entries copies : List ScopeEntry) → answered_with entries ≡ answered_with copies → copies ≡ entries
 copied entries copies same = cc
+
+-- a map is written as one record
+pub scoped_once : (h : HermesValue) (a b : Tree) → IsRecordOf h a → IsRecordOf h b → a ≡ b
+scoped_once h a b (r, is, same) (s, is', same') =
+    same ∙ ap (λ t. scoped t h.scopes.entries) (record_once h.map r s is is') ∙ sym same'

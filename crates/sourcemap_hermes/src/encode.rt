@@ -1,13 +1,13 @@
 //! The record that a Hermes map is written as.
 ghost use Rattle.std.specs.Prelude.{◌≡◌, ℕ, List, IfErr, IfOk, OnOk};
 ghost use Rattle.sourcemap_errors.specs.Answer.{IsAnswer, UnlessMemory};
-ghost use Rattle.sourcemap_records.specs.Jsontypes.{tree, flat, IsFine};
+ghost use Rattle.sourcemap_records.specs.Jsontypes.{tree, flat, Tree, IsFine};
 ghost use Rattle.sourcemap_regular.specs.Encode.{ReadsBack};
 ghost use Rattle.sourcemap_regular.specs.Write.{IsEncoded, IsIo};
 ghost use Rattle.sourcemap_scopes.specs.ScopeLists.{entries_in};
 ghost use Rattle.sourcemap_hermes.specs.Decode.{HermesDecodes};
-ghost use Rattle.sourcemap_hermes.specs.Encode.{RecordAnswer, Restores, scoped};
-ghost use Rattle.sourcemap_hermes.specs.Map.{IsWellFormed, hermes_value};
+ghost use Rattle.sourcemap_hermes.specs.Encode.{IsRecordOf, RecordAnswer, Restores, scoped};
+ghost use Rattle.sourcemap_hermes.specs.Map.{HermesValue, IsWellFormed, hermes_value};
 
 use crate::map::SourceMapHermes;
 use sourcemap_errors::errors::Result;
@@ -66,3 +66,8 @@ fn with_scopes(mut raw: RawSourceMap, entries: ScopeLists) -> RawSourceMap
     raw.x_facebook_sources = Some(entries);
     raw
 }
+
+/// A law: a map is written as one record.
+pub fn written_records_are_determined()
+    ensures { (h : HermesValue) (a b : Tree) → IsRecordOf h a → IsRecordOf h b → a ≡ b }
+{}

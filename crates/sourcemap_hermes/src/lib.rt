@@ -4,6 +4,6 @@
 mod clone;
 pub mod decode;
 mod deref;
-mod encode;
+pub mod encode;
 mod equality;
 pub mod map;
