@@ -1,0 +1,4 @@
+pub mod Decode
+pub mod Encode
+pub mod Equality
+pub mod Map

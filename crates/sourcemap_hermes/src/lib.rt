@@ -1,0 +1,9 @@
+//! Hermes maps: regular maps that know the functions of their sources.
+#![tactic(auto)]
+
+mod clone;
+pub mod decode;
+mod deref;
+pub mod encode;
+mod equality;
+pub mod map;

@@ -1,0 +1,7 @@
+//! Tests of Hermes maps, over JSON texts that they are read from.
+#![tactic(auto)]
+
+#[cfg(test)]
+mod checks;
+#[cfg(test)]
+mod maps;

@@ -1,0 +1,130 @@
+// Hermes maps that are read, asked and written, against values that were worked out by hand.
+use crate::checks::check;
+use serde_json::Value;
+use sourcemap_errors::errors::{Error, Result};
+use sourcemap_hermes::decode::decode_hermes;
+use sourcemap_hermes::map::SourceMapHermes;
+use sourcemap_records::jsontypes::RawSourceMap;
+use sourcemap_regular::encode::Encodable;
+use std::alloc::Global;
+
+fn name_told(alloc: Global, name: Option<&str>) -> Result<String> {
+    Ok(String::from_str(alloc, name.unwrap_or("none"))?)
+}
+
+// The name of the function at a place in the bytecode.
+fn name_at(alloc: Global, text: &str, offset: u32) -> Result<String> {
+    let map = SourceMapHermes::from_slice(alloc, text.as_bytes())?;
+    name_told(alloc, map.get_original_function_name(offset))
+}
+
+// A map, a place in the bytecode, and the name of the function there.
+const NAMES: [(&str, u32, &str); 13] = [
+    (TWO_FUNCTIONS, 0, "<global>"),
+    (TWO_FUNCTIONS, 4, "<global>"),
+    (TWO_FUNCTIONS, 5, "foo"),
+    (TWO_FUNCTIONS, 7, "foo"),
+    (SECOND_SOURCE, 0, "f"),
+    // Lists that are shorter or longer than that of the sources.
+    (SHORT, 0, "none"),
+    (LONG, 0, "f"),
+    // The last line of a source.
+    (LAST_LINE, 0, "f"),
+    // A text of scopes that cannot be read.
+    (BROKEN, 0, "none"),
+    // A range token stands as far in its source as the place in the bytecode.
+    (RANGE, 4, "a"),
+    (RANGE, 5, "b"),
+    // No token, and a token without a source.
+    (NO_TOKEN, 9, "none"),
+    (NO_SOURCE, 9, "none"),
+];
+
+const TWO_FUNCTIONS: &str =
+    r#"{"version":3,"sources":["a.js"],"mappings":"AAAA,KACK","x_facebook_sources":[[{"names":["<global>","foo"],"mappings":"AAA,KCC"}]]}"#;
+
+const SECOND_SOURCE: &str =
+    r#"{"mappings":"ACAA","names":[],"sources":["a.js","b.js"],"version":3,"x_facebook_sources":[null,[{"mappings":"AAA","names":["f"]}]]}"#;
+
+const SHORT: &str =
+    r#"{"mappings":"ACAA","names":[],"sources":["a.js","b.js"],"version":3,"x_facebook_sources":[]}"#;
+
+const LONG: &str =
+    r#"{"mappings":"AAAA","names":[],"sources":["a.js"],"version":3,"x_facebook_sources":[[{"mappings":"AAA","names":["f"]}],null,[]]}"#;
+
+const LAST_LINE: &str =
+    r#"{"mappings":"AADA","names":[],"sources":["a.js"],"version":3,"x_facebook_sources":[[{"mappings":"AAA","names":["f"]}]]}"#;
+
+const BROKEN: &str =
+    r#"{"mappings":"AAAA","names":[],"sources":["a.js"],"version":3,"x_facebook_sources":[[{"mappings":"AAA,!","names":["f"]}]]}"#;
+
+const RANGE: &str =
+    r#"{"version":3,"sources":["a.js"],"mappings":"AAAA","rangeMappings":"B","x_facebook_sources":[[{"names":["a","b"],"mappings":"AAA,KCA"}]]}"#;
+
+const NO_TOKEN: &str =
+    r#"{"version":3,"sources":["a.js"],"mappings":";AAAA","x_facebook_sources":[[{"names":["f"],"mappings":"AAA"}]]}"#;
+
+const NO_SOURCE: &str =
+    r#"{"version":3,"sources":["a.js"],"mappings":"A","x_facebook_sources":[[{"names":["f"],"mappings":"AAA"}]]}"#;
+
+#[test]
+fn names_of_functions(rt: HostRuntime) {
+    for (text, offset, want) in NAMES.iter() {
+        let answer = name_at(rt.alloc(), text, *offset);
+        check(&rt, text, answer, want);
+    }
+}
+
+// The record of a map, as text.
+fn written(alloc: Global, text: &str) -> Result<String> {
+    let map = SourceMapHermes::from_slice(alloc, text.as_bytes())?;
+    let value = map.as_raw_sourcemap()?.into_value(alloc)?;
+    Ok(value.to_string(alloc)?)
+}
+
+#[test]
+fn scopes_are_written_as_they_were_read(rt: HostRuntime) {
+    for text in [SECOND_SOURCE, SHORT, LONG, BROKEN].iter() {
+        check(&rt, text, written(rt.alloc(), text), text);
+    }
+}
+
+fn record(alloc: Global, text: &str) -> Result<RawSourceMap> {
+    RawSourceMap::from_owned(alloc, Value::from_str(alloc, text)?)
+}
+
+fn is_decoded(alloc: Global, text: &str) -> Result<bool> {
+    match decode_hermes(alloc, record(alloc, text)?) {
+        Ok(_) => Ok(true),
+        Err(Error::IncompatibleSourceMap) => Ok(false),
+        Err(fault) => Err(fault),
+    }
+}
+
+fn is_read(alloc: Global, text: &str) -> Result<bool> {
+    match SourceMapHermes::from_slice(alloc, text.as_bytes()) {
+        Ok(_) => Ok(true),
+        Err(Error::IncompatibleSourceMap) => Ok(false),
+        Err(fault) => Err(fault),
+    }
+}
+
+fn told(alloc: Global, text: &str) -> Result<String> {
+    let decoded = is_decoded(alloc, text)?;
+    let read = is_read(alloc, text)?;
+    Ok(format!(in alloc; "{decoded} {read}")?)
+}
+
+// A record, and whether it is decoded as a Hermes map, and read as one.
+const KINDS: [(&str, &str); 3] = [
+    (r#"{"mappings":"","x_facebook_sources":[]}"#, "true true"),
+    (r#"{"mappings":""}"#, "false false"),
+    (r#"{"sections":[],"x_facebook_sources":[]}"#, "true false"),
+];
+
+#[test]
+fn records_of_other_kinds(rt: HostRuntime) {
+    for (text, want) in KINDS.iter() {
+        check(&rt, text, told(rt.alloc(), text), want);
+    }
+}
