@@ -1,4 +1,5 @@
 pub use Rattle.sourcemap_errors.specs.Answer
+pub use Rattle.sourcemap_errors.specs.Due
 pub use Rattle.sourcemap_errors.specs.Errors
 pub use Rattle.sourcemap_digits.specs.Bits
 pub use Rattle.sourcemap_digits.specs.Vlq

@@ -1,6 +1,7 @@
 -- Maps that are made of tokens, written, and asked once they are read.
 use Rattle.std.proofs.Common.{◌≡◌, ◌↔◌, ◌∙◌, sym, ap, subst, ℕ, List, [], ◌∷◌, Option, None, option_map, Result, Ok}
 use Rattle.sourcemap.specs.Answer.{Gives, IsAnswer}
+use Rattle.sourcemap.specs.Due.{Gives-given}
 use Rattle.sourcemap.specs.Decoded.{map_tree}
 use Rattle.sourcemap.specs.Decoder.{AreSame, BytesDecode}
 use Rattle.sourcemap.specs.Encoder.{ReadsBack, Restores as RestoresRegular}
@@ -18,8 +19,8 @@ pub made : (m : MapValue) (tokens : List RawToken) (names sources : List (List �
     → Gives (λ m. m) (Ok m) (Ok (made_of None tokens names sources [])) → names ≡ [] → sources ≡ source ∷ []
     → m ≡ made_of None tokens [] (source ∷ []) []
 made m tokens names sources source gave no_names one_source =
-    let e : made_of None tokens names sources [] ≡ m = cc in
-    sym e ∙ ap (λ names. made_of None tokens names sources []) no_names
+    Gives-given (λ m. m) (made_of None tokens names sources []) (Ok m) gave
+    ∙ ap (λ names. made_of None tokens names sources []) no_names
     ∙ ap (λ sources. made_of None tokens [] sources []) one_source
 
 -- a regular map that is read back is read back as a map of any kind
