@@ -46,3 +46,11 @@ pub use Rattle.sourcemap_index.specs.Equality as IndexEquality
 pub use Rattle.sourcemap_index.specs.Index
 pub use Rattle.sourcemap_index.specs.Rows
 pub use Rattle.sourcemap_index.specs.Section
+pub use Rattle.sourcemap_views.specs.Columns
+pub use Rattle.sourcemap_views.specs.Identifiers
+pub use Rattle.sourcemap_views.specs.Lines
+pub use Rattle.sourcemap_views.specs.Sourceview
+pub use Rattle.sourcemap_views.specs.Views
+pub use Rattle.sourcemap_views.specs.Walk
+pub use Rattle.sourcemap_views.specs.Walks
+pub use Rattle.sourcemap_regular.specs.Walk as TokenWalk

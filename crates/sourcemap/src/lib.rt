@@ -7,11 +7,12 @@ pub mod laws;
 pub mod types;
 
 pub use decoder::{decode, decode_data_url, decode_slice};
-pub use sourcemap_core::{compose, errors, utils, vlq};
+pub use sourcemap_core::{compose, errors, js_identifiers, utils, vlq};
 pub use sourcemap_errors::errors::{Error, Result};
 pub use sourcemap_maps::builder::SourceMapBuilder;
-pub use sourcemap_maps::{builder, encoder};
+pub use sourcemap_maps::{builder, encoder, sourceview};
 pub use sourcemap_records::jsontypes;
+pub use sourceview::SourceView;
 pub use types::{
     DecodedMap, NameIter, RawToken, RewriteOptions, SourceContentsIter, SourceIter, SourceMap,
     SourceMapIndex, SourceMapSection, SourceMapSectionIter, Token, TokenIter,

@@ -11,3 +11,5 @@ pub use Rattle.sourcemap_regular.specs.Write
 pub use Rattle.sourcemap_parts.specs.Contents
 pub use Rattle.sourcemap_parts.specs.Sources
 pub use Rattle.sourcemap_rewriting.specs.Options
+pub use Rattle.sourcemap_views.specs.Sourceview
+pub use Rattle.sourcemap_views.specs.Walk

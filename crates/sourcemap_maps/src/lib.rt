@@ -5,4 +5,5 @@
 pub mod builder;
 pub mod decoder;
 pub mod encoder;
+pub mod sourceview;
 pub mod types;

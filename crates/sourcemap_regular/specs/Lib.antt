@@ -10,3 +10,4 @@ pub mod Rewrite
 pub mod Token
 pub mod TokenOrder
 pub mod Write
+pub mod Walk

@@ -14,4 +14,5 @@ pub mod map;
 pub mod rewrite;
 pub mod token;
 mod token_order;
+mod walk;
 pub mod write;

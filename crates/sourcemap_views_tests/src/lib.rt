@@ -8,6 +8,7 @@ mod checks;
 mod identifiers;
 #[cfg(test)]
 mod lines;
+mod names;
 #[cfg(test)]
 mod views;
 #[cfg(test)]
