@@ -8,6 +8,7 @@ mod checks;
 mod identifiers;
 #[cfg(test)]
 mod lines;
+#[cfg(test)]
 mod names;
 #[cfg(test)]
 mod views;
