@@ -54,6 +54,19 @@ fn print<W: io::Write>(alloc: Global, told: Option<&str>, output: &mut W) -> Res
     Ok(output.write_all("\\n".as_bytes())?)
 }
 
+fn print_sum<W: io::Write>(line: Option<&str>, output: &mut W) -> Result<()> {
+    match line {
+        None => Ok(output.write_all("null\\n".as_bytes())?),
+        Some(line) => {
+            let mut sum: u32 = 0;
+            for byte in line.as_bytes() {
+                sum = sum.wrapping_mul(31).wrapping_add(u32::from(*byte));
+            }
+            Ok(writeln!(output, "[{},{sum}]", line.len())?)
+        }
+    }
+}
+
 fn tell_names<W: io::Write>(alloc: Global, map: &DecodedMap, view: Option<&SourceView>, questions: &[Value], output: &mut W) -> Result<()> {
     for question in questions {
         let name = question.get(2).and_then(Value::as_str);
@@ -66,7 +79,7 @@ fn tell_slices<W: io::Write>(alloc: Global, view: &SourceView, questions: &[Valu
     for question in questions {
         let (line, column) = (number(question, 0), number(question, 1));
         match question.get(1) {
-            None => print(alloc, view.get_line(line), output)?,
+            None => print_sum(view.get_line(line), output)?,
             Some(_) => print(alloc, view.get_line_slice(line, column, number(question, 2)), output)?,
         }
     }
@@ -136,7 +149,7 @@ def asked_there(reference, case):
     with tempfile.TemporaryDirectory() as room:
         questions, text = pathlib.Path(room, 'questions'), pathlib.Path(room, 'text')
         questions.write_text(json.dumps(case.questions))
-        text.write_text(case.text or '', newline='')
+        text.write_bytes((case.text or '').encode())
         texts = [str(text)] if case.text is not None else []
         word = 'names' if case.record else 'slices'
         status, told = answer([reference, word, str(questions), *texts], json.dumps(case.record).encode())
@@ -179,7 +192,7 @@ def cases_of(folder, count):
             questions = [[0, max(0, column), None] for column in columns] + [[1, 0, None]]
             yield Case(name, record, None, questions, count)
         elif (beside := path.with_suffix('')).is_file():
-            text = beside.read_text(newline='')
+            text = beside.read_bytes().decode()
             slices = list(slices_of(text, draws, count))
             yield Case(f'{name}, slices', None, text, slices, len(slices) + 1)
             questions = list(named_positions(record, text, draws, count))
