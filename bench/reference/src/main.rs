@@ -20,6 +20,7 @@ const USAGE: &str = "usage, with a map on standard input:
     [slice | stream] (lookup LINE COL | tokens | rewrite | flatten | compose FILE | shift ROWS)
     | roundtrip | stat | batch FILE | dst FILE | positions N SEED [wild] | bench OPERATION N
 OPERATION: decode | decode-reader | lookup | tokens | encode | rewrite | flatten
+    | compose, of two maps on standard input, each on a line
 ";
 
 /// How the map is read, and how JSON text is printed.
