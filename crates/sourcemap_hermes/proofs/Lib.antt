@@ -1,3 +1,4 @@
 pub mod DecodeLemmas
 pub mod EncodeLemmas
 pub mod EqualityLemmas
+pub mod RewriteLemmas
