@@ -118,11 +118,12 @@ impl SourceMapSection {
 }
 
 impl DecodedMap {
-    // How many tokens it brings, if it is a regular map.
+    // How many tokens it brings, if it is no index.
     fn token_room(&self) -> usize {
         match self {
             DecodedMap::Regular(map) => map.get_token_count() as usize,
             DecodedMap::Index(_) => 0,
+            DecodedMap::Hermes(map) => map.get_token_count() as usize,
         }
     }
 
