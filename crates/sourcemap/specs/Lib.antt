@@ -42,6 +42,7 @@ pub use Rattle.sourcemap_hermes.specs.Map as Hermes
 pub use Rattle.sourcemap_hermes.specs.Decode as HermesDecoder
 pub use Rattle.sourcemap_hermes.specs.Encode as HermesEncoder
 pub use Rattle.sourcemap_hermes.specs.Equality as HermesEquality
+pub use Rattle.sourcemap_hermes.specs.Rewrite as HermesRewrite
 pub mod Trees
 pub use Rattle.sourcemap_trees.specs.FlatList
 pub use Rattle.sourcemap_trees.specs.Flat

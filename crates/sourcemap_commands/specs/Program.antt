@@ -6,7 +6,7 @@ use Rattle.sourcemap.specs.Adjust.{adjusted}
 use Rattle.sourcemap.specs.Decoded.{IsTextOf}
 use Rattle.sourcemap.specs.Answer.{UnlessMemory}
 use Rattle.sourcemap.specs.Errors.{error_text, FromIo}
-use Rattle.sourcemap.specs.HermesRewrite.{rewritten as rewritten_hermes}
+use Rattle.sourcemap.specs.HermesRewrite.{rewritten as hermes_rewritten}
 use Rattle.sourcemap.specs.Decoder.{BytesDecode, Reading, UnlessRead}
 use Rattle.sourcemap.specs.Flat.{FlatAnswer}
 use Rattle.sourcemap.specs.Rewrite.{no_removal, rewritten}
@@ -75,7 +75,7 @@ adjusted_by _ _ = Err IncompatibleSourceMap
 -- a regular map or a Hermes map rewritten by default
 abbrev pub rewritten_leaf : LeafMap → LeafMap
 rewritten_leaf (regular m) = regular (rewritten no_removal m)
-rewritten_leaf (hermes h) = hermes (rewritten_hermes no_removal h)
+rewritten_leaf (hermes h) = hermes (hermes_rewritten no_removal h)
 
 -- what a command says of a map, and of a second one where it takes one: its text, or why it refuses, a
 -- map of the wrong kind before all else
