@@ -1,15 +1,15 @@
 -- A map rewritten with default options, and maps of which one cannot adjust the other.
-use Rattle.std.proofs.Common.{◌≡◌, map, Some, Result, Ok, Err, MatchResult, ap}
+use Rattle.std.proofs.Common.{◌≡◌, refl, map, Some, Result, Ok, Err, MatchResult, ap}
 use Rattle.sourcemap.specs.Answer.{Gives, UnlessMemory}
 use Rattle.sourcemap.specs.declared.errors.Error.{Error}
-use Rattle.sourcemap.specs.declared.errors.Error.TheVariants.{OutOfMemory}
+use Rattle.sourcemap.specs.declared.errors.Error.TheVariants.{IncompatibleSourceMap, OutOfMemory}
 use Rattle.sourcemap.specs.Types.{MapValue}
 use Rattle.sourcemap.specs.Rewrite.{IsDefault, no_removal, removal_of, rewrite_due, rewritten}
 use Rattle.sourcemap.specs.Adjust.{adjusted}
 use Rattle.sourcemap.specs.Hermes.{HermesValue, hermes_value}
 use Rattle.sourcemap.specs.HermesRewrite.{rewrite_due as hermes_rewrite_due, rewritten as hermes_rewritten}
-use Rattle.sourcemap.specs.Trees.{regular, MapTree, leaf}
-use Rattle.sourcemap_commands.specs.Program.{adjusted_by}
+use Rattle.sourcemap.specs.Trees.{regular, hermes, MapTree, leaf, index}
+use Rattle.sourcemap_commands.specs.Program.{IsOfOtherKind, adjusted_by}
 use Rattle.sourcemap_rewriting.specs.declared.options.RewriteOptions.{RewriteOptions}
 use Rattle.sourcemap_hermes.specs.declared.map.SourceMapHermes.{SourceMapHermes}
 use Rattle.sourcemap_index.proofs.DecodedMapLemmas.{memory_alone}
@@ -44,6 +44,16 @@ rewritten_by_default options m r is gave = only_memory (λ m. m) r (rewritten no
 pub hermes_by_default : (options : RewriteOptions) (h : HermesValue) (r : Result SourceMapHermes Error) → IsDefault options
     → Gives hermes_value r (hermes_rewrite_due options h) → MatchResult r (λ n. hermes_value n ≡ hermes_rewritten no_removal h) (λ e. e ≡ OutOfMemory)
 hermes_by_default options h r is gave = only_memory hermes_value r (hermes_rewritten no_removal h) (rw (hermes_default_due options h is) at gave)
+
+-- a map of another kind adjusts none
+pub refused_adjustment : (t u : MapTree) (m : MapValue) (e : Error) → t ≡ leaf (regular m) → (e ≡ IncompatibleSourceMap) × IsOfOtherKind u
+    → UnlessMemory e (adjusted_by t (Some u) ≡ Err e)
+refused_adjustment t u m e is (same, other) = rw (is, same) (by_kind u other)
+  where
+    by_kind : (u : MapTree) → IsOfOtherKind u → adjusted_by (leaf (regular m)) (Some u) ≡ Err IncompatibleSourceMap
+    by_kind (leaf (regular n)) other = absurd other
+    by_kind (leaf (hermes h)) other = refl
+    by_kind (index parts ss) other = refl
 
 -- why two regular maps have no adjusted one
 pub not_adjusted : (t u : MapTree) (m n : MapValue) (e : Error) → t ≡ leaf (regular m) → u ≡ leaf (regular n)

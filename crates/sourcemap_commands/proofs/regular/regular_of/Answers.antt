@@ -8,5 +8,5 @@ use Rattle.sourcemap_commands.proofs.regular.regular_of.Goals as goal
 pub returns-in-Index : goal.returns-in-Index
 returns-in-Index c = (refl, subst IsOfOtherKind (sym (ap map_tree c.in-Index.is ∙ index_tree-of c.in-Index.field-0)) tt)
 
-pub returns-in-Hermes : goal.returns-in-Hermes
-returns-in-Hermes c = (refl, subst IsOfOtherKind (sym (ap map_tree c.in-Hermes.is ∙ hermes_tree c.in-Hermes.field-0)) tt)
+pub returns : goal.returns
+returns c = (refl, subst IsOfOtherKind (sym (ap map_tree c.in-Hermes.is ∙ hermes_tree c.in-Hermes.field-0)) tt)
