@@ -7,7 +7,7 @@ use Rattle.sourcemap.specs.Decoder.{BytesDecode}
 use Rattle.sourcemap.specs.Flat.{FlatAnswer}
 use Rattle.sourcemap.specs.Rewrite.{no_removal, rewritten}
 use Rattle.sourcemap.specs.TreeEncoder.{RecordAnswer}
-use Rattle.sourcemap.specs.Trees.{IsInOrder, MapTree, index, index_tree, regular, section_list}
+use Rattle.sourcemap.specs.Trees.{IsInOrder, MapTree, held, index, index_tree, leaf, section_list}
 use Rattle.sourcemap.specs.Types.{MapValue}
 use Rattle.sourcemap_bench.specs.Sums.{mixed, lookup_sum, token_sum}
 use Rattle.sourcemap_bench.specs.declared.work.Work.{Work}
@@ -17,9 +17,9 @@ use Rattle.sourcemap_bench.specs.declared.work.Work.TheVariants.{Decode, DecodeR
 abbrev pub counted : ℕ → ℕ → ℕ
 counted sum count = mixed sum (min count 4294967295)
 
--- how many tokens a regular map has, and how many sections an index
+-- how many tokens a map has, and how many sections an index
 abbrev pub size : MapTree → ℕ
-size (regular m) = length m.tokens
+size (leaf l) = length (held l).tokens
 size (index _ sections) = length (section_list sections)
 
 -- the sum with the size of the map that bytes stand for

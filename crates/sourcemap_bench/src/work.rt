@@ -51,7 +51,7 @@ fn regular_maps(alloc: Global, bytes: &[u8]) -> Result<(SourceMap, SourceMap)> {
 fn index_of(alloc: Global, bytes: Vec<u8>) -> Result<SourceMapIndex> {
     match decode_slice(alloc, bytes.as_slice())? {
         DecodedMap::Index(index) => Ok(index),
-        DecodedMap::Regular(_) => Err(Error::IncompatibleSourceMap),
+        _ => Err(Error::IncompatibleSourceMap),
     }
 }
 
@@ -59,6 +59,7 @@ fn index_of(alloc: Global, bytes: Vec<u8>) -> Result<SourceMapIndex> {
 fn positions_in(alloc: Global, map: &DecodedMap) -> Result<Vec<(u32, u32)>> {
     match map {
         DecodedMap::Regular(map) => drawn_positions(alloc, map),
+        DecodedMap::Hermes(map) => drawn_positions(alloc, map),
         DecodedMap::Index(index) => {
             let flat = index.flatten()?;
             drawn_positions(alloc, &flat)
@@ -94,12 +95,13 @@ fn section_count(index: &SourceMapIndex) -> u32
     index.get_section_count()
 }
 
-// How many tokens a regular map has, and how many sections an index.
+// How many tokens a map has, and how many sections an index.
 fn size_of(map: &DecodedMap) -> u32
     ensures { result ≡ min (size (map_tree map.now)) 4294967295 }
 {
     match map {
         DecodedMap::Regular(map) => map.get_token_count(),
+        DecodedMap::Hermes(map) => map.get_token_count(),
         DecodedMap::Index(index) => section_count(index),
     }
 }
