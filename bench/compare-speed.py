@@ -40,6 +40,7 @@ RUNS = (['lookup', '3', '100'], ['rewrite'])
 INDEX_RUNS = (['lookup', '3', '100'], ['flatten'])
 MADE = {'300-tokens': ['300'], '1000-tokens': ['1000'], '5000-tokens': ['5000'], '20000-tokens': ['20000'],
         'short-lines': ['500000', '--line', '5'], 'contents': ['20000', '--contents', '10000000'],
+        'functions': ['300000', '--line', '300000', '--functions', '400'],
         '500-sections': ['400000', '--sections', '500'], '100000-sections': ['400000', '--sections', '100000'],
         'within-40-indexes': ['20000', '--within', '40']}
 

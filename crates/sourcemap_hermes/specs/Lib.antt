@@ -2,3 +2,4 @@ pub mod Decode
 pub mod Encode
 pub mod Equality
 pub mod Map
+pub mod Rewrite

@@ -7,3 +7,4 @@ mod deref;
 pub mod encode;
 mod equality;
 pub mod map;
+pub mod rewrite;

@@ -194,9 +194,9 @@ fn moved_texts(alloc: Global, views: Vec<Option<SourceView>>) -> Result<Vec<Opti
     Ok(texts)
 }
 
-// The same view once more, where there is one.
-fn copied_view(view: &Option<SourceView>) -> Result<Option<SourceView>>
-    ensures { Gives (λ view. view) result (Ok view.now) }
+/// The same view once more, where there is one. Only want of memory refuses.
+pub fn copied_view(view: Option<&SourceView>) -> Result<Option<SourceView>>
+    ensures { Gives (λ view. view) result (Ok (option_copied view.entry)) }
 {
     match view {
         None => Ok(None),
@@ -209,7 +209,7 @@ fn copied_views(alloc: Global, views: &[Option<SourceView>]) -> Result<Vec<Optio
 {
     let mut copies = Vec::with_capacity(alloc, views.len())?;
     for view in views {
-        copies.push(copied_view(view)?)?;
+        copies.push(copied_view(view.as_ref())?)?;
     }
     Ok(copies)
 }

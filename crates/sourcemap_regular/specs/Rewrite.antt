@@ -8,8 +8,9 @@ use Rattle.sourcemap_lists.specs.declared.tokens.RawToken.{RawToken}
 use Rattle.sourcemap_lists.specs.Tokens.{destination}
 use Rattle.sourcemap_texts.specs.Prefixes.{cut_by}
 use Rattle.sourcemap_rewriting.specs.declared.options.RewriteOptions.{RewriteOptions}
-use Rattle.sourcemap_regular.specs.Map.{MapValue, Meaning, source_of, name_of, contents_of, meaning, meaning_of}
+use Rattle.sourcemap_regular.specs.Map.{MapValue, Meaning, shown_sources, source_of, name_of, contents_of, meaning, meaning_of}
 pub use Rattle.sourcemap_rewriting.specs.CutSources.{common_if, all_prefixes}
+pub use Rattle.sourcemap_rewriting.specs.FirstIds.{firsts_of}
 pub use Rattle.sourcemap_rewriting.specs.Kept.{present, kept_once, number_in}
 pub use Rattle.sourcemap_rewriting.specs.Options.{Removal, removal_of, IsDefault, no_removal}
 
@@ -21,6 +22,10 @@ used_sources m = kept_once (present (map (λ t. source_of m t.src_id) m.tokens))
 
 abbrev pub used_names : MapValue → List (List ℕ)
 used_names m = kept_once (present (map (λ t. name_of m t.name_id) m.tokens))
+
+-- the ids that the sources in use had: of each the one by which a token first uses its text
+abbrev pub first_ids : MapValue → List ℕ
+first_ids m = firsts_of (shown_sources m) (map (λ t. t.src_id) m.tokens)
 
 abbrev pub kept_names : Removal → MapValue → List (List ℕ)
 kept_names removal m = cond removal.with_names (used_names m) []

@@ -1,5 +1,6 @@
 //! A map rewritten with what its tokens use alone.
-ghost use Rattle.std.specs.Prelude.{◌≡◌, Ok, IfOk};
+ghost use Rattle.std.specs.Prelude.{◌≡◌, Ok, IfOk, nat_eq};
+ghost use Rattle.std.specs.List.{IsDistinct};
 ghost use Rattle.sourcemap_errors.specs.Answer.{Gives};
 ghost use Rattle.sourcemap_rewriting.specs.Options.{IsDefault, no_removal, removal_of};
 ghost use Rattle.sourcemap_rewriting.specs.declared.options.RewriteOptions.{RewriteOptions};
@@ -16,7 +17,7 @@ use std::rt::Files;
 
 impl SourceMap {
     ghost use Rattle.sourcemap_regular.specs.Map.{IsWellFormed, MeansTheSame};
-    ghost use Rattle.sourcemap_regular.specs.Rewrite.{rewrite_due, rewritten, LeavesMeaning, MeansLess, SaysLess};
+    ghost use Rattle.sourcemap_regular.specs.Rewrite.{first_ids, rewrite_due, rewritten, LeavesMeaning, MeansLess, SaysLess};
 
     /// The map with each source and each name that a token uses once, in the order in which tokens
     /// first use them. Sources are as they are shown behind the root, and the map has no root then.
@@ -24,7 +25,7 @@ impl SourceMap {
     /// The file and the debug id stay, and no source is passed over. Names and contents are left
     /// out, and prefixes of sources cut, as the options say. `IncompatibleSourceMap` if contents
     /// are to be read from files, else only `OutOfMemory`.
-    pub fn rewrite<F: Files>(self, _rt: &F, options: &RewriteOptions<'_>) -> Result<SourceMap>
+    pub fn rewrite<F: Files>(self, rt: &F, options: &RewriteOptions<'_>) -> Result<SourceMap>
         ensures value { Gives (λ m. m) result (rewrite_due options.now self) }
         // It answers at each position as before, less what the options take away.
         ensures meaning { IfOk result (λ m. MeansLess (removal_of options.now) self m) }
@@ -34,19 +35,41 @@ impl SourceMap {
             → IfOk result (λ m. MeansTheSame m self) }
         ensures well_formed { IfOk result (λ m. IsWellFormed self → IsWellFormed m) }
     {
+        // in two steps for the prover: what a call answers is known behind its `?`
+        let (map, _) = self.rewrite_with_ids(rt, options)?;
+        Ok(map)
+    }
+
+    /// The same map, and by id of its sources the ids that these had: of each the one by which a
+    /// token first uses its text. The faults are those of `rewrite`.
+    pub fn rewrite_with_ids<F: Files>(
+        self,
+        _rt: &F,
+        options: &RewriteOptions<'_>,
+    ) -> Result<(SourceMap, Vec<u32>)>
+        ensures value { Gives (λ new. new.0) result (rewrite_due options.now self) }
+        ensures ids { IfOk result (λ new. new.1.items ≡ first_ids self) }
+        ensures distinct { IfOk result (λ new. IsDistinct nat_eq new.1.items) }
+        ensures meaning { IfOk result (λ new. MeansLess (removal_of options.now) self new.0) }
+        ensures tokens { IfOk result (λ new. SaysLess (removal_of options.now) self new.0) }
+        ensures same { LeavesMeaning (removal_of options.now)
+            → IfOk result (λ new. MeansTheSame new.0 self) }
+        ensures well_formed { IfOk result (λ new. IsWellFormed self → IsWellFormed new.0) }
+    {
         // for the prover: there are at most 4294967295 sources
         let _ = self.sources.len();
         if options.load_local_source_contents {
             return Err(Error::IncompatibleSourceMap);
         }
         // in two steps for the prover: what a call answers is known behind its `?`
-        let map = self.rewritten(options)?;
-        Ok(map)
+        let new = self.rewritten(options)?;
+        Ok(new)
     }
 
-    // The map rewritten, without contents from files.
-    fn rewritten(self, options: &RewriteOptions<'_>) -> Result<SourceMap>
-        ensures { Gives (λ m. m) result (Ok (rewritten (removal_of options.now) self)) }
+    // The map rewritten, without contents from files, and the ids that its sources had.
+    fn rewritten(self, options: &RewriteOptions<'_>) -> Result<(SourceMap, Vec<u32>)>
+        ensures value { Gives (λ new. new.0) result (Ok (rewritten (removal_of options.now) self)) }
+        ensures ids { IfOk result (λ new. new.1.items ≡ first_ids self) }
     {
         let alloc = self.allocator();
         let SourceMap {
@@ -65,11 +88,13 @@ impl SourceMap {
             names,
             sources,
             contents,
+            first_ids,
         } = parts;
         let heading = heading.without_ignored(alloc);
         let sources = Sources::new(sources);
         let contents = Contents::of_views(contents);
-        Ok(SourceMap::of_parts(heading, tokens, names, sources, contents))
+        let map = SourceMap::of_parts(heading, tokens, names, sources, contents);
+        Ok((map, first_ids))
     }
 }
 

@@ -1,13 +1,15 @@
--- Texts that are moved to their new numbers, one after another.
-use Rattle.std.proofs.Common.{◌≡◌, ◌≢◌, refl, sym, ap, subst, ◌∙◌, ℕ, ◌+◌, ◌<◌, List, [], ◌∷◌, ◌++◌, length, take, drop, get_or, Some, None, Option, arith, inl, inr, ◌⊎◌, slice_get, slice_set}
+-- Texts that are moved to their new numbers, one after another, and the first old numbers of these.
+use Rattle.std.proofs.Common.{◌≡◌, ◌≢◌, refl, sym, ap, subst, ◌∙◌, ℕ, ◌+◌, ◌<◌, List, [], ◌∷◌, ◌++◌, length, map, take, drop, get_or, Some, None, Option, arith, inl, inr, ◌⊎◌, slice_get, slice_set}
 use Rattle.std.proofs.lemmas.Bool.{cases_eq}
-use Rattle.std.proofs.lemmas.List.{take_more, take-append-drop}
+use Rattle.std.proofs.lemmas.List.{take_more, drop_more, take-append-drop, length-map, map_push}
 use Rattle.std.proofs.lemmas.Option.{slice_get_within, get_or_from_slice_get}
 use Rattle.sourcemap_lists.specs.Interner.{place_of, with_text}
 use Rattle.sourcemap_lists.proofs.InternerLemmas.{place_of-last, slice_get-place_of}
+use Rattle.sourcemap_rewriting.specs.FirstIds.{first_of}
 use Rattle.sourcemap_rewriting.specs.Numbering.{with_text_if, kept_of, met_texts, IsMet, AreNumbered}
 use Rattle.sourcemap_rewriting.specs.declared.numbering.NewNumbers.{NewNumbers}
 use Rattle.sourcemap_lists.proofs.AllLemmas.{All-at}
+use Rattle.sourcemap_rewriting.proofs.FirstIdsLemmas.{first_here}
 use Rattle.sourcemap_rewriting.proofs.NumberingLemmas.{kept_of-push, place_of-with_text, place_of-kept_of, slice_get-set_other}
 
 -- texts are where they were, or among those that were moved
@@ -121,3 +123,33 @@ module _ (texts : List (List ℕ)) (n : NewNumbers) (is : AreNumbered texts n) (
       pub there-same : AreThere texts now (kept_of texts (take (i + 1) n.order.items))
       unfolding before after
       there-same = subst (AreThere texts now) (sym same) there
+
+  -- The first old numbers.
+
+  module _ (ids : List ℕ) (so_far : ids ≡ map (first_of texts n.order.items) (kept_of texts (take i n.order.items))) where
+    many : length ids ≡ length before
+    unfolding before
+    many = ap length so_far ∙ length-map (kept_of texts (take i n.order.items)) (first_of texts n.order.items)
+
+    -- that of a text that was not met is the next
+    pub first-more : number ≡ length ids → (ids' : List ℕ) → ids' ≡ ids ++ id ∷ [] → ids' ≡ map (first_of texts n.order.items) (kept_of texts (take (i + 1) n.order.items))
+    unfolding before after
+    first-more next ids' e =
+        let new : place_of met.text (kept_of texts (take i n.order.items)) ≡ None = new_text (next ∙ many) in
+        let added : kept_of texts (take (i + 1) n.order.items) ≡ kept_of texts (take i n.order.items) ++ met.text ∷ [] = one_more ∙ rw new refl in
+        let item : get_or n.order.items i 0 ≡ id = get_or_from_slice_get n.order.items i id 0 at in
+        let split : n.order.items ≡ take i n.order.items ++ id ∷ drop (i + 1) n.order.items =
+        sym (take-append-drop i n.order.items)
+        ∙ ap (λ xs. take i n.order.items ++ xs) (drop_more n.order.items i 0 (slice_get_within n.order.items i id at) ∙ ap (λ x. x ∷ drop (i + 1) n.order.items) item) in
+        let here : first_of texts n.order.items met.text ≡ id =
+        ap (λ all. first_of texts all met.text) split ∙ first_here texts (take i n.order.items) (drop (i + 1) n.order.items) id met.text new met.named in
+        e ∙ (λ j. so_far j ++ sym here j ∷ [])
+        ∙ sym (map_push (first_of texts n.order.items) (kept_of texts (take i n.order.items)) met.text)
+        ∙ ap (map (first_of texts n.order.items)) (sym added)
+
+    pub first-same : number ≢ length ids → ids ≡ map (first_of texts n.order.items) (kept_of texts (take (i + 1) n.order.items))
+    unfolding before after
+    first-same other =
+        let old = old_text (λ e. other (e ∙ sym many)) in
+        let same : kept_of texts (take (i + 1) n.order.items) ≡ kept_of texts (take i n.order.items) = one_more ∙ rw old.1 refl in
+        so_far ∙ ap (map (first_of texts n.order.items)) (sym same)

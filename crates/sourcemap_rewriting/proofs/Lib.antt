@@ -1,3 +1,4 @@
+pub mod FirstIdsLemmas
 pub mod KeptContentsLemmas
 pub mod KeptTextsLemmas
 pub mod NumberingLemmas

@@ -1,8 +1,9 @@
 -- The parts of a map that is rewritten.
-use Rattle.std.proofs.Common.{◌≡◌, ◌≢◌, refl, sym, ap, ◌∙◌, ℕ, suc, ◌<◌, ◌≤◌, ◌==◌, List, [], ◌∷◌, length, map, get_or, Bool, true, false, cond, Some, None, Option, arith, inl, inr, ◌⊎◌, slice_get, eqb-true, eq-eqb, option_map, option_and_then, MatchBool, Result, Ok, string_bytes}
+use Rattle.std.proofs.Common.{◌≡◌, ◌≢◌, refl, sym, ap, ◌∙◌, ℕ, suc, ◌<◌, ◌≤◌, ◌==◌, List, [], ◌∷◌, length, map, get_or, Bool, true, false, cond, Some, None, Option, arith, inl, inr, ◌⊎◌, slice_get, eqb-true, eq-eqb, option_map, option_and_then, MatchBool, Result, Ok, string_bytes, String, Vec, vec_len, subst}
 use Rattle.std.specs.List.{AllByRecursion}
 use Rattle.std.specs.Option.{option_or}
 use Rattle.std.specs.Str.{bytes_eq}
+use Rattle.std.specs.declared.alloc.Global.{Global}
 use Rattle.std.proofs.lemmas.Bool.{cases_eq}
 use Rattle.std.proofs.lemmas.List.{length-map}
 use Rattle.std.proofs.lemmas.Option.{slice_get-map, slice_get-get_or, slice_get_within}
@@ -25,11 +26,18 @@ use Rattle.sourcemap_lists.proofs.AllLemmas.{All-weaker}
 use Rattle.sourcemap_rewriting.proofs.NumberingLemmas.{kept_once-few, distinct-kept_of}
 
 -- each old number that was met has a new one
-pub all_placed : (S : List (List ℕ)) (s : NewNumbers) → AreNumbered S s → AllByRecursion (IsPlaced s.numbers.items (length (met_texts S s))) s.order.items
+all_placed : (S : List (List ℕ)) (s : NewNumbers) → AreNumbered S s → AllByRecursion (IsPlaced s.numbers.items (length (met_texts S s))) s.order.items
 all_placed S s is = All-weaker (IsMet S s) (IsPlaced s.numbers.items (length (met_texts S s))) placed s.order.items is.met
   where
     placed : (id : ℕ) → IsMet S s id → IsPlaced s.numbers.items (length (met_texts S s)) id
     placed id met = (met.number, met.numbered, slice_get_within (met_texts S s) met.number met.text (slice_get-place_of met.text (met_texts S s) met.number met.placed))
+
+-- and each has one below the count of the texts that were moved
+pub placed_among : (S : List (List ℕ)) (s : NewNumbers) (texts : Vec (String Global) Global) (count : ℕ) → AreNumbered S s → texts_of texts ≡ met_texts S s → count ≡ vec_len texts
+    → (count ≡ length (met_texts S s)) × AllByRecursion (IsPlaced s.numbers.items count) s.order.items
+placed_among S s texts count is kept many =
+    let same : count ≡ length (met_texts S s) = many ∙ texts.ok.0 ∙ sym (length-map texts.items (string_bytes {Z = Global})) ∙ ap length kept in
+    (same, subst (λ k. AllByRecursion (IsPlaced s.numbers.items k) s.order.items) (sym same) (all_placed S s is))
 
 -- Contents.
 

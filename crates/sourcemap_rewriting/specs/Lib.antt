@@ -1,4 +1,5 @@
 pub mod CutSources
+pub mod FirstIds
 pub mod Kept
 pub mod KeptContents
 pub mod Numbering

@@ -6,6 +6,7 @@ use Rattle.sourcemap_texts.specs.Texts.{texts_of}
 use Rattle.sourcemap_texts.specs.Prefixes.{cut_by}
 use Rattle.sourcemap_rewriting.specs.Options.{Removal}
 use Rattle.sourcemap_rewriting.specs.CutSources.{all_prefixes}
+use Rattle.sourcemap_rewriting.specs.FirstIds.{firsts_of}
 use Rattle.sourcemap_rewriting.specs.Kept.{present}
 use Rattle.sourcemap_rewriting.specs.KeptContents.{given}
 use Rattle.sourcemap_rewriting.specs.Numbering.{kept_of, numbered_by}
@@ -28,6 +29,10 @@ sources_used sources tokens = kept_of sources (map (λ t. t.src_id) tokens)
 abbrev pub names_used : List (List ℕ) → List RawToken → List (List ℕ)
 names_used names tokens = kept_of names (map (λ t. t.name_id) tokens)
 
+-- the old numbers of the sources that tokens use: of each the first in the order of tokens
+abbrev pub first_ids_used : List (List ℕ) → List RawToken → List ℕ
+first_ids_used sources tokens = firsts_of sources (map (λ t. t.src_id) tokens)
+
 pub record AreRewritten (sources names paths : List (List ℕ)) (contents : List (Option (List ℕ)))
     (removal : Removal) (tokens : List RawToken) (p : RewrittenParts) : Type 0 where
   pub tokens_due : p.tokens
@@ -35,6 +40,7 @@ pub record AreRewritten (sources names paths : List (List ℕ)) (contents : List
   pub names_due : texts_of p.names ≡ names_used names tokens
   pub sources_due : texts_of p.sources
       ≡ map (cut_by (all_prefixes removal.prefixes paths)) (sources_used sources tokens)
+  pub first_ids_due : p.first_ids.items ≡ first_ids_used sources tokens
   pub contents_kept : p.contents.items
       ≡ cond removal.with_contents (map (contents_due sources contents tokens) (sources_used sources tokens)) []
 

@@ -4,6 +4,7 @@
 #![tactic(auto)]
 
 mod cut_sources;
+mod first_ids;
 mod kept_contents;
 mod kept_texts;
 pub mod numbering;

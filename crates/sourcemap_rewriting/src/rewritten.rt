@@ -8,6 +8,7 @@ ghost use Rattle.sourcemap_rewriting.specs.Rewritten.{AreFew, AreRewritten};
 ghost use Rattle.sourcemap_rewriting.specs.KeptContents.{AreKept, IsPlaced};
 
 use crate::cut_sources::{all_prefixes, cut_sources};
+use crate::first_ids::first_ids;
 use crate::kept_contents::kept_contents;
 use crate::kept_texts::kept_texts;
 use crate::numbering::NewNumbers;
@@ -80,6 +81,8 @@ pub struct RewrittenParts {
     pub sources: Vec<String>,
     /// The contents of these sources.
     pub contents: Vec<Option<SourceView>>,
+    /// The old numbers of these sources, of each that by which a token first uses its text.
+    pub first_ids: Vec<u32>,
 }
 
 /// The parts of a map of these tokens, names and sources, which are shown behind a root where there
@@ -110,11 +113,13 @@ pub fn rewritten_parts(
     let sources = cut_sources(alloc, texts, prefixes.as_slice())?;
     let with_contents = options.with_source_contents;
     let contents = contents_if(alloc, contents, &numbers.sources, count, with_contents)?;
+    let first_ids = first_ids(alloc, &numbers.sources, count)?;
     let names = kept_texts(alloc, names, &numbers.names)?;
     Ok(RewrittenParts {
         tokens,
         names,
         sources,
         contents,
+        first_ids,
     })
 }

@@ -42,6 +42,11 @@ map_at (entry ∷ entries) [] id all = absurd all
 map_at (entry ∷ entries) (x ∷ maps) zero all = all.0
 map_at (entry ∷ entries) (x ∷ maps) (suc id) all = map_at entries maps id all.1
 
+-- picked together, entries and function maps go together
+pub picked_of_entries : (scopes : SourceScopesValue) (ids : List ℕ) → AreOfEntries scopes → AreOfEntries (picked_scopes scopes ids)
+picked_of_entries scopes [] all = tt
+picked_of_entries scopes (id ∷ ids) all = (map_at scopes.entries scopes.function_maps id all, picked_of_entries scopes ids all)
+
 left_over : (entries : List ScopeEntry) (maps : List (Option (List HermesScopeOffset))) (id : ℕ) → AllZip EntryStandsFor entries maps
     → AllZip EntryStandsFor (slice_set entries id None) (slice_set maps id None)
 left_over [] [] id all = tt

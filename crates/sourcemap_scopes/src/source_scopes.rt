@@ -169,8 +169,11 @@ pub fn entries_determine_function_maps()
         → a.function_maps ≡ b.function_maps }
 {}
 
-/// A law: where its scopes are picked, a source keeps its functions, and the order that they have.
+/// A law: where its scopes are picked, a source keeps its functions, and the order that they have;
+/// and function maps are those of the entries as before.
 pub fn picked_scopes_answer_alike()
+    ensures of_entries { (scopes : SourceScopesValue) (ids : List ℕ)
+        → AreOfEntries scopes → AreOfEntries (picked_scopes scopes ids) }
     ensures in_order { (scopes : SourceScopesValue) (ids : List ℕ) (place id : ℕ)
         → slice_get ids place ≡ Some id → IsInOrderAt scopes id
         → IsInOrderAt (picked_scopes scopes ids) place }

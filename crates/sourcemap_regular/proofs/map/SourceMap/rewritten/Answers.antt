@@ -1,14 +1,14 @@
 use Rattle.std.proofs.Common.{◌≡◌, ℕ, List, [], None, Ok, cond, unwrap_or, sym, ap, subst, ◌∙◌}
 use Rattle.sourcemap_texts.specs.Texts.{texts_of}
-use Rattle.sourcemap_rewriting.specs.Rewritten.{AreRewritten}
+use Rattle.sourcemap_rewriting.specs.Rewritten.{AreRewritten, first_ids_used}
 use Rattle.sourcemap_regular.specs.Map.{MapValue, shown_sources}
 use Rattle.sourcemap_regular.specs.MapStored.{map_over, value_of}
-use Rattle.sourcemap_regular.specs.Rewrite.{removal_of, rewritten}
+use Rattle.sourcemap_regular.specs.Rewrite.{removal_of, first_ids, rewritten}
 use Rattle.sourcemap_regular.proofs.RewriteLemmas.{tokens-rewritten, names-rewritten, sources-rewritten, contents-rewritten}
 use Rattle.sourcemap_regular.proofs.map.SourceMap.rewritten.Goals as goal
 
-pub returns : goal.returns
-returns c =
+pub returns-clause-value : goal.returns-clause-value
+returns-clause-value c =
     let m : MapValue = value_of c.self.inside in
     let removal = removal_of c.args.options.now in
     let p = c.in_ok-parts.parts in
@@ -20,10 +20,15 @@ returns c =
     let given : paths ≡ m.sources = c.into_lists-sources.ensures.given in
     let are : AreRewritten S N paths m.contents removal m.tokens p =
     subst (λ contents. AreRewritten S N paths contents removal m.tokens p) c.into_views-contents.ensures.views c.in_ok-parts.ensures.parts in
-    let is : c.of_parts.result ≡ rewritten removal m =
-    c.of_parts.ensures ∙ (λ i. map_over (c.without_ignored-heading.ensures i)
+    let is : c.of_parts-map.result ≡ rewritten removal m =
+    c.of_parts-map.ensures ∙ (λ i. map_over (c.without_ignored-heading.ensures i)
     (tokens-rewritten m removal p S N paths sources names given are i)
     (names-rewritten m removal p S N paths sources names given are i)
     ((c.new-sources.ensures ∙ (λ j. record { root = None; texts = sources-rewritten m removal p S N paths sources names given are j })) i)
     ((c.of_views-contents.ensures ∙ contents-rewritten m removal p S N paths sources names given are) i)) in
     ap (λ v. Ok (rewritten removal v)) (sym c.self.view_is) ∙ ap Ok (sym is)
+
+pub returns-clause-ids : goal.returns-clause-ids
+returns-clause-ids c =
+    c.in_ok-parts.ensures.parts.first_ids_due ∙ ap (λ S. first_ids_used S c.self.inside.tokens) c.into_lists-sources.ensures.shown
+    ∙ ap first_ids c.self.view_is

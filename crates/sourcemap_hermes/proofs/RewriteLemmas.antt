@@ -1,0 +1,231 @@
+-- Rewritten, a Hermes map stays well-formed, and its tokens keep their scopes.
+use Rattle.std.proofs.Common.{◌≡◌, refl, sym, ap, subst, ◌∙◌, ℕ, zero, suc, ◌≤◌, List, [], ◌∷◌, length, map, Some, None, Option, Bool, true, false, Ok, Err, if◌then◌else◌, inl, inr, ◌⊎◌, arith, slice_get, option_map, option_and_then, IfSome}
+use Rattle.std.specs.List.{AllByRecursion, AllZip}
+use Rattle.std.proofs.lemmas.List.{length-map}
+use Rattle.std.proofs.lemmas.Option.{slice_get-map, slice_get_past}
+use Rattle.sourcemap_errors.specs.declared.errors.Error.TheVariants.{IncompatibleSourceMap}
+use Rattle.sourcemap_lists.specs.Interner.{place_of}
+use Rattle.sourcemap_lists.specs.declared.tokens.RawToken.{RawToken}
+use Rattle.sourcemap_lists.specs.Tokens.{destination, position_cmp, closest_token, IsWithin}
+use Rattle.sourcemap_lists.proofs.AllLemmas.{All-at, All-both}
+use Rattle.sourcemap_lists.proofs.InternerLemmas.{slice_get-place_of}
+use Rattle.sourcemap_lists.proofs.SearchLemmas.{closest-change, place-closest}
+use Rattle.sourcemap_parts.specs.Sources.{shown}
+use Rattle.sourcemap_rewriting.specs.FirstIds.{first_of}
+use Rattle.sourcemap_rewriting.specs.Numbering.{HasPlace, kept_of}
+use Rattle.sourcemap_rewriting.specs.declared.options.RewriteOptions.{RewriteOptions}
+use Rattle.sourcemap_rewriting.proofs.FirstIdsLemmas.{first_names}
+use Rattle.sourcemap_regular.specs.Map.{MapValue, IsWellFormed as IsWellFormedRegular, shown_sources, source_of, lookup, column_behind, distance}
+use Rattle.sourcemap_regular.specs.Rewrite.{Removal, removal_of, used_sources, number_in, first_ids, renumbered, rewritten as map_rewritten, rewrite_due as map_rewrite_due}
+use Rattle.sourcemap_regular.specs.Token.{TokenValue, token_at}
+use Rattle.sourcemap_regular.proofs.RewriteLemmas.{sources_used, few_used_sources}
+use Rattle.sourcemap_regular.proofs.RewriteMeaning.{IsKept, all_tokens_kept}
+use Rattle.sourcemap_scopes.specs.Picks.{item_at, items_at}
+use Rattle.sourcemap_scopes.specs.ScopeLists.{EntryStandsFor, names_of}
+use Rattle.sourcemap_scopes.specs.SourceScopes.{SourceScopesValue, IsInOrderAt, scope_at, picked_scopes}
+use Rattle.sourcemap_scopes.specs.FunctionMap.{AreOffsetsInOrder, closest_offset}
+use Rattle.sourcemap_scopes.proofs.SourceScopesLemmas.{picked_of_entries}
+use Rattle.sourcemap_hermes.specs.Map.{HermesValue, IsWellFormed, token_scope, function_name}
+use Rattle.sourcemap_hermes.specs.Rewrite.{rewritten, HasDistinctSources, scope_behind, IsInOrderOf, KeepsScopes}
+
+-- Items that were picked.
+
+picked-at : {X : Type 0} (items : List (Option X)) (ids : List ℕ) (place id : ℕ) → slice_get ids place ≡ Some id → item_at (items_at items ids) place ≡ item_at items id
+picked-at items ids place id at = ap (option_and_then (λ item. item)) (slice_get-map (item_at items) ids place ∙ ap (option_map (item_at items)) at)
+
+picked-none : {X : Type 0} (items : List (Option X)) (ids : List ℕ) (place : ℕ) → slice_get ids place ≡ None → item_at (items_at items ids) place ≡ None
+picked-none items ids place at = ap (option_and_then (λ item. item)) (slice_get-map (item_at items) ids place ∙ ap (option_map (item_at items)) at)
+
+past : {X : Type 0} (items : List (Option X)) (id : ℕ) → length items ≤ id → item_at items id ≡ None
+past items id few = ap (option_and_then (λ item. item)) (slice_get_past items id few)
+
+as_many : {X Y : Type 0} (R : X → Y → Type 0) (xs : List X) (ys : List Y) → AllZip R xs ys → length xs ≡ length ys
+as_many R [] [] all = refl
+as_many R [] (y ∷ ys) all = absurd all
+as_many R (x ∷ xs) [] all = absurd all
+as_many R (x ∷ xs) (y ∷ ys) all = ap suc (as_many R xs ys all.1)
+
+at_place : {X : Type 0} (P : X → Type 0) (xs : List X) (i : ℕ) → AllByRecursion P xs → IfSome (slice_get xs i) P
+at_place P [] i all = tt
+at_place P (x ∷ xs) zero all = all.0
+at_place P (x ∷ xs) (suc i) all = at_place P xs i all.1
+
+unnamed : {X Y : Type 0} (f : X → Y) (xs : List X) (i : ℕ) → option_map f (slice_get xs i) ≡ None → length xs ≤ i
+unnamed f [] i h = omega arith
+unnamed f (x ∷ xs) zero h = cc
+unnamed f (x ∷ xs) (suc i) h = let rest = unnamed f xs i h in omega arith
+
+module _ (removal : Removal) (h : HermesValue) (few : length h.map.sources ≤ 4294967295) where
+  few_ids : length (first_ids h.map) ≤ 4294967295
+  few_ids =
+      let many : length (first_ids h.map) ≡ length (used_sources h.map) =
+      length-map (kept_of (shown_sources h.map) (map (λ t. t.src_id) h.map.tokens)) (first_of (shown_sources h.map) (map (λ t. t.src_id) h.map.tokens))
+      ∙ ap length (sources_used h.map removal) in
+      let some = few_used_sources h.map removal few in
+      omega (arith, many, some)
+
+  pub well_rewritten : IsWellFormed h → IsWellFormedRegular (map_rewritten removal h.map) → IsWellFormed (rewritten removal h)
+  well_rewritten well map_well = record {
+    map = map_well;
+    few = let many = length-map (first_ids h.map) (item_at h.scopes.entries) in let some = few_ids in omega (arith, many, some);
+    of_entries = picked_of_entries h.scopes (first_ids h.map) well.of_entries;
+  }
+
+  module _ (well : IsWellFormed h) (distinct : HasDistinctSources h) where
+    -- a token as its map has it
+    abbrev IsOwn : RawToken → Type 0
+    IsOwn t = IsKept h.map t × IsWithin (length h.map.sources) (length h.map.names) t
+
+    all_own : AllByRecursion IsOwn h.map.tokens
+    all_own = All-both (IsKept h.map) (IsWithin (length h.map.sources) (length h.map.names)) h.map.tokens (all_tokens_kept h.map) well.map
+
+    -- its new id stands for its old one, or neither has scopes
+    abbrev StandsFor : ℕ → ℕ → Type 0
+    StandsFor place id =
+        (slice_get (first_ids h.map) place ≡ Some id)
+        ⊎ ((slice_get (first_ids h.map) place ≡ None) × (item_at h.scopes.entries id ≡ None) × (item_at h.scopes.function_maps id ≡ None))
+
+    stands-for : (t : RawToken) → IsOwn t → StandsFor (renumbered removal h.map t).src_id t.src_id
+    stands-for t (kept, within) = by_case (source_of h.map t.src_id) refl kept.0
+      where
+        many_maps : length h.scopes.entries ≡ length h.scopes.function_maps
+        many_maps = as_many EntryStandsFor h.scopes.entries h.scopes.function_maps well.of_entries
+
+        by_case : (o : Option (List ℕ)) → source_of h.map t.src_id ≡ o → HasPlace (used_sources h.map) (source_of h.map t.src_id)
+            → StandsFor (number_in (used_sources h.map) (source_of h.map t.src_id)) t.src_id
+        by_case None e has =
+            let out : length h.map.sources ≤ t.src_id = unnamed (shown h.map.root) h.map.sources t.src_id (sym (slice_get-map (shown h.map.root) h.map.sources t.src_id) ∙ e) in
+            let none : t.src_id ≡ 4294967295 = (within out).0 in
+            inr (
+              ap (λ o. slice_get (first_ids h.map) (number_in (used_sources h.map) o)) e ∙ slice_get_past (first_ids h.map) 4294967295 few_ids,
+              past h.scopes.entries t.src_id (omega (arith, none, well.few)),
+              past h.scopes.function_maps t.src_id (omega (arith, none, well.few, many_maps)),
+            )
+        by_case (Some text) e has =
+            let placed : (n : ℕ) × (place_of text (used_sources h.map) ≡ Some n) = subst (HasPlace (used_sources h.map)) e has in
+            let number : number_in (used_sources h.map) (source_of h.map t.src_id) ≡ placed.0 = ap (number_in (used_sources h.map)) e ∙ rw placed.1 refl in
+            let ids : List ℕ = map (λ t. t.src_id) h.map.tokens in
+            let at : slice_get (kept_of (shown_sources h.map) ids) placed.0 ≡ Some text =
+            ap (λ kept. slice_get kept placed.0) (sources_used h.map removal) ∙ slice_get-place_of text (used_sources h.map) placed.0 placed.1 in
+            let first : ℕ = first_of (shown_sources h.map) ids text in
+            let here : place_of text (shown_sources h.map) ≡ Some first = distinct text first (first_names (shown_sources h.map) ids placed.0 text at) in
+            let own : place_of text (shown_sources h.map) ≡ Some t.src_id = distinct text t.src_id e in
+            inl (ap (slice_get (first_ids h.map)) number
+            ∙ slice_get-map (first_of (shown_sources h.map) ids) (kept_of (shown_sources h.map) ids) placed.0
+            ∙ ap (option_map (first_of (shown_sources h.map) ids)) at
+            ∙ sym here ∙ own)
+
+    same_item : {X : Type 0} (items : List (Option X)) (place id : ℕ) → (slice_get (first_ids h.map) place ≡ Some id) ⊎ ((slice_get (first_ids h.map) place ≡ None) × (item_at items id ≡ None))
+        → item_at (items_at items (first_ids h.map)) place ≡ item_at items id
+    same_item items place id (inl at) = picked-at items (first_ids h.map) place id at
+    same_item items place id (inr (at, none)) = picked-none items (first_ids h.map) place at ∙ sym none
+
+    same_scope : (t : RawToken) → IsOwn t → (p : ℕ × ℕ)
+        → scope_at (rewritten removal h).scopes (renumbered removal h.map t).src_id p ≡ scope_at h.scopes t.src_id p
+    same_scope t own p = scope_by (stands-for t own)
+      where
+        scope_by : StandsFor (renumbered removal h.map t).src_id t.src_id → scope_at (rewritten removal h).scopes (renumbered removal h.map t).src_id p ≡ scope_at h.scopes t.src_id p
+        scope_by stands =
+            let entry = same_item h.scopes.entries (renumbered removal h.map t).src_id t.src_id (elim stands [ inl at ↦ inl at | inr none ↦ inr (none.0, none.1) ]) in
+            let functions = same_item h.scopes.function_maps (renumbered removal h.map t).src_id t.src_id (elim stands [ inl at ↦ inl at | inr none ↦ inr (none.0, none.2) ]) in
+            λ i. option_and_then (λ index. slice_get (names_of (entry i)) index) (option_and_then (λ offsets. option_map (λ o. o.name_index) (closest_offset offsets p)) (functions i))
+
+    still_in_order : (t : RawToken) → IsOwn t → IsInOrderAt h.scopes t.src_id → IsInOrderAt (rewritten removal h).scopes (renumbered removal h.map t).src_id
+    still_in_order t own =
+        let stands = stands-for t own in
+        subst (λ functions. IfSome functions AreOffsetsInOrder)
+        (sym (same_item h.scopes.function_maps (renumbered removal h.map t).src_id t.src_id (elim stands [ inl at ↦ inl at | inr none ↦ inr (none.0, none.2) ])))
+
+    -- By index.
+
+    -- a token of this index, as getters answer it
+    abbrev indexed : MapValue → ℕ → RawToken → TokenValue
+    indexed m index raw = record { map_of = m; raw = raw; index = index; behind = 0 }
+
+    abbrev scope_told : HermesValue → ℕ → ℕ → Option RawToken → Option (List ℕ)
+    scope_told g index behind o = option_and_then (λ (t : TokenValue). token_scope g.scopes (record t { behind = behind })) (option_map (indexed g.map index) o)
+
+    scopes_kept : (index behind : ℕ) → scope_behind (rewritten removal h) index behind ≡ scope_behind h index behind
+    scopes_kept index behind =
+        ap (scope_told (rewritten removal h) index behind) (slice_get-map (renumbered removal h.map) h.map.tokens index)
+        ∙ by_case (slice_get h.map.tokens index) (at_place IsOwn h.map.tokens index all_own)
+      where
+        by_case : (o : Option RawToken) → IfSome o IsOwn
+            → scope_told (rewritten removal h) index behind (option_map (renumbered removal h.map) o) ≡ scope_told h index behind o
+        by_case None own = refl
+        by_case (Some t) own = same_scope t own (t.src_line, column_behind t.src_col behind)
+
+    stays_in_order : (index : ℕ) → IsInOrderOf h (token_at h.map index) → IsInOrderOf (rewritten removal h) (token_at (rewritten removal h).map index)
+    stays_in_order index =
+        subst (λ o. IsInOrderOf h (token_at h.map index) → IsInOrderOf (rewritten removal h) (option_map (indexed (rewritten removal h).map index) o))
+        (sym (slice_get-map (renumbered removal h.map) h.map.tokens index))
+        (by_case (slice_get h.map.tokens index) (at_place IsOwn h.map.tokens index all_own))
+      where
+        by_case : (o : Option RawToken) → IfSome o IsOwn
+            → IsInOrderOf h (option_map (indexed h.map index) o)
+            → IsInOrderOf (rewritten removal h) (option_map (indexed (rewritten removal h).map index) (option_map (renumbered removal h.map) o))
+        by_case None own up = tt
+        by_case (Some t) own up = still_in_order t own up
+
+    -- By position.
+
+    closest_own : (p : ℕ × ℕ) → IfSome (closest_token h.map.tokens p) (λ found. IsOwn found.1)
+    closest_own p = by_case (closest_token h.map.tokens p) (place-closest destination position_cmp h.map.tokens p)
+      where
+        by_case : (o : Option (ℕ × RawToken)) → IfSome o (λ found. slice_get h.map.tokens found.0 ≡ Some found.1) → IfSome o (λ found. IsOwn found.1)
+        by_case None at = tt
+        by_case (Some found) at = All-at IsOwn h.map.tokens found.0 found.1 at all_own
+
+    -- what is found in the map rewritten
+    abbrev renumbered_found : Option (ℕ × RawToken) → Option (ℕ × RawToken)
+    renumbered_found found = option_map (λ (e : ℕ × RawToken). (e.0, renumbered removal h.map e.1)) found
+
+    found_again : (p : ℕ × ℕ) → closest_token (rewritten removal h).map.tokens p ≡ renumbered_found (closest_token h.map.tokens p)
+    found_again p = closest-change destination destination position_cmp (renumbered removal h.map) (λ t. refl) h.map.tokens p
+
+    -- a token that was found, as lookups answer it
+    abbrev answered : MapValue → ℕ × ℕ → ℕ × RawToken → TokenValue
+    answered m p found = record { map_of = m; raw = found.1; index = found.0; behind = distance found.1 p }
+
+    names_kept : (offset : ℕ) → function_name (rewritten removal h) offset ≡ function_name h offset
+    names_kept offset =
+        let p : ℕ × ℕ = (0, offset) in
+        ap (λ found. option_and_then (token_scope (rewritten removal h).scopes) (option_map (answered (rewritten removal h).map p) found)) (found_again p)
+        ∙ by_case p (closest_token h.map.tokens p) (closest_own p)
+      where
+        by_case : (p : ℕ × ℕ) (o : Option (ℕ × RawToken)) → IfSome o (λ found. IsOwn found.1)
+            → option_and_then (token_scope (rewritten removal h).scopes) (option_map (answered (rewritten removal h).map p) (renumbered_found o))
+            ≡ option_and_then (token_scope h.scopes) (option_map (answered h.map p) o)
+        by_case p None own = refl
+        by_case p (Some found) own = same_scope found.1 own (found.1.src_line, column_behind found.1.src_col (distance found.1 p))
+
+    stays_in_order_at : (p : ℕ × ℕ) → IsInOrderOf h (lookup h.map p) → IsInOrderOf (rewritten removal h) (lookup (rewritten removal h).map p)
+    stays_in_order_at p =
+        subst (λ found. IsInOrderOf h (lookup h.map p) → IsInOrderOf (rewritten removal h) (option_map (answered (rewritten removal h).map p) found)) (sym (found_again p))
+        (by_case (closest_token h.map.tokens p) (closest_own p))
+      where
+        by_case : (o : Option (ℕ × RawToken)) → IfSome o (λ found. IsOwn found.1)
+            → IsInOrderOf h (option_map (answered h.map p) o) → IsInOrderOf (rewritten removal h) (option_map (answered (rewritten removal h).map p) (renumbered_found o))
+        by_case None own up = tt
+        by_case (Some found) own up = still_in_order found.1 own up
+
+    pub keeps-scopes : KeepsScopes h (rewritten removal h)
+    keeps-scopes = record {
+      scopes = scopes_kept;
+      names = names_kept;
+      in_order = stays_in_order;
+      in_order_at = stays_in_order_at;
+    }
+
+-- the map that a call answers, which rewrites the regular map and picks the scopes of first ids
+pub is-rewritten : (options : RewriteOptions) (h : HermesValue) (m : MapValue) (scopes : SourceScopesValue) (ids : List ℕ)
+    → map_rewrite_due options h.map ≡ Ok m → ids ≡ first_ids h.map → scopes ≡ picked_scopes h.scopes ids
+    → rewritten (removal_of options) h ≡ record { map = m; scopes = scopes }
+is-rewritten options h m scopes ids due are picked = by_case options.load_local_source_contents due
+  where
+    by_case : (b : Bool) → (if b then Err IncompatibleSourceMap else Ok (map_rewritten (removal_of options) h.map)) ≡ Ok m
+        → rewritten (removal_of options) h ≡ record { map = m; scopes = scopes }
+    by_case true due = cc
+    by_case false due =
+        let map : map_rewritten (removal_of options) h.map ≡ m = cc in
+        λ i. record { map = map i; scopes = (sym (picked ∙ ap (picked_scopes h.scopes) are)) i }
