@@ -202,7 +202,6 @@ impl SourceMapBuilder {
               (option_copied contents.entry);
         }) }
     {
-        let alloc = *self.tokens.allocator();
         let count = self.interned.len();
         self.contents.set(count, id, contents)?;
         Ok(())
