@@ -20,24 +20,24 @@ then the status is 1. A reason is given only where what was printed bears it out
   the distance of columns to the source column and nothing else differs
 - of a lookup in an index: both answer as they do in the map that the position leads to, and differ there for
   one of these two reasons
+- scopes: of maps with function maps that are rewritten, see `reason_of_rewritten_hermes` there
 - bundle lists: of records written of an index, see `reason_of_index` in comparing.py
 - past the end: this program refuses to flatten, and by the rules a token would pass the last line or column
 - digits: this program refuses a byte, named as a character, or a number that mappings have, where the byte is
   no digit or the number has more than 63 bits; the reference takes them, or refuses what comes later
 - fault: both refuse the text as JSON, with another of its faults
 - not there: this program does not know the word yet
-- kind not there: a map that has function names, or an index of such maps, which this program refuses as
-  incompatible; to be taken out of this script once the program reads such maps
 
 Positions in an index are drawn here, beside tokens of the flat map, beside starts of sections and anywhere.
 """
 import argparse, random, re, tempfile
 from comparing import (TOOL, answer, build_missing, compare_all, is_reordered, noted, placed_tokens,
-                       reason_of_index, reason_of_record, reference_program, tokens_of, without_mark)
+                       reason_of_index, reason_of_record, reason_of_rewritten_hermes, reference_program, tokens_of,
+                       without_mark)
+from hermes_maps import KEY
 from index_maps import LAST, bytes_of, flat_tokens, innermost, is_index, offset_of, pieces, record_of
 
 WORDS = [['tokens'], ['rewrite'], ['flatten'], ['shift', '7'], ['shift', str(LAST)]]
-INCOMPATIBLE = (1, b'encountered incompatible sourcemap format\n')
 PAST_THE_END = (1, b'cannot flatten the indexed sourcemap: a position passes 4294967295\n')
 JSON_FAULT = b'bad json: '
 OVERFLOW = b'vlq decode caused an overflow\n'
@@ -63,11 +63,6 @@ def are_json_faults(*answers):
     return all(status == 1 and text.startswith(JSON_FAULT) for status, text in answers)
 
 
-def is_kind_missing(data, here):
-    return here == INCOMPATIBLE and any(piece.get('x_facebook_sources') is not None and not is_index(piece)
-                                        for piece in pieces(record_of(data)))
-
-
 def passes_the_end(data):
     """Whether a token of an index stands where no position is."""
     return any(max(place) > LAST for place, _ in flat_tokens(record_of(data), placed_tokens))
@@ -77,8 +72,6 @@ def reason(word, data, here, there):
     """Why the two programs differ, None if nothing bears a reason out."""
     if here[0] == 2:
         return 'not there'
-    if is_kind_missing(data, here):
-        return 'kind not there'
     if is_refused_digit(data, here):
         return 'digits'
     if here == PAST_THE_END:
@@ -87,6 +80,8 @@ def reason(word, data, here, there):
         return 'fault' if are_json_faults(here, there) else None
     if word == 'tokens':
         return None if here[0] or there[0] or not is_reordered(here[1], there[1]) else 'stable sort'
+    if word == 'rewrite' and KEY.encode() in data and record_of(data).get(KEY) is not None:
+        return reason_of_rewritten_hermes(data, here, there)
     return (reason_of_index if word == 'shift' else reason_of_record)(data, here, there)
 
 
@@ -122,8 +117,6 @@ def reason_within(reference, data, position, here, told):
 def reason_of_lookup(reference, data, position, here, told, placed):
     """Why two answers to a lookup differ. `placed` is the reference's with the token's place in its map, as
     `a.js:0:7 (0:0) (range)`; both are its refusal where it refuses."""
-    if is_kind_missing(data, here):
-        return 'kind not there'
     if is_refused_digit(data, here):
         return 'digits'
     if are_json_faults(here, (1, told)):

@@ -1,6 +1,7 @@
 """What the scripts share: the two programs of this repository, running programs, telling lists of tokens
 apart, and counting."""
 import collections, concurrent.futures, json, os, pathlib, re, subprocess, sys
+from hermes_maps import KEY, kept_entries
 from index_maps import LISTS, bytes_of, flat_tokens, is_index, pieces, record_of
 
 CRATES = pathlib.Path(__file__).resolve().parent.parent / 'crates'
@@ -126,6 +127,36 @@ def reason_of_record(data, here, there):
     if without_order(record) != without_order(other) or tokens != others or not reads_back(data, here[1]):
         return None
     return 'stable sort, range bits' if ranges else 'stable sort'
+
+
+def without_scopes(told):
+    """An answer that is a record, without the scopes of its sources, and these."""
+    record = json.loads(told[1])
+    scopes = record.pop(KEY, None)
+    return (told[0], bytes_of(record)), scopes
+
+
+def reason_of_rewritten_hermes(data, here, there):
+    """Why two answers differ that are records of a map with function maps, rewritten; None if nothing bears a reason
+    out.
+
+    - scopes: what is written here has the scopes of each source that the rules say, and the reference has others,
+      or panicked, since the map's list of scopes is no longer than that of its sources that are kept
+    - else the reasons of records
+    """
+    if here[0] or there[0] not in (0, PANICKED):
+        return None
+    due = kept_entries(record_of(data))
+    own, scopes = without_scopes(here)
+    if scopes != due:
+        return None
+    if there[0] == PANICKED:
+        return 'scopes' if len(record_of(data)[KEY]) < len(record_of(data)['sources']) else 'panic'
+    other, others = without_scopes(there)
+    reason = None if own == other else reason_of_record(data, own, other)
+    if own != other and reason is None or others != due and len(record_of(data)[KEY]) >= len(due):
+        return None
+    return reason or 'scopes'
 
 
 def reason_of_piece(own, here, there):

@@ -1,10 +1,11 @@
 #!/usr/bin/env python3
 """Writes a source map of so many tokens, the same on every run.
 
-    bench/make-map.py TOKENS [--line N] [--contents BYTES] [--sections N] [--within N]
+    bench/make-map.py TOKENS [--line N] [--contents BYTES] [--functions N] [--sections N] [--within N]
 
 --line      tokens of each line; without it a line ends after a token in eighty, by chance
 --contents  bytes of all sources' contents together, which are left out without it
+--functions so many functions of each source, in a function map as Metro writes it
 --sections  an index map of so many sections below one another, each with its part of the tokens and with
             sources of its own; their names are shared
 --within    the map in so many indexes, one in another, each one line and two columns behind the one around it
@@ -32,6 +33,15 @@ def contents(sources, size):
     line = '\tconst value{} = "text of a line" + other(argument, 17);\n'
     text = ''.join(line.format(n) for n in range(each // len(line) + 1))
     return json.dumps([text[:each]] * sources)
+
+
+def scopes(sources, count):
+    """A function map for each source: functions by their places, with a name each."""
+    def entry(source):
+        names = json.dumps(['<global>', *(f'function{source}_{n}' for n in range(1, count))])
+        rows = [digits(n % 7 * 4) + digits(1) + digits(1 + n % 5) for n in range(1, count)]
+        return f'[{{"names":{names},"mappings":"{";".join(["AAA", *rows])}"}}]'
+    return f'"x_facebook_sources":[{",".join(map(entry, range(sources)))}],'
 
 
 def drawn_bits(state):
@@ -83,6 +93,7 @@ def regular_map(count, given, folder='src', state=1):
     names = ','.join(f'"name{n}"' for n in range(name_count))
     text = mappings(count, given.line, source_count, name_count, state)
     texts = f'"sourcesContent":{contents(source_count, given.contents)},' if given.contents else ''
+    texts += scopes(source_count, given.functions) if given.functions else ''
     record = f'{{"version":3,"sources":[{sources}],{texts}"names":[{names}],"mappings":"{text}"}}'
     return record, text.count(';') + 1
 
@@ -110,6 +121,7 @@ def main():
     words.add_argument('tokens', type=int)
     words.add_argument('--line', type=int)
     words.add_argument('--contents', type=int)
+    words.add_argument('--functions', type=int)
     words.add_argument('--sections', type=int)
     words.add_argument('--within', type=int, default=0)
     given = words.parse_args()

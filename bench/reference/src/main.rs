@@ -2,13 +2,14 @@
 
 mod draws;
 mod repeat;
+mod views;
 
 use draws::Draws;
 use repeat::Operation;
 use serde_json::Value;
 use sourcemap::{
     decode, decode_slice, DecodedMap, Error, Result, RewriteOptions, SourceMap, SourceMapHermes,
-    SourceMapIndex, Token,
+    SourceMapIndex, SourceView, Token,
 };
 use std::fs::{self, File};
 use std::io::{self, BufWriter, Read, Write};
@@ -19,7 +20,10 @@ use std::process::ExitCode;
 const USAGE: &str = "usage, with a map on standard input:
     [slice | stream] (lookup LINE COL | tokens | rewrite | flatten | compose FILE | shift ROWS)
     | roundtrip | stat | batch FILE | dst FILE | positions N SEED [wild] | bench OPERATION N
+    | names QUESTIONS [TEXT]
+or, with nothing there: slices QUESTIONS TEXT
 OPERATION: decode | decode-reader | lookup | tokens | encode | rewrite | flatten
+    | compose, of two maps on standard input, each on a line
 ";
 
 /// How the map is read, and how JSON text is printed.
@@ -208,6 +212,15 @@ fn composed(map: DecodedMap, file: &str) -> Result<DecodedMap> {
     Ok(DecodedMap::Regular(map))
 }
 
+fn view_of(file: &str) -> Result<SourceView> {
+    Ok(SourceView::from_string(fs::read_to_string(file)?))
+}
+
+/// The questions in a file: a list of lists, as JSON.
+fn questions_in(file: &str) -> Result<Vec<Value>> {
+    Ok(serde_json::from_slice(&fs::read(file)?)?)
+}
+
 /// Writes what the words ask for. None if they ask for nothing.
 fn answer(form: Form, words: &[&str], output: &mut Output) -> Option<Result<()>> {
     let map = || decoded(form);
@@ -258,6 +271,13 @@ fn answer(form: Form, words: &[&str], output: &mut Output) -> Option<Result<()>>
                 )?)
             })
         }
+        ["names", questions, ref text @ ..] if text.len() < 2 => map().and_then(|map| {
+            let view = text.first().map(|file| view_of(file)).transpose()?;
+            Ok(views::write_names(&map, view.as_ref(), &questions_in(questions)?, output)?)
+        }),
+        ["slices", questions, text] => view_of(text).and_then(|view| {
+            Ok(views::write_slices(&view, &questions_in(questions)?, output)?)
+        }),
         ["bench", operation, rounds] => {
             let (operation, rounds) = (Operation::named(operation)?, rounds.parse().ok()?);
             let sum = bytes()

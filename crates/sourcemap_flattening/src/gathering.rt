@@ -52,16 +52,17 @@ pub struct FlatMap<'a> {
 }
 
 impl<'a> Gathering<'a> {
-    /// Nothing yet. It takes no memory.
-    pub fn new(alloc: Global) -> Self
-        ensures { Gathers [] result }
+    /// Nothing yet, and room for so many tokens; more may come. Only want of memory refuses.
+    pub fn with_room(alloc: Global, tokens: usize) -> Result<Self>
+        ensures ok { IfOk result (Gathers []) }
+        ensures memory { IsOkUnless result OutOfMemory }
     {
-        Gathering {
+        Ok(Gathering {
             sources: Table::new(alloc),
             names: Table::new(alloc),
-            tokens: Vec::new(alloc),
+            tokens: Vec::with_capacity(alloc, tokens)?,
             ignored: BTreeSet::new(alloc),
-        }
+        })
     }
 
     /// Puts the map of these lists beside the others, from this line and column on; on its first

@@ -77,11 +77,23 @@ impl SourceMapIndex {
         ensures refused { IfErr result
             (RefusesFor (pieces_behind [] (sections_from (index_value self.now).sections))) }
     {
-        let mut gathering = Gathering::new(self.alloc);
+        let mut gathering = Gathering::with_room(self.alloc, self.token_room())?;
         for section in &self.sections {
             section.gather(&mut gathering)?;
         }
         gathering.finish()
+    }
+
+    // How many tokens its regular maps bring. No answer depends on it: it saves a growing list from
+    // being copied.
+    fn token_room(&self) -> usize {
+        let mut room: usize = 0;
+        for section in &self.sections {
+            if let Some(map) = &section.map {
+                room = room.saturating_add(map.token_room());
+            }
+        }
+        room
     }
 }
 
@@ -105,6 +117,14 @@ impl SourceMapSection {
 }
 
 impl DecodedMap {
+    // How many tokens it brings, if it is a regular map.
+    fn token_room(&self) -> usize {
+        match self {
+            DecodedMap::Regular(map) => map.get_token_count() as usize,
+            DecodedMap::Index(_) => 0,
+        }
+    }
+
     // Puts the map beside those that are gathered, from this line and column on.
     #[cycle(flatten)]
     fn gather<'a>(

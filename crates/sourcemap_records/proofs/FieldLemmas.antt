@@ -1,5 +1,5 @@
 -- A value taken out of an object, and what it means that a value was made.
-use Rattle.std.proofs.Common.{◌≡◌, ℕ, List, [], ◌∷◌, Option, Some, Result, Ok, Ordering, Less, Equal, Greater, string_bytes, nat_cmp, is_eq, cond, Bool, true, false, true≢false, refl, sym, ap, ◌∙◌, ◌||◌}
+use Rattle.std.proofs.Common.{◌≡◌, ℕ, List, [], ◌∷◌, Option, Some, Result, Ok, Ordering, Less, Equal, Greater, string_bytes, map, nat_cmp, is_eq, cond, Bool, true, false, true≢false, refl, sym, ap, ◌∙◌, ◌||◌}
 use Rattle.std.proofs.lemmas.Map.Text.{is_eq-slice_cmp}
 use Rattle.std.proofs.lemmas.Slice.Eq.{bytes_eq-Decides}
 use Rattle.std.specs.List.{list_any}
@@ -9,15 +9,22 @@ use Rattle.std.specs.Map.{remove_entry}
 use Rattle.std.specs.Ordering.{match_ordering}
 use Rattle.std.specs.BTreeMap.{is_at}
 use Rattle.serde_json.specs.Data.{Data, Members, member}
+use Rattle.serde_json.specs.declared.Value.{Value}
 use Rattle.serde_json.specs.Find.{get_member}
-use Rattle.serde_json.specs.View.{view, members_view}
+use Rattle.serde_json.specs.View.{view, items_view, members_view}
 use Rattle.serde_json.proofs.Views.{Entry}
+use Rattle.sourcemap_records.specs.Field.{with, any, items_read}
 use Rattle.sourcemap_records.specs.Keys.{KeepsBut}
 use Rattle.sourcemap_errors.specs.declared.errors.Error.{Error}
 
 -- what was made is what was due
 pub made : {X : Type 0} {a b : X} → ◌≡◌ {A = Result X Error} (Ok a) (Ok b) → a ≡ b
 made e = cc e
+
+-- items that may be anything are read as they are
+pub any_items : (vs : List Value) → items_read any (items_view vs) ≡ Some (map view vs)
+any_items [] = refl
+any_items (v ∷ vs) = ap (λ o. with o (λ ds. Some (view v ∷ ds))) (any_items vs)
 
 not_equal : (o : Ordering) (a b : Option Data) → is_eq o ≡ false → match_ordering o a b a ≡ a
 not_equal Less a b e = refl

@@ -239,6 +239,31 @@ pub(crate) fn take_optional<F: Field>(
     }
 }
 
+// The values of a list as they stand, where a null is none.
+fn value_list(value: Value) -> Result<Option<Vec<Value>>>
+    ensures { Reads (option_map (λ v. map view v.items)) result
+        (or_null (list any) (view value)) }
+{
+    match value {
+        Value::Null => Ok(None),
+        Value::Array(items) => Ok(Some(items)),
+        _ => Err(Error::BadJson(JsonFault::Shape)),
+    }
+}
+
+// The values of a key that may be missing. They stay in their list, so that none is moved.
+pub(crate) fn take_values(members: &mut Map<String, Value>, key: &str) -> Result<Option<Vec<Value>>>
+    ensures value { Reads (option_map (λ v. map view v.items)) result
+        (at key.now (list any) (members_view members.old.entries)) }
+    ensures others { KeepsOthers key.now (members_view members.old.entries)
+        (members_view members.new.entries) }
+{
+    match take_value(members, key) {
+        Some(value) => value_list(value),
+        None => Ok(None),
+    }
+}
+
 // The field of a key that must be there.
 pub(crate) fn take_needed<F: Field>(
     alloc: Global,
@@ -271,6 +296,24 @@ pub(crate) fn put_field<F: Field>(
 {
     if let Some(field) = field {
         put(members, alloc, key, field.give(alloc)?)?;
+    }
+    Ok(())
+}
+
+// Puts values under their key, if there are any. They stay in their list, so that none is moved.
+pub(crate) fn put_values(
+    alloc: Global,
+    members: &mut Map<String, Value>,
+    key: &str,
+    values: Option<Vec<Value>>,
+) -> Result<()>
+    ensures ok { OnOk result (members_view members.new.entries
+        ≡ put_if key.now (option_map (written_list (λ d. d))
+        (option_map (λ v. map view v.items) values)) (members_view members.old.entries)) }
+    ensures err { IfErr result (λ e. e ≡ OutOfMemory) }
+{
+    if let Some(values) = values {
+        put(members, alloc, key, Value::Array(values))?;
     }
     Ok(())
 }

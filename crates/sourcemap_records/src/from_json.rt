@@ -7,7 +7,7 @@ ghost use Rattle.sourcemap_records.specs.Field.{Reads, with, found};
 ghost use Rattle.sourcemap_records.specs.Keys.{KeepsBut, heading_in, heading_names, heading_view, content_in, content_names, content_view, extras_in, extras_view, groups_view};
 ghost use Rattle.sourcemap_records.specs.Jsontypes.{debug_id_in, fields_in, place_in, section_at, tree_with, sections_from, sections_read, sections_of, record_of, section_of, section, tree};
 
-use crate::field::{take_needed, take_optional, take_value};
+use crate::field::{take_needed, take_optional, take_value, take_values};
 use crate::jsontypes::{RawSection, RawSourceMap};
 use crate::keys::{RawContent, RawExtras, RawGroups, RawHeading, joined};
 use serde_json::{Map, Value};
@@ -51,7 +51,7 @@ fn take_content(alloc: Global, members: &mut Map<String, Value>) -> Result<RawCo
         (members_view members.old.entries) (members_view members.new.entries)) }
 {
     let sources_content = take_optional(alloc, members, "sourcesContent")?;
-    let names = take_optional(alloc, members, "names")?;
+    let names = take_values(members, "names")?;
     let range_mappings = take_optional(alloc, members, "rangeMappings")?;
     let mappings = take_optional(alloc, members, "mappings")?;
     Ok(RawContent {

@@ -9,7 +9,7 @@ ghost use Rattle.sourcemap_records.specs.Field.{Makes, put_all, written_or_null}
 ghost use Rattle.sourcemap_records.specs.Keys.{IsHeadingInRange, AreExtrasInRange, heading_entries, heading_view, content_entries, content_view, extra_entries, extras_view, groups_view};
 ghost use Rattle.sourcemap_records.specs.Jsontypes.{AreInRange, IsInRange, IsSectionInRange, flat, written, written_fields, written_one, section, tree};
 
-use crate::field::put_field;
+use crate::field::{put_field, put_values};
 use crate::jsontypes::{RawSection, RawSourceMap};
 use crate::keys::{RawContent, RawExtras, RawGroups, RawHeading, split};
 use serde_json::{Map, Value};
@@ -46,7 +46,7 @@ fn put_content(alloc: Global, members: &mut Map<String, Value>, content: RawCont
         mappings,
     } = content;
     put_field(alloc, members, "sourcesContent", sources_content)?;
-    put_field(alloc, members, "names", names)?;
+    put_values(alloc, members, "names", names)?;
     put_field(alloc, members, "rangeMappings", range_mappings)?;
     put_field(alloc, members, "mappings", mappings)
 }

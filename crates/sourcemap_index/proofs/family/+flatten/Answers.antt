@@ -61,7 +61,7 @@ SourceMapIndex::gathered-returns-in_err-gather-clause-refused t c =
     let item = c.section-item.result in
     let all : List MapSection = map section_value items in
     let same : all ≡ (index_value c.args.self.now).sections = ap (map section_value) c.deref-section-items.ensures.value ∙ sym (ap (λ (v : IndexValue). v.sections) (index-out c.args.self.now)) in
-    let p = err_from_is_err_and c.from_residual.result c.from_residual.ensures.1 in
+    let p = err_from_is_err_and c.from_residual-in_err-gather.result c.from_residual-in_err-gather.ensures.1 in
     rw (p.1, p.2)
     (subst (λ ss. RefusesFor (pieces_behind [] (sections_from ss)) c.in_err-gather.field-0.0) same
     (so_far-refused all (section_value item) (drop (i + 1) all) c.loop-section.gathering c.in_err-gather.field-0.0

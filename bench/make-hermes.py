@@ -1,0 +1,87 @@
+#!/usr/bin/env python3
+"""Makes small maps with function maps as Metro writes them, the same on every run.
+
+    bench/make-hermes.py FOLDER [--count N] [--seed N]
+
+FOLDER   where NAME.map are written
+--count  how many maps (2000)
+--seed   another one gives other maps (1)
+
+A map has up to twelve tokens, most on line 0, and up to four sources, of which two may have one text. Its list of
+scopes is as long as that of sources, shorter or longer; an entry is missing, empty, or has one or two records. Of
+the texts of scope mappings some cannot be read, some stand in no order, and some have names that are not there.
+"""
+import argparse, json, pathlib, random
+from composing import Token, digits_of, written
+from hermes_maps import KEY
+from index_maps import LAST
+
+BROKEN = ['!', 'g', 'gggggggggggggA', 'AAAé']
+
+
+def drawn_token(draws, sources, is_ranged):
+    line, column = draws.choice([0, 0, 0, 1]), draws.randrange(24)
+    if not sources or draws.randrange(10) == 0:
+        return Token(line, column, LAST, LAST, LAST, LAST, False)
+    source_line = LAST if draws.randrange(20) == 0 else draws.randrange(6)
+    is_range = is_ranged and draws.randrange(3) == 0
+    return Token(line, column, source_line, draws.randrange(12), draws.randrange(sources), LAST, is_range)
+
+
+def drawn_mappings(draws, names):
+    """A text of scope mappings: places in order, or in none."""
+    places = [(draws.randrange(1, 8), draws.randrange(12)) for _ in range(draws.randrange(9))]
+    if draws.randrange(8):
+        places.sort()
+    text, last = '', (0, 1, 0)
+    for line, column in places:
+        is_new = draws.randrange(3) == 0
+        name = draws.randrange(names + (draws.randrange(6) == 0))
+        steps = [column - (0 if is_new else last[2]), name - last[0], line - last[1]]
+        if steps[2] == 0 and draws.randrange(3) == 0:
+            steps = steps[:2] if steps[1] else steps[:1]
+        if draws.randrange(8) == 0:
+            steps = (steps + [0, 0])[:3] + [draws.randrange(9)]
+        text += (';' if is_new else draws.choice([',', ',', ',,']) if text else '') + ''.join(map(digits_of, steps))
+        last = (name, line, column)
+    return text + draws.choice(BROKEN) if draws.randrange(10) == 0 else text
+
+
+def drawn_records(draws, source):
+    names = [f'f{source}_{n}' for n in range(draws.randrange(1, 5))]
+    return {'names': names, 'mappings': drawn_mappings(draws, len(names))}
+
+
+def drawn_entry(draws, source):
+    kind = draws.randrange(10)
+    if kind < 2:
+        return None
+    return [] if kind == 2 else [drawn_records(draws, source) for _ in range(2 if kind == 3 else 1)]
+
+
+def drawn_map(draws):
+    sources = [draws.choice([f's{n}.js', f's{n}.js', f's{n}.js', 's0.js']) for n in range(draws.randrange(5))]
+    tokens = [drawn_token(draws, len(sources), draws.randrange(4) == 0) for _ in range(draws.randrange(13))]
+    tokens.sort(key=lambda token: token[:2])
+    mappings, marks = written(tokens)
+    length = len(sources) if draws.randrange(3) else draws.randrange(7)
+    record = {'version': 3, 'sources': sources, 'names': [], 'mappings': mappings,
+              KEY: [drawn_entry(draws, n) for n in range(length)]}
+    if draws.randrange(6) == 0:
+        record['sourceRoot'] = 'root'
+    return {**record, 'rangeMappings': marks} if marks else record
+
+
+def main():
+    words = argparse.ArgumentParser(usage=__doc__)
+    words.add_argument('folder', type=pathlib.Path)
+    words.add_argument('--count', type=int, default=2000)
+    words.add_argument('--seed', type=int, default=1)
+    given = words.parse_args()
+    draws = random.Random(given.seed)
+    given.folder.mkdir(parents=True, exist_ok=True)
+    for number in range(given.count):
+        (given.folder / f'{number:05}.map').write_text(json.dumps(drawn_map(draws)))
+
+
+main()

@@ -1,0 +1,57 @@
+//! What views of texts answer, and maps that know functions: a line for each question.
+
+use crate::Output;
+use serde_json::{json, Value};
+use sourcemap::{DecodedMap, SourceView};
+use std::io::{self, Write};
+use std::panic::{self, AssertUnwindSafe};
+
+fn number(question: &Value, at: usize) -> u32 {
+    u32::try_from(question[at].as_u64().unwrap_or(0)).unwrap_or(u32::MAX)
+}
+
+/// An answer as JSON text, or `panic`.
+fn shown(answer: impl FnOnce() -> Value) -> String {
+    panic::catch_unwind(AssertUnwindSafe(answer))
+        .map_or_else(|_| "panic".to_owned(), |told| told.to_string())
+}
+
+/// The name of the function at a line, a column and a minified name.
+pub fn write_names(
+    map: &DecodedMap,
+    view: Option<&SourceView>,
+    questions: &[Value],
+    output: &mut Output,
+) -> io::Result<()> {
+    panic::set_hook(Box::new(|_| ()));
+    for question in questions {
+        let (line, column, name) = (number(question, 0), number(question, 1), question[2].as_str());
+        let told = || json!(map.get_original_function_name(line, column, name, view));
+        writeln!(output, "{}", shown(told))?;
+    }
+    Ok(())
+}
+
+/// A line by its length in bytes and a sum of them, since lines may be long.
+fn summed(line: &str) -> Value {
+    let sum = line.bytes().fold(0u32, |sum, byte| {
+        sum.wrapping_mul(31).wrapping_add(u32::from(byte))
+    });
+    json!([line.len(), sum])
+}
+
+/// The slice from a line and a column on of so many UTF-16 units, or the sum of the whole line where
+/// the question has one number alone.
+pub fn write_slices(view: &SourceView, questions: &[Value], output: &mut Output) -> io::Result<()> {
+    panic::set_hook(Box::new(|_| ()));
+    for question in questions {
+        let (line, column, span) = (number(question, 0), number(question, 1), number(question, 2));
+        let is_line = question.as_array().is_some_and(|parts| parts.len() == 1);
+        let told = || match is_line {
+            true => json!(view.get_line(line).map(summed)),
+            false => json!(view.get_line_slice(line, column, span)),
+        };
+        writeln!(output, "{}", shown(told))?;
+    }
+    writeln!(output, "{}", view.line_count())
+}
