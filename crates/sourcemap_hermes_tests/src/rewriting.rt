@@ -44,7 +44,7 @@ const ROOTED: &str =
     r#"{"mappings":"ACAA","sourceRoot":"r","sources":["a.js","b.js"],"x_facebook_sources":[null,[{"mappings":"AAA","names":["g"]}]]}"#;
 
 // A map, and what it is written as when it is rewritten by default.
-const DEFAULT: [(&str, &str); 10] = [
+const DEFAULT: [(&str, &str); 12] = [
     (
         SECOND_SOURCE,
         r#"{"mappings":"AAAA","names":[],"sources":["b.js"],"version":3,"x_facebook_sources":[[{"mappings":"AAA","names":["f"]}]]}"#,
@@ -72,6 +72,15 @@ const DEFAULT: [(&str, &str); 10] = [
     (
         ROOTED,
         r#"{"mappings":"AAAA","names":[],"sources":["r/b.js"],"version":3,"x_facebook_sources":[[{"mappings":"AAA","names":["g"]}]]}"#,
+    ),
+    // Lists that are as long as that of the sources that are kept, or shorter, but not empty.
+    (
+        r#"{"mappings":"ACAA","sources":["a.js","b.js"],"x_facebook_sources":[null]}"#,
+        r#"{"mappings":"AAAA","names":[],"sources":["b.js"],"version":3,"x_facebook_sources":[null]}"#,
+    ),
+    (
+        r#"{"mappings":"ACAA,CDAA","sources":["a.js","b.js"],"x_facebook_sources":[[{"mappings":"AAA","names":["f"]}]]}"#,
+        r#"{"mappings":"AAAA,CCAA","names":[],"sources":["b.js","a.js"],"version":3,"x_facebook_sources":[null,[{"mappings":"AAA","names":["f"]}]]}"#,
     ),
     // A text of scopes that cannot be read, and an empty list, stay as they are.
     (BROKEN, BROKEN),
