@@ -5,3 +5,5 @@
 mod checks;
 #[cfg(test)]
 mod maps;
+#[cfg(test)]
+mod rewriting;

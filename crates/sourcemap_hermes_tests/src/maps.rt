@@ -8,7 +8,7 @@ use sourcemap_records::jsontypes::RawSourceMap;
 use sourcemap_regular::encode::Encodable;
 use std::alloc::Global;
 
-fn name_told(alloc: Global, name: Option<&str>) -> Result<String> {
+pub fn name_told(alloc: Global, name: Option<&str>) -> Result<String> {
     Ok(String::from_str(alloc, name.unwrap_or("none"))?)
 }
 
@@ -40,22 +40,22 @@ const NAMES: [(&str, u32, &str); 13] = [
     (NO_SOURCE, 9, "none"),
 ];
 
-const TWO_FUNCTIONS: &str =
+pub const TWO_FUNCTIONS: &str =
     r#"{"version":3,"sources":["a.js"],"mappings":"AAAA,KACK","x_facebook_sources":[[{"names":["<global>","foo"],"mappings":"AAA,KCC"}]]}"#;
 
-const SECOND_SOURCE: &str =
+pub const SECOND_SOURCE: &str =
     r#"{"mappings":"ACAA","names":[],"sources":["a.js","b.js"],"version":3,"x_facebook_sources":[null,[{"mappings":"AAA","names":["f"]}]]}"#;
 
-const SHORT: &str =
+pub const SHORT: &str =
     r#"{"mappings":"ACAA","names":[],"sources":["a.js","b.js"],"version":3,"x_facebook_sources":[]}"#;
 
-const LONG: &str =
+pub const LONG: &str =
     r#"{"mappings":"AAAA","names":[],"sources":["a.js"],"version":3,"x_facebook_sources":[[{"mappings":"AAA","names":["f"]}],null,[]]}"#;
 
 const LAST_LINE: &str =
     r#"{"mappings":"AADA","names":[],"sources":["a.js"],"version":3,"x_facebook_sources":[[{"mappings":"AAA","names":["f"]}]]}"#;
 
-const BROKEN: &str =
+pub const BROKEN: &str =
     r#"{"mappings":"AAAA","names":[],"sources":["a.js"],"version":3,"x_facebook_sources":[[{"mappings":"AAA,!","names":["f"]}]]}"#;
 
 const RANGE: &str =
@@ -64,7 +64,7 @@ const RANGE: &str =
 const NO_TOKEN: &str =
     r#"{"version":3,"sources":["a.js"],"mappings":";AAAA","x_facebook_sources":[[{"names":["f"],"mappings":"AAA"}]]}"#;
 
-const NO_SOURCE: &str =
+pub const NO_SOURCE: &str =
     r#"{"version":3,"sources":["a.js"],"mappings":"A","x_facebook_sources":[[{"names":["f"],"mappings":"AAA"}]]}"#;
 
 #[test]
@@ -86,6 +86,49 @@ fn written(alloc: Global, text: &str) -> Result<String> {
 fn scopes_are_written_as_they_were_read(rt: HostRuntime) {
     for text in [SECOND_SOURCE, SHORT, LONG, BROKEN].iter() {
         check(&rt, text, written(rt.alloc(), text), text);
+    }
+}
+
+// The bytes that a map is written as, as text.
+fn bytes_written(alloc: Global, text: &str) -> Result<String> {
+    let map = SourceMapHermes::from_slice(alloc, text.as_bytes())?;
+    let mut bytes = Vec::new(alloc);
+    map.to_writer(&mut bytes)?;
+    match String::from_utf8(bytes) {
+        Ok(text) => Ok(text),
+        Err(_) => Err(Error::IncompatibleSourceMap),
+    }
+}
+
+#[test]
+fn bytes_are_those_of_the_record(rt: HostRuntime) {
+    for text in [SECOND_SOURCE, SHORT, LONG, BROKEN].iter() {
+        check(&rt, text, bytes_written(rt.alloc(), text), text);
+    }
+}
+
+// Whether the bytes that a map is written as are read back as the same map.
+fn is_read_back(alloc: Global, text: &str) -> Result<String> {
+    let map = SourceMapHermes::from_slice(alloc, text.as_bytes())?;
+    let bytes = bytes_written(alloc, text)?;
+    let back = SourceMapHermes::from_slice(alloc, bytes.as_bytes())?;
+    Ok(format!(in alloc; "{}", map == back)?)
+}
+
+#[test]
+fn bytes_read_back(rt: HostRuntime) {
+    for text in [
+        TWO_FUNCTIONS,
+        SECOND_SOURCE,
+        SHORT,
+        LONG,
+        BROKEN,
+        RANGE,
+        NO_SOURCE,
+    ]
+    .iter()
+    {
+        check(&rt, text, is_read_back(rt.alloc(), text), "true");
     }
 }
 

@@ -1,0 +1,175 @@
+// Hermes maps that are rewritten, against values that were worked out by hand.
+use crate::checks::check;
+use crate::maps::{BROKEN, LONG, NO_SOURCE, SECOND_SOURCE, SHORT, TWO_FUNCTIONS, name_told};
+use sourcemap_errors::errors::{Error, Result};
+use sourcemap_hermes::map::SourceMapHermes;
+use sourcemap_regular::rewrite::RewriteOptions;
+use std::alloc::Global;
+use std::rt::Files;
+
+fn rewritten<F: Files>(
+    rt: &F,
+    alloc: Global,
+    text: &str,
+    options: &RewriteOptions<'_>,
+) -> Result<String> {
+    let map = SourceMapHermes::from_slice(alloc, text.as_bytes())?;
+    written(alloc, map.rewrite(rt, options))
+}
+
+fn written(alloc: Global, map: Result<SourceMapHermes>) -> Result<String> {
+    match map {
+        Ok(map) => {
+            let value = map.into_raw_sourcemap()?.into_value(alloc)?;
+            Ok(value.to_string(alloc)?)
+        }
+        Err(Error::OutOfMemory) => Err(Error::OutOfMemory),
+        Err(fault) => Ok(format!(in alloc; "{fault}")?),
+    }
+}
+
+// Tokens of the third source and of the first.
+const TURNED: &str =
+    r#"{"mappings":"AEAA,CFAA","sources":["a.js","b.js","c.js"],"x_facebook_sources":[[{"mappings":"AAA","names":["f"]}],null,[{"mappings":"AAA","names":["h"]}]]}"#;
+
+// Two sources of one text, of which the second comes first.
+const TWINS: &str =
+    r#"{"mappings":"ACAA,CDAA","sources":["a.js","a.js"],"x_facebook_sources":[[{"mappings":"AAA","names":["f"]}],[{"mappings":"AAA","names":["g"]}]]}"#;
+
+// Two sources of one text, of which the first has no functions.
+const HALF: &str =
+    r#"{"mappings":"AAAA,CCAA","sources":["a.js","a.js"],"x_facebook_sources":[null,[{"mappings":"AAA","names":["g"]}]]}"#;
+
+const ROOTED: &str =
+    r#"{"mappings":"ACAA","sourceRoot":"r","sources":["a.js","b.js"],"x_facebook_sources":[null,[{"mappings":"AAA","names":["g"]}]]}"#;
+
+// A map, and what it is written as when it is rewritten by default.
+const DEFAULT: [(&str, &str); 12] = [
+    (
+        SECOND_SOURCE,
+        r#"{"mappings":"AAAA","names":[],"sources":["b.js"],"version":3,"x_facebook_sources":[[{"mappings":"AAA","names":["f"]}]]}"#,
+    ),
+    (
+        SHORT,
+        r#"{"mappings":"AAAA","names":[],"sources":["b.js"],"version":3,"x_facebook_sources":[null]}"#,
+    ),
+    (
+        LONG,
+        r#"{"mappings":"AAAA","names":[],"sources":["a.js"],"version":3,"x_facebook_sources":[[{"mappings":"AAA","names":["f"]}]]}"#,
+    ),
+    (
+        TURNED,
+        r#"{"mappings":"AAAA,CCAA","names":[],"sources":["c.js","a.js"],"version":3,"x_facebook_sources":[[{"mappings":"AAA","names":["h"]}],[{"mappings":"AAA","names":["f"]}]]}"#,
+    ),
+    (
+        TWINS,
+        r#"{"mappings":"AAAA,CAAA","names":[],"sources":["a.js"],"version":3,"x_facebook_sources":[[{"mappings":"AAA","names":["g"]}]]}"#,
+    ),
+    (
+        HALF,
+        r#"{"mappings":"AAAA,CAAA","names":[],"sources":["a.js"],"version":3,"x_facebook_sources":[null]}"#,
+    ),
+    (
+        ROOTED,
+        r#"{"mappings":"AAAA","names":[],"sources":["r/b.js"],"version":3,"x_facebook_sources":[[{"mappings":"AAA","names":["g"]}]]}"#,
+    ),
+    // Lists that are as long as that of the sources that are kept, or shorter, but not empty.
+    (
+        r#"{"mappings":"ACAA","sources":["a.js","b.js"],"x_facebook_sources":[null]}"#,
+        r#"{"mappings":"AAAA","names":[],"sources":["b.js"],"version":3,"x_facebook_sources":[null]}"#,
+    ),
+    (
+        r#"{"mappings":"ACAA,CDAA","sources":["a.js","b.js"],"x_facebook_sources":[[{"mappings":"AAA","names":["f"]}]]}"#,
+        r#"{"mappings":"AAAA,CCAA","names":[],"sources":["b.js","a.js"],"version":3,"x_facebook_sources":[null,[{"mappings":"AAA","names":["f"]}]]}"#,
+    ),
+    // A text of scopes that cannot be read, and an empty list, stay as they are.
+    (BROKEN, BROKEN),
+    (
+        r#"{"mappings":"AAAA","sources":["a.js","b.js"],"x_facebook_sources":[[],null]}"#,
+        r#"{"mappings":"AAAA","names":[],"sources":["a.js"],"version":3,"x_facebook_sources":[[]]}"#,
+    ),
+    // No source is used.
+    (
+        NO_SOURCE,
+        r#"{"mappings":"A","names":[],"sources":[],"version":3,"x_facebook_sources":[]}"#,
+    ),
+];
+
+#[test]
+fn functions_go_along_with_sources(rt: HostRuntime) {
+    let options = RewriteOptions::default();
+    for (text, want) in DEFAULT.iter() {
+        check(&rt, text, rewritten(&rt, rt.alloc(), text, &options), want);
+    }
+}
+
+// A map, the prefixes to be cut, and what it is written as. Sources that are cut to one text stay
+// apart, and so do their functions.
+const CUT: [(&str, &[&str], &str); 2] = [
+    (
+        r#"{"mappings":"AAAA,CCAA","sources":["/x/a.js","/y/a.js"],"x_facebook_sources":[[{"mappings":"AAA","names":["f"]}],[{"mappings":"AAA","names":["g"]}]]}"#,
+        &["/x", "/y"],
+        r#"{"mappings":"AAAA,CCAA","names":[],"sources":["a.js","a.js"],"version":3,"x_facebook_sources":[[{"mappings":"AAA","names":["f"]}],[{"mappings":"AAA","names":["g"]}]]}"#,
+    ),
+    (
+        ROOTED,
+        &["r"],
+        r#"{"mappings":"AAAA","names":[],"sources":["b.js"],"version":3,"x_facebook_sources":[[{"mappings":"AAA","names":["g"]}]]}"#,
+    ),
+];
+
+#[test]
+fn functions_stay_where_prefixes_are_cut(rt: HostRuntime) {
+    for (text, prefixes, want) in CUT.iter() {
+        let options = RewriteOptions {
+            strip_prefixes: prefixes,
+            ..RewriteOptions::default()
+        };
+        check(&rt, text, rewritten(&rt, rt.alloc(), text, &options), want);
+    }
+}
+
+#[test]
+fn files_are_not_read(rt: HostRuntime) {
+    let options = RewriteOptions {
+        load_local_source_contents: true,
+        ..RewriteOptions::default()
+    };
+    let want = "encountered incompatible sourcemap format";
+    check(
+        &rt,
+        want,
+        rewritten(&rt, rt.alloc(), TURNED, &options),
+        want,
+    );
+}
+
+// The name of the function at a place in the bytecode, once the map is rewritten by default.
+fn name_then<F: Files>(rt: &F, alloc: Global, text: &str, offset: u32) -> Result<String> {
+    let map = SourceMapHermes::from_slice(alloc, text.as_bytes())?;
+    let map = map.rewrite(rt, &RewriteOptions::default())?;
+    name_told(alloc, map.get_original_function_name(offset))
+}
+
+// A map, a place in the bytecode, and the name of the function there once the map is rewritten.
+const NAMES: [(&str, u32, &str); 10] = [
+    (TWO_FUNCTIONS, 0, "<global>"),
+    (TWO_FUNCTIONS, 7, "foo"),
+    (SECOND_SOURCE, 0, "f"),
+    (SHORT, 0, "none"),
+    (TURNED, 0, "h"),
+    (TURNED, 1, "f"),
+    // Both tokens have the functions of the source that is used first.
+    (TWINS, 0, "g"),
+    (TWINS, 1, "g"),
+    (HALF, 1, "none"),
+    (NO_SOURCE, 9, "none"),
+];
+
+#[test]
+fn names_of_functions_stay(rt: HostRuntime) {
+    for (text, offset, want) in NAMES.iter() {
+        let answer = name_then(&rt, rt.alloc(), text, *offset);
+        check(&rt, text, answer, want);
+    }
+}
