@@ -101,9 +101,9 @@ shown-put cs new ts i count x y ec ex h e =
     ∙ changed_to-put cs ts i x h (length-fitted cs (length ts))
     ∙ ap (λ z. slice_set (changed_to cs ts) i z) ex
 
-pub contents-put : (cs new : List (Option (List ℕ))) (count n i : ℕ) (x y : Option (List ℕ)) → count ≡ n → ◌≡◌ {A = Result (Option (List ℕ)) Error} (Ok y) (Ok x)
-    → new ≡ slice_set (fitted count cs) i x → new ≡ slice_set (fitted n cs) i y
-contents-put cs new count n i x y ec ex e = cc
+pub contents-put : (cs new : List (Option (List ℕ))) (count n i : ℕ) (x : Option (List ℕ)) → count ≡ n
+    → new ≡ slice_set (fitted count cs) i x → new ≡ slice_set (fitted n cs) i x
+contents-put cs new count n i x ec e = cc
 
 pub here-too : (cs : List (Option (List ℕ))) (ts : List (List ℕ)) (i count : ℕ) → i < length (changed_to cs ts) → count ≡ length ts → i < count
 here-too cs ts i count h e = omega (arith, length-changed_to cs ts)

@@ -202,8 +202,6 @@ impl SourceMapBuilder {
               (option_copied contents.entry);
         }) }
     {
-        let alloc = *self.tokens.allocator();
-        let contents = owned(alloc, contents)?;
         let count = self.interned.len();
         self.contents.set(count, id, contents)?;
         Ok(())
@@ -213,7 +211,10 @@ impl SourceMapBuilder {
     pub fn get_source_contents(&self, id: u32) -> Option<&str>
         ensures { option_copied result ≡ contents_of (built self.now) id }
     {
-        self.contents.get(id)
+        match self.contents.get(id) {
+            None => None,
+            Some(view) => Some(view.source()),
+        }
     }
 
     /// Whether the source with this id has contents.

@@ -158,7 +158,7 @@ fn parts_with(
         sources,
         contents,
     } = lists;
-    let contents = Contents::of_list(contents);
+    let contents = Contents::of_texts(alloc, contents)?;
     let names = all_names(alloc, names)?;
     let sources = all_sources(alloc, sources)?;
     let sources = Sources::with_root(alloc, sources, root)?;

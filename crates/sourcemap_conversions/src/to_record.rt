@@ -26,7 +26,7 @@ use sourcemap_parts::contents::Contents;
 use sourcemap_parts::fitting::fit;
 use sourcemap_parts::heading::Heading;
 use sourcemap_parts::sources::Sources;
-use sourcemap_parts::text_lists::{copy_contents, copy_texts};
+use sourcemap_parts::text_lists::copy_texts;
 use sourcemap_records::jsontypes::{DebugId, RawSourceMap};
 use sourcemap_texts::copies::owned;
 use std::alloc::Global;
@@ -95,7 +95,7 @@ pub fn record_of(
         names: copy_texts(alloc, names)?,
         root: owned(alloc, sources.root())?,
         sources: copy_texts(alloc, sources.given())?,
-        contents: copy_contents(alloc, contents.as_slice())?,
+        contents: contents.texts()?,
     };
     written(alloc, texts, rest)
 }
@@ -113,9 +113,8 @@ pub fn into_record(alloc: Global, parts: Parts) -> Result<RawSourceMap>
         sources,
         contents,
     } = parts;
-    let texts = into_token_texts(alloc, tokens, names.len() as u32)?;
+    let contents = contents.into_texts()?;
     let (root, sources) = sources.into_given();
-    let contents = contents.into_list();
     let rest = Rest {
         heading,
         names,
@@ -123,6 +122,15 @@ pub fn into_record(alloc: Global, parts: Parts) -> Result<RawSourceMap>
         sources,
         contents,
     };
+    written_with(alloc, tokens, rest)
+}
+
+// The record of these tokens, which are let go once they are written, and of the rest.
+fn written_with(alloc: Global, tokens: TokenList, rest: Rest) -> Result<RawSourceMap>
+    requires { vec_len rest.names ≤ 4294967295 }
+    ensures { IsAnswer tree (RecordAnswer (record (rest_view rest) { tokens = tokens })) result }
+{
+    let texts = into_token_texts(alloc, tokens, rest.names.len() as u32)?;
     written(alloc, texts, rest)
 }
 

@@ -100,7 +100,7 @@ part-of_flat file pieces flat part is tokens ignored sources names = record {
 
 pub part-of_lists : (m : MapValue) (lists : MapLists) (part : Part) → AreListsOf m lists
     → part.tokens.now ≡ lists.tokens.now → part.ignored.now ≡ lists.ignored.now
-    → entry_values part.sources.now ≡ entries_with (map (option_map string_bytes) lists.contents.now) (map string_bytes lists.sources.now)
+    → entry_values part.sources.now ≡ entries_with lists.contents.now (map string_bytes lists.sources.now)
     → entry_values part.names.now ≡ map (λ name. (name, None)) (map string_bytes lists.names.now)
     → IsPartOf m part
 part-of_lists m lists part are tokens ignored sources names = record {

@@ -1,7 +1,7 @@
 //! Texts of maps as entries that borrow them, and texts made of entries.
-ghost use Rattle.std.specs.Prelude.{◌≡◌, None, Ok, IfOk, IsOkUnless, map, option_map, string_bytes};
+ghost use Rattle.std.specs.Prelude.{◌≡◌, None, Ok, map, string_bytes};
 ghost use Rattle.sourcemap_errors.specs.Answer.{Gives};
-ghost use Rattle.sourcemap_texts.specs.Texts.{contents_in, texts_of};
+ghost use Rattle.sourcemap_texts.specs.Texts.{texts_of};
 ghost use Rattle.sourcemap_flattening.specs.Table.{entry_values};
 ghost use Rattle.sourcemap_flattening.specs.Entries.{entries_with};
 ghost use Rattle.sourcemap_parts.specs.Contents.{contents_at};
@@ -9,15 +9,16 @@ ghost use Rattle.std.specs.Option.{option_copied};
 
 use crate::table::Entry;
 use sourcemap_errors::errors::Result;
-use sourcemap_texts::copies::owned;
+use sourcemap_parts::contents::copied_view;
+use sourcemap_views::sourceview::SourceView;
 use std::alloc::Global;
 
 // The contents at a place, where there are some.
-fn contents_at(contents: &[Option<String>], id: usize) -> Option<&str>
-    ensures { option_copied result ≡ contents_at (map (option_map string_bytes) contents.now) id }
+fn contents_at(contents: &[Option<SourceView>], id: usize) -> Option<&SourceView>
+    ensures { option_copied result ≡ contents_at contents.now id }
 {
     match contents.get(id) {
-        Some(Some(text)) => Some(text.as_str()),
+        Some(Some(view)) => Some(view),
         _ => None,
     }
 }
@@ -26,11 +27,10 @@ fn contents_at(contents: &[Option<String>], id: usize) -> Option<&str>
 pub(crate) fn sources_of<'a>(
     alloc: Global,
     sources: &'a [String],
-    contents: &'a [Option<String>],
+    contents: &'a [Option<SourceView>],
 ) -> Result<Vec<Entry<'a>>>
     ensures { Gives (λ v. entry_values v.items) result
-        (Ok (entries_with (map (option_map string_bytes) contents.now)
-        (map string_bytes sources.now))) }
+        (Ok (entries_with contents.now (map string_bytes sources.now))) }
 {
     let mut entries = Vec::with_capacity(alloc, sources.len())?;
     for text in sources {
@@ -69,13 +69,13 @@ pub(crate) fn texts_of(alloc: Global, entries: &[Entry<'_>]) -> Result<Vec<Strin
     Ok(texts)
 }
 
-// Their contents.
-pub(crate) fn contents_of(alloc: Global, entries: &[Entry<'_>]) -> Result<Vec<Option<String>>>
-    ensures { Gives contents_in result (Ok (map (λ e. e.1) (entry_values entries.now))) }
+// Their contents, as views of their own.
+pub(crate) fn contents_of(alloc: Global, entries: &[Entry<'_>]) -> Result<Vec<Option<SourceView>>>
+    ensures { Gives (λ v. v.items) result (Ok (map (λ e. e.1) (entry_values entries.now))) }
 {
     let mut contents = Vec::with_capacity(alloc, entries.len())?;
     for entry in entries {
-        contents.push(owned(alloc, entry.contents)?)?;
+        contents.push(copied_view(entry.contents)?)?;
     }
     Ok(contents)
 }

@@ -153,7 +153,7 @@ impl FlatMap<'_> {
         let contents = contents_of(alloc, self.sources.as_slice())?;
         let heading = Heading::with(file, self.ignored, None);
         let sources = Sources::new(sources);
-        let contents = Contents::of_list(contents);
+        let contents = Contents::of_views(contents);
         Ok(SourceMap::of_parts(heading, self.tokens, names, sources, contents))
     }
 }

@@ -10,6 +10,7 @@ ghost use Rattle.sourcemap_flattening.specs.Table.{AreEntered, IsEntered, IsTabl
 use crate::faults::too_many;
 use sourcemap_errors::errors::Result;
 use sourcemap_rewriting::numbering::number_of;
+use sourcemap_views::sourceview::SourceView;
 use std::alloc::Global;
 use std::collections::HashMap;
 
@@ -20,7 +21,7 @@ const MOST: usize = 4294967295;
 #[derive(Clone, Copy)]
 pub(crate) struct Entry<'a> {
     pub(crate) text: &'a str,
-    pub(crate) contents: Option<&'a str>,
+    pub(crate) contents: Option<&'a SourceView>,
 }
 
 // Texts that are kept once each, in the order in which they were first entered, with the contents

@@ -2,3 +2,4 @@ pub mod DecodeLemmas
 pub mod EncodeLemmas
 pub mod EqualityLemmas
 pub mod RewriteLemmas
+pub mod WriteLemmas

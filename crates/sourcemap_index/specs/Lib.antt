@@ -6,5 +6,6 @@ pub mod Family
 pub mod Flatten
 pub mod Index
 pub mod Lookup
+pub mod Names
 pub mod Rows
 pub mod Section

@@ -13,5 +13,6 @@ pub mod flatten;
 pub mod index;
 pub mod laws;
 pub mod lookup;
+pub mod names;
 mod rows;
 pub mod section;

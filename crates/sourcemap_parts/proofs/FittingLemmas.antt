@@ -1,12 +1,7 @@
 -- Lists that are cut or filled up.
-use Rattle.std.proofs.Common.{◌≡◌, ℕ, zero, suc, ◌+◌, ◌≤◌, List, [], ◌∷◌, ◌++◌, length, take, replicate, map, refl, ap, sym, ◌∙◌, append_assoc, add_comm, arith, length-append, None, option_map, string_bytes, Option, String}
-use Rattle.std.specs.declared.alloc.Global.{Global}
-use Rattle.std.proofs.lemmas.List.{replicate-append-replicate, take-append-le, take-map, map-append, length-map, length-replicate}
+use Rattle.std.proofs.Common.{◌≡◌, ℕ, zero, suc, ◌+◌, ◌≤◌, List, [], ◌∷◌, ◌++◌, length, take, replicate, map, refl, ap, sym, ◌∙◌, append_assoc, add_comm, arith, length-append, Option, None, option_map, slice_set}
+use Rattle.std.proofs.lemmas.List.{replicate-append-replicate, take-append-le, take-map, map-append, map-set, length-replicate}
 use Rattle.sourcemap_parts.specs.Contents.{fitted}
-
-map-replicate : (n : ℕ) → map (option_map (string_bytes {Z = Global})) (replicate n None) ≡ replicate n None
-map-replicate zero = refl
-map-replicate (suc n) = ap (λ rest. None ∷ rest) (map-replicate n)
 
 -- what is filled up beyond need does not matter
 filled : {X : Type 0} (n k m : ℕ) (xs : List X) (x : X) → n ≤ length xs + k → take n (xs ++ replicate (k + m) x) ≡ take n (xs ++ replicate k x)
@@ -18,13 +13,28 @@ either_filled : {X : Type 0} (n k : ℕ) (xs : List X) (x : X) → n ≤ length 
 either_filled n k xs x h =
     sym (filled n k n xs x h) ∙ ap (λ c. take n (xs ++ replicate c x)) (add_comm k n) ∙ filled n n k xs x (omega arith)
 
-pub fits : (count k : ℕ) (old new : List (Option (String Global))) → count ≤ length old + k → new ≡ take count (old ++ replicate k None)
-    → map (option_map string_bytes) new ≡ fitted count (map (option_map string_bytes) old)
-fits count k old new h e =
-    let bound : count ≤ length (map (option_map (string_bytes {Z = Global})) old) + k = rw length-map h in
-    rw (e, ← (take-map (option_map string_bytes) count (old ++ replicate k None)), map-append, map-replicate k) (either_filled count k (map (option_map string_bytes) old) None bound)
+pub fits : {X : Type 0} (count k : ℕ) (old new : List (Option X)) → count ≤ length old + k → new ≡ take count (old ++ replicate k None) → new ≡ fitted count old
+fits count k old new h e = e ∙ either_filled count k old None h
 
 -- one more at the end
-pub one_more : (k : ℕ) (old now next : List (Option (String Global))) → now ≡ old ++ replicate k None → next ≡ now ++ None ∷ []
+pub one_more : {X : Type 0} (k : ℕ) (old now next : List (Option X)) → now ≡ old ++ replicate k None → next ≡ now ++ None ∷ []
     → next ≡ old ++ replicate (k + 1) None
 one_more k old now next e f = rw (f, e, append_assoc) (ap (λ rest. old ++ rest) (replicate-append-replicate k 1 None))
+
+-- items that are seen through a function
+
+map-replicate : {X Y : Type 0} (g : X → Y) (n : ℕ) → map (option_map g) (replicate n None) ≡ replicate n None
+map-replicate g zero = refl
+map-replicate g (suc n) = ap (λ rest. None ∷ rest) (map-replicate g n)
+
+pub map-fitted : {X Y : Type 0} (g : X → Y) (count : ℕ) (items : List (Option X)) → map (option_map g) (fitted count items) ≡ fitted count (map (option_map g) items)
+map-fitted g count items =
+    sym (take-map (option_map g) count (items ++ replicate count None))
+    ∙ ap (take count) (map-append (option_map g) items (replicate count None) ∙ ap (λ rest. map (option_map g) items ++ rest) (map-replicate g count))
+
+pub map-put : {X Y : Type 0} (g : X → Y) (count place : ℕ) (item : Option X) (old new : List (Option X)) → new ≡ slice_set (fitted count old) place item
+    → map (option_map g) new ≡ slice_set (fitted count (map (option_map g) old)) place (option_map g item)
+map-put g count place item old new e =
+    ap (map (option_map g)) e
+    ∙ map-set (option_map g) (fitted count old) place item
+    ∙ ap (λ items. slice_set items place (option_map g item)) (map-fitted g count old)

@@ -8,7 +8,7 @@ use Rattle.std.proofs.Common.{rules}
 use Rattle.sourcemap_parts.specs.TextLists.{same_text}
 
 -- a list of contents cut or filled up to so many
-abbrev pub fitted : ℕ → List (Option (List ℕ)) → List (Option (List ℕ))
+abbrev pub fitted : {X : Type 0} → ℕ → List (Option X) → List (Option X)
 fitted count contents = take count (contents ++ replicate count None)
 
 -- the contents of the source with this id, where there are some

@@ -3,7 +3,7 @@ ghost use Rattle.std.specs.Prelude.{◌≡◌, Ok, map, option_map, string_bytes
 ghost use Rattle.std.specs.Option.{option_eq};
 ghost use Rattle.std.specs.Cmp.Lexicographic.{pointwise};
 ghost use Rattle.sourcemap_errors.specs.Answer.{Gives};
-ghost use Rattle.sourcemap_texts.specs.Texts.{texts_of, contents_in};
+ghost use Rattle.sourcemap_texts.specs.Texts.{texts_of};
 ghost use Rattle.sourcemap_parts.specs.TextLists.{same_text};
 
 use sourcemap_errors::errors::Result;
@@ -17,17 +17,6 @@ pub fn copy_texts(alloc: Global, texts: &[String]) -> Result<Vec<String>>
     let mut copies = Vec::with_capacity(alloc, texts.len())?;
     for text in texts {
         copies.push(text.clone()?)?;
-    }
-    Ok(copies)
-}
-
-/// The same texts, each where there is one. Only want of memory refuses.
-pub fn copy_contents(alloc: Global, contents: &[Option<String>]) -> Result<Vec<Option<String>>>
-    ensures { Gives contents_in result (Ok (map (option_map string_bytes) contents.now)) }
-{
-    let mut copies = Vec::with_capacity(alloc, contents.len())?;
-    for text in contents {
-        copies.push(copy_text(alloc, text)?)?;
     }
     Ok(copies)
 }
@@ -53,13 +42,6 @@ pub fn same_maybe(a: &Option<String>, b: &Option<String>) -> bool
 /// Whether the lists hold the same texts.
 pub fn same_texts(a: &Vec<String>, b: &Vec<String>) -> bool
     ensures { result ≡ pointwise same_text (texts_of a.now) (texts_of b.now) }
-{
-    a == b
-}
-
-/// Whether the lists are as long, and have the same text or none at each place.
-pub fn same_contents(a: &Vec<Option<String>>, b: &Vec<Option<String>>) -> bool
-    ensures { result ≡ pointwise (option_eq same_text) (contents_in a.now) (contents_in b.now) }
 {
     a == b
 }

@@ -3,7 +3,7 @@ use Rattle.std.proofs.Common.{◌≡◌, refl, ap, subst, ◌∙◌, ℕ, ◌≤
 use Rattle.std.proofs.lemmas.List.{length-map}
 use Rattle.sourcemap_lists.specs.declared.tokens.RawToken.{RawToken}
 use Rattle.sourcemap_parts.specs.Sources.{shown}
-use Rattle.sourcemap_texts.specs.Texts.{texts_of, contents_in}
+use Rattle.sourcemap_texts.specs.Texts.{texts_of}
 use Rattle.sourcemap_texts.specs.Prefixes.{cut_by}
 use Rattle.sourcemap_rewriting.specs.Numbering.{kept_of, numbered_by}
 use Rattle.sourcemap_rewriting.specs.Rewritten.{AreRewritten}
@@ -79,5 +79,5 @@ module _ (m : MapValue) (removal : Removal) where
     pub sources-rewritten : texts_of p.sources ≡ (rewritten removal m).sources
     sources-rewritten = due.sources_due ∙ ap (map (cut_by (cuts removal m))) sources_used
 
-    pub contents-rewritten : contents_in p.contents ≡ (rewritten removal m).contents
+    pub contents-rewritten : p.contents.items ≡ (rewritten removal m).contents
     contents-rewritten = due.contents_kept ∙ ap (λ kept. cond removal.with_contents (map (contents_for m) kept) []) sources_used

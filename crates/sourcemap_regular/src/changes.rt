@@ -69,8 +69,6 @@ impl SourceMap {
               (option_copied contents.entry);
         }) }
     {
-        let alloc = *self.names.allocator();
-        let contents = owned(alloc, contents)?;
         let count = self.sources.len();
         self.contents.set(count, id, contents)?;
         Ok(())

@@ -2,6 +2,7 @@
 
 use crate::map::SourceMap;
 use sourcemap_lists::tokens::RawToken;
+use sourcemap_views::sourceview::SourceView;
 use std::collections::BTreeSet;
 
 /// The lists of a map. Ids are places in them.
@@ -13,8 +14,8 @@ pub struct MapLists<'a> {
     pub names: &'a [String],
     /// Its sources as they are shown behind the root.
     pub sources: &'a [String],
-    /// The contents of its sources, each where there are some.
-    pub contents: &'a [Option<String>],
+    /// Views of the contents of its sources, each where there are some.
+    pub contents: &'a [Option<SourceView>],
     /// The ids of the sources that a debugger passes over.
     pub ignored: &'a BTreeSet<u32>,
 }

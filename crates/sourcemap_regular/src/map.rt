@@ -14,6 +14,7 @@ use sourcemap_parts::heading::Heading;
 use sourcemap_parts::sources::Sources;
 use sourcemap_records::jsontypes::DebugId;
 use sourcemap_texts::copies::owned;
+use sourcemap_views::sourceview::SourceView;
 use std::alloc::Global;
 use std::marker::Model;
 
@@ -85,7 +86,7 @@ impl SourceMap {
         let tokens = TokenList::sorted(tokens)?;
         let heading = Heading::new(alloc, file);
         let sources = Sources::new(sources);
-        let contents = contents_if(alloc, sources_content);
+        let contents = contents_if(alloc, sources_content)?;
         Ok(SourceMap::of_parts(heading, tokens, names, sources, contents))
     }
 
@@ -236,6 +237,17 @@ impl SourceMap {
     pub fn get_source_contents(&self, id: u32) -> Option<&str>
         ensures { option_copied result ≡ contents_of self.now id }
     {
+        match self.contents.get(id) {
+            None => None,
+            Some(view) => Some(view.source()),
+        }
+    }
+
+    /// A view of the contents of the source of this number, if the map has them. It was made with
+    /// the map, or when the contents were set, so this takes no memory.
+    pub fn get_source_view(&self, id: u32) -> Option<&SourceView>
+        ensures { option_copied result ≡ contents_of self.now id }
+    {
         self.contents.get(id)
     }
 
@@ -265,12 +277,12 @@ impl SourceMap {
 }
 
 // The contents of a list, none where there is no list.
-fn contents_if(alloc: Global, contents: Option<Vec<Option<String>>>) -> Contents
+fn contents_if(alloc: Global, contents: Option<Vec<Option<String>>>) -> Result<Contents>
     requires { ForSome contents (λ list. vec_len list ≤ 4294967295) }
-    ensures { result ≡ unwrap_or (option_map contents_in contents) [] }
+    ensures { Gives (λ c. c) result (Ok (unwrap_or (option_map contents_in contents) [])) }
 {
     match contents {
-        None => Contents::new(alloc),
-        Some(list) => Contents::of_list(list),
+        None => Ok(Contents::new(alloc)),
+        Some(texts) => Contents::of_texts(alloc, texts),
     }
 }

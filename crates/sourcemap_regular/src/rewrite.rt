@@ -81,7 +81,7 @@ impl SourceMap {
         } = self;
         let names = names_if(alloc, names, options.with_names);
         let (sources, shown) = sources.into_lists();
-        let contents = contents.into_list();
+        let contents = contents.into_views();
         let parts = rewritten_parts(alloc, tokens, sources, shown, names, contents, options)?;
         let RewrittenParts {
             tokens,
@@ -92,7 +92,7 @@ impl SourceMap {
         } = parts;
         let heading = heading.without_ignored(alloc);
         let sources = Sources::new(sources);
-        let contents = Contents::of_list(contents);
+        let contents = Contents::of_views(contents);
         let map = SourceMap::of_parts(heading, tokens, names, sources, contents);
         Ok((map, first_ids))
     }

@@ -3,6 +3,7 @@ ghost use Rattle.std.specs.Prelude.{◌≡◌, ℕ, ◌+◌, ◌<◌, ◌^◌, S
 
 use crate::map::SourceMap;
 use sourcemap_lists::tokens::{NO_ID, RawToken};
+use sourcemap_views::sourceview::SourceView;
 use std::fmt;
 
 /// A token of a map, with the map: it answers by texts what the raw token says by numbers.
@@ -20,6 +21,7 @@ pub struct Token<'a> {
 impl<'a> Token<'a> {
     ghost use Rattle.std.specs.Prelude.{◌≢◌, ◌==◌, not, [], IsTrue, IsSome, ◌↔◌, option_map, is_some, unwrap_or};
     ghost use Rattle.std.specs.Option.{option_copied};
+    ghost use Rattle.sourcemap_regular.specs.Map.{contents_of};
     ghost use Rattle.sourcemap_regular.specs.Token.{answers, token_value};
 
     /// The map that the token is of.
@@ -86,6 +88,15 @@ impl<'a> Token<'a> {
         ensures { option_copied result ≡ (answers self.now).source }
     {
         self.map.get_source(self.raw.src_id)
+    }
+
+    /// A view of the contents of the source, if there is one of that number and the map has them.
+    /// It takes no memory.
+    pub fn get_source_view(&self) -> Option<&'a SourceView>
+        ensures { option_copied result
+            ≡ contents_of (token_value self.now).map_of (token_value self.now).raw.src_id }
+    {
+        self.map.get_source_view(self.raw.src_id)
     }
 
     /// Whether the token names a source by a number other than 4294967295.

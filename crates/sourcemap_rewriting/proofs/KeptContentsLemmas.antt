@@ -1,9 +1,8 @@
 -- Contents that are moved to new numbers of their sources, one after another.
-use Rattle.std.proofs.Common.{◌≡◌, ◌≢◌, refl, sym, ap, ◌∙◌, ℕ, zero, suc, ◌<◌, ◌==◌, List, [], ◌∷◌, ◌++◌, length, get_or, Bool, true, false, cond, Some, None, Option, arith, inl, inr, ◌⊎◌, slice_get, slice_set, is_some, replicate, eqb-true, eq-eqb, option_and_then, option_map, map, string_bytes, String}
+use Rattle.std.proofs.Common.{◌≡◌, ◌≢◌, refl, sym, ap, ◌∙◌, ℕ, zero, suc, ◌<◌, ◌==◌, List, [], ◌∷◌, ◌++◌, length, get_or, Bool, true, false, cond, Some, None, Option, arith, inl, inr, ◌⊎◌, slice_get, slice_set, is_some, replicate, eqb-true, eq-eqb, option_and_then}
 use Rattle.std.specs.Option.{option_or}
-use Rattle.std.specs.declared.alloc.Global.{Global}
 use Rattle.std.proofs.lemmas.Bool.{cases_eq}
-use Rattle.std.proofs.lemmas.Option.{slice_get-map, slice_get_read}
+use Rattle.std.proofs.lemmas.Option.{slice_get_read}
 use Rattle.std.proofs.lemmas.List.{length-set, length-replicate}
 use Rattle.sourcemap_rewriting.specs.Numbering.{first_some}
 use Rattle.sourcemap_rewriting.specs.KeptContents.{given, given_to, AreKept}
@@ -123,11 +122,7 @@ module _ (numbers order : List ℕ) (old now kept now' kept' : List (Option (Lis
         by_case (Some text) e = full-left text e (rw e at put) (rw e at cleared)
 
 -- whether there are contents at a place
-pub given-at : (xs : List (Option (String Global))) (i : ℕ) (o : Option (String Global)) → i < length xs → o ≡ get_or xs i o
-    → is_some (given (map (option_map string_bytes) xs) i) ≡ is_some o
+pub given-at : (xs : List (Option (List ℕ))) (i : ℕ) (o : Option (List ℕ)) → i < length xs → o ≡ get_or xs i o
+    → is_some (given xs i) ≡ is_some o
 given-at xs i o within read =
-    ap (λ found. is_some (option_and_then (λ x. x) found)) (slice_get-map (option_map string_bytes) xs i ∙ ap (option_map (option_map string_bytes)) (slice_get_read xs (length xs) i o refl within read)) ∙ by_case o
-  where
-    by_case : (o : Option (String Global)) → is_some (option_map string_bytes o) ≡ is_some o
-    by_case None = refl
-    by_case (Some s) = refl
+    ap (λ found. is_some (option_and_then (λ x. x) found)) (slice_get_read xs (length xs) i o refl within read)

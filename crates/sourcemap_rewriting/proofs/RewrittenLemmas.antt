@@ -12,7 +12,7 @@ use Rattle.sourcemap_errors.specs.declared.errors.Error.{Error}
 use Rattle.sourcemap_lists.specs.declared.tokens.RawToken.{RawToken}
 use Rattle.sourcemap_lists.specs.Interner.{place_of, AreDistinct}
 use Rattle.sourcemap_lists.proofs.InternerLemmas.{slice_get-place_of}
-use Rattle.sourcemap_texts.specs.Texts.{texts_of, contents_in}
+use Rattle.sourcemap_texts.specs.Texts.{texts_of}
 use Rattle.sourcemap_texts.specs.Prefixes.{cut_by}
 use Rattle.sourcemap_rewriting.specs.CutSources.{all_prefixes}
 use Rattle.sourcemap_rewriting.specs.Options.{Removal}
@@ -140,13 +140,12 @@ few-rewritten S N paths contents removal tokens p few_s few_n are =
     let sources : length (texts_of p.sources) ≡ length p.sources.items = length-map p.sources.items string_bytes in
     let sources_due : length (texts_of p.sources) ≡ length (sources_used S tokens) =
     ap length are.sources_due ∙ length-map (sources_used S tokens) (cut_by (all_prefixes removal.prefixes paths)) in
-    let kept : length (contents_in p.contents) ≡ length p.contents.items = length-map p.contents.items (option_map string_bytes) in
     let due : List (Option (List ℕ)) = map (contents_due S contents tokens) (sources_used S tokens) in
     let many : length due ≡ length (sources_used S tokens) = length-map (sources_used S tokens) (contents_due S contents tokens) in
     let few : length (cond removal.with_contents due []) ≤ 4294967295 = few_contents_if removal.with_contents due (omega (arith, many, some_sources, few_s)) in
-    let kept_due : length (contents_in p.contents) ≡ length (cond removal.with_contents due []) = ap length are.contents_kept in
+    let kept_due : length p.contents.items ≡ length (cond removal.with_contents due []) = ap length are.contents_kept in
     record {
       names = omega (arith, p.names.ok.0, names, names_due, some_names, few_n);
       sources = omega (arith, p.sources.ok.0, sources, sources_due, some_sources, few_s);
-      contents = omega (arith, p.contents.ok.0, kept, kept_due, few);
+      contents = omega (arith, p.contents.ok.0, kept_due, few);
     }

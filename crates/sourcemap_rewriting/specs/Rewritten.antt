@@ -2,7 +2,7 @@
 use Rattle.std.specs.Prelude.{◌≡◌, ◌≤◌, ℕ, cond, List, [], map, slice_get, Option, None, option_and_then, vec_len}
 use Rattle.std.specs.Str.{bytes_eq}
 use Rattle.sourcemap_lists.specs.declared.tokens.RawToken.{RawToken}
-use Rattle.sourcemap_texts.specs.Texts.{texts_of, contents_in}
+use Rattle.sourcemap_texts.specs.Texts.{texts_of}
 use Rattle.sourcemap_texts.specs.Prefixes.{cut_by}
 use Rattle.sourcemap_rewriting.specs.Options.{Removal}
 use Rattle.sourcemap_rewriting.specs.CutSources.{all_prefixes}
@@ -41,7 +41,7 @@ pub record AreRewritten (sources names paths : List (List ℕ)) (contents : List
   pub sources_due : texts_of p.sources
       ≡ map (cut_by (all_prefixes removal.prefixes paths)) (sources_used sources tokens)
   pub first_ids_due : p.first_ids.items ≡ first_ids_used sources tokens
-  pub contents_kept : contents_in p.contents
+  pub contents_kept : p.contents.items
       ≡ cond removal.with_contents (map (contents_due sources contents tokens) (sources_used sources tokens)) []
 
 -- each name, source and item of contents has a number

@@ -1,17 +1,17 @@
 //! Contents that are moved to the new numbers of their sources.
-ghost use Rattle.std.specs.Prelude.{◌≡◌, ◌<◌, None, IfOk, IsOkUnless, cond, is_some, map, option_map, replicate, slice_set, string_bytes, vec_len};
+ghost use Rattle.std.specs.Prelude.{◌≡◌, ◌<◌, None, IfOk, IsOkUnless, cond, is_some, replicate, slice_set, vec_len};
 ghost use Rattle.std.specs.List.{AllByRecursion};
 ghost use Rattle.sourcemap_errors.specs.declared.errors.Error.TheVariants.{OutOfMemory};
-ghost use Rattle.sourcemap_texts.specs.Texts.{contents_in};
 ghost use Rattle.sourcemap_rewriting.specs.KeptContents.{AreKept, IsPlaced, given};
 
 use sourcemap_errors::errors::Result;
+use sourcemap_views::sourceview::SourceView;
 use std::alloc::Global;
 
 // The contents at a place, which are taken away from there.
-fn taken(contents: &mut Vec<Option<String>>, id: usize) -> Option<String>
-    ensures taken { option_map string_bytes result ≡ given (contents_in contents.old) id }
-    ensures left { contents_in contents.new ≡ slice_set (contents_in contents.old) id None }
+fn taken(contents: &mut Vec<Option<SourceView>>, id: usize) -> Option<SourceView>
+    ensures taken { result ≡ given contents.old.items id }
+    ensures left { contents.new.items ≡ slice_set contents.old.items id None }
 {
     if id < contents.len() {
         contents[id].take()
@@ -21,14 +21,18 @@ fn taken(contents: &mut Vec<Option<String>>, id: usize) -> Option<String>
 }
 
 // Moves contents to a place that has none yet.
-fn give(contents: &mut Vec<Option<String>>, id: usize, kept: &mut Vec<Option<String>>, place: usize)
+fn give(
+    contents: &mut Vec<Option<SourceView>>,
+    id: usize,
+    kept: &mut Vec<Option<SourceView>>,
+    place: usize,
+)
     requires { place < vec_len kept.old }
-    ensures kept { contents_in kept.new
-        ≡ cond (is_some (given (contents_in kept.old) place)) (contents_in kept.old)
-        (slice_set (contents_in kept.old) place (given (contents_in contents.old) id)) }
-    ensures left { contents_in contents.new
-        ≡ cond (is_some (given (contents_in kept.old) place)) (contents_in contents.old)
-        (slice_set (contents_in contents.old) id None) }
+    ensures kept { kept.new.items ≡ cond (is_some (given kept.old.items place)) kept.old.items
+        (slice_set kept.old.items place (given contents.old.items id)) }
+    ensures left { contents.new.items
+        ≡ cond (is_some (given kept.old.items place)) contents.old.items
+        (slice_set contents.old.items id None) }
 {
     if kept[place].is_none() {
         kept[place] = taken(contents, id);
@@ -36,8 +40,8 @@ fn give(contents: &mut Vec<Option<String>>, id: usize, kept: &mut Vec<Option<Str
 }
 
 // A list of so many sources that have no contents.
-fn without_contents(alloc: Global, count: usize) -> Result<Vec<Option<String>>>
-    ensures ok { IfOk result (λ list. contents_in list ≡ replicate count None) }
+fn without_contents(alloc: Global, count: usize) -> Result<Vec<Option<SourceView>>>
+    ensures ok { IfOk result (λ list. list.items ≡ replicate count None) }
     ensures memory { IsOkUnless result OutOfMemory }
 {
     let mut list = Vec::with_capacity(alloc, count)?;
@@ -50,14 +54,14 @@ fn without_contents(alloc: Global, count: usize) -> Result<Vec<Option<String>>>
 // The contents by new number: those of the first old one of that number that has some.
 pub(crate) fn kept_contents(
     alloc: Global,
-    mut contents: Vec<Option<String>>,
+    mut contents: Vec<Option<SourceView>>,
     order: &[u32],
     numbers: &[u32],
     count: usize,
-) -> Result<Vec<Option<String>>>
+) -> Result<Vec<Option<SourceView>>>
     requires { AllByRecursion (IsPlaced numbers.now count) order.now }
     ensures ok { IfOk result
-        (λ kept. AreKept numbers.now order.now (contents_in contents) count (contents_in kept)) }
+        (λ kept. AreKept numbers.now order.now contents.items count kept.items) }
     ensures memory { IsOkUnless result OutOfMemory }
 {
     let mut kept = without_contents(alloc, count)?;

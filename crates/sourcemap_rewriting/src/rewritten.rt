@@ -2,7 +2,7 @@
 ghost use Rattle.std.specs.Prelude.{◌≡◌, ◌≤◌, [], IfOk, IsOkUnless, MatchBool, cond, map, string_bytes, unwrap_or, vec_len};
 ghost use Rattle.std.specs.List.{AllByRecursion};
 ghost use Rattle.sourcemap_errors.specs.declared.errors.Error.TheVariants.{OutOfMemory};
-ghost use Rattle.sourcemap_texts.specs.Texts.{texts_of, contents_in};
+ghost use Rattle.sourcemap_texts.specs.Texts.{texts_of};
 ghost use Rattle.sourcemap_rewriting.specs.Options.{removal_of};
 ghost use Rattle.sourcemap_rewriting.specs.Rewritten.{AreFew, AreRewritten};
 ghost use Rattle.sourcemap_rewriting.specs.KeptContents.{AreKept, IsPlaced};
@@ -16,6 +16,7 @@ use crate::options::RewriteOptions;
 use crate::renumbering::renumber;
 use sourcemap_errors::errors::Result;
 use sourcemap_line_index::token_list::TokenList;
+use sourcemap_views::sourceview::SourceView;
 use std::alloc::Global;
 
 // The sources as they are shown.
@@ -48,16 +49,15 @@ pub fn names_if(alloc: Global, names: Vec<String>, with_names: bool) -> Vec<Stri
 // The contents of so many sources, by new number, if they are kept.
 fn contents_if(
     alloc: Global,
-    contents: Vec<Option<String>>,
+    contents: Vec<Option<SourceView>>,
     sources: &NewNumbers,
     count: usize,
     with_contents: bool,
-) -> Result<Vec<Option<String>>>
+) -> Result<Vec<Option<SourceView>>>
     requires { AllByRecursion (IsPlaced sources.now.numbers.items count) sources.now.order.items }
     ensures ok { IfOk result (λ kept. MatchBool with_contents
-        (AreKept sources.now.numbers.items sources.now.order.items (contents_in contents) count
-        (contents_in kept))
-        (contents_in kept ≡ [])) }
+        (AreKept sources.now.numbers.items sources.now.order.items contents.items count kept.items)
+        (kept.items ≡ [])) }
     ensures memory { IsOkUnless result OutOfMemory }
 {
     if !with_contents {
@@ -80,7 +80,7 @@ pub struct RewrittenParts {
     /// The sources that tokens use.
     pub sources: Vec<String>,
     /// The contents of these sources.
-    pub contents: Vec<Option<String>>,
+    pub contents: Vec<Option<SourceView>>,
     /// The old numbers of these sources, of each that by which a token first uses its text.
     pub first_ids: Vec<u32>,
 }
@@ -93,14 +93,14 @@ pub fn rewritten_parts(
     sources: Vec<String>,
     with_root: Option<Vec<String>>,
     names: Vec<String>,
-    contents: Vec<Option<String>>,
+    contents: Vec<Option<SourceView>>,
     options: &RewriteOptions<'_>,
 ) -> Result<RewrittenParts>
     requires few_sources { vec_len (unwrap_or with_root sources) ≤ 4294967295 }
     requires few_names { vec_len names ≤ 4294967295 }
     ensures parts { IfOk result (λ parts. AreRewritten
         (texts_of (unwrap_or with_root sources)) (texts_of names) (texts_of sources)
-        (contents_in contents) (removal_of options.now) tokens parts) }
+        contents.items (removal_of options.now) tokens parts) }
     ensures few { IfOk result AreFew }
     ensures memory { IsOkUnless result OutOfMemory }
 {

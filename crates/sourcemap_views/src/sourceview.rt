@@ -56,6 +56,14 @@ impl SourceView {
         self.source.as_str()
     }
 
+    /// The text, moved out of the view. It takes no memory.
+    pub fn into_source(self) -> String
+        ensures { string_bytes result ≡ self }
+    {
+        let SourceView { source, .. } = self;
+        source
+    }
+
     /// A line, counted from 0, without what ends it. None if there is no such line.
     pub fn get_line(&self, line: u32) -> Option<&str>
         ensures { option_map (λ text. text.now) result ≡ slice_get (line_bodies self.now) line }

@@ -1,7 +1,6 @@
 use Rattle.std.proofs.Common.{◌≡◌, map, take}
-use Rattle.sourcemap_texts.specs.Texts.{contents_in}
 use Rattle.sourcemap_flattening.specs.Table.{entry_values}
 use Rattle.sourcemap_flattening.proofs.entries.contents_of.Given as goal
 
 abbrev pub invariant-loop-entry : goal.invariant-loop-entry
-invariant-loop-entry l = contents_in l.contents ≡ map (λ e. e.1) (entry_values (take l.entry-index l.entries))
+invariant-loop-entry l = l.contents.items ≡ map (λ e. e.1) (entry_values (take l.entry-index l.entries))

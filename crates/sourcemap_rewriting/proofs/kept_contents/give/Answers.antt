@@ -1,6 +1,4 @@
-use Rattle.std.proofs.Common.{◌≡◌, true, false, is_some, option_map, string_bytes, slice_set, refl, ap, ◌∙◌, arith}
-use Rattle.std.proofs.lemmas.List.{map-set}
-use Rattle.sourcemap_texts.specs.Texts.{contents_in}
+use Rattle.std.proofs.Common.{◌≡◌, true, false, is_some, slice_set, refl, ap, ◌∙◌, arith}
 use Rattle.sourcemap_rewriting.specs.KeptContents.{given}
 use Rattle.sourcemap_rewriting.proofs.KeptContentsLemmas.{given-at}
 use Rattle.sourcemap_rewriting.proofs.kept_contents.give.Goals as goal
@@ -8,23 +6,23 @@ use Rattle.sourcemap_rewriting.proofs.kept_contents.give.Goals as goal
 pub returns-then-is_none-clause-kept : goal.returns-then-is_none-clause-kept
 returns-then-is_none-clause-kept c =
     let kept = c.args.kept.now in
-    let none : is_some (given (contents_in kept) c.args.place) ≡ false = given-at kept.items c.args.place c.index.result.now (omega (arith, kept.ok.0)) c.index.ensures ∙ c.if-is_none.ensures in
-    rw none (map-set (option_map string_bytes) kept.items c.args.place c.taken.result ∙ ap (slice_set (contents_in kept) c.args.place) c.taken.ensures.taken)
+    let none : is_some (given kept.items c.args.place) ≡ false = given-at kept.items c.args.place c.index.result.now (omega (arith, kept.ok.0)) c.index.ensures ∙ c.if-is_none.ensures in
+    rw none (ap (slice_set kept.items c.args.place) c.taken.ensures.taken)
 
 pub returns-then-is_none-clause-left : goal.returns-then-is_none-clause-left
 returns-then-is_none-clause-left c =
     let kept = c.args.kept.now in
-    let none : is_some (given (contents_in kept) c.args.place) ≡ false = given-at kept.items c.args.place c.index.result.now (omega (arith, kept.ok.0)) c.index.ensures ∙ c.if-is_none.ensures in
+    let none : is_some (given kept.items c.args.place) ≡ false = given-at kept.items c.args.place c.index.result.now (omega (arith, kept.ok.0)) c.index.ensures ∙ c.if-is_none.ensures in
     rw none c.taken.ensures.left
 
 pub returns-else-is_none-clause-kept : goal.returns-else-is_none-clause-kept
 returns-else-is_none-clause-kept c =
     let kept = c.args.kept.now in
-    let some : is_some (given (contents_in kept) c.args.place) ≡ true = given-at kept.items c.args.place c.index.result.now (omega (arith, kept.ok.0)) c.index.ensures ∙ c.if-is_none.ensures in
+    let some : is_some (given kept.items c.args.place) ≡ true = given-at kept.items c.args.place c.index.result.now (omega (arith, kept.ok.0)) c.index.ensures ∙ c.if-is_none.ensures in
     rw some refl
 
 pub returns-else-is_none-clause-left : goal.returns-else-is_none-clause-left
 returns-else-is_none-clause-left c =
     let kept = c.args.kept.now in
-    let some : is_some (given (contents_in kept) c.args.place) ≡ true = given-at kept.items c.args.place c.index.result.now (omega (arith, kept.ok.0)) c.index.ensures ∙ c.if-is_none.ensures in
+    let some : is_some (given kept.items c.args.place) ≡ true = given-at kept.items c.args.place c.index.result.now (omega (arith, kept.ok.0)) c.index.ensures ∙ c.if-is_none.ensures in
     rw some refl

@@ -1,7 +1,7 @@
 use Rattle.std.proofs.Common.{◌≡◌, ◌≤◌, ℕ, arith, List, length, map, string_bytes, unwrap_or, MatchBool, cond, [], sym, ap, subst, ◌∙◌}
 use Rattle.std.specs.declared.alloc.Global.{Global}
 use Rattle.std.proofs.lemmas.List.{length-map}
-use Rattle.sourcemap_texts.specs.Texts.{texts_of, contents_in}
+use Rattle.sourcemap_texts.specs.Texts.{texts_of}
 use Rattle.sourcemap_texts.specs.Prefixes.{cut_by}
 use Rattle.sourcemap_rewriting.specs.Options.{removal_of}
 use Rattle.sourcemap_rewriting.specs.CutSources.{all_prefixes}
@@ -42,7 +42,7 @@ returns-clause-parts c =
     let new = c.in_ok-tokens.tokens in
     let r = c.in_ok-tokens.numbers in
     let removal = removal_of c.args.options.now in
-    let contents = contents_in c.args.contents in
+    let contents = c.args.contents.items in
     let names : map (string_bytes {Z = Global}) c.as_slice.result.now ≡ N = ap (map (string_bytes {Z = Global})) c.as_slice.ensures.value in
     let ok : IsRenumbered S N ts new r =
     subst (λ T. IsRenumbered T N ts new r) c.shown-texts.ensures
@@ -58,8 +58,8 @@ returns-clause-parts c =
       names_due = c.in_ok-names.ensures.ok ∙ ok.met.kept_names;
       sources_due = sym (same_Ok _ _ c.in_ok-sources.ensures) ∙ (λ i. map (cut_by (prefixes i)) ((kept ∙ ok.met.kept_sources) i));
       first_ids_due = c.in_ok-first_ids.ensures.ok S ok.numbered_sources ∙ firsts-used S N ts r.sources r.names ok.met;
-      contents_kept = contents-kept_if removal.with_contents S N ts r.sources r.names contents (contents_in c.in_ok-contents.contents) ok.met ok.numbered_sources
-          (subst (λ k. MatchBool removal.with_contents (AreKept r.sources.numbers.items r.sources.order.items contents k (contents_in c.in_ok-contents.contents)) (contents_in c.in_ok-contents.contents ≡ [])) count c.in_ok-contents.ensures.ok)
+      contents_kept = contents-kept_if removal.with_contents S N ts r.sources r.names contents c.in_ok-contents.contents.items ok.met ok.numbered_sources
+          (subst (λ k. MatchBool removal.with_contents (AreKept r.sources.numbers.items r.sources.order.items contents k c.in_ok-contents.contents.items) (c.in_ok-contents.contents.items ≡ [])) count c.in_ok-contents.ensures.ok)
           ∙ ap (λ kept. cond removal.with_contents (map (contents_due S contents ts) kept) []) ok.met.kept_sources;
     }
 
@@ -70,4 +70,4 @@ returns-clause-few c =
     let N : List (List ℕ) = texts_of c.args.names in
     let few_sources : length S ≤ 4294967295 = let many = length-map shown.items (string_bytes {Z = Global}) in omega (arith, shown.ok.0, many, c.requires.few_sources) in
     let few_names : length N ≤ 4294967295 = let many = length-map c.args.names.items (string_bytes {Z = Global}) in omega (arith, c.args.names.ok.0, many, c.requires.few_names) in
-    few-rewritten S N (texts_of c.args.sources) (contents_in c.args.contents) (removal_of c.args.options.now) c.args.tokens _ few_sources few_names (returns-clause-parts c)
+    few-rewritten S N (texts_of c.args.sources) c.args.contents.items (removal_of c.args.options.now) c.args.tokens _ few_sources few_names (returns-clause-parts c)

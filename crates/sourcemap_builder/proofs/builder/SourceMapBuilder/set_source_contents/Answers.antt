@@ -1,4 +1,4 @@
-use Rattle.std.proofs.Common.{◌<◌, ◌∙◌, length, ap, sym, subst, string_bytes, option_map}
+use Rattle.std.proofs.Common.{◌<◌, ◌∙◌, length, ap, sym, subst}
 use Rattle.std.specs.Option.{option_copied}
 use Rattle.sourcemap_texts.specs.Texts.{contents_in}
 use Rattle.sourcemap_builder.specs.Builder.{changed_to}
@@ -17,4 +17,4 @@ returns c =
     rw (← c.self.view_is) (ap (λ contents. record (built_of c.self.inside) { contents = contents })
     (contents-put c.self.inside.contents c.set.new.self c.len-count.result
     (length (changed_to (contents_in c.self.inside.changed) c.self.inside.interned)) c.args.id
-    (option_map string_bytes c.in_ok-contents.contents) (option_copied c.args.contents) same c.in_ok-contents.ensures c.in_ok-set.ensures))
+    (option_copied c.args.contents) same c.in_ok-set.ensures))

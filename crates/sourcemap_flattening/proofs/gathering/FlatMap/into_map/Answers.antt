@@ -12,7 +12,7 @@ returns c = λ pieces is.
     let contents = same_Ok _ _ (sym c.in_ok-contents.ensures) ∙ ap (λ es. map (λ (e : TextEntry). e.1) (entry_values es)) c.as_slice-3.ensures.value in
     let file = same_Ok _ _ (sym c.in_ok-file.ensures) in
     ap Ok (sym (c.of_parts.ensures ∙ map-of_flat (option_copied c.args.file) pieces c.args.self is c.with-heading.result c.new-sources.result
-    (texts_of c.in_ok-names.names) c.of_list-contents.result
+    (texts_of c.in_ok-names.names) c.of_views-contents.result
     (c.with-heading.ensures ∙ (λ i. record { file = file i; ignored = c.args.self.ignored.keys; debug_id = None }))
     (c.new-sources.ensures ∙ (λ i. record { root = None; texts = texts i }))
-    names (c.of_list-contents.ensures ∙ contents)))
+    names (c.of_views-contents.ensures ∙ contents)))

@@ -19,13 +19,13 @@ returns-clause-value c =
     let names : N ≡ cond removal.with_names m.names [] = c.names_if-names.ensures in
     let given : paths ≡ m.sources = c.into_lists-sources.ensures.given in
     let are : AreRewritten S N paths m.contents removal m.tokens p =
-    subst (λ contents. AreRewritten S N paths contents removal m.tokens p) c.into_list-contents.ensures.texts c.in_ok-parts.ensures.parts in
+    subst (λ contents. AreRewritten S N paths contents removal m.tokens p) c.into_views-contents.ensures.views c.in_ok-parts.ensures.parts in
     let is : c.of_parts-map.result ≡ rewritten removal m =
     c.of_parts-map.ensures ∙ (λ i. map_over (c.without_ignored-heading.ensures i)
     (tokens-rewritten m removal p S N paths sources names given are i)
     (names-rewritten m removal p S N paths sources names given are i)
     ((c.new-sources.ensures ∙ (λ j. record { root = None; texts = sources-rewritten m removal p S N paths sources names given are j })) i)
-    ((c.of_list-contents.ensures ∙ contents-rewritten m removal p S N paths sources names given are) i)) in
+    ((c.of_views-contents.ensures ∙ contents-rewritten m removal p S N paths sources names given are) i)) in
     ap (λ v. Ok (rewritten removal v)) (sym c.self.view_is) ∙ ap Ok (sym is)
 
 pub returns-clause-ids : goal.returns-clause-ids

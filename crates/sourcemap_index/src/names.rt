@@ -1,0 +1,55 @@
+//! The original names of functions that are guessed in maps of any kind.
+ghost use Rattle.std.specs.Prelude.{◌≡◌};
+ghost use Rattle.std.specs.Option.{option_copied};
+ghost use Rattle.sourcemap_trees.specs.MapTree.{index_tree};
+ghost use Rattle.sourcemap_trees.specs.WellFormed.{IsInOrder};
+ghost use Rattle.sourcemap_index.specs.Names.{function_name, guessed_in};
+
+use crate::family::{DecodedMap, SourceMapIndex};
+use sourcemap_views::sourceview::SourceView;
+
+impl SourceMapIndex {
+    ghost use Rattle.sourcemap_index.specs.Family.{index_value};
+
+    /// The original name of the function that stands at a line and a column of the generated text,
+    /// both from 0, the column in UTF-16 units, as by `SourceMap::get_original_function_name`. The
+    /// walk begins at the token that `lookup_token` finds, and goes back along the map of its
+    /// section alone; tokens stand in the view where that map has them. It takes no memory.
+    pub fn get_original_function_name(
+        &self,
+        line: u32,
+        col: u32,
+        minified_name: &str,
+        view: &SourceView,
+    ) -> Option<&str>
+        ensures { IsInOrder (index_tree (index_value self.now)) → option_copied result
+            ≡ guessed_in (index_tree (index_value self.now)) view.now minified_name.now (line, col) }
+    {
+        let token = self.lookup_token(line, col)?;
+        view.get_original_function_name(token, minified_name)
+    }
+}
+
+impl DecodedMap {
+    ghost use Rattle.sourcemap_index.specs.Family.{map_tree};
+
+    /// The original name of the function that stands at a line and a column of the generated text,
+    /// both from 0, the column in UTF-16 units: guessed by its minified name in a view of that text,
+    /// as by the call of the map's kind. None without both. It takes no memory.
+    pub fn get_original_function_name(
+        &self,
+        line: u32,
+        col: u32,
+        minified_name: Option<&str>,
+        source_view: Option<&SourceView>,
+    ) -> Option<&str>
+        ensures { IsInOrder (map_tree self.now) → option_copied result
+            ≡ function_name (map_tree self.now) (option_copied source_view.entry)
+            (option_copied minified_name.entry) (line, col) }
+    {
+        let minified_name = minified_name?;
+        let view = source_view?;
+        let token = self.lookup_token(line, col)?;
+        view.get_original_function_name(token, minified_name)
+    }
+}
