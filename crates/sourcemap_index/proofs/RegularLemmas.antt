@@ -9,7 +9,7 @@ use Rattle.sourcemap_records.specs.Jsontypes.{Fields, Tree, plain, indexed, Sect
 use Rattle.sourcemap_regular.specs.Decode.{RegularDecodes}
 use Rattle.sourcemap_regular.specs.Map.{MapValue}
 use Rattle.sourcemap_trees.specs.Decode.{Then, TreeDecodes, SectionsDecode, count, index_of}
-use Rattle.sourcemap_trees.specs.MapTree.{regular, index}
+use Rattle.sourcemap_trees.specs.MapTree.{regular}
 use Rattle.sourcemap_index.specs.Decode.{ValueDecodes, BytesDecode, UrlDecodes}
 
 regular_inside : (a b : MapValue) → regular a ≡ regular b → a ≡ b
