@@ -9,7 +9,7 @@ REFERENCE       bench/reference, which is then built, from the public registry i
 MAP             maps to take, as files, index maps too; without any, those that bench/get-maps.sh gathers, and
                 small and odd ones and indexes that bench/make-map.py makes
 --pairs         a folder with pairs NAME.original.map and NAME.adjustment.map, at any depth, each of which is
-                composed in a whole run
+                composed, again and again and in a whole run
 --rounds        rounds of each figure, of which the least counts (7)
 --no-made       no small and odd maps, and no indexes
 --growth        tokens of the smallest of four made maps, each with twice the tokens of the one before;
@@ -28,14 +28,15 @@ The reference is taken at its strongest: its time is that of `slice`, which read
 it, and its memory is that of `stream`, which holds no more of the input than it decodes at a time. A checksum
 that the two programs do not share is told on standard error, and the status is then 1.
 """
-import argparse, os, pathlib, shutil, subprocess, sys, tempfile
+import argparse, json, os, pathlib, shutil, subprocess, sys, tempfile
 from comparing import BENCH, CRATES, TOOL, build_missing, reference_program
 
 SCRIPTS = CRATES.parent / 'bench'
 OPERATIONS = ['decode', 'decode-reader', 'lookup', 'tokens', 'encode', 'rewrite']
 INDEX_OPERATIONS = ['decode', 'decode-reader', 'lookup', 'encode', 'flatten']
 TITLES = {'decode': 'decode a slice', 'decode-reader': 'decode a reader', 'lookup': '1,000,000 lookups',
-          'tokens': 'all tokens', 'encode': 'encode', 'rewrite': 'copy and rewrite', 'flatten': 'flatten'}
+          'tokens': 'all tokens', 'encode': 'encode', 'rewrite': 'copy and rewrite', 'flatten': 'flatten',
+          'compose': 'copy and compose'}
 RUNS = (['lookup', '3', '100'], ['rewrite'])
 INDEX_RUNS = (['lookup', '3', '100'], ['flatten'])
 MADE = {'300-tokens': ['300'], '1000-tokens': ['1000'], '5000-tokens': ['5000'], '20000-tokens': ['20000'],
@@ -185,11 +186,24 @@ def map_table(programs, path, rounds, counted):
             print(row('instructions, ' + TITLES[operation], programs.counts(path, operation), 'million', 1), flush=True)
 
 
+def lines_of(paths, folder):
+    """A file with these maps, each as compact JSON on a line."""
+    lines = os.path.join(folder, 'lines')
+    with open(lines, 'w') as sink:
+        for path in paths:
+            json.dump(json.loads(pathlib.Path(path).read_bytes()), sink, separators=(',', ':'))
+            sink.write('\n')
+    return lines
+
+
 def pair_table(programs, path, rounds):
     adjustment = str(path).replace('.original.map', '.adjustment.map')
     size, other = (os.path.getsize(each) / 1e6 for each in (path, adjustment))
     print(f'\n`{path.name}`, {size:.1f} MB, adjusted by one of {other:.1f} MB:\n')
     print('| Operation | Here | Reference | Ratio |\n|---|---|---|---|')
+    with tempfile.TemporaryDirectory() as folder:
+        lines = lines_of((path, adjustment), folder)
+        print(row(TITLES['compose'], programs.times(lines, 'compose', rounds), 'ms', 1e3), flush=True)
     words = ['compose', adjustment]
     print(row('run of `compose FILE`', programs.whole(path, words, rounds), 'ms', 1e3), flush=True)
     print(row('its most memory', programs.memory(path, words), 'MB', 1), flush=True)

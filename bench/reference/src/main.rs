@@ -23,6 +23,7 @@ const USAGE: &str = "usage, with a map on standard input:
     | names QUESTIONS [TEXT]
 or, with nothing there: slices QUESTIONS TEXT
 OPERATION: decode | decode-reader | lookup | tokens | encode | rewrite | flatten
+    | compose, of two maps on standard input, each on a line
 ";
 
 /// How the map is read, and how JSON text is printed.

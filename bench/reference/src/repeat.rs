@@ -15,6 +15,7 @@ pub enum Operation {
     Encode,
     Rewrite,
     Flatten,
+    Compose,
 }
 
 fn mixed(sum: u32, number: u32) -> u32 {
@@ -65,6 +66,7 @@ impl Operation {
             "encode" => Operation::Encode,
             "rewrite" => Operation::Rewrite,
             "flatten" => Operation::Flatten,
+            "compose" => Operation::Compose,
             _ => return None,
         })
     }
@@ -110,6 +112,16 @@ impl Operation {
                 rounds(times, |sum| {
                     let new = map.clone().rewrite(&RewriteOptions::default())?;
                     Ok(mixed(sum, new.get_source_count()))
+                })
+            }
+            Operation::Compose => {
+                let mut lines = bytes.split(|&byte| byte == b'\n');
+                let mut next = || decode_slice(lines.next().unwrap_or_default()).and_then(regular);
+                let (map, adjustment) = (next()?, next()?);
+                rounds(times, |sum| {
+                    let mut copy = map.clone();
+                    copy.adjust_mappings(&adjustment);
+                    Ok(mixed(sum, copy.get_token_count()))
                 })
             }
             Operation::Flatten => {

@@ -33,6 +33,16 @@ pub mod Encoder
 pub use Rattle.sourcemap_regular.specs.Write as Bytes
 pub mod Rewrite
 pub use Rattle.sourcemap_builder.specs.Builder
+pub use Rattle.sourcemap_scopes.specs.FunctionMap
+pub use Rattle.sourcemap_scopes.specs.Offsets as ScopeOffsets
+pub use Rattle.sourcemap_scopes.specs.Picks
+pub use Rattle.sourcemap_scopes.specs.ScopeLists
+pub use Rattle.sourcemap_scopes.specs.SourceScopes
+pub use Rattle.sourcemap_hermes.specs.Map as Hermes
+pub use Rattle.sourcemap_hermes.specs.Decode as HermesDecoder
+pub use Rattle.sourcemap_hermes.specs.Encode as HermesEncoder
+pub use Rattle.sourcemap_hermes.specs.Equality as HermesEquality
+pub use Rattle.sourcemap_hermes.specs.Rewrite as HermesRewrite
 pub mod Trees
 pub use Rattle.sourcemap_trees.specs.FlatList
 pub use Rattle.sourcemap_trees.specs.Flat

@@ -8,13 +8,19 @@ pub use sourcemap_core::laws::{
 };
 pub use sourcemap_headers::data_url::data_urls_have_one_answer;
 pub use sourcemap_index::decode::{answers_are_determined, no_other_fault_is_of_urls};
+pub use sourcemap_hermes::encode::written_records_are_determined as hermes_records_are_determined;
+pub use sourcemap_hermes::rewrite::rewriting_keeps_scopes;
 pub use sourcemap_index::laws::{
-    encoded_texts_are_compact, encoded_texts_read_back, regular_maps_are_of_a_kind,
-    written_values_have_one_text,
+    encoded_texts_are_compact, encoded_texts_read_back, hermes_maps_are_of_a_kind,
+    regular_maps_are_of_a_kind, written_values_have_one_text,
 };
 pub use sourcemap_regular::encode::written_records_are_determined;
 pub use sourcemap_regular::rewrite::default_rewriting_is_final;
 pub use sourcemap_regular::write::{written_maps_are_compact, written_maps_read_back};
+pub use sourcemap_scopes::offsets::scope_mappings_are_determined;
+pub use sourcemap_scopes::source_scopes::{
+    entries_determine_function_maps, picked_scopes_answer_alike,
+};
 pub use sourcemap_trees::laws::{
     decoded_maps_are_well_formed, flat_maps_answer_alike, flat_maps_are_well_formed,
     flat_maps_say_the_flat_list, maps_are_written_once, orderly_maps_are_in_order,

@@ -3,10 +3,12 @@
 #![tactic(auto)]
 
 pub mod decoder;
+pub mod hermes;
 pub mod laws;
 pub mod types;
 
 pub use decoder::{decode, decode_data_url, decode_slice};
+pub use hermes::SourceMapHermes;
 pub use sourcemap_core::{compose, errors, js_identifiers, utils, vlq};
 pub use sourcemap_errors::errors::{Error, Result};
 pub use sourcemap_maps::builder::SourceMapBuilder;

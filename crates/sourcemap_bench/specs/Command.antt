@@ -1,7 +1,7 @@
 -- What the words of a run ask for.
 use Rattle.std.specs.Prelude.{◌≡◌, ℕ, List, [], ◌∷◌, codes}
 use Rattle.sourcemap_bench.specs.declared.command.Operation.{Operation}
-use Rattle.sourcemap_bench.specs.declared.command.Operation.TheVariants.{Decode, DecodeReader, Lookup, Tokens, Encode, Rewrite, Flatten}
+use Rattle.sourcemap_bench.specs.declared.command.Operation.TheVariants.{Decode, DecodeReader, Lookup, Tokens, Encode, Rewrite, Flatten, Compose}
 use Rattle.sourcemap_bench.specs.declared.command.Command.{Command}
 use Rattle.sourcemap_bench.specs.declared.command.Command.TheVariants.{Repeat, Write}
 
@@ -13,6 +13,7 @@ word_of Tokens = codes "tokens"
 word_of Encode = codes "encode"
 word_of Rewrite = codes "rewrite"
 word_of Flatten = codes "flatten"
+word_of Compose = codes "compose"
 
 -- the words that ask for a command; how often an operation is repeated, the second says
 abbrev pub AskFor : List (List ℕ) → Command → Type 0

@@ -1,24 +1,25 @@
 -- What rounds of an operation come to.
 use Rattle.std.specs.Prelude.{◌≡◌, ℕ, suc, zero, List, length, min, Ok}
+use Rattle.sourcemap.specs.Adjust.{adjusted}
 use Rattle.sourcemap.specs.Bytes.{IsEncoded}
 use Rattle.sourcemap.specs.Decoded.{index_value, map_tree}
 use Rattle.sourcemap.specs.Decoder.{BytesDecode}
 use Rattle.sourcemap.specs.Flat.{FlatAnswer}
 use Rattle.sourcemap.specs.Rewrite.{no_removal, rewritten}
 use Rattle.sourcemap.specs.TreeEncoder.{RecordAnswer}
-use Rattle.sourcemap.specs.Trees.{IsInOrder, MapTree, index, index_tree, regular, section_list}
+use Rattle.sourcemap.specs.Trees.{IsInOrder, MapTree, held, index, index_tree, leaf, section_list}
 use Rattle.sourcemap.specs.Types.{MapValue}
 use Rattle.sourcemap_bench.specs.Sums.{mixed, lookup_sum, token_sum}
 use Rattle.sourcemap_bench.specs.declared.work.Work.{Work}
-use Rattle.sourcemap_bench.specs.declared.work.Work.TheVariants.{Decode, DecodeReader, Lookup, Tokens, Encode, Rewrite, Flatten}
+use Rattle.sourcemap_bench.specs.declared.work.Work.TheVariants.{Decode, DecodeReader, Lookup, Tokens, Encode, Rewrite, Flatten, Compose}
 
 -- a sum with a count
 abbrev pub counted : ℕ → ℕ → ℕ
 counted sum count = mixed sum (min count 4294967295)
 
--- how many tokens a regular map has, and how many sections an index
+-- how many tokens a map has, and how many sections an index
 abbrev pub size : MapTree → ℕ
-size (regular m) = length m.tokens
+size (leaf l) = length (held l).tokens
 size (index _ sections) = length (section_list sections)
 
 -- the sum with the size of the map that bytes stand for
@@ -33,6 +34,10 @@ LengthOfText t old new = (text : List ℕ) × IsEncoded (RecordAnswer t) text ×
 abbrev pub SizeOfFlat : MapTree → ℕ → ℕ → Type 0
 SizeOfFlat t old new = (m : MapValue) × FlatAnswer t (Ok m) × (new ≡ counted old (length m.tokens))
 
+-- the sum with the count of the tokens of a map adjusted by another
+abbrev pub SizeOfAdjusted : MapValue → MapValue → ℕ → ℕ → Type 0
+SizeOfAdjusted m n old new = (c : MapValue) × (adjusted m n ≡ Ok c) × (new ≡ counted old (length c.tokens))
+
 -- the sum behind a round; of lookups in a map in order at every level
 abbrev pub RoundGives : Work → ℕ → ℕ → Type 0
 RoundGives (Decode bytes) old new = SizeOfDecoded bytes.items old new
@@ -43,6 +48,7 @@ RoundGives (Tokens m) old new = new ≡ token_sum m old
 RoundGives (Encode m) old new = LengthOfText (map_tree m) old new
 RoundGives (Rewrite m) old new = new ≡ mixed old (length (rewritten no_removal m).sources)
 RoundGives (Flatten i) old new = SizeOfFlat (index_tree (index_value i)) old new
+RoundGives (Compose m n) old new = SizeOfAdjusted m n old new
 
 -- the sum of so many rounds, from 0 on
 abbrev pub RoundsGive : Work → ℕ → ℕ → Type 0

@@ -19,6 +19,8 @@ pub enum Operation {
     Rewrite,
     /// `flatten`: the index is made flat.
     Flatten,
+    /// `compose`: a copy of the first of two maps is adjusted by the second.
+    Compose,
 }
 
 /// What a run is asked for.
@@ -44,6 +46,7 @@ fn operation_of(word: &str) -> Option<Operation>
         "encode" => Some(Operation::Encode),
         "rewrite" => Some(Operation::Rewrite),
         "flatten" => Some(Operation::Flatten),
+        "compose" => Some(Operation::Compose),
         _ => None,
     }
 }

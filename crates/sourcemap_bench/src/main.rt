@@ -1,4 +1,5 @@
 //! Repeats one operation on the source map on standard input, so that it can be timed, or writes it.
+//! To compose takes two maps there, each on a line.
 #![tactic(auto)]
 
 mod command;
@@ -18,7 +19,7 @@ use work::{prepared, repeated};
 use written::write_map;
 
 const USAGE: &str =
-    "usage: decode N | decode-reader N | lookup N | tokens N | encode N | rewrite N | flatten N | write";
+    "usage: decode N | decode-reader N | lookup N | tokens N | encode N | rewrite N | flatten N | compose N | write";
 
 // The checksum of what so many rounds of an operation computed of these bytes.
 fn checksum<F: Files>(

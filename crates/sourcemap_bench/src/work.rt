@@ -2,7 +2,7 @@
 ghost use Rattle.std.specs.Prelude.{◌≡◌, ℕ, ◌<◌, IfOk, length, min};
 ghost use Rattle.sourcemap.specs.Decoded.{index_value, map_tree};
 ghost use Rattle.sourcemap.specs.Trees.{index_tree};
-ghost use Rattle.sourcemap_bench.specs.Work.{LengthOfText, RoundGives, RoundsGive, SizeOfDecoded, SizeOfFlat, size};
+ghost use Rattle.sourcemap_bench.specs.Work.{LengthOfText, RoundGives, RoundsGive, SizeOfAdjusted, SizeOfDecoded, SizeOfFlat, size};
 
 use crate::command::Operation;
 use crate::draws::drawn_positions;
@@ -30,18 +30,28 @@ pub enum Work {
     Rewrite(SourceMap),
     /// The index to make flat.
     Flatten(SourceMapIndex),
+    /// The map to copy and adjust, and the one that adjusts it.
+    Compose(SourceMap, SourceMap),
 }
 
 // The regular map that bytes hold.
-fn regular_map(alloc: Global, bytes: Vec<u8>) -> Result<SourceMap> {
-    regular_of(decode_slice(alloc, bytes.as_slice())?)
+fn regular_map(alloc: Global, bytes: &[u8]) -> Result<SourceMap> {
+    regular_of(decode_slice(alloc, bytes)?)
+}
+
+// The regular maps that the first two lines hold.
+fn regular_maps(alloc: Global, bytes: &[u8]) -> Result<(SourceMap, SourceMap)> {
+    let mut lines = bytes.split(|byte| *byte == b'\n');
+    let first = regular_map(alloc, lines.next().unwrap_or_default())?;
+    let second = regular_map(alloc, lines.next().unwrap_or_default())?;
+    Ok((first, second))
 }
 
 // The index that bytes hold.
 fn index_of(alloc: Global, bytes: Vec<u8>) -> Result<SourceMapIndex> {
     match decode_slice(alloc, bytes.as_slice())? {
         DecodedMap::Index(index) => Ok(index),
-        DecodedMap::Regular(_) => Err(Error::IncompatibleSourceMap),
+        _ => Err(Error::IncompatibleSourceMap),
     }
 }
 
@@ -49,6 +59,7 @@ fn index_of(alloc: Global, bytes: Vec<u8>) -> Result<SourceMapIndex> {
 fn positions_in(alloc: Global, map: &DecodedMap) -> Result<Vec<(u32, u32)>> {
     match map {
         DecodedMap::Regular(map) => drawn_positions(alloc, map),
+        DecodedMap::Hermes(map) => drawn_positions(alloc, map),
         DecodedMap::Index(index) => {
             let flat = index.flatten()?;
             drawn_positions(alloc, &flat)
@@ -56,7 +67,7 @@ fn positions_in(alloc: Global, map: &DecodedMap) -> Result<Vec<(u32, u32)>> {
     }
 }
 
-/// What an operation works on, of the bytes of a map.
+/// What an operation works on, of the bytes of a map, or to compose of the lines of two.
 pub fn prepared(alloc: Global, operation: Operation, bytes: Vec<u8>) -> Result<Work> {
     match operation {
         Operation::Decode => Ok(Work::Decode(bytes)),
@@ -66,10 +77,14 @@ pub fn prepared(alloc: Global, operation: Operation, bytes: Vec<u8>) -> Result<W
             let positions = positions_in(alloc, &map)?;
             Ok(Work::Lookup(map, positions))
         }
-        Operation::Tokens => Ok(Work::Tokens(regular_map(alloc, bytes)?)),
+        Operation::Tokens => Ok(Work::Tokens(regular_map(alloc, bytes.as_slice())?)),
         Operation::Encode => Ok(Work::Encode(decode_slice(alloc, bytes.as_slice())?)),
-        Operation::Rewrite => Ok(Work::Rewrite(regular_map(alloc, bytes)?)),
+        Operation::Rewrite => Ok(Work::Rewrite(regular_map(alloc, bytes.as_slice())?)),
         Operation::Flatten => Ok(Work::Flatten(index_of(alloc, bytes)?)),
+        Operation::Compose => {
+            let (map, adjustment) = regular_maps(alloc, bytes.as_slice())?;
+            Ok(Work::Compose(map, adjustment))
+        }
     }
 }
 
@@ -80,12 +95,13 @@ fn section_count(index: &SourceMapIndex) -> u32
     index.get_section_count()
 }
 
-// How many tokens a regular map has, and how many sections an index.
+// How many tokens a map has, and how many sections an index.
 fn size_of(map: &DecodedMap) -> u32
     ensures { result ≡ min (size (map_tree map.now)) 4294967295 }
 {
     match map {
         DecodedMap::Regular(map) => map.get_token_count(),
+        DecodedMap::Hermes(map) => map.get_token_count(),
         DecodedMap::Index(index) => section_count(index),
     }
 }
@@ -123,6 +139,15 @@ fn flat_sum(index: &SourceMapIndex, sum: u32) -> Result<u32>
     Ok(mixed(sum, flat.get_token_count()))
 }
 
+// The sum behind a copy of a map that is adjusted.
+fn adjusted_sum(map: &SourceMap, adjustment: &SourceMap, sum: u32) -> Result<u32>
+    ensures { IfOk result (SizeOfAdjusted map.now adjustment.now sum) }
+{
+    let mut copy = map.clone()?;
+    copy.adjust_mappings(adjustment)?;
+    Ok(mixed(sum, copy.get_token_count()))
+}
+
 // The sum behind a round.
 fn round<F: Files>(rt: &F, alloc: Global, work: &Work, sum: u32) -> Result<u32>
     ensures { IfOk result (RoundGives work.now sum) }
@@ -138,6 +163,7 @@ fn round<F: Files>(rt: &F, alloc: Global, work: &Work, sum: u32) -> Result<u32>
             Ok(mixed(sum, new.get_source_count()))
         }
         Work::Flatten(index) => flat_sum(index, sum),
+        Work::Compose(map, adjustment) => adjusted_sum(map, adjustment, sum),
     }
 }
 

@@ -8,16 +8,15 @@ use Rattle.sourcemap.specs.Jsontypes.{Tree, record_of}
 use Rattle.sourcemap.specs.Reading.{IsSameFault}
 use Rattle.sourcemap.specs.Errors.{error_text, FromIo}
 use Rattle.sourcemap.specs.Flat.{FlatAnswer}
-use Rattle.sourcemap.specs.Rewrite.{no_removal, rewritten}
 use Rattle.sourcemap.specs.Shift.{HaveRowsLeft, shifted}
 use Rattle.sourcemap.specs.TreeDecoder.{Then, TreeDecodes}
-use Rattle.sourcemap.specs.Trees.{MapTree, regular, index, IndexParts, IndexValue, index_tree, MapSection, section_list, sections_from, IsInOrder}
+use Rattle.sourcemap.specs.Trees.{LeafMap, regular, hermes, MapTree, leaf, index, IndexParts, IndexValue, index_tree, MapSection, section_list, sections_from, IsInOrder}
 use Rattle.sourcemap.specs.Types.{MapValue}
 use Rattle.sourcemap.specs.declared.errors.Error.{Error}
 use Rattle.sourcemap.specs.declared.errors.Error.TheVariants.{BadJson, CannotFlatten, IncompatibleSourceMap, Io, OutOfMemory}
 use Rattle.sourcemap_index.specs.declared.family.DecodedMap.{DecodedMap}
 use Rattle.sourcemap_commands.specs.Command.{AskFor, IsSameCommand, TakesAdjustment}
-use Rattle.sourcemap_commands.specs.Program.{AskForNone, CommandAnswers, Ending, answered, misused, Ends, FileDecodes, MayBeRead, MayEnd, IsCutShort, IsReply, IsReplyOf, IsReplyTo, IsReported, IsRefusal, IsWriteFault, IsFoundLine, IsJsonLine, PrintsMap, Runs, Says, SaysWith, ShiftAnswer, WithFile, adjusted_by, file_read, found_text, newline}
+use Rattle.sourcemap_commands.specs.Program.{AskForNone, CommandAnswers, Ending, answered, misused, Ends, FileDecodes, MayBeRead, MayEnd, IsCutShort, IsReply, IsReplyOf, IsReplyTo, IsReported, IsRefusal, IsWriteFault, IsFoundLine, IsJsonLine, PrintsMap, Runs, Says, SaysWith, ShiftAnswer, WithFile, adjusted_by, file_read, found_text, newline, rewritten_leaf}
 use Rattle.sourcemap_commands.specs.declared.command.Command.{Command}
 use Rattle.sourcemap_commands.specs.declared.command.Command.TheVariants.{Compose, Flatten, Lookup, Rewrite, Shift, Tokens}
 use Rattle.sourcemap_commands.specs.declared.program.Reply.{Reply}
@@ -46,11 +45,11 @@ prints_map : (t : MapTree) (r : Result (String Global) Error)
 prints_map t (Ok text) h = h
 prints_map t (Err e) h = no_memory e (PrintsMap t (Err e)) h
 
-pub says_rewritten : (m n : MapValue) (t : MapTree) (r : Result (String Global) Error) → n ≡ rewritten no_removal m → t ≡ regular n
+pub says_rewritten : (l new : LeafMap) (t : MapTree) (r : Result (String Global) Error) → new ≡ rewritten_leaf l → t ≡ leaf new
     → MatchResult r (λ text. IsJsonLine t (string_bytes text)) (λ e. e ≡ OutOfMemory)
-    → IsAnswer string_bytes (Says Rewrite (regular m) None) r
-says_rewritten m n t r is of h =
-    subst (λ x. IsAnswer string_bytes (PrintsMap x) r) (of ∙ ap regular is) (prints_map t r h)
+    → IsAnswer string_bytes (Says Rewrite (leaf l) None) r
+says_rewritten l new t r is of h =
+    subst (λ x. IsAnswer string_bytes (PrintsMap x) r) (of ∙ ap leaf is) (prints_map t r h)
 
 -- what comes of a first answer, and of its fault
 then_made : {X : Type 0} (First : Result X Error → Type 0) (Next : X → Result (List ℕ) Error → Type 0) (x : X)
@@ -64,25 +63,25 @@ then_refused : {X : Type 0} (First : Result X Error → Type 0) (Next : X → Re
 then_refused First Next e h = UnlessMemory-weaker e (λ refused. inr refused) h
 
 then_prints : (First : Result MapValue Error → Type 0) (m : MapValue) (t : MapTree) (r : Result (String Global) Error)
-    → First (Ok m) → t ≡ regular m
+    → First (Ok m) → t ≡ leaf (regular m)
     → MatchResult r (λ text. IsJsonLine t (string_bytes text)) (λ e. e ≡ OutOfMemory)
-    → IsAnswer string_bytes (Then First (λ m a. PrintsMap (regular m) a)) r
+    → IsAnswer string_bytes (Then First (λ m a. PrintsMap (leaf (regular m)) a)) r
 then_prints First m t r made of h =
-    then_made First (λ m a. PrintsMap (regular m) a) m r made
+    then_made First (λ m a. PrintsMap (leaf (regular m)) a) m r made
     (subst (λ x. IsAnswer string_bytes (PrintsMap x) r) of (prints_map t r h))
 
 pub says_flat : (i : IndexValue) (m : MapValue) (t : MapTree) (r : Result (String Global) Error)
-    → FlatAnswer (index_tree i) (Ok m) → t ≡ regular m
+    → FlatAnswer (index_tree i) (Ok m) → t ≡ leaf (regular m)
     → MatchResult r (λ text. IsJsonLine t (string_bytes text)) (λ e. e ≡ OutOfMemory)
     → IsAnswer string_bytes (Says Flatten (index_tree i) None) r
 says_flat i m t r made of h = then_prints (FlatAnswer (index_tree i)) m t r made of h
 
 pub says_no_flat : (i : IndexValue) (e : Error) → UnlessMemory e (FlatAnswer (index_tree i) (Err e))
     → UnlessMemory e (Says Flatten (index_tree i) None (Err e))
-says_no_flat i e h = then_refused (FlatAnswer (index_tree i)) (λ m a. PrintsMap (regular m) a) e h
+says_no_flat i e h = then_refused (FlatAnswer (index_tree i)) (λ m a. PrintsMap (leaf (regular m)) a) e h
 
 pub says_adjusted : (path : String Global) (t : MapTree) (other : Option MapTree) (m : MapValue) (u : MapTree)
-    (r : Result (String Global) Error) → adjusted_by t other ≡ Ok m → u ≡ regular m
+    (r : Result (String Global) Error) → adjusted_by t other ≡ Ok m → u ≡ leaf (regular m)
     → MatchResult r (λ text. IsJsonLine u (string_bytes text)) (λ e. e ≡ OutOfMemory)
     → IsAnswer string_bytes (Says (Compose path) t other) r
 says_adjusted path t other m u r made of h = then_prints (λ a. a ≡ adjusted_by t other) m u r (sym made) of h
@@ -90,10 +89,11 @@ says_adjusted path t other m u r made of h = then_prints (λ a. a ≡ adjusted_b
 pub says_no_adjusted : (path : String Global) (t : MapTree) (other : Option MapTree) (e : Error)
     → UnlessMemory e (adjusted_by t other ≡ Err e) → UnlessMemory e (Says (Compose path) t other (Err e))
 says_no_adjusted path t other e h =
-    then_refused (λ a. a ≡ adjusted_by t other) (λ m a. PrintsMap (regular m) a) e (UnlessMemory-weaker e (λ is. sym is) h)
+    then_refused (λ a. a ≡ adjusted_by t other) (λ m a. PrintsMap (leaf (regular m)) a) e (UnlessMemory-weaker e (λ is. sym is) h)
 
 none_adjusted : (t : MapTree) → adjusted_by t None ≡ Err IncompatibleSourceMap
-none_adjusted (regular m) = refl
+none_adjusted (leaf (regular m)) = refl
+none_adjusted (leaf (hermes h)) = refl
 none_adjusted (index parts ss) = refl
 
 -- one map alone is adjusted by none
@@ -303,25 +303,25 @@ shift_alike rows parts ss a b (inr (past, is)) (inl (left, q)) = absurd (past le
 
 -- what a map is adjusted to is one, and so is its text
 prints_alike : (First : Result MapValue Error → Type 0) → ((a b : Result MapValue Error) → First a → First b → PrintAlike a b)
-    → (a b : Result (List ℕ) Error) → Then First (λ m a. PrintsMap (regular m) a) a
-    → Then First (λ m a. PrintsMap (regular m) a) b → PrintAlike a b
+    → (a b : Result (List ℕ) Error) → Then First (λ m a. PrintsMap (leaf (regular m)) a) a
+    → Then First (λ m a. PrintsMap (leaf (regular m)) a) b → PrintAlike a b
 prints_alike First one a b p q =
-    then_alike First (λ m a. PrintsMap (regular m) a) one (λ m a b made p q. maps_alike (regular m) a b p q) a b p q
+    then_alike First (λ m a. PrintsMap (leaf (regular m)) a) one (λ m a b made p q. maps_alike (leaf (regular m)) a b p q) a b p q
 
 -- of a map in order a command says one thing
 says_alike : (command : Command) (t : MapTree) (other : Option MapTree) (a b : Result (List ℕ) Error) → IsInOrder t
     → Says command t other a → Says command t other b → PrintAlike a b
 says_alike (Lookup line col) t other a b ordered p q = found_alike t (line, col) a b ordered p q
-says_alike Tokens (regular m) other a b ordered p q = alike a b (p ∙ sym q)
+says_alike Tokens (leaf l) other a b ordered p q = alike a b (p ∙ sym q)
 says_alike Tokens (index parts ss) other a b ordered p q = alike a b (p ∙ sym q)
-says_alike Rewrite (regular m) other a b ordered p q = maps_alike (regular (rewritten no_removal m)) a b p q
+says_alike Rewrite (leaf l) other a b ordered p q = maps_alike (leaf (rewritten_leaf l)) a b p q
 says_alike Rewrite (index parts ss) other a b ordered p q = alike a b (p ∙ sym q)
-says_alike Flatten (regular m) other a b ordered p q = alike a b (p ∙ sym q)
+says_alike Flatten (leaf l) other a b ordered p q = alike a b (p ∙ sym q)
 says_alike Flatten (index parts ss) other a b ordered p q =
     prints_alike (FlatAnswer (index parts ss)) (flat_once (index parts ss)) a b p q
 says_alike (Compose path) t other a b ordered p q =
     prints_alike (λ a. a ≡ adjusted_by t other) (λ a b h k. alike a b (h ∙ sym k)) a b p q
-says_alike (Shift rows) (regular m) other a b ordered p q = alike a b (p ∙ sym q)
+says_alike (Shift rows) (leaf l) other a b ordered p q = alike a b (p ∙ sym q)
 says_alike (Shift rows) (index parts ss) other a b ordered p q = shift_alike rows parts (section_list ss) a b p q
 
 reply_alike : (a b : Result (List ℕ) Error) → PrintAlike a b → (reply : Reply) → IsReply (answered a) reply → IsReply (answered b) reply

@@ -6,13 +6,14 @@ use Rattle.sourcemap.specs.Adjust.{adjusted}
 use Rattle.sourcemap.specs.Decoded.{IsTextOf}
 use Rattle.sourcemap.specs.Answer.{UnlessMemory}
 use Rattle.sourcemap.specs.Errors.{error_text, FromIo}
+use Rattle.sourcemap.specs.HermesRewrite.{rewritten as hermes_rewritten}
 use Rattle.sourcemap.specs.Decoder.{BytesDecode, Reading, UnlessRead}
 use Rattle.sourcemap.specs.Flat.{FlatAnswer}
 use Rattle.sourcemap.specs.Rewrite.{no_removal, rewritten}
 use Rattle.sourcemap.specs.Shift.{HaveRowsLeft, shifted}
 use Rattle.sourcemap.specs.Token.{token_text, tokens_from, says, TokenValue}
 use Rattle.sourcemap.specs.TreeDecoder.{Then}
-use Rattle.sourcemap.specs.Trees.{MapTree, regular, index, MapSection, IndexParts, section_list, sections_from, lookup, IsInOrder}
+use Rattle.sourcemap.specs.Trees.{LeafMap, regular, hermes, held, MapTree, leaf, index, MapSection, IndexParts, section_list, sections_from, lookup, IsInOrder}
 use Rattle.sourcemap.specs.Types.{MapValue}
 use Rattle.sourcemap.specs.declared.errors.Error.{Error}
 use Rattle.sourcemap.specs.declared.errors.Error.TheVariants.{IncompatibleSourceMap, OutOfMemory}
@@ -61,23 +62,33 @@ ShiftAnswer rows parts ss answer =
     (HaveRowsLeft rows ss × PrintsMap (index parts (sections_from (shifted rows ss))) answer)
     ⊎ ((¬ HaveRowsLeft rows ss) × (answer ≡ Err IncompatibleSourceMap))
 
+-- a map that is not regular
+abbrev pub IsOfOtherKind : MapTree → Type 0
+IsOfOtherKind (leaf (regular _)) = ⊥
+IsOfOtherKind _ = Unit {0}
+
 -- a regular map adjusted by another one; maps of other kinds are refused
 abbrev pub adjusted_by : MapTree → Option MapTree → Result MapValue Error
-adjusted_by (regular m) (Some (regular n)) = adjusted m n
+adjusted_by (leaf (regular m)) (Some (leaf (regular n))) = adjusted m n
 adjusted_by _ _ = Err IncompatibleSourceMap
+
+-- a regular map or a Hermes map rewritten by default
+abbrev pub rewritten_leaf : LeafMap → LeafMap
+rewritten_leaf (regular m) = regular (rewritten no_removal m)
+rewritten_leaf (hermes h) = hermes (hermes_rewritten no_removal h)
 
 -- what a command says of a map, and of a second one where it takes one: its text, or why it refuses, a
 -- map of the wrong kind before all else
 abbrev pub Says : Command → MapTree → Option MapTree → Result (List ℕ) Error → Type 0
 Says (Lookup line col) t _ answer = IsOkAnd answer (IsFoundLine t (line, col))
-Says Tokens (regular m) _ answer = answer ≡ Ok (flat_map token_line (tokens_from m 0))
+Says Tokens (leaf l) _ answer = answer ≡ Ok (flat_map token_line (tokens_from (held l) 0))
 Says Tokens (index _ _) _ answer = answer ≡ Err IncompatibleSourceMap
-Says Rewrite (regular m) _ answer = PrintsMap (regular (rewritten no_removal m)) answer
+Says Rewrite (leaf l) _ answer = PrintsMap (leaf (rewritten_leaf l)) answer
 Says Rewrite (index _ _) _ answer = answer ≡ Err IncompatibleSourceMap
-Says Flatten (regular _) _ answer = answer ≡ Err IncompatibleSourceMap
-Says Flatten (index parts ss) _ answer = Then (FlatAnswer (index parts ss)) (λ m a. PrintsMap (regular m) a) answer
-Says (Compose _) t adjustment answer = Then (λ a. a ≡ adjusted_by t adjustment) (λ m a. PrintsMap (regular m) a) answer
-Says (Shift _) (regular _) _ answer = answer ≡ Err IncompatibleSourceMap
+Says Flatten (leaf _) _ answer = answer ≡ Err IncompatibleSourceMap
+Says Flatten (index parts ss) _ answer = Then (FlatAnswer (index parts ss)) (λ m a. PrintsMap (leaf (regular m)) a) answer
+Says (Compose _) t adjustment answer = Then (λ a. a ≡ adjusted_by t adjustment) (λ m a. PrintsMap (leaf (regular m)) a) answer
+Says (Shift _) (leaf _) _ answer = answer ≡ Err IncompatibleSourceMap
 Says (Shift rows) (index parts ss) _ answer = ShiftAnswer rows parts (section_list ss) answer
 
 -- the map in a file, given its bytes or why they could not be read; or why there is none

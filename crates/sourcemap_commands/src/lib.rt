@@ -2,6 +2,7 @@
 #![tactic(auto)]
 
 pub mod command;
+pub mod hermes;
 pub mod program;
 pub mod regular;
 pub mod system;

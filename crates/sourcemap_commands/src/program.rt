@@ -5,7 +5,8 @@ ghost use Rattle.sourcemap.specs.Answer.{IsAnswer};
 ghost use Rattle.sourcemap.specs.Decoded.{index_value, map_tree};
 ghost use Rattle.sourcemap.specs.Decoder.{Reading};
 ghost use Rattle.sourcemap.specs.Token.{token_value};
-ghost use Rattle.sourcemap.specs.Trees.{index_tree, regular};
+ghost use Rattle.sourcemap.specs.Hermes.{hermes_value};
+ghost use Rattle.sourcemap.specs.Trees.{hermes, index_tree, leaf, regular};
 ghost use Rattle.sourcemap.specs.declared.errors.Error.{Error};
 ghost use Rattle.sourcemap.specs.declared.errors.Error.TheVariants.{OutOfMemory};
 ghost use Rattle.sourcemap_commands.specs.Command.{TakesAdjustment};
@@ -14,9 +15,10 @@ ghost use Rattle.sourcemap_commands.specs.declared.program.Reply.{Reply};
 ghost use Rattle.sourcemap_commands.specs.Program.{AskForNone, CommandAnswers, Ending, Ends, FileDecodes, IsCutShort, IsJsonLine, IsRefusal, IsReply, IsReplyOf, IsReplyTo, IsReported, IsWriteFault, MayBeRead, PrintsRefusal, Runs, Says, SaysWith, WithFile, file_read, misused, range_mark, token_line};
 
 use crate::command::{Command, parse_words};
+use crate::hermes::rewritten_hermes;
 use crate::regular::{adjusted, flattened, rewritten};
 use sourcemap::decoder::decode_vec;
-use sourcemap::{DecodedMap, Error, Result, SourceMap, SourceMapIndex, Token};
+use sourcemap::{DecodedMap, Error, Result, SourceMap, SourceMapHermes, SourceMapIndex, Token};
 use sourcemap_records::bytes::read_all;
 use std::alloc::Global;
 use std::fs;
@@ -40,14 +42,16 @@ pub struct Reply {
 /// What a command says of a map. For `Lookup` the closest token's text or `none`, and a newline; in
 /// an index in no order it is that of some token or `none`. For `Tokens` the tokens line by line,
 /// each with where it stands in the generated text, its own text, and ` range` if it is a range
-/// token. For `Rewrite` the compact JSON text of the map rewritten with default options, for
+/// token. For `Rewrite` the compact JSON text of the map rewritten with default options, a Hermes map
+/// with the functions of its sources, for
 /// `Flatten` that of the regular map that the index is made flat to, for `Compose` that of the map
 /// adjusted by the second one, for `Shift` that of the index with its sections so many rows further
 /// down, each with a newline. `Compose` takes a second map, and no other command does.
 ///
-/// `IncompatibleSourceMap` for an index in `Tokens` and `Rewrite` and as either map of `Compose`, for
-/// a regular map in `Flatten` and `Shift`, where `Compose` would put a token past column 4294967295,
-/// and where `Shift` would put a section past row 4294967295. `CannotFlatten` as by
+/// `IncompatibleSourceMap` for an index in `Tokens` and `Rewrite`, for a map that is no index in
+/// `Flatten` and `Shift`, for one that is not regular as either map of `Compose`, where `Compose` would
+/// put a token past column 4294967295, and where `Shift` would put a section past row 4294967295.
+/// `CannotFlatten` as by
 /// `SourceMapIndex::flatten`. Else only want of memory refuses.
 pub fn apply<F: Files>(
     rt: &F,
@@ -73,13 +77,17 @@ fn said<F: Files>(rt: &F, alloc: Global, command: &Command, map: DecodedMap) -> 
     match (command, map) {
         (Command::Lookup(line, col), map) => lookup_text(alloc, &map, *line, *col),
         (Command::Tokens, DecodedMap::Regular(map)) => tokens_text(alloc, &map),
+        (Command::Tokens, DecodedMap::Hermes(map)) => tokens_text(alloc, &map),
         (Command::Rewrite, DecodedMap::Regular(map)) => rewritten_text(rt, alloc, map),
+        (Command::Rewrite, DecodedMap::Hermes(map)) => hermes_text(rt, alloc, map),
         (Command::Flatten, DecodedMap::Index(index)) => flat_text(alloc, index),
         (Command::Shift(rows), DecodedMap::Index(index)) => shifted_text(alloc, index, *rows),
         (Command::Tokens, DecodedMap::Index(_)) => Err(Error::IncompatibleSourceMap),
         (Command::Rewrite, DecodedMap::Index(_)) => Err(Error::IncompatibleSourceMap),
         (Command::Flatten, DecodedMap::Regular(_)) => Err(Error::IncompatibleSourceMap),
+        (Command::Flatten, DecodedMap::Hermes(_)) => Err(Error::IncompatibleSourceMap),
         (Command::Shift(_), DecodedMap::Regular(_)) => Err(Error::IncompatibleSourceMap),
+        (Command::Shift(_), DecodedMap::Hermes(_)) => Err(Error::IncompatibleSourceMap),
         (Command::Compose(_), _) => Err(Error::IncompatibleSourceMap),
     }
 }
@@ -96,7 +104,7 @@ fn lookup_text(alloc: Global, map: &DecodedMap, line: u32, col: u32) -> Result<S
 
 // The lines of all tokens.
 fn tokens_text(alloc: Global, map: &SourceMap) -> Result<String>
-    ensures { IsAnswer string_bytes (Says Tokens (regular map.now) None) result }
+    ensures { IsAnswer string_bytes (Says Tokens (leaf (regular map.now)) None) result }
 {
     let mut text = String::new(alloc);
     for token in map.tokens() {
@@ -127,10 +135,18 @@ fn range_mark(token: &Token<'_>) -> &'static str
 
 // The JSON text of the map rewritten with default options.
 fn rewritten_text<F: Files>(rt: &F, alloc: Global, map: SourceMap) -> Result<String>
-    ensures { IsAnswer string_bytes (Says Rewrite (regular map) None) result }
+    ensures { IsAnswer string_bytes (Says Rewrite (leaf (regular map)) None) result }
 {
     let rewritten = rewritten(rt, map)?;
     json_line(alloc, DecodedMap::Regular(rewritten))
+}
+
+// The JSON text of the Hermes map rewritten with default options.
+fn hermes_text<F: Files>(rt: &F, alloc: Global, map: SourceMapHermes) -> Result<String>
+    ensures { IsAnswer string_bytes (Says Rewrite (leaf (hermes (hermes_value map))) None) result }
+{
+    let rewritten = rewritten_hermes(rt, map)?;
+    json_line(alloc, DecodedMap::Hermes(rewritten))
 }
 
 // The JSON text of the regular map that an index is made flat to.

@@ -5,22 +5,23 @@ ghost use Rattle.sourcemap.specs.Answer.{Gives, IsAnswer};
 ghost use Rattle.sourcemap.specs.Decoded.{index_value, map_tree};
 ghost use Rattle.sourcemap.specs.Flat.{FlatAnswer};
 ghost use Rattle.sourcemap.specs.Rewrite.{no_removal, rewritten};
-ghost use Rattle.sourcemap.specs.Trees.{IndexValue, index_tree, regular};
+ghost use Rattle.sourcemap.specs.Trees.{index_tree, leaf, regular};
 ghost use Rattle.sourcemap.specs.declared.errors.Error.TheVariants.{IncompatibleSourceMap, OutOfMemory};
-ghost use Rattle.sourcemap_commands.specs.Program.{adjusted_by};
+ghost use Rattle.sourcemap_commands.specs.Program.{IsOfOtherKind, adjusted_by};
 
 use sourcemap::{DecodedMap, Error, Result, RewriteOptions, SourceMap, SourceMapIndex};
 use std::rt::Files;
 
-/// The regular map that a map is; an index is `IncompatibleSourceMap`.
+/// The regular map that a map is; one of another kind is `IncompatibleSourceMap`.
 pub fn regular_of(map: DecodedMap) -> Result<SourceMap>
     ensures { MatchResult result
-        (λ m. map_tree map ≡ regular m)
-        (λ e. (e ≡ IncompatibleSourceMap) × ((i : IndexValue) × (map_tree map ≡ index_tree i))) }
+        (λ m. map_tree map ≡ leaf (regular m))
+        (λ e. (e ≡ IncompatibleSourceMap) × IsOfOtherKind (map_tree map)) }
 {
     match map {
         DecodedMap::Regular(map) => Ok(map),
         DecodedMap::Index(_) => Err(Error::IncompatibleSourceMap),
+        DecodedMap::Hermes(_) => Err(Error::IncompatibleSourceMap),
     }
 }
 
@@ -38,8 +39,8 @@ pub fn flattened(index: SourceMapIndex) -> Result<SourceMap>
     index.flatten()
 }
 
-/// The map adjusted by another one, as by `SourceMap::adjust_mappings`: an index as either one is
-/// `IncompatibleSourceMap`.
+/// The map adjusted by another one, as by `SourceMap::adjust_mappings`: one of another kind as either
+/// is `IncompatibleSourceMap`.
 pub fn adjusted(map: DecodedMap, adjustment: DecodedMap) -> Result<SourceMap>
     ensures { Gives (λ m. m) result (adjusted_by (map_tree map) (Some (map_tree adjustment))) }
 {

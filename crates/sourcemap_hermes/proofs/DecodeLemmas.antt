@@ -18,7 +18,7 @@ use Rattle.sourcemap_hermes.specs.declared.map.SourceMapHermes.{SourceMapHermes}
 
 -- What a record is decoded to is determined.
 
-EntriesDecode-same : (r : Fields) (entries : List ScopeEntry) (a b : Result HermesValue Error) → EntriesDecode r entries a → EntriesDecode r entries b → a ≡ b
+pub EntriesDecode-same : (r : Fields) (entries : List ScopeEntry) (a b : Result HermesValue Error) → EntriesDecode r entries a → EntriesDecode r entries b → a ≡ b
 EntriesDecode-same r entries (Ok a) (Ok b) h k =
     let same = RecordDecodes-same r (Ok a.map) (Ok b.map) h.1 k.1 in
     let maps : a.map ≡ b.map = cc in

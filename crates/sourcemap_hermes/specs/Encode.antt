@@ -1,7 +1,8 @@
 -- The record that a Hermes map is written as, and what is left of the map when that is read back.
-use Rattle.std.specs.Prelude.{◌≡◌, List, Some, Result, Ok, Err}
+use Rattle.std.specs.Prelude.{◌≡◌, ℕ, List, Some, Result, Ok, Err}
+use Rattle.serde_json.specs.Written.{compact_text}
 use Rattle.sourcemap_errors.specs.declared.errors.Error.{Error}
-use Rattle.sourcemap_records.specs.Jsontypes.{Fields, Tree, plain, indexed, flat, IsFine}
+use Rattle.sourcemap_records.specs.Jsontypes.{Fields, Tree, plain, indexed, flat, written, IsFine}
 use Rattle.sourcemap_regular.specs.Encode.{ReadsBack, IsRecordOf as IsRecordOfRegular, Restores as RestoresRegular}
 use Rattle.sourcemap_scopes.specs.ScopeLists.{ScopeEntry}
 use Rattle.sourcemap_hermes.specs.Decode.{HermesDecodes}
@@ -19,6 +20,10 @@ scoped (indexed fields sections) entries = indexed (with_scopes fields entries) 
 -- a record that the map is written as: one of the regular map, with the scopes as they were read
 abbrev pub IsRecordOf : HermesValue → Tree → Type 0
 IsRecordOf h t = (r : Tree) × IsRecordOfRegular h.map r × (t ≡ scoped r h.scopes.entries)
+
+-- the compact text of the value of a record that the map is written as
+abbrev pub IsCompactTextOf : HermesValue → List ℕ → Type 0
+IsCompactTextOf h text = (t : Tree) × IsRecordOf h t × (text ≡ compact_text (written t))
 
 -- a map that restores another has the same meaning at every position, all its parts, and the functions of its sources
 abbrev pub Restores : (h back : HermesValue) → Type 0

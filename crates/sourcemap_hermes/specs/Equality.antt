@@ -6,12 +6,12 @@ use Rattle.std.specs.Cmp.Rules.{comparing}
 use Rattle.std.proofs.Common.{rules}
 use Rattle.sourcemap_regular.specs.Equality.{same_map}
 use Rattle.sourcemap_scopes.specs.SourceScopes.{same_source_scopes}
-use Rattle.sourcemap_hermes.specs.declared.map.SourceMapHermes.{SourceMapHermes}
+use Rattle.sourcemap_hermes.specs.Map.{HermesValue}
 
-abbrev pub same_hermes : SourceMapHermes → SourceMapHermes → Bool
+abbrev pub same_hermes : HermesValue → HermesValue → Bool
 same_hermes =
     eq_of_both
-    (on (λ h. h.sm) same_map)
+    (on (λ h. h.map) same_map)
     (on (λ h. h.scopes) same_source_scopes)
 
 pub same_hermes_equiv : IsEquivalence same_hermes

@@ -1,12 +1,13 @@
 //! The record that a Hermes map is written as.
 ghost use Rattle.std.specs.Prelude.{◌≡◌, ℕ, List, IfErr, IfOk, OnOk};
 ghost use Rattle.sourcemap_errors.specs.Answer.{IsAnswer, UnlessMemory};
+ghost use Rattle.sourcemap_records.specs.Bytes.{BytesStandFor};
 ghost use Rattle.sourcemap_records.specs.Jsontypes.{tree, flat, Tree, IsFine};
 ghost use Rattle.sourcemap_regular.specs.Encode.{ReadsBack};
 ghost use Rattle.sourcemap_regular.specs.Write.{IsEncoded, IsIo};
 ghost use Rattle.sourcemap_scopes.specs.ScopeLists.{entries_in};
-ghost use Rattle.sourcemap_hermes.specs.Decode.{HermesDecodes};
-ghost use Rattle.sourcemap_hermes.specs.Encode.{IsRecordOf, RecordAnswer, Restores, scoped};
+ghost use Rattle.sourcemap_hermes.specs.Decode.{HermesDecodes, OnlyHermesDecodes};
+ghost use Rattle.sourcemap_hermes.specs.Encode.{IsCompactTextOf, IsRecordOf, RecordAnswer, Restores, scoped};
 ghost use Rattle.sourcemap_hermes.specs.Map.{HermesValue, IsWellFormed, hermes_value};
 
 use crate::map::SourceMapHermes;
@@ -70,4 +71,19 @@ fn with_scopes(mut raw: RawSourceMap, entries: ScopeLists) -> RawSourceMap
 /// A law: a map is written as one record.
 pub fn written_records_are_determined()
     ensures { (h : HermesValue) (a b : Tree) → IsRecordOf h a → IsRecordOf h b → a ≡ b }
+{}
+
+/// A law: the bytes that a map is written as are the compact text of its record's value, for no
+/// number in that has a fraction.
+pub fn written_maps_are_compact()
+    ensures { (h : HermesValue) (text : List ℕ)
+        → IsEncoded (RecordAnswer h) text → IsCompactTextOf h text }
+{}
+
+/// A law: the bytes that a well-formed map is written as stand for a map of the same meaning at
+/// every position, with all parts and the functions of its sources kept.
+pub fn written_maps_read_back()
+    ensures { (h : HermesValue) (text : List ℕ)
+        → IsEncoded (RecordAnswer h) text → IsWellFormed h
+        → ReadsBack (BytesStandFor OnlyHermesDecodes text) (Restores h) }
 {}

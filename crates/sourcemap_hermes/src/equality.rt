@@ -1,7 +1,8 @@
 //! Equality of Hermes maps.
 ghost use Rattle.std.specs.Prelude.{◌≡◌};
 ghost use Rattle.std.specs.Bool.{Decides};
-ghost use Rattle.std.specs.Cmp.{partial_equiv_from_equiv};
+ghost use Rattle.std.specs.Ordering.{on};
+ghost use Rattle.std.specs.Cmp.{on_equiv, partial_equiv_from_equiv};
 ghost use Rattle.sourcemap_hermes.specs.Map.{hermes_value};
 ghost use Rattle.sourcemap_hermes.specs.Equality.{same_hermes, same_hermes_equiv};
 
@@ -9,12 +10,12 @@ use crate::map::SourceMapHermes;
 
 /// Hermes maps are equal exactly if their regular maps are, and the scopes of their sources.
 impl PartialEq for SourceMapHermes {
-    ghost eq = { same_hermes };
+    ghost eq = { on hermes_value same_hermes };
 
-    ghost laws = { partial_equiv_from_equiv same_hermes_equiv };
+    ghost laws = { partial_equiv_from_equiv (on_equiv hermes_value same_hermes_equiv) };
 
     fn eq(&self, other: &Self) -> bool
-        ensures value { result ≡ same_hermes self.now other.now }
+        ensures value { result ≡ same_hermes (hermes_value self.now) (hermes_value other.now) }
         ensures same { Decides result (hermes_value self.now ≡ hermes_value other.now) }
     {
         let map = self.sm == other.sm;

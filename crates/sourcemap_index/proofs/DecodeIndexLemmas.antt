@@ -1,5 +1,5 @@
 -- Sections are decoded one by one.
-use Rattle.std.proofs.Common.{◌≡◌, refl, sym, ap, subst, ◌∙◌, ℕ, ◌+◌, ◌≤◌, arith, List, [], ◌∷◌, ◌++◌, map, length, Option, Some, None, Bool, true, false, nat_lt, Result, Ok, Err, IfOk, option_map, ◌<◌, Vec, Global, inl, inr}
+use Rattle.std.proofs.Common.{◌≡◌, refl, sym, ap, subst, ◌∙◌, ℕ, ◌+◌, ◌≤◌, arith, List, [], ◌∷◌, ◌++◌, map, length, Option, Some, None, is_some, Bool, true, false, nat_lt, Result, Ok, Err, IfOk, option_map, ◌<◌, Vec, Global, inl, inr}
 use Rattle.std.proofs.lemmas.Bool.Decides.{nat_tests}
 use Rattle.std.specs.Bool.{MatchBool}
 use Rattle.std.proofs.lemmas.List.{append_assoc}
@@ -7,14 +7,17 @@ use Rattle.sourcemap_errors.specs.declared.errors.Error.{Error}
 use Rattle.sourcemap_errors.specs.declared.errors.Error.TheVariants.{IncompatibleSourceMap}
 use Rattle.sourcemap_errors.specs.Answer.{UnlessMemory, Gives, IsAnswer}
 use Rattle.sourcemap_errors.proofs.AnswerLemmas.{UnlessMemory-weaker}
-use Rattle.sourcemap_records.specs.Jsontypes.{Fields, Tree, plain, indexed, Section, Sections, no_more, bare, mapped, section_with, section, sections_from, tree, tree_with, fields_view}
+use Rattle.sourcemap_records.specs.Jsontypes.{Fields, Tree, plain, indexed, flat, Section, Sections, no_more, bare, mapped, section_with, section, sections_from, tree, tree_with, fields_view}
 use Rattle.sourcemap_records.specs.declared.jsontypes.RawSection.{RawSection}
 use Rattle.sourcemap_records.specs.declared.jsontypes.RawSourceMap.{RawSourceMap, out-RawSourceMap, roll-RawSourceMap}
-use Rattle.sourcemap_records.proofs.JsontypesLemmas.{tree-out, tree-roll}
-use Rattle.sourcemap_regular.specs.Decode.{RegularDecodes}
+use Rattle.sourcemap_records.proofs.JsontypesLemmas.{flat-roll, flat-tree, tree-out}
+use Rattle.sourcemap_regular.specs.Decode.{RecordDecodes}
 use Rattle.sourcemap_regular.specs.Map.{MapValue}
-use Rattle.sourcemap_trees.specs.MapTree.{MapTree, regular, MapSection, IndexValue, index_tree, section_list, sections_from as maps_from}
-use Rattle.sourcemap_trees.specs.Decode.{Then, TreeDecodes, SectionsDecode, count, by_offset, index_parts}
+use Rattle.sourcemap_scopes.specs.ScopeLists.{ScopeEntry}
+use Rattle.sourcemap_hermes.specs.Decode.{DecodesWith, HermesDecodes}
+use Rattle.sourcemap_hermes.specs.Map.{HermesValue}
+use Rattle.sourcemap_trees.specs.MapTree.{regular, hermes, MapTree, leaf, MapSection, IndexValue, index_tree, section_list, sections_from as maps_from}
+use Rattle.sourcemap_trees.specs.Decode.{Then, LeafDecodes, TreeDecodes, SectionsDecode, count, by_offset, index_parts}
 use Rattle.sourcemap_trees.specs.WellFormed.{IsWellFormed}
 use Rattle.sourcemap_trees.proofs.DecodeLemmas.{tree_decodes_once}
 use Rattle.sourcemap_trees.proofs.MapTreeLemmas.{section_list-from}
@@ -90,11 +93,46 @@ behind-more done v (Err e) = refl
 
 -- ---- the kinds
 
-pub regular_decodes : (fields : Fields) (m : MapValue) → RegularDecodes (plain fields) (Ok m) → TreeDecodes (plain fields) (Ok (regular m))
-regular_decodes fields m h = inl (m, h, refl)
+-- a record with scopes of its sources is decoded to a Hermes map, one without them to a regular map
+module _ (fields : Fields) where
+  hermes_made : (scopes : Option (List ScopeEntry)) (h : HermesValue) → DecodesWith fields scopes (Ok h) → LeafDecodes fields scopes (Ok (leaf (hermes h)))
+  hermes_made None h k = absurd cc
+  hermes_made (Some entries) h k = inl (h, k, refl)
 
-pub regular_refused : (fields : Fields) (e : Error) → UnlessMemory e (RegularDecodes (plain fields) (Err e)) → UnlessMemory e (TreeDecodes (plain fields) (Err e))
-regular_refused fields e h = UnlessMemory-weaker e (λ h. inr h) h
+  hermes_fault : (scopes : Option (List ScopeEntry)) (e : Error) → is_some scopes ≡ true → DecodesWith fields scopes (Err e) → LeafDecodes fields scopes (Err e)
+  hermes_fault None e there k = cc
+  hermes_fault (Some entries) e there k = inr k
+
+  regular_made : (scopes : Option (List ScopeEntry)) (m : MapValue) → is_some scopes ≡ false → RecordDecodes fields (Ok m) → LeafDecodes fields scopes (Ok (leaf (regular m)))
+  regular_made None m there h = inl (m, h, refl)
+  regular_made (Some entries) m there h = cc
+
+  regular_fault : (scopes : Option (List ScopeEntry)) (e : Error) → is_some scopes ≡ false → RecordDecodes fields (Err e) → LeafDecodes fields scopes (Err e)
+  regular_fault None e there h = inr h
+  regular_fault (Some entries) e there h = cc
+
+  pub hermes_decodes : (h : HermesValue) → HermesDecodes fields (Ok h) → LeafDecodes fields fields.x_facebook_sources (Ok (leaf (hermes h)))
+  hermes_decodes h k = hermes_made fields.x_facebook_sources h k
+
+  pub hermes_refused : (e : Error) → is_some fields.x_facebook_sources ≡ true → UnlessMemory e (HermesDecodes fields (Err e))
+      → UnlessMemory e (LeafDecodes fields fields.x_facebook_sources (Err e))
+  hermes_refused e there h = UnlessMemory-weaker e (hermes_fault fields.x_facebook_sources e there) h
+
+  pub regular_decodes : (m : MapValue) → is_some fields.x_facebook_sources ≡ false → RecordDecodes fields (Ok m)
+      → LeafDecodes fields fields.x_facebook_sources (Ok (leaf (regular m)))
+  regular_decodes m none h = regular_made fields.x_facebook_sources m none h
+
+  pub regular_refused : (e : Error) → is_some fields.x_facebook_sources ≡ false → UnlessMemory e (RecordDecodes fields (Err e))
+      → UnlessMemory e (LeafDecodes fields fields.x_facebook_sources (Err e))
+  regular_refused e none h = UnlessMemory-weaker e (regular_fault fields.x_facebook_sources e none) h
+
+is_some-map : {X Y : Type 0} (f : X → Y) (o : Option X) → is_some (option_map f o) ≡ is_some o
+is_some-map f None = refl
+is_some-map f (Some x) = refl
+
+-- a record has the scopes that its tree has
+pub scopes_there : (r : RawSourceMap) → is_some (flat (tree r)).x_facebook_sources ≡ is_some (out-RawSourceMap r).x_facebook_sources
+scopes_there r = ap (λ (fields : Fields). is_some fields.x_facebook_sources) (flat-tree r) ∙ is_some-map _ (out-RawSourceMap r).x_facebook_sources
 
 pub index_decodes : (fields : Fields) (ss : Sections) (v : IndexValue) → PartsDecode fields ss (Ok v) → TreeDecodes (indexed fields ss) (Ok (index_tree v))
 index_decodes fields ss v = by_case (nat_lt 4294967295 (count ss))
@@ -164,22 +202,17 @@ parts_decoded fields ss decoded sorted (Err e) few h up made =
 plain_tree : (r : RawSourceMap) → (out-RawSourceMap r).sections ≡ None → tree r ≡ plain (fields_view (out-RawSourceMap r))
 plain_tree r none = tree-out r ∙ ap (λ v. tree_with (fields_view (out-RawSourceMap r)) (option_map (λ v. sections_from (map section v.items)) v)) none
 
-taken_tree : (r : RawSourceMap) (left : Option (Vec RawSection Global)) → left ≡ None → tree (roll-RawSourceMap (record (out-RawSourceMap r) { sections = left })) ≡ plain (fields_view (out-RawSourceMap r))
-taken_tree r left none =
-    tree-roll (record (out-RawSourceMap r) { sections = left })
-    ∙ ap (λ v. tree_with (fields_view (out-RawSourceMap r)) (option_map (λ v. sections_from (map section v.items)) v)) none
-
-pub plain_decodes : (r : RawSourceMap) (left : Option (Vec RawSection Global)) (m : MapValue) → (out-RawSourceMap r).sections ≡ None → left ≡ None
-    → RegularDecodes (tree (roll-RawSourceMap (record (out-RawSourceMap r) { sections = left }))) (Ok m) → TreeDecodes (tree r) (Ok (regular m))
-plain_decodes r left m none gone h =
-    subst (λ t. TreeDecodes t (Ok (regular m))) (sym (plain_tree r none))
-    (regular_decodes (fields_view (out-RawSourceMap r)) m (subst (λ t. RegularDecodes t (Ok m)) (taken_tree r left gone) h))
-
-pub plain_refused : (r : RawSourceMap) (left : Option (Vec RawSection Global)) (e : Error) → (out-RawSourceMap r).sections ≡ None → left ≡ None
-    → UnlessMemory e (RegularDecodes (tree (roll-RawSourceMap (record (out-RawSourceMap r) { sections = left }))) (Err e)) → UnlessMemory e (TreeDecodes (tree r) (Err e))
-plain_refused r left e none gone h =
-    subst (λ t. UnlessMemory e (TreeDecodes t (Err e))) (sym (plain_tree r none))
-    (regular_refused (fields_view (out-RawSourceMap r)) e (subst (λ t. UnlessMemory e (RegularDecodes t (Err e))) (taken_tree r left gone) h))
+pub plain_answer : (r : RawSourceMap) (left : Option (Vec RawSection Global)) (result : Result DecodedMap Error) → (out-RawSourceMap r).sections ≡ None
+    → (let fields : Fields = flat (tree (roll-RawSourceMap (record (out-RawSourceMap r) { sections = left }))) in IsAnswer map_tree (LeafDecodes fields fields.x_facebook_sources) result)
+    → IsAnswer map_tree (TreeDecodes (tree r)) result
+plain_answer r left result none h =
+    subst (λ t. IsAnswer map_tree (TreeDecodes t) result) (sym (plain_tree r none))
+    (whole result (subst (λ (fields : Fields). IsAnswer map_tree (LeafDecodes fields fields.x_facebook_sources) result) (flat-roll (record (out-RawSourceMap r) { sections = left })) h))
+  where
+    whole : (result : Result DecodedMap Error) → (let fields : Fields = fields_view (out-RawSourceMap r) in IsAnswer map_tree (LeafDecodes fields fields.x_facebook_sources) result)
+        → IsAnswer map_tree (TreeDecodes (plain (fields_view (out-RawSourceMap r)))) result
+    whole (Ok m) h = h
+    whole (Err e) h = h
 
 -- what is decoded is well-formed
 pub well_formed_answer : (t : Tree) (r : Result DecodedMap Error) → IsAnswer map_tree (TreeDecodes t) r → IfOk r (λ m. IsWellFormed (map_tree m))

@@ -3,15 +3,14 @@ use Rattle.std.proofs.Common.{◌≡◌, refl, List, [], ◌∷◌, ◌++◌, Op
 use Rattle.sourcemap_errors.specs.Answer.{IsAnswer}
 use Rattle.sourcemap_errors.specs.declared.errors.Error.{Error}
 use Rattle.sourcemap_records.specs.declared.jsontypes.RawSourceMap.{RawSourceMap}
-use Rattle.sourcemap_regular.specs.Map.{MapValue}
-use Rattle.sourcemap_regular.specs.Encode.{ReadsBack, RecordAnswer as RecordAnswerRegular}
+use Rattle.sourcemap_regular.specs.Encode.{ReadsBack}
 use Rattle.sourcemap_trees.specs.Decode.{TreeDecodes}
 use Rattle.sourcemap_trees.specs.WellFormed.{IsWellFormed}
 use Rattle.sourcemap_trees.proofs.EncodeLemmas.{tree_answer}
 use Rattle.sourcemap_records.specs.Jsontypes.{Tree, Section, section_with, sections_from, AreSectionsInRange, IsSectionInRange, IsFine, tree}
-use Rattle.sourcemap_trees.specs.Encode.{IsWrittenBy, AreWrittenBy, RecordAnswer, Restores}
-use Rattle.sourcemap_trees.specs.MapTree.{MapTree, regular, MapSection, section_with as map_with, sections_from as maps_from}
-use Rattle.sourcemap_index.specs.Encode.{IsRegularRecord, SectionIsWritten, MapWrites}
+use Rattle.sourcemap_trees.specs.Encode.{IsLeafAnswer, IsWrittenBy, AreWrittenBy, RecordAnswer, Restores}
+use Rattle.sourcemap_trees.specs.MapTree.{MapTree, MapSection, section_with as map_with, sections_from as maps_from}
+use Rattle.sourcemap_index.specs.Encode.{SectionIsWritten, MapWrites}
 
 -- each record is that of the section at its place
 abbrev pub ArePairs : List MapSection → List Section → Type 0
@@ -25,15 +24,15 @@ pairs_more [] (r' ∷ rs) s r pairs one = absurd pairs
 pairs_more (s' ∷ ss) [] s r pairs one = absurd pairs
 pairs_more (s' ∷ ss) (r' ∷ rs) s r pairs one = (pairs.0, pairs_more ss rs s r pairs.1 one)
 
-pub pairs_written : (ss : List MapSection) (rs : List Section) → ArePairs ss rs → AreWrittenBy IsRegularRecord (maps_from ss) (sections_from rs)
+pub pairs_written : (ss : List MapSection) (rs : List Section) → ArePairs ss rs → AreWrittenBy IsLeafAnswer (maps_from ss) (sections_from rs)
 pairs_written [] [] pairs = refl
 pairs_written [] (r ∷ rs) pairs = absurd pairs
 pairs_written (s ∷ ss) [] pairs = absurd pairs
 pairs_written (s ∷ ss) (r ∷ rs) pairs = by_case s.map pairs.0.2 (pairs_written ss rs pairs.1)
   where
-    by_case : (m : Option MapTree) → MatchOption m (r.map ≡ None) (λ t. (q : Tree) × (r.map ≡ Some q) × IsWrittenBy IsRegularRecord t q)
-        → AreWrittenBy IsRegularRecord (maps_from ss) (sections_from rs)
-        → AreWrittenBy IsRegularRecord (map_with s.place m (maps_from ss)) (section_with r.place r.map (sections_from rs))
+    by_case : (m : Option MapTree) → MatchOption m (r.map ≡ None) (λ t. (q : Tree) × (r.map ≡ Some q) × IsWrittenBy IsLeafAnswer t q)
+        → AreWrittenBy IsLeafAnswer (maps_from ss) (sections_from rs)
+        → AreWrittenBy IsLeafAnswer (map_with s.place m (maps_from ss)) (section_with r.place r.map (sections_from rs))
     by_case None is rest = (sections_from rs, rw (pairs.0.0, is), rest)
     by_case (Some t) (q, is, written) rest = (q, sections_from rs, rw (pairs.0.0, is), written, rest)
 
@@ -59,8 +58,3 @@ answer_fine t (Err e) h = tt
 pub answer_back : (t : MapTree) (r : Result RawSourceMap Error) → IsAnswer tree (MapWrites t) r → IfOk r (λ raw. IsWellFormed t → ReadsBack (TreeDecodes (tree raw)) (Restores t))
 answer_back t (Ok raw) h = (tree_answer t (tree raw) h.0 h.1).2
 answer_back t (Err e) h = tt
-
--- what a regular map is written as is as is due of a map of any kind
-pub regular_answer : (m : MapValue) (r : Result RawSourceMap Error) → IsAnswer tree (RecordAnswerRegular m) r → IsAnswer tree (RecordAnswer (regular m)) r
-regular_answer m (Ok raw) h = tree_answer (regular m) (tree raw) h h.1.0
-regular_answer m (Err e) h = h

@@ -7,11 +7,13 @@ use Rattle.std.proofs.lemmas.Option.{slice_get-map, slice_get_read, slice_get_pa
 use Rattle.std.proofs.lemmas.List.{map-set}
 use Rattle.sourcemap_records.specs.Jsontypes.{text_view}
 use Rattle.sourcemap_regular.specs.Map.{MapValue}
-use Rattle.sourcemap_trees.specs.MapTree.{MapTree, regular, MapSection, IndexValue, index_tree, section_offset}
+use Rattle.sourcemap_hermes.specs.Map.{hermes_value}
+use Rattle.sourcemap_hermes.specs.declared.map.SourceMapHermes.{SourceMapHermes}
+use Rattle.sourcemap_trees.specs.MapTree.{regular, hermes, MapTree, leaf, MapSection, IndexValue, index_tree, section_offset}
 use Rattle.sourcemap_index.specs.Family.{map_step, index_step, section_step, map_tree, index_value, section_value, parts_view}
 use Rattle.sourcemap_index.specs.Index.{with_section}
 use Rattle.sourcemap_index.specs.declared.family.DecodedMap.{DecodedMap, fold_out-DecodedMap}
-use Rattle.sourcemap_index.specs.declared.family.DecodedMap.TheVariants.{Regular, Index}
+use Rattle.sourcemap_index.specs.declared.family.DecodedMap.TheVariants.{Regular, Index, Hermes}
 use Rattle.sourcemap_index.specs.declared.family.SourceMapSection.{SourceMapSection, out-SourceMapSection, map-SourceMapSection, fold_out-SourceMapSection}
 use Rattle.sourcemap_index.specs.declared.family.SourceMapIndex.{SourceMapIndex, SourceMapIndex-F, out-SourceMapIndex, roll-SourceMapIndex, fold_out-SourceMapIndex, fold-roll-SourceMapIndex}
 
@@ -57,10 +59,14 @@ section_place s = ap (λ (v : MapSection). v.place) (fold_out-SourceMapSection M
 pub section_at : (s : SourceMapSection) → section_offset (section_value s) ≡ s.offset
 section_at s = ap section_offset (fold_out-SourceMapSection MapTree IndexValue MapSection map_step index_step section_step s)
 
--- the tree of a regular map, and of an index
-pub regular_tree : (m : MapValue) → map_tree (Regular m) ≡ regular m
+-- the tree of a regular map, of a Hermes map, and of an index
+pub regular_tree : (m : MapValue) → map_tree (Regular m) ≡ leaf (regular m)
 unfolding Rattle.sourcemap_index.specs.declared.family.DecodedMap.TheViews.out-DecodedMap denote.Hole.Carrier.out
 regular_tree m = fold_out-DecodedMap MapTree IndexValue MapSection map_step index_step section_step (Regular m)
+
+pub hermes_tree : (h : SourceMapHermes) → map_tree (Hermes h) ≡ leaf (hermes (hermes_value h))
+unfolding Rattle.sourcemap_index.specs.declared.family.DecodedMap.TheViews.out-DecodedMap denote.Hole.Carrier.out
+hermes_tree h = fold_out-DecodedMap MapTree IndexValue MapSection map_step index_step section_step (Hermes h)
 
 pub index_tree-of : (i : SourceMapIndex) → map_tree (Index i) ≡ index_tree (index_value i)
 unfolding Rattle.sourcemap_index.specs.declared.family.DecodedMap.TheViews.out-DecodedMap denote.Hole.Carrier.out

@@ -10,7 +10,7 @@ use Rattle.sourcemap_errors.proofs.AnswerLemmas.{UnlessMemory-weaker}
 use Rattle.sourcemap_regular.specs.Map.{MapValue, Meaning, MeansTheSame, meaning as meaning_regular}
 use Rattle.sourcemap_regular.specs.Rewrite.{Removal, taken_away, MeansLess}
 use Rattle.sourcemap_regular.specs.declared.map.SourceMap.{SourceMap}
-use Rattle.sourcemap_trees.specs.MapTree.{MapTree, MapSection, IndexValue, index_tree, section_with, sections_from, offset_of}
+use Rattle.sourcemap_trees.specs.MapTree.{held, MapTree, MapSection, IndexValue, index_tree, section_with, sections_from, offset_of}
 use Rattle.sourcemap_lists.specs.Tokens.{AreInOrder}
 use Rattle.sourcemap_trees.specs.WellFormed.{HasTokensInOrder}
 use Rattle.sourcemap_trees.proofs.MapTreeLemmas.{each_section}
@@ -161,7 +161,7 @@ pub in_order-all : (v : IndexValue) (items : List SourceMapSection) (i : ℕ) �
     → AllByRecursion IsSectionInOrder (map section_value (take i items)) → HasTokensInOrder (index_tree v)
 in_order-all v items i past same all = (
   tt,
-  each_section (λ m. AreInOrder m.tokens) (λ ss. Unit {0}) v.sections
+  each_section (λ l. AreInOrder (held l).tokens) (λ ss. Unit {0}) v.sections
       (subst (AllByRecursion IsSectionInOrder) (ap (map section_value) (take_all i items past) ∙ same) all),
 )
 

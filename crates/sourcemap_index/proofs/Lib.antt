@@ -5,8 +5,8 @@ pub mod DecodedMapLemmas
 pub mod EncodeLemmas
 pub mod FamilyLemmas
 pub mod FlattenLemmas
+pub mod KindLemmas
 pub mod LookupLemmas
-pub mod RegularLemmas
 pub mod RowsLemmas
 pub mod WriteLemmas
 pub mod UrlFaultLemmas

@@ -10,7 +10,7 @@ use Rattle.sourcemap_lists.proofs.SearchLemmas.{closest_item-has, closest_item-c
 use Rattle.sourcemap_records.specs.Jsontypes.{Place}
 use Rattle.sourcemap_regular.specs.Token.{TokenValue, answers, says, token_value}
 use Rattle.sourcemap_regular.specs.declared.token.Token.{Token}
-use Rattle.sourcemap_trees.specs.MapTree.{MapTree, regular, index, MapSections, no_sections, hollow, filled, MapSection, IndexValue, index_tree, offset_of, section_offset, section_with, sections_from, InEachSection}
+use Rattle.sourcemap_trees.specs.MapTree.{MapTree, leaf, index, MapSections, no_sections, hollow, filled, MapSection, IndexValue, index_tree, offset_of, section_offset, section_with, sections_from, InEachSection}
 use Rattle.sourcemap_trees.specs.Meaning.{lowered, lookup, lookups, meaning, closest_answer}
 use Rattle.sourcemap_trees.specs.WellFormed.{IsInOrder, AreSectionsInOrder}
 use Rattle.sourcemap_trees.proofs.MapTreeLemmas.{InSection, section_list-from}
@@ -21,7 +21,7 @@ use Rattle.sourcemap_index.specs.Lookup.{IsAmong}
 -- the indexes in a map, it itself among them
 abbrev mutual
   pub indexes : MapTree → ℕ
-  indexes (regular m) = 0
+  indexes (leaf l) = 0
   indexes (index parts ss) = 1 + indexes_in ss
 
   pub indexes_in : MapSections → ℕ
@@ -80,13 +80,13 @@ lookup-index v p =
 
 -- ---- what is in order
 
-each_in_order : (ss : List MapSection) → InEachSection (λ m. Unit {0}) AreSectionsInOrder (sections_from ss)
-    → AllByRecursion (InSection (λ m. Unit {0}) AreSectionsInOrder) ss
+each_in_order : (ss : List MapSection) → InEachSection (λ l. Unit {0}) AreSectionsInOrder (sections_from ss)
+    → AllByRecursion (InSection (λ l. Unit {0}) AreSectionsInOrder) ss
 each_in_order [] h = tt
 each_in_order (s ∷ ss) h = let both = by_case s.map h in (both.0, each_in_order ss both.1)
   where
-    by_case : (m : Option MapTree) → InEachSection (λ m. Unit {0}) AreSectionsInOrder (section_with s.place m (sections_from ss))
-        → IfSome m (λ t. IsInOrder t) × InEachSection (λ m. Unit {0}) AreSectionsInOrder (sections_from ss)
+    by_case : (m : Option MapTree) → InEachSection (λ l. Unit {0}) AreSectionsInOrder (section_with s.place m (sections_from ss))
+        → IfSome m (λ t. IsInOrder t) × InEachSection (λ l. Unit {0}) AreSectionsInOrder (sections_from ss)
     by_case None h = (tt, h)
     by_case (Some t) h = h
 
@@ -98,7 +98,7 @@ pub index_answers : (v : IndexValue) (p : ℕ × ℕ) (found : Option MapSection
 index_answers v p found answer is due ordered =
     let sorted = subst (λ ss. IsSortedByKey {K = ℕ × ℕ} section_offset position_cmp ss) (section_list-from v.sections) ordered.0 in
     let same = is sorted in
-    let inner = closest_item-has section_offset position_cmp (InSection (λ m. Unit {0}) AreSectionsInOrder) v.sections p (each_in_order v.sections ordered.1) in
+    let inner = closest_item-has section_offset position_cmp (InSection (λ l. Unit {0}) AreSectionsInOrder) v.sections p (each_in_order v.sections ordered.1) in
     due (subst (λ found. IfSome found (λ s. IfSome s.map IsInOrder)) (sym same) inner)
     ∙ ap (λ found. found_answer found p) same ∙ sym (lookup-index v p)
 

@@ -9,11 +9,13 @@ use Rattle.sourcemap_mappings.specs.Segment.{Counts, Segment, segment_fault, par
 use Rattle.sourcemap_mappings.specs.Read.{PartFault, PartsFault, LineText, LineFault, LinesFault, MappingsAnswer}
 use Rattle.sourcemap_headers.specs.Header.{behind_header}
 use Rattle.sourcemap_records.specs.Bytes.{HoldNoJson}
-use Rattle.sourcemap_records.specs.Jsontypes.{Fields, Tree, plain, indexed, flat, Sections, no_more, bare, mapped, record_of}
+use Rattle.sourcemap_records.specs.Jsontypes.{Fields, Tree, plain, indexed, Sections, no_more, bare, mapped, record_of}
 use Rattle.sourcemap_conversions.specs.FromRecord.{listed}
-use Rattle.sourcemap_regular.specs.Decode.{RecordDecodes, is_regular, RegularDecodes}
-use Rattle.sourcemap_trees.specs.MapTree.{regular}
-use Rattle.sourcemap_trees.specs.Decode.{Then, TreeDecodes, SectionsDecode, count, index_of}
+use Rattle.sourcemap_regular.specs.Decode.{RecordDecodes}
+use Rattle.sourcemap_scopes.specs.ScopeLists.{ScopeEntry}
+use Rattle.sourcemap_hermes.specs.Decode.{EntriesDecode}
+use Rattle.sourcemap_trees.specs.MapTree.{regular, hermes, leaf}
+use Rattle.sourcemap_trees.specs.Decode.{Then, LeafDecodes, TreeDecodes, SectionsDecode, count, index_of}
 use Rattle.sourcemap_index.specs.Family.{map_tree}
 use Rattle.sourcemap_index.specs.Decode.{ValueDecodes, BytesDecode, UrlDecodes, IsNoUrl}
 use Rattle.sourcemap_index.specs.declared.family.DecodedMap.{DecodedMap}
@@ -74,18 +76,23 @@ no_record_fault : (r : Fields) → ¬ RecordDecodes r (Err InvalidDataUrl)
 no_record_fault r (inl (long, h)) = cc
 no_record_fault r (inr (room, h)) = no_mappings_fault (listed r.mappings) (listed r.range_mappings) _ h
 
-no_regular_fault : (t : Tree) → ¬ RegularDecodes t (Err InvalidDataUrl)
-no_regular_fault t h = neither (is_regular t) (no_record_fault (flat t)) (λ is. cc) h
+no_entries_fault : (r : Fields) (entries : List ScopeEntry) → ¬ EntriesDecode r entries (Err InvalidDataUrl)
+no_entries_fault r entries (inl (many, h)) = cc
+no_entries_fault r entries (inr (few, h)) = no_record_fault r h
 
 no_then : {X Y : Type 0} (First : Result X Error → Type 0) (Next : X → Result Y Error → Type 0)
     → ¬ First (Err InvalidDataUrl) → ((x : X) → ¬ Next x (Err InvalidDataUrl)) → ¬ Then First Next (Err InvalidDataUrl)
 no_then First Next first next (inl (x, f, n)) = next x n
 no_then First Next first next (inr h) = first h
 
+no_leaf_fault : (r : Fields) (scopes : Option (List ScopeEntry)) → ¬ LeafDecodes r scopes (Err InvalidDataUrl)
+no_leaf_fault r None h = no_then (RecordDecodes r) (λ m a. a ≡ Ok (leaf (regular m))) (no_record_fault r) (λ m is. cc) h
+no_leaf_fault r (Some entries) h =
+    no_then (EntriesDecode r entries) (λ m a. a ≡ Ok (leaf (hermes m))) (no_entries_fault r entries) (λ m is. cc) h
+
 mutual
   no_tree_fault : (t : Tree) → ¬ TreeDecodes t (Err InvalidDataUrl)
-  no_tree_fault (plain fields) h =
-      no_then (RegularDecodes (plain fields)) (λ m a. a ≡ Ok (regular m)) (no_regular_fault (plain fields)) (λ m is. cc) h
+  no_tree_fault (plain fields) h = no_leaf_fault fields fields.x_facebook_sources h
   no_tree_fault (indexed fields sections) h =
       neither (nat_lt 4294967295 (count sections)) (λ is. cc)
       (no_then (λ a. SectionsDecode sections a) (λ ss a. a ≡ Ok (index_of fields ss)) (no_sections_fault sections) (λ ss is. cc)) h

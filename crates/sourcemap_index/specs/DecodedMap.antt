@@ -5,15 +5,19 @@ use Rattle.serde_json.specs.Read.{max_depth}
 use Rattle.serde_json.specs.Written.{compact_text}
 use Rattle.sourcemap_records.specs.Jsontypes.{Tree, written}
 use Rattle.sourcemap_trees.specs.Encode.{IsRecordOf}
-use Rattle.sourcemap_trees.specs.MapTree.{MapTree, regular, index}
+use Rattle.sourcemap_trees.specs.MapTree.{LeafMap, regular, hermes, held, MapTree, leaf, index}
 
 -- the identifier that ties a map to its file
 abbrev pub debug_id_of : MapTree → Option (List ℕ)
-debug_id_of (regular m) = m.debug_id
+debug_id_of (leaf l) = (held l).debug_id
 debug_id_of (index parts ss) = parts.debug_id
 
+abbrev pub leaf_with_debug_id : LeafMap → Option (List ℕ) → LeafMap
+leaf_with_debug_id (regular m) id = regular (record m { debug_id = id })
+leaf_with_debug_id (hermes h) id = hermes (record h { map = record h.map { debug_id = id } })
+
 abbrev pub with_debug_id : MapTree → Option (List ℕ) → MapTree
-with_debug_id (regular m) id = regular (record m { debug_id = id })
+with_debug_id (leaf l) id = leaf (leaf_with_debug_id l id)
 with_debug_id (index parts ss) id = index (record parts { debug_id = id }) ss
 
 -- a value that a map is written as
@@ -24,6 +28,6 @@ IsValueOf t d = (r : Tree) × IsRecordOf t r × (d ≡ written r)
 abbrev pub IsTextOf : MapTree → List ℕ → Type 0
 IsTextOf t text = (d : Data) × IsValueOf t d × (text ≡ compact_text d)
 
--- what the map is written as has at most 127 levels, as a regular map's two always are
+-- what the map is written as has at most 127 levels, as a regular map's two and a Hermes map's five always are
 abbrev pub IsShallow : MapTree → Type 0
 IsShallow t = (d : Data) → IsValueOf t d → depth d ≤ max_depth

@@ -2,28 +2,23 @@
 use Rattle.std.specs.Prelude.{◌≡◌, None, Some, MatchOption, Result, Ok, Err}
 use Rattle.sourcemap_errors.specs.declared.errors.Error.{Error}
 use Rattle.sourcemap_records.specs.Jsontypes.{Tree, Section, Sections, IsInRange, AreSectionsInRange, IsSectionInRange}
-use Rattle.sourcemap_regular.specs.Map.{MapValue}
-use Rattle.sourcemap_regular.specs.Encode.{RecordAnswer as RecordAnswerRegular}
-use Rattle.sourcemap_trees.specs.Encode.{IsWrittenBy, AreWrittenBy}
+use Rattle.sourcemap_trees.specs.Encode.{IsLeafAnswer, IsWrittenBy, AreWrittenBy}
 use Rattle.sourcemap_trees.specs.MapTree.{MapTree, MapSections, MapSection}
 
-abbrev pub IsRegularRecord : MapValue → Tree → Type 0
-IsRegularRecord m r = RecordAnswerRegular m (Ok r)
-
--- a record of the map, regular maps in it written as is due; nothing but memory refuses
+-- a record of the map, those in it that are no index written as is due; nothing but memory refuses
 abbrev pub MapWrites : MapTree → Result Tree Error → Type 0
-MapWrites t (Ok r) = IsWrittenBy IsRegularRecord t r × IsInRange r
+MapWrites t (Ok r) = IsWrittenBy IsLeafAnswer t r × IsInRange r
 MapWrites t (Err _) = ⊥
 
 abbrev pub SectionsWrite : MapSections → Result Sections Error → Type 0
-SectionsWrite ss (Ok rs) = AreWrittenBy IsRegularRecord ss rs × AreSectionsInRange rs
+SectionsWrite ss (Ok rs) = AreWrittenBy IsLeafAnswer ss rs × AreSectionsInRange rs
 SectionsWrite ss (Err _) = ⊥
 
 -- the record of one section
 abbrev pub SectionIsWritten : MapSection → Section → Type 0
 SectionIsWritten s r =
     (r.place ≡ s.place) × IsSectionInRange r
-    × MatchOption s.map (r.map ≡ None) (λ t. (q : Tree) × (r.map ≡ Some q) × IsWrittenBy IsRegularRecord t q)
+    × MatchOption s.map (r.map ≡ None) (λ t. (q : Tree) × (r.map ≡ Some q) × IsWrittenBy IsLeafAnswer t q)
 
 abbrev pub SectionWrites : MapSection → Result Section Error → Type 0
 SectionWrites s (Ok r) = SectionIsWritten s r

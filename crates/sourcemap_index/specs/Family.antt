@@ -1,15 +1,17 @@
 -- A map of any kind, an index and a section as contracts see them.
 use Rattle.std.specs.Prelude.{map, option_map, string_bytes}
 use Rattle.sourcemap_records.specs.Jsontypes.{text_view}
-use Rattle.sourcemap_trees.specs.MapTree.{MapTree, regular, MapSection, IndexParts, IndexValue, index_tree}
+use Rattle.sourcemap_hermes.specs.Map.{hermes_value}
+use Rattle.sourcemap_trees.specs.MapTree.{regular, hermes, MapTree, leaf, MapSection, IndexParts, IndexValue, index_tree}
 use Rattle.sourcemap_index.specs.declared.family.DecodedMap.{DecodedMap, DecodedMap-F, fold-DecodedMap}
-use Rattle.sourcemap_index.specs.declared.family.DecodedMap.TheOpen.{Regular, Index}
+use Rattle.sourcemap_index.specs.declared.family.DecodedMap.TheOpen.{Regular, Index, Hermes}
 use Rattle.sourcemap_index.specs.declared.family.SourceMapIndex.{SourceMapIndex, SourceMapIndex-F, fold-SourceMapIndex}
 use Rattle.sourcemap_index.specs.declared.family.SourceMapSection.{SourceMapSection, SourceMapSection-F, fold-SourceMapSection}
 
 abbrev pub map_step : DecodedMap-F MapTree IndexValue MapSection → MapTree
-map_step (Regular m) = regular m
+map_step (Regular m) = leaf (regular m)
 map_step (Index i) = index_tree i
+map_step (Hermes h) = leaf (hermes (hermes_value h))
 
 abbrev pub parts_view : {X Y Z : Type 0} → SourceMapIndex-F X Y Z → IndexParts
 parts_view i = record {

@@ -99,6 +99,7 @@ impl DecodedMap {
         match self {
             DecodedMap::Regular(map) => Ok(DecodedMap::Regular(map.clone()?)),
             DecodedMap::Index(index) => Ok(DecodedMap::Index(index.clone()?)),
+            DecodedMap::Hermes(map) => Ok(DecodedMap::Hermes(map.clone()?)),
         }
     }
 }

@@ -3,7 +3,7 @@ ghost use Rattle.std.specs.Prelude.{◌≡◌, Ok, OnOk, IfErr, IfOk, map};
 ghost use Rattle.sourcemap_errors.specs.Answer.{IsAnswer, Gives};
 ghost use Rattle.sourcemap_errors.specs.declared.errors.Error.TheVariants.{OutOfMemory};
 ghost use Rattle.sourcemap_records.specs.Jsontypes.{flat, tree, section, sections_from};
-ghost use Rattle.sourcemap_trees.specs.Decode.{TreeDecodes, SectionsDecode, by_offset, index_parts};
+ghost use Rattle.sourcemap_trees.specs.Decode.{LeafDecodes, TreeDecodes, SectionsDecode, by_offset, index_parts};
 ghost use Rattle.sourcemap_trees.specs.WellFormed.{IsWellFormed};
 ghost use Rattle.sourcemap_index.specs.Family.{index_value, map_tree, section_value};
 ghost use Rattle.sourcemap_index.specs.Decode.{SectionDecodes, IndexDecodes, PartsDecode, index_with};
@@ -11,8 +11,9 @@ ghost use Rattle.sourcemap_index.specs.Decode.{SectionDecodes, IndexDecodes, Par
 use crate::family::{DecodedMap, SourceMapIndex, SourceMapSection};
 use sourcemap_conversions::from_record::file_in;
 use sourcemap_errors::errors::{Error, Result};
+use sourcemap_hermes::decode::decode_hermes;
 use sourcemap_records::jsontypes::{RawSection, RawSourceMap};
-use sourcemap_regular::decode::only_regular;
+use sourcemap_regular::decode::decode_regular;
 use std::alloc::Global;
 
 // The most sections that an index may have.
@@ -43,7 +44,21 @@ fn decode_record(alloc: Global, mut raw: RawSourceMap) -> Result<DecodedMap>
 {
     match raw.sections.take() {
         Some(sections) => Ok(DecodedMap::Index(decode_parts(alloc, raw, sections)?)),
-        None => Ok(DecodedMap::Regular(only_regular(alloc, raw)?)),
+        None => decode_leaf(alloc, raw),
+    }
+}
+
+// The map of a record whose sections are not looked at: with scopes of sources it is a Hermes map.
+fn decode_leaf(alloc: Global, raw: RawSourceMap) -> Result<DecodedMap>
+    ensures { IsAnswer map_tree
+        (LeafDecodes (flat (tree raw)) (flat (tree raw)).x_facebook_sources) result }
+{
+    if raw.x_facebook_sources.is_some() {
+        let map = decode_hermes(alloc, raw)?;
+        Ok(DecodedMap::Hermes(map))
+    } else {
+        let map = decode_regular(alloc, raw)?;
+        Ok(DecodedMap::Regular(map))
     }
 }
 

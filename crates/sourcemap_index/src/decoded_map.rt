@@ -32,6 +32,7 @@ impl DecodedMap {
         match self {
             DecodedMap::Regular(map) => map.allocator(),
             DecodedMap::Index(index) => index.alloc,
+            DecodedMap::Hermes(map) => map.allocator(),
         }
     }
 
@@ -42,6 +43,7 @@ impl DecodedMap {
         match self {
             DecodedMap::Regular(map) => map.get_debug_id(),
             DecodedMap::Index(index) => index.debug_id(),
+            DecodedMap::Hermes(map) => map.get_debug_id(),
         }
     }
 
@@ -52,6 +54,7 @@ impl DecodedMap {
         match self {
             DecodedMap::Regular(map) => map.set_debug_id(debug_id),
             DecodedMap::Index(index) => index.set_debug_id(debug_id),
+            DecodedMap::Hermes(map) => map.set_debug_id(debug_id),
         }
     }
 

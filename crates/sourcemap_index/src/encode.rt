@@ -27,7 +27,8 @@ use std::io::Write;
 impl Encodable for DecodedMap {
     ghost encodes = { λ m. RecordAnswer (map_tree m) };
 
-    /// The record of the map. That of an index has version 3 and its sections, each with its offset,
+    /// The record of the map. That of a Hermes map has the scopes of its sources as they were read.
+    /// That of an index has version 3 and its sections, each with its offset,
     /// its URL and the record of its map; file, debug id and bundle lists if there are such. Only want
     /// of memory refuses.
     fn as_raw_sourcemap(&self) -> Result<RawSourceMap>
@@ -82,6 +83,7 @@ pub(crate) fn record_of_map(map: &DecodedMap) -> Result<RawSourceMap>
     match map {
         DecodedMap::Regular(map) => map.as_raw_sourcemap(),
         DecodedMap::Index(index) => record_of_index(index),
+        DecodedMap::Hermes(map) => map.as_raw_sourcemap(),
     }
 }
 
@@ -129,6 +131,7 @@ pub(crate) fn map_into_record(map: DecodedMap) -> Result<RawSourceMap>
     match map {
         DecodedMap::Regular(map) => map.into_raw_sourcemap(),
         DecodedMap::Index(index) => index_into_record(index),
+        DecodedMap::Hermes(map) => map.into_raw_sourcemap(),
     }
 }
 

@@ -53,6 +53,7 @@ fn are_same_maps(a: &DecodedMap, b: &DecodedMap) -> bool
     match (a, b) {
         (DecodedMap::Regular(a), DecodedMap::Regular(b)) => a == b,
         (DecodedMap::Index(a), DecodedMap::Index(b)) => are_same_indexes(a, b),
+        (DecodedMap::Hermes(a), DecodedMap::Hermes(b)) => a == b,
         _ => false,
     }
 }

@@ -1,4 +1,5 @@
 //! The types of maps of any kind, of index maps and of their sections, which name one another.
+use sourcemap_hermes::map::SourceMapHermes;
 use sourcemap_records::jsontypes::DebugId;
 use sourcemap_regular::map::SourceMap;
 use std::alloc::Global;
@@ -34,4 +35,6 @@ pub enum DecodedMap {
     Regular(SourceMap),
     /// An index map.
     Index(SourceMapIndex),
+    /// A regular map that knows the functions of its sources.
+    Hermes(SourceMapHermes),
 }

@@ -24,7 +24,8 @@ impl SourceMapIndex {
     /// The index as one regular map: the tokens of all sections, each where its section stands, in
     /// order, those of one place section by section. Sources, behind their roots, and names are there
     /// once each; a source has the contents that were given for it last; a source is passed over if a
-    /// map passes over it that a token of it leads to. The file is that of the index; root and debug
+    /// map passes over it that a token of it leads to. Of a Hermes map its regular map counts, without
+    /// scopes. The file is that of the index; root and debug
     /// id are none.
     ///
     /// `CannotFlatten` for the first section, in their order, that has no map, or a map that can't be
@@ -117,11 +118,12 @@ impl SourceMapSection {
 }
 
 impl DecodedMap {
-    // How many tokens it brings, if it is a regular map.
+    // How many tokens it brings, if it is no index.
     fn token_room(&self) -> usize {
         match self {
             DecodedMap::Regular(map) => map.get_token_count() as usize,
             DecodedMap::Index(_) => 0,
+            DecodedMap::Hermes(map) => map.get_token_count() as usize,
         }
     }
 
@@ -142,6 +144,7 @@ impl DecodedMap {
     {
         match self {
             DecodedMap::Regular(map) => gathering.add(alloc, line, col, &map.lists()),
+            DecodedMap::Hermes(map) => gathering.add(alloc, line, col, &map.lists()),
             DecodedMap::Index(index) => {
                 let flat = index.gathered()?;
                 gathering.add_flat(alloc, line, col, &flat)

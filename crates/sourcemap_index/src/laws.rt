@@ -9,7 +9,9 @@ ghost use Rattle.sourcemap_regular.specs.Encode.{ReadsBack};
 ghost use Rattle.sourcemap_regular.specs.Map.{MapValue};
 ghost use Rattle.sourcemap_regular.specs.Write.{IsEncoded};
 ghost use Rattle.sourcemap_trees.specs.Encode.{RecordAnswer, Restores};
-ghost use Rattle.sourcemap_trees.specs.MapTree.{MapTree, regular};
+ghost use Rattle.sourcemap_hermes.specs.Decode.{OnlyHermesDecodes};
+ghost use Rattle.sourcemap_hermes.specs.Map.{HermesValue};
+ghost use Rattle.sourcemap_trees.specs.MapTree.{MapTree, hermes, leaf, regular};
 ghost use Rattle.sourcemap_trees.specs.WellFormed.{IsWellFormed};
 ghost use Rattle.sourcemap_index.specs.Decode.{BytesDecode, UrlDecodes, ValueDecodes};
 ghost use Rattle.sourcemap_index.specs.DecodedMap.{IsShallow, IsTextOf, IsValueOf};
@@ -18,11 +20,22 @@ ghost use Rattle.sourcemap_index.specs.DecodedMap.{IsShallow, IsTextOf, IsValueO
 /// map of any kind.
 pub fn regular_maps_are_of_a_kind()
     ensures values { (d : Data) (m : MapValue)
-        → ValueStandsFor RegularDecodes d (Ok m) ↔ ValueDecodes d (Ok (regular m)) }
+        → ValueStandsFor RegularDecodes d (Ok m) ↔ ValueDecodes d (Ok (leaf (regular m))) }
     ensures bytes { (bytes : List ℕ) (m : MapValue)
-        → BytesStandFor RegularDecodes bytes (Ok m) ↔ BytesDecode bytes (Ok (regular m)) }
+        → BytesStandFor RegularDecodes bytes (Ok m) ↔ BytesDecode bytes (Ok (leaf (regular m))) }
     ensures urls { (url : List ℕ) (m : MapValue)
-        → UrlStandsFor RegularDecodes url (Ok m) ↔ UrlDecodes url (Ok (regular m)) }
+        → UrlStandsFor RegularDecodes url (Ok m) ↔ UrlDecodes url (Ok (leaf (regular m))) }
+{}
+
+/// A law: so it is with Hermes maps.
+pub fn hermes_maps_are_of_a_kind()
+    ensures values { (d : Data) (h : HermesValue)
+        → ValueStandsFor OnlyHermesDecodes d (Ok h) ↔ ValueDecodes d (Ok (leaf (hermes h))) }
+    ensures bytes { (bytes : List ℕ) (h : HermesValue)
+        → BytesStandFor OnlyHermesDecodes bytes (Ok h)
+        ↔ BytesDecode bytes (Ok (leaf (hermes h))) }
+    ensures urls { (url : List ℕ) (h : HermesValue)
+        → UrlStandsFor OnlyHermesDecodes url (Ok h) ↔ UrlDecodes url (Ok (leaf (hermes h))) }
 {}
 
 /// A law: a map is written as one text, and no number of its value has a fraction, so that the value

@@ -87,6 +87,7 @@ impl DecodedMap {
     {
         match self {
             DecodedMap::Regular(map) => map.lookup_token(line, col),
+            DecodedMap::Hermes(map) => map.lookup_token(line, col),
             index => index.closest_among_many(line, col),
         }
     }
@@ -100,6 +101,7 @@ impl DecodedMap {
         match self {
             DecodedMap::Regular(map) => map.lookup_token_among_many(line, col),
             DecodedMap::Index(index) => index.closest_token(line, col),
+            DecodedMap::Hermes(map) => map.lookup_token_among_many(line, col),
         }
     }
 

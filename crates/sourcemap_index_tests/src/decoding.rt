@@ -10,6 +10,7 @@ fn section_told(alloc: Global, section: &SourceMapSection) -> Result<String> {
         None => "no map",
         Some(DecodedMap::Regular(_)) => "a map",
         Some(DecodedMap::Index(_)) => "an index",
+        Some(DecodedMap::Hermes(_)) => "a Hermes map",
     };
     let (line, col) = section.get_offset();
     Ok(format!(in alloc; "{line}:{col} {:?} {held};", section.get_url())?)
@@ -28,12 +29,13 @@ fn told(alloc: Global, answer: Result<DecodedMap>) -> Result<String> {
     match answer {
         Ok(DecodedMap::Index(index)) => sections_told(alloc, &index),
         Ok(DecodedMap::Regular(_)) => Ok(String::from_str(alloc, "a regular map")?),
+        Ok(DecodedMap::Hermes(_)) => Ok(String::from_str(alloc, "a Hermes map")?),
         fault => fault_told(alloc, fault),
     }
 }
 
 // A text, and the sections of its index or its fault.
-const TEXTS: [(&str, &str); 13] = [
+const TEXTS: [(&str, &str); 19] = [
     // Sections are put in order, those of one place as they stood.
     (
         r#"{"sections":[{"offset":{"line":10,"column":4},"url":"p"},{"offset":{"line":0,"column":7},"url":"q"},{"offset":{"line":10,"column":4},"url":"r"},{"offset":{"line":10,"column":3},"map":{"sections":[]}}]}"#,
@@ -49,6 +51,29 @@ const TEXTS: [(&str, &str); 13] = [
         "",
     ),
     (r#"{"sections":null,"mappings":"A"}"#, "a regular map"),
+    // Scopes of sources make a Hermes map, in a section, too.
+    (r#"{"x_facebook_sources":[],"mappings":"A"}"#, "a Hermes map"),
+    (
+        r#"{"x_facebook_sources":null,"mappings":"A"}"#,
+        "a regular map",
+    ),
+    (
+        r#"{"sections":[{"offset":{"line":0,"column":0},"map":{"x_facebook_sources":[null],"mappings":"A"}},{"offset":{"line":1,"column":0},"map":{"sections":[]}}]}"#,
+        "0:0 None a Hermes map;1:0 None an index;",
+    ),
+    (
+        r#"{"x_facebook_sources":[],"mappings":"!"}"#,
+        "invalid base64 character: !",
+    ),
+    // Scopes that are no records are a fault, and those whose text cannot be read are none.
+    (
+        r#"{"x_facebook_sources":[[{"names":["f"]}]],"mappings":"A"}"#,
+        "bad json: a field has the wrong type",
+    ),
+    (
+        r#"{"x_facebook_sources":[[{"names":["f"],"mappings":"!"}]],"mappings":"A"}"#,
+        "a Hermes map",
+    ),
     // Of two faults the first of the text is answered, whatever the order of the offsets.
     (
         r#"{"sections":[{"offset":{"line":9,"column":0},"map":{"mappings":"!"}},{"offset":{"line":0,"column":0},"map":{"mappings":"AAAAAA"}}]}"#,
@@ -62,14 +87,13 @@ const TEXTS: [(&str, &str); 13] = [
         r#"{"sections":[{"offset":{"line":9,"column":0},"map":{"sections":[{"offset":{"line":0,"column":0},"url":"u"},{"offset":{"line":0,"column":0},"map":{"mappings":"AAAA"}}]}},{"offset":{"line":0,"column":0},"map":{"mappings":"!"}}]}"#,
         "bad reference to source #0",
     ),
-    // A map with function names is refused in a section, too, before its parts are looked at.
     (
-        r#"{"sections":[{"offset":{"line":0,"column":0},"map":{"x_facebook_sources":[],"mappings":"!"}}]}"#,
-        "encountered incompatible sourcemap format",
+        r#"{"sections":[{"offset":{"line":9,"column":0},"map":{"x_facebook_sources":[],"mappings":"!"}},{"offset":{"line":0,"column":0},"map":{"mappings":"AAAAAA"}}]}"#,
+        "invalid base64 character: !",
     ),
     (
-        r#"{"sections":[{"offset":{"line":0,"column":0},"map":{"mappings":"!"}},{"offset":{"line":1,"column":0},"map":{"x_facebook_sources":[]}}]}"#,
-        "invalid base64 character: !",
+        r#"{"sections":[{"offset":{"line":0,"column":0},"map":{"mappings":"AAAAAA"}},{"offset":{"line":1,"column":0},"map":{"x_facebook_sources":[],"mappings":"!"}}]}"#,
+        "got 6 segments, expected 4 or 5",
     ),
     // The record is read whole before a map of it is made.
     (
@@ -107,7 +131,7 @@ fn index_told(alloc: Global, answer: Result<SourceMapIndex>) -> Result<String> {
 }
 
 // A text, and the sections of the index that it is, or why it is none.
-const INDEXES: [(&str, &str); 7] = [
+const INDEXES: [(&str, &str); 8] = [
     (
         r#"{"sections":[{"offset":{"line":3,"column":0},"url":"p"},{"offset":{"line":1,"column":2},"map":{"mappings":"A"}}]}"#,
         r#"1:2 None a map;3:0 Some("p") no map;"#,
@@ -116,6 +140,10 @@ const INDEXES: [(&str, &str); 7] = [
     // The record of a map of another kind is refused before anything of it is decoded.
     (
         r#"{"mappings":"!"}"#,
+        "encountered incompatible sourcemap format",
+    ),
+    (
+        r#"{"x_facebook_sources":[],"mappings":"!"}"#,
         "encountered incompatible sourcemap format",
     ),
     (

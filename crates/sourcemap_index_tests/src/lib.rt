@@ -11,6 +11,8 @@ mod checks;
 #[cfg(test)]
 mod decoding;
 #[cfg(test)]
+mod hermes;
+#[cfg(test)]
 mod lookups;
 #[cfg(test)]
 mod nested;

@@ -37,8 +37,12 @@ const LATE: &str =
 const MIXED: &str =
     r#"{"sections":[{"offset":{"line":0,"column":0},"map":{"sources":["a.js"],"mappings":"AAAA,SAAA"}},{"offset":{"line":0,"column":5},"map":{"sources":["b.js"],"mappings":"AAAA"}}]}"#;
 
+// The second section has a Hermes map, which answers as its regular map.
+const HERMES: &str =
+    r#"{"sections":[{"offset":{"line":0,"column":0},"map":{"sources":["a.js"],"mappings":"AAAA"}},{"offset":{"line":1,"column":2},"map":{"sources":["b.js"],"mappings":"AAAO","rangeMappings":"B","x_facebook_sources":[[{"names":["f"],"mappings":"AAA"}]]}}]}"#;
+
 // An index, a line and a column, and what is printed there.
-const PLACES: [(&str, u32, u32, &str); 25] = [
+const PLACES: [(&str, u32, u32, &str); 28] = [
     (TWO, 0, 0, "a.js:0:0"),
     (TWO, 10, 3, "a.js:0:0"),
     (TWO, 10, 4, "b.js:0:0"),
@@ -64,6 +68,9 @@ const PLACES: [(&str, u32, u32, &str); 25] = [
     (MIXED, 0, 4, "a.js:0:0"),
     (MIXED, 0, 9, "b.js:0:0"),
     (r#"{"sections":[]}"#, 0, 0, "none"),
+    (HERMES, 1, 1, "a.js:0:0"),
+    (HERMES, 1, 7, "b.js:0:12"),
+    (HERMES, 2, 7, "b.js:0:7"),
 ];
 
 /// The text of a token.
@@ -82,7 +89,7 @@ fn looked_up(alloc: Global, text: &str, line: u32, col: u32) -> Result<String> {
 fn looked_up_by_index(alloc: Global, text: &str, line: u32, col: u32) -> Result<String> {
     match decode_slice(alloc, text.as_bytes())? {
         DecodedMap::Index(index) => token_told(alloc, index.lookup_token(line, col)),
-        DecodedMap::Regular(_) => Ok(String::from_str(alloc, "a regular map")?),
+        _ => Ok(String::from_str(alloc, "no index")?),
     }
 }
 

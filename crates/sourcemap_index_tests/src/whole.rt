@@ -25,10 +25,14 @@ const NESTED: &str =
 const BUNDLE: &str =
     r#"{"sections":[],"x_facebook_offsets":[5,null],"x_metro_module_paths":["a.js"]}"#;
 
+// The second section has a Hermes map, from the middle of a line on.
+const HERMES: &str =
+    r#"{"sections":[{"offset":{"line":0,"column":0},"map":{"sources":["a.js"],"mappings":"AAAA"}},{"offset":{"line":1,"column":2},"map":{"sources":["b.js"],"mappings":"AAAA;AAAA","x_facebook_sources":[[{"names":["f"],"mappings":"AAA"}],null]}}]}"#;
+
 fn index_of(alloc: Global, text: &str) -> Result<SourceMapIndex> {
     match decode_slice(alloc, text.as_bytes())? {
         DecodedMap::Index(index) => Ok(index),
-        DecodedMap::Regular(_) => Err(Error::IncompatibleSourceMap),
+        _ => Err(Error::IncompatibleSourceMap),
     }
 }
 
@@ -51,7 +55,7 @@ fn flat(alloc: Global, text: &str) -> Result<String> {
 }
 
 // An index, and its flat map or the fault.
-const FLAT: [(&str, &str); 6] = [
+const FLAT: [(&str, &str); 7] = [
     (
         TWO,
         r#"{"mappings":"AAAA;;;;;;;;;;ICAA","names":[],"sources":["a.js","b.js"],"version":3}"#,
@@ -75,6 +79,10 @@ const FLAT: [(&str, &str); 6] = [
     (
         BUNDLE,
         r#"{"mappings":"","names":[],"sources":[],"version":3}"#,
+    ),
+    (
+        HERMES,
+        r#"{"mappings":"AAAA;ECAA;AAAA","names":[],"sources":["a.js","b.js"],"version":3}"#,
     ),
 ];
 
@@ -218,7 +226,7 @@ fn written_to(alloc: Global, text: &str) -> Result<String> {
 }
 
 // An index, and the text that it is written as.
-const WRITTEN: [(&str, &str); 4] = [
+const WRITTEN: [(&str, &str); 5] = [
     (
         BUNDLE,
         r#"{"sections":[],"sources":null,"version":3,"x_facebook_offsets":[5,null],"x_metro_module_paths":["a.js"]}"#,
@@ -234,6 +242,10 @@ const WRITTEN: [(&str, &str); 4] = [
     (
         r#"{"sections":[{"offset":{"line":2,"column":0},"url":"u","map":{"sections":[],"debugId":"0123456789abcdef0123456789abcdef"}}],"sourceRoot":"r"}"#,
         r#"{"sections":[{"map":{"debugId":"01234567-89ab-cdef-0123-456789abcdef","sections":[],"sources":null,"version":3},"offset":{"column":0,"line":2},"url":"u"}],"sources":null,"version":3}"#,
+    ),
+    (
+        HERMES,
+        r#"{"sections":[{"map":{"mappings":"AAAA","names":[],"sources":["a.js"],"version":3},"offset":{"column":0,"line":0},"url":null},{"map":{"mappings":"AAAA;AAAA","names":[],"sources":["b.js"],"version":3,"x_facebook_sources":[[{"mappings":"AAA","names":["f"]}],null]},"offset":{"column":2,"line":1},"url":null}],"sources":null,"version":3}"#,
     ),
 ];
 
@@ -256,11 +268,22 @@ fn compared(alloc: Global, text: &str, other: &str) -> Result<String> {
 }
 
 // Whether a copy of an index is equal to it, and to another map.
-const COMPARED: [(&str, &str, &str); 4] = [
+const COMPARED: [(&str, &str, &str); 7] = [
     (NESTED, NESTED, "true true"),
     (LINKED, NEITHER, "true false"),
     (BUNDLE, r#"{"sections":[]}"#, "true false"),
     (r#"{"sections":[]}"#, r#"{"mappings":""}"#, "true false"),
+    (HERMES, HERMES, "true true"),
+    (
+        r#"{"mappings":"","x_facebook_sources":[]}"#,
+        r#"{"mappings":"","x_facebook_sources":[null]}"#,
+        "true false",
+    ),
+    (
+        r#"{"mappings":"","x_facebook_sources":[]}"#,
+        r#"{"mappings":""}"#,
+        "true false",
+    ),
 ];
 
 #[test]

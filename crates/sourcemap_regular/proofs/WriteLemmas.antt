@@ -1,5 +1,5 @@
 -- A map is written as one record, whose text is shallow, has no fraction and no junk header, and so reads back.
-use Rattle.std.proofs.Common.{◌≡◌, inl, ℕ, length, ◌≤◌, List, [], ◌∷◌, map, Option, Some, None, option_map, Bool, true, false, ◌||◌, Ok, refl, sym, ap, ◌∙◌, subst, arith}
+use Rattle.std.proofs.Common.{◌≡◌, inl, ℕ, ◌+◌, length, ◌≤◌, List, [], ◌∷◌, map, Option, Some, None, option_map, Bool, true, false, ◌||◌, Ok, refl, sym, ap, ◌∙◌, subst, arith}
 use Rattle.std.specs.Ordering.{nat_cmp, match_ordering}
 use Rattle.std.specs.Cmp.Lexicographic.{slice_cmp}
 use Rattle.std.specs.declared.cmp.Ordering.{Ordering}
@@ -13,7 +13,7 @@ use Rattle.sourcemap_headers.specs.DataUrl.{Holds}
 use Rattle.sourcemap_headers.specs.DebugId.{debug_id_text}
 use Rattle.sourcemap_mappings.proofs.WriteLaws.{IsWritten-same, IsRangeText-same}
 use Rattle.sourcemap_records.specs.Field.{written_number, written_or_null, written_list, put_if, put_all}
-use Rattle.sourcemap_records.specs.Jsontypes.{Fields, Tree, plain, flat, entries, written, written_fields, IsFine}
+use Rattle.sourcemap_records.specs.Jsontypes.{Tree, plain, flat, entries, written, written_fields, IsFine}
 use Rattle.sourcemap_records.proofs.ReadBackLemmas.{record-back}
 use Rattle.sourcemap_regular.specs.Map.{MapValue, IsWellFormed}
 use Rattle.sourcemap_regular.specs.Encode.{IsRecordOf, RecordAnswer, ReadsBack, Restores, record_with, written_contents, written_ids}
@@ -22,20 +22,20 @@ use Rattle.sourcemap_regular.specs.Decode.{RecordDecodes, RegularDecodes}
 use Rattle.sourcemap_regular.specs.Write.{IsText, IsEncoded, IsCompactTextOf}
 use Rattle.sourcemap_records.proofs.BytesLemmas.{value_of_record}
 
--- at most one level, and no fraction
-abbrev IsFlat : Data → Type 0
-IsFlat d = (depth d ≤ 1) × (has_float d ≡ false)
+-- at most so many levels, and no fraction
+abbrev pub IsLow : ℕ → Data → Type 0
+IsLow n d = (depth d ≤ n) × (has_float d ≡ false)
 
-abbrev AreFlat : Members → Type 0
-AreFlat ms = (members_depth ms ≤ 1) × (members_have_float ms ≡ false)
+abbrev AreLow : ℕ → Members → Type 0
+AreLow n ms = (members_depth ms ≤ n) × (members_have_float ms ≡ false)
 
-abbrev IsFlatIf : Option Data → Type 0
-IsFlatIf None = Unit {0}
-IsFlatIf (Some d) = IsFlat d
+abbrev IsLowIf : ℕ → Option Data → Type 0
+IsLowIf n None = Unit {0}
+IsLowIf n (Some d) = IsLow n d
 
-abbrev EntriesAreFlat : List (List ℕ × Option Data) → Type 0
-EntriesAreFlat [] = Unit {0}
-EntriesAreFlat (e ∷ es) = IsFlatIf e.1 × EntriesAreFlat es
+abbrev pub EntriesAreLow : ℕ → List (List ℕ × Option Data) → Type 0
+EntriesAreLow n [] = Unit {0}
+EntriesAreLow n (e ∷ es) = IsLowIf n e.1 × EntriesAreLow n es
 
 neither : (r s : Bool) → r ≡ false → s ≡ false → r || s ≡ false
 neither r s p q = rw (p, q) refl
@@ -48,133 +48,130 @@ snd_false : (r s : Bool) → r || s ≡ false → s ≡ false
 snd_false true s p = cc
 snd_false false s p = p
 
-flat_member : (k : List ℕ) (d : Data) (ms : Members) → IsFlat d → AreFlat ms → AreFlat (member k d ms)
-flat_member k d ms p q =
-    ((let a = p.0 in let b = q.0 in omega arith), neither (has_float d) (members_have_float ms) p.1 q.1)
+module _ (n : ℕ) where
+  low_member : (k : List ℕ) (d : Data) (ms : Members) → IsLow n d → AreLow n ms → AreLow n (member k d ms)
+  low_member k d ms p q =
+      ((let a = p.0 in let b = q.0 in omega arith), neither (has_float d) (members_have_float ms) p.1 q.1)
 
-flat_head : (k : List ℕ) (d : Data) (ms : Members) → AreFlat (member k d ms) → IsFlat d
-flat_head k d ms p = ((let a = p.0 in omega arith), fst_false (has_float d) (members_have_float ms) p.1)
+  low_head : (k : List ℕ) (d : Data) (ms : Members) → AreLow n (member k d ms) → IsLow n d
+  low_head k d ms p = ((let a = p.0 in omega arith), fst_false (has_float d) (members_have_float ms) p.1)
 
-flat_tail : (k : List ℕ) (d : Data) (ms : Members) → AreFlat (member k d ms) → AreFlat ms
-flat_tail k d ms p = ((let a = p.0 in omega arith), snd_false (has_float d) (members_have_float ms) p.1)
+  low_tail : (k : List ℕ) (d : Data) (ms : Members) → AreLow n (member k d ms) → AreLow n ms
+  low_tail k d ms p = ((let a = p.0 in omega arith), snd_false (has_float d) (members_have_float ms) p.1)
 
-flat_none : AreFlat no_members
-flat_none = (omega arith, refl)
+  low_none : AreLow n no_members
+  low_none = (omega arith, refl)
 
-flat_order : (o : Ordering) (a b c : Members) → AreFlat a → AreFlat b → AreFlat c → AreFlat (match_ordering o a b c)
-flat_order Less a b c p q r = p
-flat_order Equal a b c p q r = q
-flat_order Greater a b c p q r = r
+  low_order : (o : Ordering) (a b c : Members) → AreLow n a → AreLow n b → AreLow n c → AreLow n (match_ordering o a b c)
+  low_order Less a b c p q r = p
+  low_order Equal a b c p q r = q
+  low_order Greater a b c p q r = r
 
-flat_put : (k : List ℕ) (d : Data) (ms : Members) → IsFlat d → AreFlat ms → AreFlat (put k d ms)
-flat_put k d no_members p q = flat_member k d no_members p q
-flat_put k d (member l e ms) p q =
-    let rest = flat_tail l e ms q in
-    flat_order (slice_cmp nat_cmp k l) (member k d (member l e ms)) (member l d ms) (member l e (put k d ms))
-    (flat_member k d (member l e ms) p q) (flat_member l d ms p rest)
-    (flat_member l e (put k d ms) (flat_head l e ms q) (flat_put k d ms p rest))
+  low_put : (k : List ℕ) (d : Data) (ms : Members) → IsLow n d → AreLow n ms → AreLow n (put k d ms)
+  low_put k d no_members p q = low_member k d no_members p q
+  low_put k d (member l e ms) p q =
+      let rest = low_tail l e ms q in
+      low_order (slice_cmp nat_cmp k l) (member k d (member l e ms)) (member l d ms) (member l e (put k d ms))
+      (low_member k d (member l e ms) p q) (low_member l d ms p rest)
+      (low_member l e (put k d ms) (low_head l e ms q) (low_put k d ms p rest))
 
-flat_put_if : (k : List ℕ) (o : Option Data) (ms : Members) → IsFlatIf o → AreFlat ms → AreFlat (put_if k o ms)
-flat_put_if k None ms p q = q
-flat_put_if k (Some d) ms p q = flat_put k d ms p q
+  low_put_if : (k : List ℕ) (o : Option Data) (ms : Members) → IsLowIf n o → AreLow n ms → AreLow n (put_if k o ms)
+  low_put_if k None ms p q = q
+  low_put_if k (Some d) ms p q = low_put k d ms p q
 
-flat_put_all : (es : List (List ℕ × Option Data)) (ms : Members) → EntriesAreFlat es → AreFlat ms → AreFlat (put_all es ms)
-flat_put_all [] ms p q = q
-flat_put_all (e ∷ es) ms p q = flat_put_all es (put_if e.0 e.1 ms) p.1 (flat_put_if e.0 e.1 ms p.0 q)
+  low_put_all : (es : List (List ℕ × Option Data)) (ms : Members) → EntriesAreLow n es → AreLow n ms → AreLow n (put_all es ms)
+  low_put_all [] ms p q = q
+  low_put_all (e ∷ es) ms p q = low_put_all es (put_if e.0 e.1 ms) p.1 (low_put_if e.0 e.1 ms p.0 q)
 
--- no level, and no fraction
-abbrev IsLeaf : Data → Type 0
-IsLeaf d = (depth d ≤ 0) × (has_float d ≡ false)
+  -- an object of such members
+  pub low_object : (es : List (List ℕ × Option Data)) → EntriesAreLow n es → IsLow (n + 1) (object (put_all es no_members))
+  low_object es all = let p = low_put_all es no_members all low_none in ((let a = p.0 in omega arith), p.1)
 
-leaves : {X : Type 0} (write : X → Data) → ((x : X) → IsLeaf (write x)) → (xs : List X)
-    → (items_depth (items_of (map write xs)) ≤ 0) × (items_have_float (items_of (map write xs)) ≡ false)
-leaves write each [] = (omega arith, refl)
-leaves write each (x ∷ xs) =
-    let p = each x in let q = leaves write each xs in (
-      (let a = p.0 in let b = q.0 in omega arith),
-      neither (has_float (write x)) (items_have_float (items_of (map write xs))) p.1 q.1,
-    )
+  low_items : {X : Type 0} (write : X → Data) → ((x : X) → IsLow n (write x)) → (xs : List X)
+      → (items_depth (items_of (map write xs)) ≤ n) × (items_have_float (items_of (map write xs)) ≡ false)
+  low_items write each [] = (omega arith, refl)
+  low_items write each (x ∷ xs) =
+      let p = each x in let q = low_items write each xs in (
+        (let a = p.0 in let b = q.0 in omega arith),
+        neither (has_float (write x)) (items_have_float (items_of (map write xs))) p.1 q.1,
+      )
 
-flat_list : {X : Type 0} (write : X → Data) → ((x : X) → IsLeaf (write x)) → (xs : List X) → IsFlat (written_list write xs)
-flat_list write each xs = let p = leaves write each xs in ((let a = p.0 in omega arith), p.1)
+  -- a list of such items
+  pub low_list : {X : Type 0} (write : X → Data) → ((x : X) → IsLow n (write x)) → (xs : List X) → IsLow (n + 1) (written_list write xs)
+  low_list write each xs = let p = low_items write each xs in ((let a = p.0 in omega arith), p.1)
 
-leaf_string : (s : List ℕ) → IsLeaf (string s)
-leaf_string s = (omega arith, refl)
+  pub low_or_null : {X : Type 0} (write : X → Data) → ((x : X) → IsLow n (write x)) → (o : Option X) → IsLow n (written_or_null write o)
+  low_or_null write each None = (omega arith, refl)
+  low_or_null write each (Some x) = each x
 
-leaf_text : (s : Option (List ℕ)) → IsLeaf (written_or_null string s)
-leaf_text None = (omega arith, refl)
-leaf_text (Some s) = (omega arith, refl)
+  pub low_if : {X : Type 0} (write : X → Data) → ((x : X) → IsLow n (write x)) → (o : Option X) → IsLowIf n (option_map write o)
+  low_if write each None = tt
+  low_if write each (Some x) = each x
 
-leaf_number : (n : ℕ) → IsLeaf (written_number n)
-leaf_number n = (omega arith, refl)
+  -- more levels do not matter
+  pub low_entries : (more : ℕ) (es : List (List ℕ × Option Data)) → EntriesAreLow n es → EntriesAreLow (n + more) es
+  low_entries more [] all = tt
+  low_entries more (e ∷ es) all = (by_case e.1 all.0, low_entries more es all.1)
+    where
+      by_case : (o : Option Data) → IsLowIf n o → IsLowIf (n + more) o
+      by_case None p = tt
+      by_case (Some d) p = ((let a = p.0 in omega arith), p.1)
 
-flat_leaf : (d : Data) → IsLeaf d → IsFlat d
-flat_leaf d p = ((let a = p.0 in omega arith), p.1)
+  pub low_string : (s : List ℕ) → IsLow n (string s)
+  low_string s = (omega arith, refl)
 
-flat_if : {X : Type 0} (write : X → Data) → ((x : X) → IsFlat (write x)) → (o : Option X) → IsFlatIf (option_map write o)
-flat_if write each None = tt
-flat_if write each (Some x) = each x
+  low_number : (k : ℕ) → IsLow n (written_number k)
+  low_number k = (omega arith, refl)
 
-flat_written : (m : MapValue) (mappings : List ℕ) (ranges : Option (List ℕ)) → AreFlat (written_fields (record_with m mappings ranges))
-flat_written m mappings ranges =
-    let r : Fields = record_with m mappings ranges in
-    let text : (s : List ℕ) → IsFlat (string s) = λ s. flat_leaf (string s) (leaf_string s) in
-    let texts : (xs : List (Option (List ℕ))) → IsFlat (written_list (written_or_null string) xs) = flat_list (written_or_null string) leaf_text in
-    flat_put_all (entries r) no_members (
-      flat_leaf (written_number 3) (leaf_number 3),
+-- what a map is written as has lists of texts and numbers at most
+pub entries_low : (m : MapValue) (mappings : List ℕ) (ranges : Option (List ℕ)) → EntriesAreLow 1 (entries (record_with m mappings ranges))
+entries_low m mappings ranges = (
+  low_number 1 3,
+  (
+    low_if 1 string (low_string 1) m.file,
+    (
+      texts (map Some m.sources),
       (
-        file m.file,
+        low_if 1 string (low_string 1) m.root,
         (
-          texts (map Some m.sources),
+          low_if 1 (written_list (written_or_null string)) texts (written_contents (length m.sources) m.contents),
           (
-            flat_if string text m.root,
+            names m.names,
             (
-              flat_if (written_list (written_or_null string)) texts (written_contents (length m.sources) m.contents),
+              low_if 1 string (low_string 1) ranges,
               (
-                names m.names,
+                low_string 1 mappings,
                 (
-                  flat_if string text ranges,
-                  (
-                    text mappings,
-                    (
-                      flat_if (written_list written_number) (flat_list written_number leaf_number) (written_ids m.ignored),
-                      (
-                        tt,
-                        (
-                          tt,
-                          (
-                            tt,
-                            (flat_if (λ id. string (debug_id_text id)) (λ id. text (debug_id_text id)) m.debug_id, tt),
-                          ),
-                        ),
-                      ),
-                    ),
-                  ),
+                  low_if 1 (written_list written_number) (low_list 0 written_number (low_number 0)) (written_ids m.ignored),
+                  (tt, (tt, (tt, (low_if 1 (λ id. string (debug_id_text id)) (λ id. low_string 1 (debug_id_text id)) m.debug_id, tt)))),
                 ),
               ),
             ),
           ),
         ),
       ),
-    )
-    flat_none
+    ),
+  ),
+)
   where
-    file : (o : Option (List ℕ)) → IsFlatIf (option_map string o)
-    file None = tt
-    file (Some f) = flat_leaf (string f) (leaf_string f)
+    texts : (xs : List (Option (List ℕ))) → IsLow 1 (written_list (written_or_null string) xs)
+    texts = low_list 0 (written_or_null string) (low_or_null 0 string (low_string 0))
 
     same_map : (xs : List (List ℕ)) → map (λ d. d) (map string xs) ≡ map string xs
     same_map [] = refl
     same_map (x ∷ xs) = ap (λ rest. string x ∷ rest) (same_map xs)
 
-    names : (xs : List (List ℕ)) → IsFlat (written_list (λ d. d) (map string xs))
-    names xs = subst (λ ds. IsFlat (array (items_of ds))) (sym (same_map xs)) (flat_list string leaf_string xs)
+    names : (xs : List (List ℕ)) → IsLow 1 (written_list (λ d. d) (map string xs))
+    names xs = subst (λ ds. IsLow 1 (array (items_of ds))) (sym (same_map xs)) (low_list 0 string (low_string 0) xs)
+
+low_written : (m : MapValue) (mappings : List ℕ) (ranges : Option (List ℕ)) → IsLow 2 (written (plain (record_with m mappings ranges)))
+low_written m mappings ranges = low_object 1 (entries (record_with m mappings ranges)) (entries_low m mappings ranges)
 
 shallow : (m : MapValue) (mappings : List ℕ) (ranges : Option (List ℕ)) → depth (written (plain (record_with m mappings ranges))) ≤ max_depth
-shallow m mappings ranges = let p = (flat_written m mappings ranges).0 in omega arith
+shallow m mappings ranges = let p = (low_written m mappings ranges).0 in omega arith
 
 no_fraction : (m : MapValue) (mappings : List ℕ) (ranges : Option (List ℕ)) → has_float (written (plain (record_with m mappings ranges))) ≡ false
-no_fraction m mappings ranges = (flat_written m mappings ranges).1
+no_fraction m mappings ranges = (low_written m mappings ranges).1
 
 -- a map is written as one record
 pub record_once : (m : MapValue) (a b : Tree) → IsRecordOf m a → IsRecordOf m b → a ≡ b
@@ -192,7 +189,7 @@ pub encoded-compact : (m : MapValue) (text : List ℕ) → IsEncoded (RecordAnsw
 encoded-compact m text h = (h.0, h.1.0, h.2.compact (record-whole m h.0 h.1.0))
 
 -- a text that begins with a brace has no junk header
-no_header : (text : List ℕ) (ms : Members) → text ≡ compact_text (object ms) → behind_header text ≡ Some text
+pub no_header : (text : List ℕ) (ms : Members) → text ≡ compact_text (object ms) → behind_header text ≡ Some text
 no_header text ms is = ap behind_header is ∙ ap Some (sym is)
 
 -- the text of a map's record reads back

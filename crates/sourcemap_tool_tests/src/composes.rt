@@ -22,6 +22,8 @@ const ROWS: &str =
 {"sections":[]}|{"sources":["t.js"],"mappings":"EAAA"}|1 encountered incompatible sourcemap format|opened
 {"sources":["o.js"],"mappings":"AAAA"}|{"sections":[]}|1 encountered incompatible sourcemap format|opened
 {"sections":[]}|{"sections":[]}|1 encountered incompatible sourcemap format|opened
+{"sources":["o.js"],"mappings":"AAAA"}|{"sources":["t.js"],"mappings":"EAAA","x_facebook_sources":[]}|1 encountered incompatible sourcemap format|opened
+{"sources":["o.js"],"mappings":"AAAA","x_facebook_sources":[]}|{"sources":["t.js"],"mappings":"EAAA"}|1 encountered incompatible sourcemap format|opened
 {"sections":[]}|{"mappings":"AAAA"}|1 bad reference to source #0|opened
 {}|[]|1 bad json: a field has the wrong type|opened
 {}||1 bad json: the text is not JSON|opened

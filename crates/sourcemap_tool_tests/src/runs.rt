@@ -30,25 +30,36 @@ lookup 0 0|{"sections":[]}|0 none
 lookup 10 4|TWO|0 b.js:0:0
 lookup 10 9|TWO|0 b.js:0:0
 lookup 10 3|TWO|0 a.js:0:0
-lookup 0 0|{"x_facebook_sources":[]}|1 encountered incompatible sourcemap format
+lookup 0 0|{"x_facebook_sources":[]}|0 none
+lookup 0 9|HERMES|0 b.js:0:0
 tokens|{"sources":["a.js"],"mappings":"AAAO","rangeMappings":"B"}|0 0:0 a.js:0:7 range
 tokens|{"sections":[]}|1 encountered incompatible sourcemap format
+tokens|HERMES|0 0:0 b.js:0:0
 rewrite|MAP|0 {"mappings":"AAAA,GAAIA,GAAI,EACR,IAAIA,GAAK,EAAG,CACVC,MAAM","names":["x","alert"],"sources":["coolstuff.js"],"version":3}
 rewrite|{"sources":["a.js","b.js"],"sourcesContent":["x","y"],"mappings":"ACAA","sourceRoot":"r"}|0 {"mappings":"AAAA","names":[],"sources":["r/b.js"],"sourcesContent":["y"],"version":3}
 rewrite|{"sections":[]}|1 encountered incompatible sourcemap format
+rewrite|HERMES|0 {"mappings":"AAAA","names":[],"sources":["b.js"],"version":3,"x_facebook_sources":[[{"mappings":"AAA","names":["f"]}]]}
+rewrite|{"sources":["a.js","b.js"],"mappings":"ACAA","x_facebook_sources":[]}|0 {"mappings":"AAAA","names":[],"sources":["b.js"],"version":3,"x_facebook_sources":[null]}
 flatten|TWO|0 {"mappings":"AAAA;;;;;;;;;;ICAA","names":[],"sources":["a.js","b.js"],"version":3}
 flatten|{"sections":[]}|0 {"mappings":"","names":[],"sources":[],"version":3}
 flatten|{"sections":[{"offset":{"line":0,"column":0},"url":"u"}]}|1 cannot flatten the indexed sourcemap: Section has an unresolved sourcemap: u
 flatten|{"sections":[{"offset":{"line":4294967295,"column":0},"map":{"sources":["a.js"],"mappings":";AAAA"}}]}|1 cannot flatten the indexed sourcemap: a position passes 4294967295
+flatten|{"sections":[{"offset":{"line":1,"column":2},"map":{"sources":["b.js"],"mappings":"AAAA","x_facebook_sources":[[{"names":["f"],"mappings":"AAA"}]]}}]}|0 {"mappings":";EAAA","names":[],"sources":["b.js"],"version":3}
 flatten|MAP|1 encountered incompatible sourcemap format
+flatten|HERMES|1 encountered incompatible sourcemap format
 shift 2|LINK|0 {"sections":[{"map":null,"offset":{"column":4,"line":3},"url":"u"}],"sources":null,"version":3}
 shift 4294967295|LINK|1 encountered incompatible sourcemap format
 shift 2|{"sections":[],"x_facebook_offsets":[5,null],"x_metro_module_paths":["a.js"]}|0 {"sections":[],"sources":null,"version":3,"x_facebook_offsets":[5,null],"x_metro_module_paths":["a.js"]}
-shift 0|MAP|1 encountered incompatible sourcemap format"#;
+shift 0|MAP|1 encountered incompatible sourcemap format
+shift 0|HERMES|1 encountered incompatible sourcemap format"#;
 
 // An index of two maps, and one of a section that has no map.
 const TWO: &str =
     r#"{"version":3,"sections":[{"offset":{"line":0,"column":0},"map":{"version":3,"sources":["a.js"],"names":[],"mappings":"AAAA"}},{"offset":{"line":10,"column":4},"map":{"version":3,"sources":["b.js"],"names":[],"mappings":"AAAA"}}]}"#;
+
+// A Hermes map of two sources, of which tokens use the second.
+const HERMES: &str =
+    r#"{"sources":["a.js","b.js"],"mappings":"ACAA","x_facebook_sources":[null,[{"names":["f"],"mappings":"AAA"}]]}"#;
 
 const LINK: &str = r#"{"sections":[{"offset":{"line":1,"column":4},"url":"u"}]}"#;
 
@@ -149,6 +160,7 @@ fn is_met(rt: &HostRuntime, row: &str) -> Result<bool, Fail> {
         "MAP" => MAP,
         "TWO" => TWO,
         "LINK" => LINK,
+        "HERMES" => HERMES,
         text => text,
     };
     let text = format!(in rt.alloc(); "{text}\n")?;

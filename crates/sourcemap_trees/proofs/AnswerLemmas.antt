@@ -18,7 +18,7 @@ use Rattle.sourcemap_regular.specs.Map.{MapValue, Meaning, meaning_of, distance,
 use Rattle.sourcemap_regular.specs.Rewrite.{said}
 use Rattle.sourcemap_regular.specs.Token.{says}
 use Rattle.sourcemap_trees.specs.FlatList.{raised, raised_entry, flat_list, flat_lists, spans, StandsBefore, AreApart, IsOrderly}
-use Rattle.sourcemap_trees.specs.MapTree.{MapTree, regular, index, MapSections, no_sections, hollow, filled, offset_of, InEachSection}
+use Rattle.sourcemap_trees.specs.MapTree.{held, MapTree, leaf, index, MapSections, no_sections, hollow, filled, offset_of, InEachSection}
 use Rattle.sourcemap_trees.specs.Meaning.{lowered, lookup, lookups, meaning}
 use Rattle.sourcemap_trees.specs.WellFormed.{HasTokensInOrder}
 use Rattle.sourcemap_trees.proofs.ClosestLemmas.{closest_behind, closest_before}
@@ -235,12 +235,12 @@ hollow_answers place rest apart p m later e =
 mutual
   -- where a map answers, what its sorted flat list says is the same
   pub flat_list_answers : (t : MapTree) → HasTokensInOrder t → IsOrderly t → (p : ℕ × ℕ) (m : Meaning) → meaning t p ≡ Some m → answer_in (by_place (flat_list t)) p ≡ Some m
-  flat_list_answers (regular n) ordered orderly p m e =
-      ap (λ es. answer_in es p) (said_sorted n ordered) ∙ sym (meaning_in n p) ∙ e
+  flat_list_answers (leaf l) ordered orderly p m e =
+      ap (λ es. answer_in es p) (said_sorted (held l) ordered) ∙ sym (meaning_in (held l) p) ∙ e
   flat_list_answers (index parts ss) ordered orderly p m e = flat_lists_answer ss ordered.1 orderly.0 orderly.1 p m e
 
-  flat_lists_answer : (ss : MapSections) → InEachSection (λ m. AreInOrder m.tokens) (λ ss. Unit {0}) ss
-      → AreApart (spans ss) → InEachSection (λ m. Unit {0}) (λ ss. AreApart (spans ss)) ss → (p : ℕ × ℕ) (m : Meaning)
+  flat_lists_answer : (ss : MapSections) → InEachSection (λ l. AreInOrder (held l).tokens) (λ ss. Unit {0}) ss
+      → AreApart (spans ss) → InEachSection (λ l. Unit {0}) (λ ss. AreApart (spans ss)) ss → (p : ℕ × ℕ) (m : Meaning)
       → answer_of p (closest_section (lookups ss) p) ≡ Some m → answer_in (by_place (flat_lists ss)) p ≡ Some m
   flat_lists_answer no_sections ordered apart orderly p m e = cc
   flat_lists_answer (hollow place rest) ordered apart orderly p m e =

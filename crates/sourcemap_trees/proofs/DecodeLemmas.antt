@@ -1,13 +1,16 @@
 -- A record stands for one map of any kind, and that is well-formed.
-use Rattle.std.proofs.Common.{◌≡◌, sym, ap, subst, ◌∙◌, List, ◌∷◌, Bool, true, false, Some, None, nat_lt, Result, Ok, Err, inl, inr}
+use Rattle.std.proofs.Common.{◌≡◌, sym, ap, subst, ◌∙◌, List, ◌∷◌, Bool, true, false, Option, Some, None, nat_lt, Result, Ok, Err, inl, inr}
 use Rattle.std.specs.Bool.{MatchBool}
 use Rattle.sourcemap_errors.specs.declared.errors.Error.{Error}
 use Rattle.sourcemap_errors.specs.declared.errors.Error.TheVariants.{IncompatibleSourceMap}
-use Rattle.sourcemap_records.specs.Jsontypes.{Tree, plain, indexed, Sections, no_more, bare, mapped}
-use Rattle.sourcemap_regular.proofs.DecodeLemmas.{regular_decodes_once}
-use Rattle.sourcemap_regular.specs.Decode.{RegularDecodes}
-use Rattle.sourcemap_trees.specs.Decode.{Then, TreeDecodes, SectionsDecode, count, index_of}
-use Rattle.sourcemap_trees.specs.MapTree.{MapTree, regular, MapSection}
+use Rattle.sourcemap_records.specs.Jsontypes.{Fields, Tree, plain, indexed, Sections, no_more, bare, mapped}
+use Rattle.sourcemap_regular.proofs.DecodeLemmas.{RecordDecodes-same}
+use Rattle.sourcemap_regular.specs.Decode.{RecordDecodes}
+use Rattle.sourcemap_scopes.specs.ScopeLists.{ScopeEntry}
+use Rattle.sourcemap_hermes.proofs.DecodeLemmas.{EntriesDecode-same}
+use Rattle.sourcemap_hermes.specs.Decode.{EntriesDecode}
+use Rattle.sourcemap_trees.specs.Decode.{Then, LeafDecodes, TreeDecodes, SectionsDecode, count, index_of}
+use Rattle.sourcemap_trees.specs.MapTree.{regular, hermes, MapTree, leaf, MapSection}
 
 once : {Y : Type 0} (y : Result Y Error) (a b : Result Y Error) → a ≡ y → b ≡ y → a ≡ b
 once y a b h k = h ∙ sym k
@@ -34,10 +37,15 @@ many_or_once : (many : Bool) (Few : Result MapTree Error → Type 0) → ((a b :
 many_or_once true Few few a b h k = h ∙ sym k
 many_or_once false Few few a b h k = few a b h k
 
+leaf_decodes_once : (r : Fields) (scopes : Option (List ScopeEntry)) (a b : Result MapTree Error) → LeafDecodes r scopes a → LeafDecodes r scopes b → a ≡ b
+leaf_decodes_once r None a b h k =
+    then_once (RecordDecodes r) (λ m a. a ≡ Ok (leaf (regular m))) (RecordDecodes-same r) (λ m. once (Ok (leaf (regular m)))) a b h k
+leaf_decodes_once r (Some entries) a b h k =
+    then_once (EntriesDecode r entries) (λ m a. a ≡ Ok (leaf (hermes m))) (EntriesDecode-same r entries) (λ m. once (Ok (leaf (hermes m)))) a b h k
+
 mutual
   pub tree_decodes_once : (r : Tree) (a b : Result MapTree Error) → TreeDecodes r a → TreeDecodes r b → a ≡ b
-  tree_decodes_once (plain fields) a b h k =
-      then_once (RegularDecodes (plain fields)) (λ m a. a ≡ Ok (regular m)) (regular_decodes_once (plain fields)) (λ m. once (Ok (regular m))) a b h k
+  tree_decodes_once (plain fields) a b h k = leaf_decodes_once fields fields.x_facebook_sources a b h k
   tree_decodes_once (indexed fields sections) a b h k =
       many_or_once (nat_lt 4294967295 (count sections)) (Then (λ a. SectionsDecode sections a) (λ ss a. a ≡ Ok (index_of fields ss)))
       (then_once (λ a. SectionsDecode sections a) (λ ss a. a ≡ Ok (index_of fields ss)) (λ a b. sections_decode_once sections a b) (λ ss. once (Ok (index_of fields ss))))

@@ -7,26 +7,29 @@ use Rattle.sourcemap_lists.proofs.SortLemmas.{sorted_by-sorted}
 use Rattle.sourcemap_lists.proofs.TokensLemmas.{position_cmp_total}
 use Rattle.sourcemap_lists.specs.Search.{closest_item}
 use Rattle.sourcemap_lists.specs.Tokens.{position_cmp}
-use Rattle.sourcemap_records.specs.Jsontypes.{Tree, indexed, flat, Sections, bare, mapped, Place, IsInRange, HasNoNullFile, HaveNoNullFile}
+use Rattle.sourcemap_records.specs.Jsontypes.{Tree, plain, indexed, flat, Sections, bare, mapped, Place, IsInRange, HasNoNullFile, HaveNoNullFile}
 use Rattle.sourcemap_regular.proofs.EncodeLemmas.{read_file}
 use Rattle.sourcemap_regular.proofs.WriteLemmas.{record_once}
 use Rattle.sourcemap_regular.specs.Decode.{RecordDecodes}
-use Rattle.sourcemap_regular.specs.Encode.{ReadsBack, record_with, RecordAnswer as RecordAnswerRegular}
-use Rattle.sourcemap_regular.specs.Map.{MapValue, Meaning, says, IsWellFormed as IsWellFormedRegular}
+use Rattle.sourcemap_regular.specs.Encode.{ReadsBack, record_with}
+use Rattle.sourcemap_regular.specs.Map.{Meaning, says}
+use Rattle.sourcemap_hermes.proofs.EncodeLemmas.{scoped_once}
+use Rattle.sourcemap_hermes.specs.Decode.{HermesDecodes}
+use Rattle.sourcemap_hermes.specs.Encode.{scoped, with_scopes}
 use Rattle.sourcemap_trees.specs.Decode.{TreeDecodes, SectionsDecode, count, by_offset, index_parts, index_of}
-use Rattle.sourcemap_trees.specs.Encode.{index_fields, IsWrittenBy, AreWrittenBy, IsRecordOf, KeepSections, Restores, RecordAnswer}
-use Rattle.sourcemap_trees.specs.MapTree.{IndexParts, MapTree, regular, index, MapSections, no_sections, hollow, filled, offset_of, MapSection, section_offset, section_list, sections_from, InEachSection}
+use Rattle.sourcemap_trees.specs.Encode.{index_fields, IsWrittenBy, AreWrittenBy, IsLeafRecord, IsLeafAnswer, IsRecordOf, KeepSections, Restores, RecordAnswer}
+use Rattle.sourcemap_trees.specs.MapTree.{LeafMap, regular, hermes, IndexParts, MapTree, leaf, index, MapSections, no_sections, hollow, filled, offset_of, MapSection, section_offset, section_list, sections_from, InEachSection}
 use Rattle.sourcemap_trees.specs.Meaning.{lowered, closest_answer, lookups, meaning}
-use Rattle.sourcemap_trees.specs.WellFormed.{IsWellFormed, AreSectionsInOrder, AreWellFormedSections}
+use Rattle.sourcemap_trees.specs.WellFormed.{IsWellFormed, IsWellFormedLeaf, AreSectionsInOrder, AreWellFormedSections}
 use Rattle.sourcemap_trees.proofs.ApartLemmas.{Asked}
 use Rattle.sourcemap_trees.proofs.SortLemmas.{sorted-of_keys}
 
 -- One record.
 
-module _ (IsOf : MapValue → Tree → Type 0) (once : (m : MapValue) (a b : Tree) → IsOf m a → IsOf m b → a ≡ b) where
+module _ (IsOf : LeafMap → Tree → Type 0) (once : (l : LeafMap) (a b : Tree) → IsOf l a → IsOf l b → a ≡ b) where
   mutual
     written_once : (t : MapTree) (a b : Tree) → IsWrittenBy IsOf t a → IsWrittenBy IsOf t b → a ≡ b
-    written_once (regular m) a b h k = once m a b h k
+    written_once (leaf l) a b h k = once l a b h k
     written_once (index parts ss) a b (xs, is, all) (ys, is', all') =
         is ∙ ap (indexed (index_fields parts)) (sections_written_once ss xs ys all all') ∙ sym is'
 
@@ -37,13 +40,17 @@ module _ (IsOf : MapValue → Tree → Type 0) (once : (m : MapValue) (a b : Tre
     sections_written_once (filled place t rest) a b (r, xs, is, of, all) (r', ys, is', of', all') =
         is ∙ (λ i. mapped place (written_once t r r' of of' i) (sections_written_once rest xs ys all all' i)) ∙ sym is'
 
-pub tree_written_once : (t : MapTree) (a b : Tree) → IsRecordOf t a → IsRecordOf t b → a ≡ b
-tree_written_once t a b h k = written_once _ record_once t a b h k
+leaf_written_once : (l : LeafMap) (a b : Tree) → IsLeafRecord l a → IsLeafRecord l b → a ≡ b
+leaf_written_once (regular m) a b h k = record_once m a b h k
+leaf_written_once (hermes m) a b h k = scoped_once m a b h k
 
-module _ {IsOf IsOf' : MapValue → Tree → Type 0} (weaker : (m : MapValue) (r : Tree) → IsOf m r → IsOf' m r) where
+pub tree_written_once : (t : MapTree) (a b : Tree) → IsRecordOf t a → IsRecordOf t b → a ≡ b
+tree_written_once t a b h k = written_once _ leaf_written_once t a b h k
+
+module _ {IsOf IsOf' : LeafMap → Tree → Type 0} (weaker : (l : LeafMap) (r : Tree) → IsOf l r → IsOf' l r) where
   mutual
     pub written-weaker : (t : MapTree) (r : Tree) → IsWrittenBy IsOf t r → IsWrittenBy IsOf' t r
-    written-weaker (regular m) r h = weaker m r h
+    written-weaker (leaf l) r h = weaker l r h
     written-weaker (index parts ss) r (xs, is, all) = (xs, is, sections_written-weaker ss xs all)
 
     sections_written-weaker : (ss : MapSections) (written : Sections) → AreWrittenBy IsOf ss written → AreWrittenBy IsOf' ss written
@@ -57,10 +64,10 @@ file_not_null : (file : Option (List ℕ)) → option_map string file ≢ Some n
 file_not_null None e = cc
 file_not_null (Some f) e = cc
 
-module _ {IsOf : MapValue → Tree → Type 0} (fine : (m : MapValue) (r : Tree) → IsOf m r → HasNoNullFile r) where
+module _ {IsOf : LeafMap → Tree → Type 0} (fine : (l : LeafMap) (r : Tree) → IsOf l r → HasNoNullFile r) where
   mutual
     written_no_null : (t : MapTree) (r : Tree) → IsWrittenBy IsOf t r → HasNoNullFile r
-    written_no_null (regular m) r h = fine m r h
+    written_no_null (leaf l) r h = fine l r h
     written_no_null (index parts ss) r (xs, is, all) = subst HasNoNullFile (sym is) (file_not_null parts.file, sections_no_null ss xs all)
 
     sections_no_null : (ss : MapSections) (written : Sections) → AreWrittenBy IsOf ss written → HaveNoNullFile written
@@ -97,22 +104,24 @@ record AreBack (backs : List MapSection) (ss : MapSections) : Type 0 where
   kept : KeepSections (sections_from backs) ss
   meant : meanings (sections_from backs) ≡ meanings ss
 
-abbrev LeafAnswer : MapValue → Tree → Type 0
-LeafAnswer m r = RecordAnswerRegular m (Ok r)
-
 few_left : (n : ℕ) → n ≤ 4294967295 → nat_lt 4294967295 n ≡ false
 few_left n few = grind (arith, nat_tests)
 
-counted : (IsOf : MapValue → Tree → Type 0) (ss : MapSections) (written : Sections) → AreWrittenBy IsOf ss written → count written ≡ length (section_list ss)
+counted : (IsOf : LeafMap → Tree → Type 0) (ss : MapSections) (written : Sections) → AreWrittenBy IsOf ss written → count written ≡ length (section_list ss)
 counted IsOf no_sections written h = ap count h
 counted IsOf (hollow place rest) written (xs, is, all) = let later = counted IsOf rest xs all in ap count is ∙ omega arith
 counted IsOf (filled place t rest) written (r, xs, is, of, all) = let later = counted IsOf rest xs all in ap count is ∙ omega arith
 
-leaf_back : (m : MapValue) (r : Tree) → LeafAnswer m r → IsWellFormedRegular m → ReadsBack (TreeDecodes r) (Restores (regular m))
-leaf_back m r ((mappings, ranges, texts, bits, is), fine, reads) well =
+leaf_back : (l : LeafMap) (r : Tree) → IsLeafAnswer l r → IsWellFormedLeaf l → ReadsBack (TreeDecodes r) (Restores (leaf l))
+leaf_back (regular m) r ((mappings, ranges, texts, bits, is), fine, reads) well =
     let back = reads well in
     let decodes : RecordDecodes (record_with m mappings ranges) (Ok back.0) = subst (λ r. RecordDecodes r (Ok back.0)) (ap flat is) back.1 in
-    (regular back.0, subst (λ r. TreeDecodes r (Ok (regular back.0))) (sym is) (inl (back.0, decodes, refl)), (back.2.0, back.2))
+    (leaf (regular back.0), subst (λ r. TreeDecodes r (Ok (leaf (regular back.0)))) (sym is) (inl (back.0, decodes, refl)), (back.2.0, back.2))
+leaf_back (hermes h) r ((q, (mappings, ranges, texts, bits, is), with_them), fine, reads) well =
+    let back = reads well in
+    let whole : r ≡ scoped (plain (record_with h.map mappings ranges)) h.scopes.entries = with_them ∙ ap (λ q. scoped q h.scopes.entries) is in
+    let decodes : HermesDecodes (with_scopes (record_with h.map mappings ranges) h.scopes.entries) (Ok back.0) = subst (λ r. HermesDecodes r (Ok back.0)) (ap flat whole) back.1 in
+    (leaf (hermes back.0), subst (λ r. TreeDecodes r (Ok (leaf (hermes back.0)))) (sym whole) (inl (back.0, decodes, refl)), (back.2.0.0, back.2))
 
 index_back : (parts : IndexParts) (ss : MapSections) (written : Sections) (backs : List MapSection) → count written ≤ 4294967295 → AreSectionsInOrder ss
     → SectionsDecode written (Ok backs) → AreBack backs ss → ReadsBack (TreeDecodes (indexed (index_fields parts) written)) (Restores (index parts ss))
@@ -164,21 +173,29 @@ filled_back place t rest written r more is (one, reads, (means, keeps)) (backs, 
 )
 
 mutual
-  tree_back : (t : MapTree) (r : Tree) → IsWrittenBy LeafAnswer t r → IsWellFormed t → ReadsBack (TreeDecodes r) (Restores t)
-  tree_back (regular m) r h well = leaf_back m r h well
+  tree_back : (t : MapTree) (r : Tree) → IsWrittenBy IsLeafAnswer t r → IsWellFormed t → ReadsBack (TreeDecodes r) (Restores t)
+  tree_back (leaf l) r h well = leaf_back l r h well
   tree_back (index parts ss) r (xs, is, all) well =
-      let many = counted LeafAnswer ss xs all in
+      let many = counted IsLeafAnswer ss xs all in
       let back = sections_back ss xs all well.1 in
       subst (λ r. ReadsBack (TreeDecodes r) (Restores (index parts ss))) (sym is)
       (index_back parts ss xs back.0 (omega (arith, many, well.0.0)) well.0.1 back.1 back.2)
 
-  sections_back : (ss : MapSections) (written : Sections) → AreWrittenBy LeafAnswer ss written → InEachSection IsWellFormedRegular AreWellFormedSections ss
+  sections_back : (ss : MapSections) (written : Sections) → AreWrittenBy IsLeafAnswer ss written → InEachSection IsWellFormedLeaf AreWellFormedSections ss
       → (backs : List MapSection) × SectionsDecode written (Ok backs) × AreBack backs ss
   sections_back no_sections written h well = ([], subst (λ w. SectionsDecode w (Ok [])) (sym h) refl, record { offsets = refl; kept = tt; meant = refl })
   sections_back (hollow place rest) written (xs, is, all) well = hollow_back place rest written xs is (sections_back rest xs all well)
   sections_back (filled place t rest) written (r, xs, is, of, all) well =
       filled_back place t rest written r xs is (tree_back t r of well.0) (sections_back rest xs all well.1)
 
-pub tree_answer : (t : MapTree) (r : Tree) → IsWrittenBy LeafAnswer t r → IsInRange r → RecordAnswer t (Ok r)
+leaf_record : (l : LeafMap) (r : Tree) → IsLeafAnswer l r → IsLeafRecord l r
+leaf_record (regular m) r h = h.0
+leaf_record (hermes m) r h = h.0
+
+leaf_no_null : (l : LeafMap) (r : Tree) → IsLeafAnswer l r → HasNoNullFile r
+leaf_no_null (regular m) r h = h.1.1
+leaf_no_null (hermes m) r h = h.1.1
+
+pub tree_answer : (t : MapTree) (r : Tree) → IsWrittenBy IsLeafAnswer t r → IsInRange r → RecordAnswer t (Ok r)
 tree_answer t r h small =
-    (written-weaker (λ m r h. h.0) t r h, (small, written_no_null (λ m r h. h.1.1) t r h), tree_back t r h)
+    (written-weaker leaf_record t r h, (small, written_no_null leaf_no_null t r h), tree_back t r h)

@@ -8,8 +8,9 @@ use Rattle.sourcemap_lists.proofs.DecidesLemmas.{decides_both}
 use Rattle.sourcemap_parts.proofs.TextListsLemmas.{options_decide, texts_decide, text_lists_decide}
 use Rattle.sourcemap_records.specs.Jsontypes.{Place}
 use Rattle.sourcemap_regular.proofs.EqualityLemmas.{same_map_decides}
-use Rattle.sourcemap_trees.specs.Equality.{same_parts, same_place, same_tree, same_sections}
-use Rattle.sourcemap_trees.specs.MapTree.{IndexParts, MapTree, regular, index, MapSections, no_sections, hollow, filled}
+use Rattle.sourcemap_hermes.proofs.EqualityLemmas.{same_hermes_decides}
+use Rattle.sourcemap_trees.specs.Equality.{same_leaf, same_parts, same_place, same_tree, same_sections}
+use Rattle.sourcemap_trees.specs.MapTree.{LeafMap, regular, hermes, IndexParts, MapTree, leaf, index, MapSections, no_sections, hollow, filled}
 
 parts_decide : (a b : IndexParts) → Decides (same_parts a b) (a ≡ b)
 parts_decide a b =
@@ -43,13 +44,23 @@ places_decide a b =
       λ h. all.1 ((ap (λ (p : Place). p.line) h, ap (λ (p : Place). p.column) h), ap (λ (p : Place). p.url) h),
     )
 
+leaves_decide : (a b : LeafMap) → Decides (same_leaf a b) (a ≡ b)
+leaves_decide (regular a) (regular b) =
+    let same = same_map_decides a b in
+    (λ h. ap regular (same.0 h), λ h. same.1 (let e : a ≡ b = cc in e))
+leaves_decide (regular a) (hermes b) = (λ h. cc, λ h. cc)
+leaves_decide (hermes a) (regular b) = (λ h. cc, λ h. cc)
+leaves_decide (hermes a) (hermes b) =
+    let same = same_hermes_decides a b in
+    (λ h. ap hermes (same.0 h), λ h. same.1 (let e : a ≡ b = cc in e))
+
 mutual
   pub trees_decide : (s t : MapTree) → Decides (same_tree s t) (s ≡ t)
-  trees_decide (regular a) (regular b) =
-      let same = same_map_decides a b in
-      (λ h. ap regular (same.0 h), λ h. same.1 (let e : a ≡ b = cc in e))
-  trees_decide (regular a) (index parts ss) = (λ h. cc, λ h. cc)
-  trees_decide (index parts ss) (regular b) = (λ h. cc, λ h. cc)
+  trees_decide (leaf a) (leaf b) =
+      let same = leaves_decide a b in
+      (λ h. ap leaf (same.0 h), λ h. same.1 (let e : a ≡ b = cc in e))
+  trees_decide (leaf a) (index parts ss) = (λ h. cc, λ h. cc)
+  trees_decide (index parts ss) (leaf b) = (λ h. cc, λ h. cc)
   trees_decide (index parts ss) (index parts' ss') =
       let all = decides_both (parts_decide parts parts') (sections_decide ss ss') in (
         λ h. let p = all.0 h in λ i. index (p.0 i) (p.1 i),

@@ -20,9 +20,9 @@ use Rattle.sourcemap_rewriting.specs.Kept.{present, kept_once, number_in}
 use Rattle.sourcemap_rewriting.specs.Numbering.{HasPlace}
 use Rattle.sourcemap_trees.specs.Flat.{Piece, sources_in, names_in, token_in, merged, passes_the_end, with_piece, on_ok, flat, pieces_behind, SaysFlat, AnswersLike}
 use Rattle.sourcemap_trees.specs.FlatList.{raised, raised_entry, flat_list, flat_lists, IsOrderly}
-use Rattle.sourcemap_trees.specs.MapTree.{MapTree, regular, index, IndexParts, MapSections, no_sections, hollow, filled, offset_of, InEachSection}
+use Rattle.sourcemap_trees.specs.MapTree.{LeafMap, regular, hermes, held, MapTree, leaf, index, IndexParts, MapSections, no_sections, hollow, filled, offset_of, InEachSection}
 use Rattle.sourcemap_trees.specs.Meaning.{meaning}
-use Rattle.sourcemap_trees.specs.WellFormed.{HasTokensInOrder, IsWellFormed, AreWellFormedSections}
+use Rattle.sourcemap_trees.specs.WellFormed.{HasTokensInOrder, IsWellFormed, IsWellFormedLeaf, AreWellFormedSections}
 use Rattle.sourcemap_trees.proofs.ApartLemmas.{Entry}
 use Rattle.sourcemap_trees.proofs.AnswerLemmas.{answer_in, flat_list_answers, meaning_in, place_of_entry, by_place, by_place-raised, said_sorted}
 use Rattle.sourcemap_trees.proofs.SortLemmas.{sorted_by-stable, stable_append, sorted_by-change}
@@ -203,13 +203,13 @@ raised_said piece = map (raised_entry piece.0) (said piece.1)
 
 mutual
   pub flat_says : (t : MapTree) (m : MapValue) → HasTokensInOrder t → flat t ≡ Ok m → SaysFlat t m
-  flat_says (regular n) m ordered e = let same : n ≡ m = cc in subst (λ m. said m ≡ by_place (said n)) same (sym (said_sorted n ordered))
+  flat_says (leaf l) m ordered e = let same : held l ≡ m = cc in subst (λ m. said m ≡ by_place (said (held l))) same (sym (said_sorted (held l) ordered))
   flat_says (index parts ss) m ordered e =
       let made = index_made parts ss m e in
       ap said made.1 ∙ said_merged parts.file made.0 made.3
       ∙ sorted_by-stable place_of_entry position_cmp_total (flat_lists ss) (flat_map raised_said made.0) (pieces_stable ss made.0 ordered.1 made.2)
 
-  pieces_stable : (ss : MapSections) (pieces : List Piece) → InEachSection (λ m. AreInOrder m.tokens) (λ ss. Unit {0}) ss → AreMade ss pieces
+  pieces_stable : (ss : MapSections) (pieces : List Piece) → InEachSection (λ l. AreInOrder (held l).tokens) (λ ss. Unit {0}) ss → AreMade ss pieces
       → IsStableByKey place_of_entry position_cmp (flat_lists ss) (flat_map raised_said pieces)
   pieces_stable no_sections pieces ordered made = subst (λ ps. IsStableByKey place_of_entry position_cmp [] (flat_map raised_said ps)) (sym made) (λ a. refl)
   pieces_stable (hollow place rest) pieces ordered made = absurd made
@@ -224,14 +224,18 @@ mutual
 
 -- And it is well-formed.
 
+held_well : (l : LeafMap) → IsWellFormedLeaf l → IsWellFormedRegular (held l)
+held_well (regular m) well = well
+held_well (hermes h) well = well.map
+
 mutual
   pub flat_well : (t : MapTree) (m : MapValue) → IsWellFormed t → flat t ≡ Ok m → IsWellFormedRegular m
-  flat_well (regular n) m well e = let same : n ≡ m = cc in subst IsWellFormedRegular same well
+  flat_well (leaf l) m well e = let same : held l ≡ m = cc in subst IsWellFormedRegular same (held_well l well)
   flat_well (index parts ss) m well e =
       let made = index_made parts ss m e in
       subst IsWellFormedRegular (sym made.1) (well_merged parts.file made.0 made.3 (pieces_well ss made.0 well.1 made.2))
 
-  pieces_well : (ss : MapSections) (pieces : List Piece) → InEachSection IsWellFormedRegular AreWellFormedSections ss → AreMade ss pieces
+  pieces_well : (ss : MapSections) (pieces : List Piece) → InEachSection IsWellFormedLeaf AreWellFormedSections ss → AreMade ss pieces
       → AllByRecursion (λ piece. IsWellFormedRegular piece.1) pieces
   pieces_well no_sections pieces well made = subst (AllByRecursion (λ (piece : Piece). IsWellFormedRegular piece.1)) (sym made) tt
   pieces_well (hollow place rest) pieces well made = absurd made

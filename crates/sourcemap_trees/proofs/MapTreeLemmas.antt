@@ -2,8 +2,7 @@
 use Rattle.std.proofs.Common.{◌≡◌, refl, ap, ◌∙◌, List, [], ◌∷◌, Option, Some, None, IfSome}
 use Rattle.std.specs.List.{AllByRecursion}
 use Rattle.sourcemap_records.specs.Jsontypes.{Place}
-use Rattle.sourcemap_regular.specs.Map.{MapValue}
-use Rattle.sourcemap_trees.specs.MapTree.{MapTree, regular, index, MapSections, no_sections, hollow, filled, MapSection, section_list, section_with, sections_from, AtEachLevel, InEachSection}
+use Rattle.sourcemap_trees.specs.MapTree.{LeafMap, MapTree, leaf, index, MapSections, no_sections, hollow, filled, MapSection, section_list, section_with, sections_from, AtEachLevel, InEachSection}
 
 pub sections_from-list : (ss : MapSections) → sections_from (section_list ss) ≡ ss
 sections_from-list no_sections = refl
@@ -18,7 +17,7 @@ section_list-from (s ∷ ss) = by_case s.map ∙ ap (λ rest. s ∷ rest) (secti
     by_case None = refl
     by_case (Some t) = refl
 
-module _ (OfMap : MapValue → Type 0) (OfSections : MapSections → Type 0) where
+module _ (OfMap : LeafMap → Type 0) (OfSections : MapSections → Type 0) where
   -- what holds at each level of a section's map, if it has one
   abbrev pub InSection : MapSection → Type 0
   InSection s = IfSome s.map (λ t. AtEachLevel OfMap OfSections t)
@@ -32,11 +31,11 @@ module _ (OfMap : MapValue → Type 0) (OfSections : MapSections → Type 0) whe
   each_section [] all = tt
   each_section (s ∷ ss) all = in_section_with s.place s.map (sections_from ss) all.0 (each_section ss all.1)
 
-module _ {OfMap OfMap' : MapValue → Type 0} {OfSections OfSections' : MapSections → Type 0}
-    (maps : (m : MapValue) → OfMap m → OfMap' m) (sections : (ss : MapSections) → OfSections ss → OfSections' ss) where
+module _ {OfMap OfMap' : LeafMap → Type 0} {OfSections OfSections' : MapSections → Type 0}
+    (maps : (m : LeafMap) → OfMap m → OfMap' m) (sections : (ss : MapSections) → OfSections ss → OfSections' ss) where
   mutual
     pub each_level-weaker : (t : MapTree) → AtEachLevel OfMap OfSections t → AtEachLevel OfMap' OfSections' t
-    each_level-weaker (regular m) h = maps m h
+    each_level-weaker (leaf l) h = maps l h
     each_level-weaker (index parts ss) h = (sections ss h.0, each_section-weaker ss h.1)
 
     pub each_section-weaker : (ss : MapSections) → InEachSection OfMap OfSections ss → InEachSection OfMap' OfSections' ss

@@ -1,5 +1,5 @@
 -- What a record stands for is well-formed, and well-formed maps are in order.
-use Rattle.std.proofs.Common.{◌≡◌, refl, sym, ap, subst, ◌∙◌, ℕ, ◌+◌, ◌≤◌, List, [], ◌∷◌, length, Bool, true, false, Some, None, nat_lt, Result, Ok, Err, inl, inr, arith}
+use Rattle.std.proofs.Common.{◌≡◌, refl, sym, ap, subst, ◌∙◌, ℕ, ◌+◌, ◌≤◌, List, [], ◌∷◌, length, Bool, true, false, Option, Some, None, nat_lt, Result, Ok, Err, inl, inr, arith}
 use Rattle.std.specs.Bool.{MatchBool}
 use Rattle.std.specs.List.{AllByRecursion}
 use Rattle.std.proofs.lemmas.Bool.Decides.{nat_tests}
@@ -12,11 +12,13 @@ use Rattle.sourcemap_lists.proofs.TokensLemmas.{position_cmp_total}
 use Rattle.sourcemap_mappings.proofs.ReadAnswers.{AllWithin-sorted}
 use Rattle.sourcemap_mappings.specs.Read.{page_tokens}
 use Rattle.sourcemap_records.specs.Jsontypes.{Fields, Tree, plain, indexed, Sections, no_more, bare, mapped}
-use Rattle.sourcemap_regular.specs.Decode.{RecordDecodes, RegularDecodes, is_regular}
+use Rattle.sourcemap_regular.specs.Decode.{RecordDecodes}
 use Rattle.sourcemap_regular.specs.Map.{MapValue, IsWellFormed as IsWellFormedRegular}
-use Rattle.sourcemap_trees.specs.Decode.{Then, TreeDecodes, SectionsDecode, count, by_offset, index_of}
-use Rattle.sourcemap_trees.specs.MapTree.{MapTree, regular, MapSection, section_offset, section_list, sections_from}
-use Rattle.sourcemap_trees.specs.WellFormed.{IsInOrder, IsWellFormed, AreWellFormedSections}
+use Rattle.sourcemap_scopes.specs.ScopeLists.{ScopeEntry}
+use Rattle.sourcemap_hermes.specs.Map.{AreFewScopes}
+use Rattle.sourcemap_trees.specs.Decode.{Then, LeafDecodes, TreeDecodes, SectionsDecode, count, by_offset, index_of}
+use Rattle.sourcemap_trees.specs.MapTree.{regular, hermes, MapTree, leaf, MapSection, section_offset, section_list, sections_from}
+use Rattle.sourcemap_trees.specs.WellFormed.{IsInOrder, IsWellFormed, IsWellFormedLeaf, AreWellFormedSections}
 use Rattle.sourcemap_trees.proofs.MapTreeLemmas.{InSection, each_section, each_level-weaker, section_list-from}
 
 pub well_formed_in_order : (t : MapTree) → IsWellFormed t → IsInOrder t
@@ -30,24 +32,27 @@ record_well r m (room, (page, reads, is), same) =
     let names : length m.names ≡ length (listed r.names) = ap (λ (m : MapValue). length m.names) same ∙ length-map (listed r.names) name_read in
     rw (sources, names, is) tokens
 
-regular_well : (r : Fields) (m : MapValue) → RegularDecodes (plain r) (Ok m) → IsWellFormedRegular m
-regular_well r m = by_case (is_regular (plain r))
-  where
-    by_case : (b : Bool) → MatchBool b (RecordDecodes r (Ok m)) (Ok m ≡ Err IncompatibleSourceMap) → IsWellFormedRegular m
-    by_case true h = record_well r m h
-    by_case false h = cc
+leaf_well : (r : Fields) (scopes : Option (List ScopeEntry)) (t : MapTree) → LeafDecodes r scopes (Ok t) → IsWellFormed t
+leaf_well r None t (inl (m, f, n)) =
+    let same : t ≡ leaf (regular m) = cc in
+    subst IsWellFormed (sym same) (record_well r m f)
+leaf_well r None t (inr h) = absurd h
+leaf_well r (Some entries) t (inl (h, (few, f, as_read, of_entries), n)) =
+    let same : t ≡ leaf (hermes h) = cc in
+    subst IsWellFormed (sym same) (record { map = record_well r h.map f; few = subst AreFewScopes (sym as_read) few; of_entries = of_entries })
+leaf_well r (Some entries) t (inr h) = absurd h
 
 -- what is known of sections that are read
 abbrev AreWell : ℕ → List MapSection → Type 0
-AreWell many ss = (length ss ≡ many) × AllByRecursion (InSection IsWellFormedRegular AreWellFormedSections) ss
+AreWell many ss = (length ss ≡ many) × AllByRecursion (InSection IsWellFormedLeaf AreWellFormedSections) ss
 
 index_well : (fields : Fields) (many : ℕ) (ss : List MapSection) → many ≤ 4294967295 → AreWell many ss → IsWellFormed (index_of fields ss)
 index_well fields many ss few well =
     let sorted : section_list (sections_from (by_offset ss)) ≡ by_offset ss = section_list-from (by_offset ss) in
     let as_many : length (by_offset ss) ≡ length ss = length-sorted_by section_offset position_cmp_total ss in (
       (rw sorted (omega (arith, as_many, well.0)), rw sorted (sorted-sorted_by section_offset position_cmp_total ss)),
-      each_section IsWellFormedRegular AreWellFormedSections (by_offset ss)
-          (All-sorted_by section_offset position_cmp_total (InSection IsWellFormedRegular AreWellFormedSections) ss well.1),
+      each_section IsWellFormedLeaf AreWellFormedSections (by_offset ss)
+          (All-sorted_by section_offset position_cmp_total (InSection IsWellFormedLeaf AreWellFormedSections) ss well.1),
     )
 
 pub not_above : (n : ℕ) → nat_lt 4294967295 n ≡ false → n ≤ 4294967295
@@ -64,8 +69,7 @@ few_well fields many Sections each false e t (inr h) = absurd h
 
 mutual
   pub decoded_well : (r : Tree) (t : MapTree) → TreeDecodes r (Ok t) → IsWellFormed t
-  decoded_well (plain fields) t (inl (m, f, n)) = let same : t ≡ regular m = cc in subst IsWellFormed (sym same) (regular_well fields m f)
-  decoded_well (plain fields) t (inr h) = absurd h
+  decoded_well (plain fields) t h = leaf_well fields fields.x_facebook_sources t h
   decoded_well (indexed fields sections) t h =
       few_well fields (count sections) (λ a. SectionsDecode sections a) (λ ss f. sections_well sections ss f) (nat_lt 4294967295 (count sections)) refl t h
 

@@ -1,17 +1,25 @@
 -- The map of any kind that a record stands for.
-use Rattle.std.specs.Prelude.{◌≡◌, ◌⊎◌, ℕ, ◌+◌, List, [], ◌∷◌, Some, None, option_map, nat_lt, Result, Ok, Err, IsErrAnd}
+use Rattle.std.specs.Prelude.{◌≡◌, ◌⊎◌, ℕ, ◌+◌, List, [], ◌∷◌, Option, Some, None, option_map, nat_lt, Result, Ok, Err, IsErrAnd}
 use Rattle.std.specs.Bool.{MatchBool}
 use Rattle.sourcemap_errors.specs.declared.errors.Error.{Error}
 use Rattle.sourcemap_errors.specs.declared.errors.Error.TheVariants.{IncompatibleSourceMap}
 use Rattle.sourcemap_lists.specs.Tokens.{sorted_by, position_cmp}
 use Rattle.sourcemap_records.specs.Jsontypes.{Fields, Tree, plain, indexed, Sections, no_more, bare, mapped}
 use Rattle.sourcemap_conversions.specs.FromRecord.{file_read}
-use Rattle.sourcemap_regular.specs.Decode.{RegularDecodes}
-use Rattle.sourcemap_trees.specs.MapTree.{IndexParts, MapTree, regular, index, MapSection, section_offset, sections_from}
+use Rattle.sourcemap_regular.specs.Decode.{RecordDecodes}
+use Rattle.sourcemap_scopes.specs.ScopeLists.{ScopeEntry}
+use Rattle.sourcemap_hermes.specs.Decode.{EntriesDecode}
+use Rattle.sourcemap_trees.specs.MapTree.{regular, hermes, IndexParts, MapTree, leaf, index, MapSection, section_offset, sections_from}
 
 -- what comes of a first answer: its fault, or what a next step makes of it
 abbrev pub Then : {X Y : Type 0} → (Result X Error → Type 0) → (X → Result Y Error → Type 0) → Result Y Error → Type 0
 Then First Next answer = ((x : _) × First (Ok x) × Next x answer) ⊎ IsErrAnd answer (λ e. First (Err e))
+
+-- what a record without sections stands for: a regular map, and with scopes of sources a Hermes map
+abbrev pub LeafDecodes : Fields → Option (List ScopeEntry) → Result MapTree Error → Type 0
+LeafDecodes fields None answer = Then (RecordDecodes fields) (λ m a. a ≡ Ok (leaf (regular m))) answer
+LeafDecodes fields (Some entries) answer =
+    Then (EntriesDecode fields entries) (λ h a. a ≡ Ok (leaf (hermes h))) answer
 
 -- what an index holds beside its sections; other keys of its record are passed over
 abbrev pub index_parts : Fields → IndexParts
@@ -38,7 +46,7 @@ index_of fields ss = index (index_parts fields) (sections_from (by_offset ss))
 -- in them, then the first fault in the order of the text
 abbrev mutual
   pub TreeDecodes : Tree → Result MapTree Error → Type 0
-  TreeDecodes (plain fields) answer = Then (RegularDecodes (plain fields)) (λ m a. a ≡ Ok (regular m)) answer
+  TreeDecodes (plain fields) answer = LeafDecodes fields fields.x_facebook_sources answer
   TreeDecodes (indexed fields sections) answer =
       MatchBool (nat_lt 4294967295 (count sections))
       (answer ≡ Err IncompatibleSourceMap)

@@ -3,9 +3,9 @@ use Rattle.std.specs.Prelude.{◌≡◌, Some, None, option_map, Result, Ok, Err
 use Rattle.serde_json.specs.Data.{string}
 use Rattle.sourcemap_errors.specs.declared.errors.Error.{Error}
 use Rattle.sourcemap_records.specs.Jsontypes.{Fields, Tree, indexed, Sections, no_more, bare, mapped, IsFine}
-use Rattle.sourcemap_regular.specs.Map.{MapValue}
-use Rattle.sourcemap_regular.specs.Encode.{ReadsBack, IsRecordOf as IsRecordOfRegular, Restores as RestoresRegular}
-use Rattle.sourcemap_trees.specs.MapTree.{IndexParts, MapTree, regular, index, MapSections, no_sections, hollow, filled}
+use Rattle.sourcemap_regular.specs.Encode.{ReadsBack, IsRecordOf as IsRecordOfRegular, Restores as RestoresRegular, RecordAnswer as RecordAnswerRegular}
+use Rattle.sourcemap_hermes.specs.Encode.{IsRecordOf as IsRecordOfHermes, Restores as RestoresHermes, RecordAnswer as RecordAnswerHermes}
+use Rattle.sourcemap_trees.specs.MapTree.{LeafMap, regular, hermes, IndexParts, MapTree, leaf, index, MapSections, no_sections, hollow, filled}
 use Rattle.sourcemap_trees.specs.Meaning.{MeansTheSame}
 use Rattle.sourcemap_trees.specs.WellFormed.{IsWellFormed}
 use Rattle.sourcemap_trees.specs.Decode.{TreeDecodes}
@@ -28,27 +28,37 @@ index_fields parts = record {
   debug_id = parts.debug_id;
 }
 
--- a record that the map is written as, section by section, where regular maps are written so
+-- a record that the map is written as, section by section, where maps that are no index are written so
 abbrev mutual
-  pub IsWrittenBy : (MapValue → Tree → Type 0) → MapTree → Tree → Type 0
-  IsWrittenBy IsOf (regular m) r = IsOf m r
+  pub IsWrittenBy : (LeafMap → Tree → Type 0) → MapTree → Tree → Type 0
+  IsWrittenBy IsOf (leaf l) r = IsOf l r
   IsWrittenBy IsOf (index parts ss) r =
       (sections : Sections) × (r ≡ indexed (index_fields parts) sections) × AreWrittenBy IsOf ss sections
 
-  pub AreWrittenBy : (MapValue → Tree → Type 0) → MapSections → Sections → Type 0
+  pub AreWrittenBy : (LeafMap → Tree → Type 0) → MapSections → Sections → Type 0
   AreWrittenBy IsOf no_sections written = written ≡ no_more
   AreWrittenBy IsOf (hollow place rest) written =
       (more : Sections) × (written ≡ bare place more) × AreWrittenBy IsOf rest more
   AreWrittenBy IsOf (filled place t rest) written =
       (r : Tree) × (more : Sections) × (written ≡ mapped place r more) × IsWrittenBy IsOf t r × AreWrittenBy IsOf rest more
 
-abbrev pub IsRecordOf : MapTree → Tree → Type 0
-IsRecordOf t r = IsWrittenBy IsRecordOfRegular t r
+abbrev pub IsLeafRecord : LeafMap → Tree → Type 0
+IsLeafRecord (regular m) r = IsRecordOfRegular m r
+IsLeafRecord (hermes h) r = IsRecordOfHermes h r
 
--- all parts are kept, at every level
+abbrev pub IsRecordOf : MapTree → Tree → Type 0
+IsRecordOf t r = IsWrittenBy IsLeafRecord t r
+
+-- a map of the same kind that restores another
+abbrev pub RestoresLeaf : (l back : LeafMap) → Type 0
+RestoresLeaf (regular m) (regular back) = RestoresRegular m back
+RestoresLeaf (hermes h) (hermes back) = RestoresHermes h back
+RestoresLeaf _ _ = ⊥
+
+-- all parts are kept, at every level, and so are scopes
 abbrev mutual
   pub KeepsParts : (back t : MapTree) → Type 0
-  KeepsParts (regular back) (regular m) = RestoresRegular m back
+  KeepsParts (leaf back) (leaf l) = RestoresLeaf l back
   KeepsParts (index parts ss) (index parts' ss') = (parts ≡ parts') × KeepSections ss ss'
   KeepsParts _ _ = ⊥
 
@@ -66,3 +76,8 @@ Restores t back = MeansTheSame back t × KeepsParts back t
 abbrev pub RecordAnswer : MapTree → Result Tree Error → Type 0
 RecordAnswer t (Ok r) = IsRecordOf t r × IsFine r × (IsWellFormed t → ReadsBack (TreeDecodes r) (Restores t))
 RecordAnswer t (Err _) = ⊥
+
+-- a record that a map which is no index is written as, and that reads back
+abbrev pub IsLeafAnswer : LeafMap → Tree → Type 0
+IsLeafAnswer (regular m) r = RecordAnswerRegular m (Ok r)
+IsLeafAnswer (hermes h) r = RecordAnswerHermes h (Ok r)

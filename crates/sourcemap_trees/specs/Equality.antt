@@ -6,7 +6,8 @@ use Rattle.std.specs.Cmp.Lexicographic.{pointwise}
 use Rattle.sourcemap_records.specs.Jsontypes.{Place}
 use Rattle.sourcemap_parts.specs.TextLists.{same_text}
 use Rattle.sourcemap_regular.specs.Equality.{same_map}
-use Rattle.sourcemap_trees.specs.MapTree.{IndexParts, MapTree, regular, index, MapSections, no_sections, hollow, filled}
+use Rattle.sourcemap_hermes.specs.Equality.{same_hermes}
+use Rattle.sourcemap_trees.specs.MapTree.{LeafMap, regular, hermes, IndexParts, MapTree, leaf, index, MapSections, no_sections, hollow, filled}
 
 abbrev pub same_parts : IndexParts → IndexParts → Bool
 same_parts =
@@ -23,9 +24,14 @@ same_place =
     (on (λ place. place.column) nat_eq))
     (on (λ place. place.url) (option_eq same_text))
 
+abbrev pub same_leaf : LeafMap → LeafMap → Bool
+same_leaf (regular a) (regular b) = same_map a b
+same_leaf (hermes a) (hermes b) = same_hermes a b
+same_leaf _ _ = false
+
 abbrev mutual
   pub same_tree : MapTree → MapTree → Bool
-  same_tree (regular a) (regular b) = same_map a b
+  same_tree (leaf a) (leaf b) = same_leaf a b
   same_tree (index parts ss) (index parts' ss') = same_parts parts parts' && same_sections ss ss'
   same_tree _ _ = false
 

@@ -11,7 +11,7 @@ use Rattle.sourcemap_conversions.specs.FromRecord.{rising}
 use Rattle.sourcemap_rewriting.specs.Kept.{kept_once, number_in}
 use Rattle.sourcemap_regular.specs.Map.{MapValue, shown_sources, source_of, name_of, contents_of, meaning as meaning_regular}
 use Rattle.sourcemap_regular.specs.Rewrite.{said}
-use Rattle.sourcemap_trees.specs.MapTree.{MapTree, regular, index, MapSections, no_sections, hollow, filled, offset_of}
+use Rattle.sourcemap_trees.specs.MapTree.{MapTree, leaf, index, held, MapSections, no_sections, hollow, filled, offset_of}
 use Rattle.sourcemap_trees.specs.Meaning.{meaning}
 use Rattle.sourcemap_trees.specs.FlatList.{raised, flat_list}
 
@@ -93,7 +93,7 @@ on_ok (Err e) next = Err e
 -- the flat map: a section's map is made flat first, and the first fault is answered
 abbrev mutual
   pub flat : MapTree → Result MapValue (List ℕ)
-  flat (regular m) = Ok m
+  flat (leaf l) = Ok (held l)
   flat (index parts ss) = on_ok (pieces_behind [] ss) (λ pieces. Ok (merged parts.file pieces))
 
   pub pieces_behind : List Piece → MapSections → Result (List Piece) (List ℕ)

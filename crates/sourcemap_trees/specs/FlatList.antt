@@ -6,7 +6,7 @@ use Rattle.std.specs.Ordering.{is_lt}
 use Rattle.sourcemap_lists.specs.Tokens.{position_cmp}
 use Rattle.sourcemap_regular.specs.Map.{Meaning}
 use Rattle.sourcemap_regular.specs.Rewrite.{said}
-use Rattle.sourcemap_trees.specs.MapTree.{MapTree, regular, index, MapSections, no_sections, hollow, filled, offset_of, AtEachLevel}
+use Rattle.sourcemap_trees.specs.MapTree.{MapTree, leaf, index, held, MapSections, no_sections, hollow, filled, offset_of, AtEachLevel}
 
 -- a position of a section as it stands in the whole; only on the section's first line does the column move
 abbrev pub raised : (offset p : ℕ × ℕ) → ℕ × ℕ
@@ -18,7 +18,7 @@ raised_entry offset entry = (raised offset entry.0, entry.1)
 -- what the tokens say, each beside its place, section after section
 abbrev mutual
   pub flat_list : MapTree → List ((ℕ × ℕ) × Meaning)
-  flat_list (regular m) = said m
+  flat_list (leaf l) = said (held l)
   flat_list (index parts ss) = flat_lists ss
 
   pub flat_lists : MapSections → List ((ℕ × ℕ) × Meaning)
@@ -44,4 +44,4 @@ AreApart (span ∷ next ∷ rest) =
 
 -- so it is at every level
 abbrev pub IsOrderly : MapTree → Type 0
-IsOrderly t = AtEachLevel (λ m. Unit {0}) (λ ss. AreApart (spans ss)) t
+IsOrderly t = AtEachLevel (λ l. Unit {0}) (λ ss. AreApart (spans ss)) t

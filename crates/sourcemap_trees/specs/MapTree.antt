@@ -1,8 +1,19 @@
--- A map of any kind as contracts see it: a regular map, or an index of sections, each of which may
--- hold a map of any kind again. Lines and columns count from 0, columns in UTF-16 units.
+-- A map of any kind as contracts see it: a regular map, a Hermes map, or an index of sections, each
+-- of which may hold a map of any kind again. Lines and columns count from 0, columns in UTF-16 units.
 use Rattle.std.specs.Prelude.{ℕ, List, [], ◌∷◌, Option, Some, None}
 use Rattle.sourcemap_records.specs.Jsontypes.{Place}
 use Rattle.sourcemap_regular.specs.Map.{MapValue}
+use Rattle.sourcemap_hermes.specs.Map.{HermesValue}
+
+-- a map that is no index
+pub data LeafMap : Type 0 where
+  regular : MapValue → LeafMap
+  hermes : HermesValue → LeafMap
+
+-- the regular map that it holds: what positions mean in it, and what it brings to a flat map
+abbrev pub held : LeafMap → MapValue
+held (regular m) = m
+held (hermes h) = h.map
 
 -- what an index map holds beside its sections
 pub record IndexParts : Type 0 where
@@ -13,7 +24,7 @@ pub record IndexParts : Type 0 where
 
 mutual
   pub data MapTree : Type 0 where
-    regular : MapValue → MapTree
+    leaf : LeafMap → MapTree
     index : IndexParts → MapSections → MapTree
 
   -- sections in their order; a hollow one has no map
@@ -57,13 +68,13 @@ pub record IndexValue : Type 0 where
 abbrev pub index_tree : IndexValue → MapTree
 index_tree i = index i.parts (sections_from i.sections)
 
--- one fact of each regular map and one of each index's sections, at every depth
+-- one fact of each map that is no index and one of each index's sections, at every depth
 abbrev mutual
-  pub AtEachLevel : (MapValue → Type 0) → (MapSections → Type 0) → MapTree → Type 0
-  AtEachLevel OfMap OfSections (regular m) = OfMap m
+  pub AtEachLevel : (LeafMap → Type 0) → (MapSections → Type 0) → MapTree → Type 0
+  AtEachLevel OfMap OfSections (leaf l) = OfMap l
   AtEachLevel OfMap OfSections (index parts ss) = OfSections ss × InEachSection OfMap OfSections ss
 
-  pub InEachSection : (MapValue → Type 0) → (MapSections → Type 0) → MapSections → Type 0
+  pub InEachSection : (LeafMap → Type 0) → (MapSections → Type 0) → MapSections → Type 0
   InEachSection OfMap OfSections no_sections = Unit {0}
   InEachSection OfMap OfSections (hollow place rest) = InEachSection OfMap OfSections rest
   InEachSection OfMap OfSections (filled place t rest) = AtEachLevel OfMap OfSections t × InEachSection OfMap OfSections rest

@@ -4,7 +4,7 @@ use Rattle.sourcemap_lists.specs.Search.{closest_item}
 use Rattle.sourcemap_lists.specs.Tokens.{position_cmp}
 use Rattle.sourcemap_regular.specs.Map.{Meaning}
 use Rattle.sourcemap_regular.specs.Token.{TokenValue, says, lookup as lookup_regular}
-use Rattle.sourcemap_trees.specs.MapTree.{MapTree, regular, index, MapSections, no_sections, hollow, filled, offset_of}
+use Rattle.sourcemap_trees.specs.MapTree.{MapTree, leaf, index, held, MapSections, no_sections, hollow, filled, offset_of}
 
 -- a position as a section sees it, whose first line begins at the column of its offset
 abbrev pub lowered : (offset p : ℕ × ℕ) → ℕ × ℕ
@@ -16,10 +16,10 @@ closest_answer sections p =
     option_and_then (λ section. section.1 (lowered section.0 p))
     (closest_item (λ section. section.0) position_cmp sections p)
 
--- the closest token to a position: a regular map's own, in an index that of its closest section
+-- the closest token to a position: that of the regular map held, in an index that of its closest section
 abbrev mutual
   pub lookup : MapTree → ℕ × ℕ → Option TokenValue
-  lookup (regular m) p = lookup_regular m p
+  lookup (leaf l) p = lookup_regular (held l) p
   lookup (index parts ss) p = closest_answer (lookups ss) p
 
   -- each section's offset, beside what its map answers

@@ -4,10 +4,9 @@ ghost use Rattle.std.specs.Bool.{Decides};
 ghost use Rattle.std.specs.Cmp.{IsEquivalence};
 ghost use Rattle.sourcemap_errors.specs.declared.errors.Error.{Error};
 ghost use Rattle.sourcemap_records.specs.Jsontypes.{Tree, IsInRange};
-ghost use Rattle.sourcemap_regular.specs.Encode.{RecordAnswer as RecordAnswerRegular};
 ghost use Rattle.sourcemap_regular.specs.Map.{MapValue, IsWellFormed as IsWellFormedRegular};
 ghost use Rattle.sourcemap_trees.specs.Decode.{TreeDecodes};
-ghost use Rattle.sourcemap_trees.specs.Encode.{IsRecordOf, IsWrittenBy, RecordAnswer};
+ghost use Rattle.sourcemap_trees.specs.Encode.{IsLeafAnswer, IsRecordOf, IsWrittenBy, RecordAnswer};
 ghost use Rattle.sourcemap_trees.specs.Equality.{same_tree};
 ghost use Rattle.sourcemap_trees.specs.Flat.{flat, AnswersLike, SaysFlat};
 ghost use Rattle.sourcemap_trees.specs.FlatList.{IsOrderly};
@@ -62,10 +61,10 @@ pub fn maps_are_written_once()
     ensures { (t : MapTree) (a b : Tree) → IsRecordOf t a → IsRecordOf t b → a ≡ b }
 {}
 
-/// A law: where each regular map in it is written as is due, the record of a map of any kind is as
-/// is due: a well-formed map is read back with its meaning and all its parts. Numbers of the record
+/// A law: where each regular map and each Hermes map in it is written as is due, the record of a map
+/// of any kind is as is due: a well-formed map is read back with its meaning and all its parts. Numbers of the record
 /// are below 2^32 and a debug id has 16 bytes, as in every record that there is.
 pub fn written_records_read_back()
-    ensures { (t : MapTree) (r : Tree) → IsWrittenBy (λ m r. RecordAnswerRegular m (Ok r)) t r
+    ensures { (t : MapTree) (r : Tree) → IsWrittenBy IsLeafAnswer t r
         → IsInRange r → RecordAnswer t (Ok r) }
 {}

@@ -7,7 +7,7 @@ use Rattle.sourcemap.specs.Decoder.{AreSame, BytesDecode}
 use Rattle.sourcemap.specs.Encoder.{ReadsBack, Restores as RestoresRegular}
 use Rattle.sourcemap.specs.Reading.{BytesStandFor, RegularDecodes}
 use Rattle.sourcemap.specs.TreeEncoder.{Restores}
-use Rattle.sourcemap.specs.Trees.{MapTree, regular, meaning as meaning_of}
+use Rattle.sourcemap.specs.Trees.{regular, MapTree, leaf, meaning as meaning_of}
 use Rattle.sourcemap.specs.Types.{MapValue, Meaning, made_of, meaning}
 use Rattle.sourcemap.specs.declared.errors.Error.{Error}
 use Rattle.sourcemap.specs.declared.types.DecodedMap.{DecodedMap}
@@ -25,18 +25,18 @@ made m tokens names sources source gave no_names one_source =
 
 -- a regular map that is read back is read back as a map of any kind
 pub reads_back : (m due : MapValue) (bytes text : List ℕ) → m ≡ due → bytes ≡ text
-    → ((back : MapValue) → BytesStandFor RegularDecodes text (Ok back) ↔ BytesDecode text (Ok (regular back)))
-    → ReadsBack (BytesStandFor RegularDecodes text) (RestoresRegular m) → ReadsBack (BytesDecode bytes) (Restores (regular due))
+    → ((back : MapValue) → BytesStandFor RegularDecodes text (Ok back) ↔ BytesDecode text (Ok (leaf (regular back))))
+    → ReadsBack (BytesStandFor RegularDecodes text) (RestoresRegular m) → ReadsBack (BytesDecode bytes) (Restores (leaf (regular due)))
 reads_back m due bytes text is same any (back, stands, restored) =
-    let whole : Restores (regular m) (regular back) = (restored.0, restored) in (
-      regular back,
-      subst (λ bytes. BytesDecode bytes (Ok (regular back))) (sym same) ((any back).0 stands),
-      subst (λ m. Restores (regular m) (regular back)) is whole,
+    let whole : Restores (leaf (regular m)) (leaf (regular back)) = (restored.0, restored) in (
+      leaf (regular back),
+      subst (λ bytes. BytesDecode bytes (Ok (leaf (regular back)))) (sym same) ((any back).0 stands),
+      subst (λ m. Restores (leaf (regular m)) (leaf (regular back))) is whole,
     )
 
 -- what is found in the map that was read is what the map that was written means
 pub place_found : (bytes text : List ℕ) (m : MapValue) (map : DecodedMap) (p : ℕ × ℕ) (found : Option Meaning)
-    → bytes ≡ text → ReadsBack (BytesDecode text) (Restores (regular m))
+    → bytes ≡ text → ReadsBack (BytesDecode text) (Restores (leaf (regular m)))
     → ((due : Result MapTree Error) → BytesDecode bytes due → IsAnswer map_tree (AreSame due) (Ok map))
     → found ≡ meaning_of (map_tree map) p → option_map place_of found ≡ option_map place_of (meaning m p)
 place_found bytes text m map p found same (back, stands, restored) only is =

@@ -4,7 +4,7 @@ ghost use Rattle.sourcemap.specs.Decoder.{BytesDecode};
 ghost use Rattle.sourcemap.specs.Encoder.{ReadsBack};
 ghost use Rattle.sourcemap.specs.Tokens.{AllWithin};
 ghost use Rattle.sourcemap.specs.TreeEncoder.{Restores};
-ghost use Rattle.sourcemap.specs.Trees.{regular};
+ghost use Rattle.sourcemap.specs.Trees.{leaf, regular};
 ghost use Rattle.sourcemap.specs.Types.{made_of, meaning};
 ghost use Rattle.sourcemap_uses.specs.Building.{place_of};
 
@@ -43,7 +43,7 @@ pub fn place_once_written(
 pub fn written(alloc: Global, source: &str, tokens: Vec<RawToken>) -> Result<Vec<u8>>
     requires { AllWithin 1 0 tokens.items }
     ensures { IfOk result (λ text. ReadsBack (BytesDecode text.items)
-        (Restores (regular (made_of None tokens.items [] (source.now ∷ []) [])))) }
+        (Restores (leaf (regular (made_of None tokens.items [] (source.now ∷ []) []))))) }
 {
     written_maps_read_back();
     regular_maps_are_of_a_kind();

@@ -148,7 +148,7 @@ const MIXED: &str = r#"{"sections":[
 fn index_of(alloc: Global, text: &str) -> Result<SourceMapIndex> {
     match decode_slice(alloc, text.as_bytes())? {
         DecodedMap::Index(index) => Ok(index),
-        DecodedMap::Regular(_) => Err(Error::IncompatibleSourceMap),
+        _ => Err(Error::IncompatibleSourceMap),
     }
 }
 

@@ -1,8 +1,12 @@
--- An index, which is no regular map.
-use Rattle.std.proofs.Common.{◌∙◌, ap, refl}
-use Rattle.sourcemap.specs.Decoded.{index_value, map_tree}
-use Rattle.sourcemap_index.proofs.FamilyLemmas.{index_tree-of}
+-- A map of another kind.
+use Rattle.std.proofs.Common.{◌∙◌, ap, refl, subst, sym}
+use Rattle.sourcemap.specs.Decoded.{map_tree}
+use Rattle.sourcemap_commands.specs.Program.{IsOfOtherKind}
+use Rattle.sourcemap_index.proofs.FamilyLemmas.{hermes_tree, index_tree-of}
 use Rattle.sourcemap_commands.proofs.regular.regular_of.Goals as goal
 
+pub returns-in-Index : goal.returns-in-Index
+returns-in-Index c = (refl, subst IsOfOtherKind (sym (ap map_tree c.in-Index.is ∙ index_tree-of c.in-Index.field-0)) tt)
+
 pub returns : goal.returns
-returns c = (refl, (index_value c.in-Index.field-0, ap map_tree c.in-Index.is ∙ index_tree-of c.in-Index.field-0))
+returns c = (refl, subst IsOfOtherKind (sym (ap map_tree c.in-Hermes.is ∙ hermes_tree c.in-Hermes.field-0)) tt)

@@ -8,8 +8,7 @@ use Rattle.sourcemap_records.specs.Jsontypes.{flat, tree, section, sections_from
 use Rattle.sourcemap_trees.specs.Decode.{SectionsDecode}
 use Rattle.sourcemap_index.specs.Family.{section_value}
 use Rattle.sourcemap_index.specs.Decode.{SectionDecodes}
-use Rattle.sourcemap_index.proofs.FamilyLemmas.{regular_tree}
-use Rattle.sourcemap_index.proofs.DecodeIndexLemmas.{behind, behind-more, one_more, one_refused, sections_among, among_with, too_many, parts_refused, parts_decoded, plain_decodes, plain_refused}
+use Rattle.sourcemap_index.proofs.DecodeIndexLemmas.{behind, behind-more, one_more, one_refused, sections_among, among_with, too_many, parts_refused, parts_decoded, plain_answer}
 use Rattle.sourcemap_index.proofs.decode_index.+decode.Goals as goal
 
 pub decode_parts-returns-then-len-gt-SECTION_LIMIT :
@@ -30,17 +29,9 @@ decode_parts-returns t c =
     parts_decoded (flat (tree c.args.raw)) (map section c.args.sections.items) (map section_value c.in_ok-decoded.decoded.items) (map section_value c.sort_sections.new.sections.items) c.index_of.result
     (omega (arith, many, c.len.ensures, c.if-len-gt-SECTION_LIMIT.false, c.args.sections.ok.0)) c.in_ok-decoded.ensures c.in_ok-sort_sections.ensures.sorted c.index_of.ensures
 
-pub decode_record-returns-in_err-only_regular-in-None :
-    goal.decode_record-returns-in_err-only_regular-in-None
-decode_record-returns-in_err-only_regular-in-None t c =
-    let p = err_from_is_err_and c.from_residual-in_err-only_regular-in-None.result c.from_residual-in_err-only_regular-in-None.ensures.1 in
-    rw (p.1, p.2) (plain_refused c.args.raw c.take.new.self _ (sym (sym c.in-None.is ∙ c.take.ensures.value)) c.take.ensures.after c.in_err-only_regular-in-None.ensures.answer)
-
-pub decode_record-returns-in_ok-only_regular-in-None :
-    goal.decode_record-returns-in_ok-only_regular-in-None
-decode_record-returns-in_ok-only_regular-in-None t c =
-    rw (regular_tree c.in_ok-only_regular-in-None.field-0)
-    (plain_decodes c.args.raw c.take.new.self _ (sym (sym c.in-None.is ∙ c.take.ensures.value)) c.take.ensures.after c.in_ok-only_regular-in-None.ensures.answer)
+pub decode_record-returns-in-None : goal.decode_record-returns-in-None
+decode_record-returns-in-None t c =
+    plain_answer c.args.raw c.take.new.self c.decode_leaf.result (sym (sym c.in-None.is ∙ c.take.ensures.value)) c.decode_leaf.ensures
 
 pub decode_sections-returns-in_err-decode_section :
     goal.decode_sections-returns-in_err-decode_section

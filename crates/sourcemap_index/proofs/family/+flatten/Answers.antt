@@ -2,13 +2,14 @@
 use Rattle.std.proofs.Common.{◌≡◌, ◌∙◌, sym, ap, subst, List, [], ◌∷◌, arith, map, drop, take, OnOk, ◌+◌, slice_get}
 use Rattle.std.specs.List.{AllByRecursion}
 use Rattle.std.proofs.lemmas.Result.{err_from_is_err_and}
+use Rattle.sourcemap_regular.specs.Lists.{AreListsOf}
 use Rattle.sourcemap_trees.specs.MapTree.{MapSection, IndexValue, sections_from}
 use Rattle.sourcemap_trees.specs.Flat.{merged, pieces_behind}
 use Rattle.sourcemap_lists.proofs.AllLemmas.{All-append}
 use Rattle.sourcemap_flattening.specs.Gathering.{RefusesFor}
 use Rattle.sourcemap_index.specs.Family.{index_value, map_tree, section_value}
 use Rattle.sourcemap_index.specs.Flatten.{Gathered, IsSectionInOrder, map_added}
-use Rattle.sourcemap_index.proofs.FamilyLemmas.{index-out, index_tree-of, regular_tree}
+use Rattle.sourcemap_index.proofs.FamilyLemmas.{hermes_tree, index-out, index_tree-of, regular_tree}
 use Rattle.sourcemap_index.proofs.FlattenLemmas.{SoFar, so_far-more, so_far-refused, gathered-more, index_added, section_below, item-at, item-next, items-taken, on_ok_then, if_ok_any, if_ok_then, none-left, in_order-all}
 use Rattle.sourcemap_index.proofs.family.+flatten.Goals as goal
 
@@ -19,6 +20,14 @@ DecodedMap::gather-returns-in-Regular-clause-ok t c = λ before g.
     (on_ok_then c.add.result
     (gathered-more _ before ((c.args.line, c.args.col), c.in-Regular.map) c.add.new.self (ap (map_added before (c.args.line, c.args.col)) (regular_tree c.in-Regular.map)))
     (c.add.ensures.ok before c.in-Regular.map g c.lists.ensures.lists))
+
+pub DecodedMap::gather-returns-in-Hermes-clause-ok :
+    goal.DecodedMap::gather-returns-in-Hermes-clause-ok
+DecodedMap::gather-returns-in-Hermes-clause-ok t c = λ before g.
+    subst (λ m. OnOk c.add-in-Hermes.result (Gathered (map_added before (c.args.line, c.args.col) (map_tree m)) c.add-in-Hermes.new.self)) (sym c.in-Hermes.is)
+    (on_ok_then c.add-in-Hermes.result
+    (gathered-more _ before ((c.args.line, c.args.col), c.in-Hermes.map.sm) c.add-in-Hermes.new.self (ap (map_added before (c.args.line, c.args.col)) (hermes_tree c.in-Hermes.map)))
+    (c.add-in-Hermes.ensures.ok before c.in-Hermes.map.sm g (subst (λ m. AreListsOf m c.lists-in-Hermes.result) c.deref.ensures c.lists-in-Hermes.ensures.lists)))
 
 pub DecodedMap::gather-returns-in_ok-flat-in-Index-clause-ok :
     goal.DecodedMap::gather-returns-in_ok-flat-in-Index-clause-ok

@@ -1,0 +1,135 @@
+// Hermes maps among maps of any kind, on their own and in sections.
+use crate::checks::{check, fault_told};
+use sourcemap::decoder::decode_slice;
+use sourcemap::errors::Result;
+use sourcemap::types::DecodedMap;
+use sourcemap::{SourceMap, SourceMapHermes};
+use std::alloc::Global;
+
+const TWO_FUNCTIONS: &str =
+    r#"{"version":3,"sources":["a.js"],"mappings":"AAAA,KACK","x_facebook_sources":[[{"names":["<global>","foo"],"mappings":"AAA,KCC"}]]}"#;
+
+const IN_SECTION: &str =
+    r#"{"sections":[{"offset":{"line":4,"column":9},"map":{"version":3,"sources":["a.js"],"mappings":"AAAA,KACK","x_facebook_sources":[[{"names":["<global>","foo"],"mappings":"AAA,KCC"}]]}}]}"#;
+
+const SECOND_SOURCE: &str =
+    r#"{"mappings":"ACAA","names":[],"sources":["a.js","b.js"],"version":3,"x_facebook_sources":[null,[{"mappings":"AAA","names":["f"]}]]}"#;
+
+const SHORT: &str =
+    r#"{"mappings":"ACAA","names":[],"sources":["a.js","b.js"],"version":3,"x_facebook_sources":[]}"#;
+
+const LAST_LINE: &str =
+    r#"{"mappings":"AADA","names":[],"sources":["a.js"],"version":3,"x_facebook_sources":[[{"mappings":"AAA","names":["f"]}]]}"#;
+
+const BROKEN: &str =
+    r#"{"mappings":"AAAA","names":[],"sources":["a.js"],"version":3,"x_facebook_sources":[[{"mappings":"AAA,!","names":["f"]}]]}"#;
+
+// The Hermes map that a map is, or that its first section has.
+fn hermes_in(map: &DecodedMap) -> Option<&SourceMapHermes> {
+    match map {
+        DecodedMap::Hermes(map) => Some(map),
+        DecodedMap::Index(index) => match index.get_section(0)?.get_sourcemap()? {
+            DecodedMap::Hermes(map) => Some(map),
+            _ => None,
+        },
+        DecodedMap::Regular(_) => None,
+    }
+}
+
+fn name_told(map: &DecodedMap, offset: u32) -> &str {
+    match hermes_in(map) {
+        Some(map) => map.get_original_function_name(offset).unwrap_or("none"),
+        None => "no Hermes map",
+    }
+}
+
+fn name_at(alloc: Global, text: &str, offset: u32) -> Result<String> {
+    let map = decode_slice(alloc, text.as_bytes())?;
+    Ok(String::from_str(alloc, name_told(&map, offset))?)
+}
+
+// A map, a place in the bytecode, and the name of the function there.
+const NAMES: [(&str, u32, &str); 8] = [
+    (TWO_FUNCTIONS, 0, "<global>"),
+    (TWO_FUNCTIONS, 7, "foo"),
+    (IN_SECTION, 0, "<global>"),
+    (IN_SECTION, 7, "foo"),
+    (SECOND_SOURCE, 0, "f"),
+    (SHORT, 0, "none"),
+    (LAST_LINE, 0, "f"),
+    (BROKEN, 0, "none"),
+];
+
+#[test]
+fn functions_of_a_decoded_map_have_names(rt: HostRuntime) {
+    for (text, offset, want) in NAMES.iter() {
+        check(&rt, text, name_at(rt.alloc(), text, *offset), want);
+    }
+}
+
+// The text that a map is written as, read back and written once more.
+fn written_again(alloc: Global, text: &str) -> Result<String> {
+    let value = decode_slice(alloc, text.as_bytes())?.to_value()?;
+    let back = DecodedMap::from_value(alloc, &value)?;
+    Ok(DecodedMap::into_value(back)?.to_string(alloc)?)
+}
+
+#[test]
+fn scopes_are_written_as_they_were_read(rt: HostRuntime) {
+    for text in [SECOND_SOURCE, SHORT, BROKEN].iter() {
+        check(&rt, text, written_again(rt.alloc(), text), text);
+    }
+}
+
+fn id_told(alloc: Global, map: &DecodedMap) -> Result<String> {
+    match map.debug_id() {
+        None => Ok(String::from_str(alloc, "none")?),
+        Some(id) => Ok(format!(in alloc; "{id}")?),
+    }
+}
+
+// The debug id of a map, and what is left of it once it is taken away.
+fn ids(alloc: Global, text: &str) -> Result<String> {
+    let mut map = decode_slice(alloc, text.as_bytes())?;
+    let old = id_told(alloc, &map)?;
+    map.set_debug_id(None);
+    let new = id_told(alloc, &map)?;
+    Ok(format!(in alloc; "{old} {new} {}", name_told(&map, 0))?)
+}
+
+#[test]
+fn debug_ids_of_hermes_maps_are_set(rt: HostRuntime) {
+    let text = r#"{"sources":["a.js"],"mappings":"AAAA","debugId":"00000000-0000-0000-0000-000000000000","x_facebook_sources":[[{"names":["f"],"mappings":"AAA"}]]}"#;
+    let want = "00000000-0000-0000-0000-000000000000 none f";
+    check(&rt, text, ids(rt.alloc(), text), want);
+}
+
+// What a text is read as by the reader of regular maps, and by that of Hermes maps.
+fn kinds(alloc: Global, text: &str) -> Result<String> {
+    let regular = fault_told(alloc, SourceMap::from_slice(alloc, text.as_bytes()))?;
+    let hermes = fault_told(alloc, SourceMapHermes::from_slice(alloc, text.as_bytes()))?;
+    Ok(format!(in alloc; "{regular}; {hermes}")?)
+}
+
+// A text, and why neither, one or the other takes it.
+const KINDS: [(&str, &str); 3] = [
+    (
+        SHORT,
+        "encountered incompatible sourcemap format; no fault",
+    ),
+    (
+        r#"{"mappings":""}"#,
+        "no fault; encountered incompatible sourcemap format",
+    ),
+    (
+        IN_SECTION,
+        "encountered incompatible sourcemap format; encountered incompatible sourcemap format",
+    ),
+];
+
+#[test]
+fn each_kind_is_read_alone(rt: HostRuntime) {
+    for (text, want) in KINDS.iter() {
+        check(&rt, text, kinds(rt.alloc(), text), want);
+    }
+}
