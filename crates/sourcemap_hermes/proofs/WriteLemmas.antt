@@ -1,8 +1,7 @@
 -- The text of a Hermes map's record is shallow, has no fraction and no junk header, and so reads back.
-use Rattle.std.proofs.Common.{◌≡◌, inl, ℕ, ◌≤◌, List, [], ◌∷◌, codes, Option, Some, Ok, false, ap, ◌∙◌, subst, arith}
+use Rattle.std.proofs.Common.{◌≡◌, inl, ℕ, ◌≤◌, List, [], ◌∷◌, codes, Option, Some, Ok, ap, ◌∙◌, sym, subst, arith}
 use Rattle.serde_json.specs.Data.{Data, depth, string}
 use Rattle.serde_json.specs.Read.{max_depth}
-use Rattle.serde_json.specs.Written.{has_float}
 use Rattle.sourcemap_records.specs.Bytes.{HoldJson, BytesStandFor}
 use Rattle.sourcemap_records.specs.Field.{written_list, written_or_null}
 use Rattle.sourcemap_records.specs.Jsontypes.{Fields, Scopes, Tree, plain, flat, entries, written, written_fields, written_scopes, IsFine}
@@ -41,13 +40,14 @@ record_plain : (h : HermesValue) (t : Tree) → IsRecordOf h t → (mappings : L
 record_plain h t (r, (mappings, ranges, of_mappings, of_ranges, plain_is), is) =
     (mappings, ranges, is ∙ ap (λ r. scoped r h.scopes.entries) plain_is)
 
-record-whole : (h : HermesValue) (t : Tree) → IsRecordOf h t → has_float (written t) ≡ false
-record-whole h t is =
+-- what a map is written as has five levels, and no number in it has a fraction
+pub record-low : (h : HermesValue) (t : Tree) → IsRecordOf h t → IsLow 5 (written t)
+record-low h t is =
     let (mappings, ranges, same) = record_plain h t is in
-    ap (λ t. has_float (written t)) same ∙ (low_written h mappings ranges).1
+    subst (λ (t : Tree). IsLow 5 (written t)) (sym same) (low_written h mappings ranges)
 
 pub encoded-compact : (h : HermesValue) (text : List ℕ) → IsEncoded (RecordAnswer h) text → IsCompactTextOf h text
-encoded-compact h text (t, (is, fine, back), of_text) = (t, is, of_text.compact (record-whole h t is))
+encoded-compact h text (t, (is, fine, back), of_text) = (t, is, of_text.compact (record-low h t is).1)
 
 pub encoded-back : (h : HermesValue) (text : List ℕ) → IsEncoded (RecordAnswer h) text → IsWellFormed h
     → ReadsBack (BytesStandFor OnlyHermesDecodes text) (Restores h)

@@ -3,7 +3,7 @@ use Rattle.std.proofs.Common.{◌≡◌, inl, inr, ℕ, ◌+◌, List, [], ◌�
 use Rattle.std.specs.Bool.{MatchBool}
 use Rattle.serde_json.specs.Data.{Data}
 use Rattle.sourcemap_errors.specs.declared.errors.Error.{Error}
-use Rattle.sourcemap_errors.specs.declared.errors.Error.TheVariants.{BadSegmentSize, BadSourceReference, BadNameReference, IncompatibleSourceMap, InvalidDataUrl}
+use Rattle.sourcemap_errors.specs.declared.errors.Error.TheVariants.{BadSegmentSize, BadSourceReference, BadNameReference, InvalidDataUrl}
 use Rattle.sourcemap_errors.specs.Answer.{UnlessMemory, IsAnswer}
 use Rattle.sourcemap_mappings.specs.Segment.{Counts, Segment, segment_fault, parts_of}
 use Rattle.sourcemap_mappings.specs.Read.{PartFault, PartsFault, LineText, LineFault, LinesFault, MappingsAnswer}

@@ -1,24 +1,23 @@
--- The value that a map of any kind is written as: there is one, and no number in it has a fraction.
-use Rattle.std.proofs.Common.{◌≡◌, ◌∙◌, refl, sym, ap, subst, ℕ, List, [], ◌∷◌, length, codes, map, Option, Some, None, option_map, Bool, true, false, ◌||◌}
+-- The value that a map of any kind is written as: there is one, no number in it has a fraction, and that
+-- of a map that is no index has few levels.
+use Rattle.std.proofs.Common.{◌≡◌, ◌∙◌, ◌≤◌, refl, sym, ap, subst, arith, ℕ, List, [], ◌∷◌, codes, map, Option, Some, None, option_map, Bool, true, false, ◌||◌}
 use Rattle.std.specs.Ordering.{nat_cmp, match_ordering}
 use Rattle.std.specs.Cmp.Lexicographic.{slice_cmp}
 use Rattle.std.specs.declared.cmp.Ordering.{Ordering}
 use Rattle.std.specs.declared.cmp.Ordering.TheVariants.{Less, Equal, Greater}
-use Rattle.serde_json.specs.Data.{Data, null, string, array, object, Members, no_members, member, put}
+use Rattle.serde_json.specs.Data.{Data, null, string, array, Members, no_members, member, put, depth}
+use Rattle.serde_json.specs.Read.{max_depth}
 use Rattle.serde_json.specs.View.{items_of}
 use Rattle.serde_json.specs.Written.{compact_text, has_float, items_have_float, members_have_float}
 use Rattle.sourcemap_headers.specs.DebugId.{debug_id_text}
 use Rattle.sourcemap_records.specs.Field.{written_number, written_or_null, written_list, put_if, put_all}
-use Rattle.sourcemap_records.specs.Jsontypes.{Scopes, Tree, plain, indexed, Sections, bare, mapped, Place, entries, written, written_fields, written_sections, written_section, written_offset, written_scopes}
-use Rattle.sourcemap_regular.proofs.WriteLemmas.{record-whole}
-use Rattle.sourcemap_regular.specs.Encode.{record_with, written_contents, written_ids}
-use Rattle.sourcemap_regular.specs.Map.{MapValue}
-use Rattle.sourcemap_scopes.specs.ScopeLists.{ScopeEntry}
-use Rattle.sourcemap_hermes.specs.Encode.{scoped, with_scopes}
+use Rattle.sourcemap_records.specs.Jsontypes.{Tree, Sections, Place, entries, written, written_fields, written_sections, written_section, written_offset}
+use Rattle.sourcemap_regular.proofs.WriteLemmas.{record-low as regular-low}
+use Rattle.sourcemap_hermes.proofs.WriteLemmas.{record-low as hermes-low}
 use Rattle.sourcemap_trees.specs.Encode.{index_fields, AreWrittenBy, IsLeafRecord, IsRecordOf}
 use Rattle.sourcemap_trees.specs.MapTree.{LeafMap, regular, hermes, IndexParts, MapTree, leaf, index, MapSections, no_sections, hollow, filled}
 use Rattle.sourcemap_trees.proofs.EncodeLemmas.{tree_written_once}
-use Rattle.sourcemap_index.specs.DecodedMap.{IsValueOf, IsTextOf}
+use Rattle.sourcemap_index.specs.DecodedMap.{IsShallow, IsValueOf, IsTextOf}
 
 -- no number in the value has a fraction
 abbrev IsWhole : Data → Type 0
@@ -140,69 +139,18 @@ whole_section place d whole =
     (codes "url", Some (written_or_null string place.url)) ∷ [])
     no_members (whole, (whole_offset place.line place.column, (whole_text place.url, tt))) refl
 
--- What Hermes maps are written as.
-
-whole_scopes : (s : Scopes) → IsWhole (written_scopes s)
-whole_scopes s =
-    whole_put_all (
-    (codes "names", Some (written_list string s.names)) ∷
-    (codes "mappings", Some (string s.mappings)) ∷ [])
-    no_members (whole_items string (λ s. refl) s.names, (refl, tt)) refl
-
-whole_entry : (entry : ScopeEntry) → IsWhole (written_or_null (written_list written_scopes) entry)
-whole_entry None = refl
-whole_entry (Some list) = whole_items written_scopes whole_scopes list
-
-whole_hermes : (m : MapValue) (mappings : List ℕ) (ranges : Option (List ℕ)) (scopes : List ScopeEntry)
-    → AreWhole (written_fields (with_scopes (record_with m mappings ranges) scopes))
-whole_hermes m mappings ranges scopes =
-    whole_put_all (entries (with_scopes (record_with m mappings ranges) scopes)) no_members (
-      refl,
-      (
-        whole_if string (λ s. refl) m.file,
-        (
-          whole_items (written_or_null string) whole_text (map Some m.sources),
-          (
-            whole_if string (λ s. refl) m.root,
-            (
-              whole_if (written_list (written_or_null string)) (whole_items (written_or_null string) whole_text) (written_contents (length m.sources) m.contents),
-              (
-                names m.names,
-                (
-                  whole_if string (λ s. refl) ranges,
-                  (
-                    refl,
-                    (
-                      whole_if (written_list written_number) (whole_items written_number (λ n. refl)) (written_ids m.ignored),
-                      (
-                        tt,
-                        (
-                          tt,
-                          (
-                            whole_items (written_or_null (written_list written_scopes)) whole_entry scopes,
-                            (whole_if (λ id. string (debug_id_text id)) (λ id. refl) m.debug_id, tt),
-                          ),
-                        ),
-                      ),
-                    ),
-                  ),
-                ),
-              ),
-            ),
-          ),
-        ),
-      ),
-    )
-    refl
-  where
-    names : (xs : List (List ℕ)) → items_have_float (items_of (map (λ d. d) (map string xs))) ≡ false
-    names [] = refl
-    names (x ∷ xs) = names xs
+-- What maps that are no index are written as.
 
 whole_leaf : (l : LeafMap) (r : Tree) → IsLeafRecord l r → IsWhole (written r)
-whole_leaf (regular m) r is = record-whole m r is
-whole_leaf (hermes h) r (t, (mappings, ranges, of_mappings, of_ranges, is), same) =
-    ap (λ r. has_float (written r)) (same ∙ ap (λ t. scoped t h.scopes.entries) is) ∙ whole_hermes h.map mappings ranges h.scopes.entries
+whole_leaf (regular m) r is = (regular-low m r is).1
+whole_leaf (hermes h) r is = (hermes-low h r is).1
+
+few_levels : (l : LeafMap) (r : Tree) → IsLeafRecord l r → depth (written r) ≤ max_depth
+few_levels (regular m) r is = let low = (regular-low m r is).0 in omega arith
+few_levels (hermes h) r is = let low = (hermes-low h r is).0 in omega arith
+
+pub shallow_leaf : (l : LeafMap) → IsShallow (leaf l)
+shallow_leaf l d (r, is, same) = subst (λ d. depth d ≤ max_depth) (sym same) (few_levels l r is)
 
 mutual
   whole_tree : (t : MapTree) (r : Tree) → IsRecordOf t r → IsWhole (written r)

@@ -1,15 +1,29 @@
--- The original names of functions that are guessed in maps of any kind.
-use Rattle.std.specs.Prelude.{ℕ, List, Option, None, Some, option_and_then}
+-- The original names of functions in maps of any kind.
+use Rattle.std.specs.Prelude.{ℕ, ◌==◌, if◌then◌else◌, List, Option, None, Some, IfSome, option_and_then}
+use Rattle.sourcemap_hermes.specs.Map.{HermesValue, function_name as function_in_bytecode}
+use Rattle.sourcemap_regular.specs.Map.{lookup as lookup_regular}
 use Rattle.sourcemap_regular.specs.Walk.{guessed_from}
-use Rattle.sourcemap_trees.specs.MapTree.{MapTree}
+use Rattle.sourcemap_scopes.specs.SourceScopes.{IsInOrderAt}
+use Rattle.sourcemap_trees.specs.MapTree.{MapTree, leaf, hermes}
 use Rattle.sourcemap_trees.specs.Meaning.{lookup}
+use Rattle.sourcemap_trees.specs.WellFormed.{IsInOrder}
 
 -- the name of a function with this minified name in a text: guessed by the walk from the closest
 -- token back along its own map, an index's token along that of its section
 abbrev pub guessed_in : MapTree → (source minified : List ℕ) → ℕ × ℕ → Option (List ℕ)
 guessed_in t source minified p = option_and_then (guessed_from source minified) (lookup t p)
 
--- the same where a text and a minified name may be given: without both there is none
+-- a Hermes map knows its functions by line 0, which is the bytecode
+abbrev pub name_in_bytecode : HermesValue → ℕ × ℕ → Option (List ℕ)
+name_in_bytecode h p = if p.0 == 0 then function_in_bytecode h p.1 else None
+
+-- the name of a function: by other maps none without both texts
 abbrev pub function_name : MapTree → (source minified : Option (List ℕ)) → ℕ × ℕ → Option (List ℕ)
+function_name (leaf (hermes h)) source minified p = name_in_bytecode h p
 function_name t (Some source) (Some minified) p = guessed_in t source minified p
 function_name t _ _ p = None
+
+-- what the answer rests on: the functions of the source that is asked, or the sections, are in order
+abbrev pub AreNamesInOrder : MapTree → ℕ × ℕ → Type 0
+AreNamesInOrder (leaf (hermes h)) p = IfSome (lookup_regular h.map (0, p.1)) (λ t. IsInOrderAt h.scopes t.raw.src_id)
+AreNamesInOrder t p = IsInOrder t

@@ -11,7 +11,7 @@ ghost use Rattle.sourcemap_regular.specs.Write.{IsEncoded};
 ghost use Rattle.sourcemap_trees.specs.Encode.{RecordAnswer, Restores};
 ghost use Rattle.sourcemap_hermes.specs.Decode.{OnlyHermesDecodes};
 ghost use Rattle.sourcemap_hermes.specs.Map.{HermesValue};
-ghost use Rattle.sourcemap_trees.specs.MapTree.{MapTree, hermes, leaf, regular};
+ghost use Rattle.sourcemap_trees.specs.MapTree.{LeafMap, MapTree, hermes, leaf, regular};
 ghost use Rattle.sourcemap_trees.specs.WellFormed.{IsWellFormed};
 ghost use Rattle.sourcemap_index.specs.Decode.{BytesDecode, UrlDecodes, ValueDecodes};
 ghost use Rattle.sourcemap_index.specs.DecodedMap.{IsShallow, IsTextOf, IsValueOf};
@@ -49,6 +49,11 @@ pub fn written_values_have_one_text()
 /// for no number in that has a fraction.
 pub fn encoded_texts_are_compact()
     ensures { (t : MapTree) (text : List ℕ) → IsEncoded (RecordAnswer t) text → IsTextOf t text }
+{}
+
+/// A law: what a map that is no index is written as has few levels, and a reader of JSON takes them.
+pub fn maps_without_sections_are_shallow()
+    ensures { (l : LeafMap) → IsShallow (leaf l) }
 {}
 
 /// A law: the bytes that a well-formed map of any kind is written as, and a data URL of them, stand

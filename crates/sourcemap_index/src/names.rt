@@ -1,11 +1,15 @@
-//! The original names of functions that are guessed in maps of any kind.
-ghost use Rattle.std.specs.Prelude.{◌≡◌};
+//! The original names of functions in maps of any kind.
+ghost use Rattle.std.specs.Prelude.{◌≡◌, IfSome};
 ghost use Rattle.std.specs.Option.{option_copied};
+ghost use Rattle.sourcemap_hermes.specs.Map.{hermes_value};
+ghost use Rattle.sourcemap_regular.specs.Map.{lookup};
+ghost use Rattle.sourcemap_scopes.specs.SourceScopes.{IsInOrderAt};
 ghost use Rattle.sourcemap_trees.specs.MapTree.{index_tree};
 ghost use Rattle.sourcemap_trees.specs.WellFormed.{IsInOrder};
-ghost use Rattle.sourcemap_index.specs.Names.{function_name, guessed_in};
+ghost use Rattle.sourcemap_index.specs.Names.{AreNamesInOrder, function_name, guessed_in, name_in_bytecode};
 
 use crate::family::{DecodedMap, SourceMapIndex};
+use sourcemap_hermes::map::SourceMapHermes;
 use sourcemap_views::sourceview::SourceView;
 
 impl SourceMapIndex {
@@ -34,8 +38,10 @@ impl DecodedMap {
     ghost use Rattle.sourcemap_index.specs.Family.{map_tree};
 
     /// The original name of the function that stands at a line and a column of the generated text,
-    /// both from 0, the column in UTF-16 units: guessed by its minified name in a view of that text,
-    /// as by the call of the map's kind. None without both. It takes no memory.
+    /// both from 0, the column in UTF-16 units. A Hermes map has it for a column of line 0, the
+    /// bytecode, and for no other line, and looks at neither the minified name nor the view. Other
+    /// maps guess it by the minified name in a view of the generated text, as by the call of their
+    /// kind; without both there is none. It takes no memory.
     pub fn get_original_function_name(
         &self,
         line: u32,
@@ -43,13 +49,29 @@ impl DecodedMap {
         minified_name: Option<&str>,
         source_view: Option<&SourceView>,
     ) -> Option<&str>
-        ensures { IsInOrder (map_tree self.now) → option_copied result
+        ensures { AreNamesInOrder (map_tree self.now) (line, col) → option_copied result
             ≡ function_name (map_tree self.now) (option_copied source_view.entry)
             (option_copied minified_name.entry) (line, col) }
     {
+        if let DecodedMap::Hermes(map) = self {
+            return name_in_bytecode(map, line, col);
+        }
         let minified_name = minified_name?;
         let view = source_view?;
         let token = self.lookup_token(line, col)?;
         view.get_original_function_name(token, minified_name)
+    }
+}
+
+// The name by a Hermes map.
+fn name_in_bytecode(map: &SourceMapHermes, line: u32, col: u32) -> Option<&str>
+    ensures { IfSome (lookup (hermes_value map.now).map (0, col))
+        (λ t. IsInOrderAt (hermes_value map.now).scopes t.raw.src_id)
+        → option_copied result ≡ name_in_bytecode (hermes_value map.now) (line, col) }
+{
+    if line == 0 {
+        map.get_original_function_name(col)
+    } else {
+        None
     }
 }

@@ -180,6 +180,10 @@ record_once m a b (mappings, ranges, of_mappings, of_ranges, is) (mappings', ran
     let range : ranges ≡ ranges' = IsRangeText-same m.tokens ranges ranges' of_ranges of_ranges' in
     is ∙ ap (λ r. plain (record_with m r ranges)) one ∙ ap (λ r. plain (record_with m mappings' r)) range ∙ sym is'
 
+-- what a map is written as has two levels
+pub record-low : (m : MapValue) (t : Tree) → IsRecordOf m t → IsLow 2 (written t)
+record-low m t (mappings, ranges, of_mappings, of_ranges, is) = subst (λ t. IsLow 2 (written t)) (sym is) (low_written m mappings ranges)
+
 -- no number in what a map is written as has a fraction
 pub record-whole : (m : MapValue) (t : Tree) → IsRecordOf m t → has_float (written t) ≡ false
 record-whole m t (mappings, ranges, of_mappings, of_ranges, is) = ap (λ t. has_float (written t)) is ∙ no_fraction m mappings ranges

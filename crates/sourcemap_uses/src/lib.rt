@@ -7,6 +7,7 @@ pub mod building;
 pub mod data_urls;
 pub mod faults;
 pub mod flattening;
+pub mod functions;
 pub mod linking;
 pub mod merging;
 pub mod places;

@@ -9,6 +9,7 @@ use sourcemap_uses::building::place_once_written;
 use sourcemap_uses::data_urls::inline_map;
 use sourcemap_uses::faults::{Advice, advise};
 use sourcemap_uses::flattening::is_kept_flat;
+use sourcemap_uses::functions::function_at;
 use sourcemap_uses::linking::link;
 use sourcemap_uses::merging::{add_shown, merged_sources};
 use sourcemap_uses::places::{frame_text, place_text};
@@ -35,6 +36,14 @@ fn places(rt: HostRuntime) -> std::result::Result<(), Fail> {
     assert_eq!(rt; shown(alloc, place).as_str(), "coolstuff.js:0:4 name=x");
     let frame = frame_text(alloc, MAP.as_bytes(), 1, 6)?;
     assert_eq!(rt; shown(alloc, frame).as_str(), "coolstuff.js:0:4 name=x");
+    Ok(())
+}
+
+#[test]
+fn functions(rt: HostRuntime) -> std::result::Result<(), Fail> {
+    let text = r#"{"sources":["a.js"],"mappings":"AAAA,KACK","x_facebook_sources":[[{"names":["<global>","foo"],"mappings":"AAA,KCC"}]]}"#;
+    let name = function_at(rt.alloc(), text.as_bytes(), 7)?;
+    assert_eq!(rt; shown(rt.alloc(), name).as_str(), "foo");
     Ok(())
 }
 
