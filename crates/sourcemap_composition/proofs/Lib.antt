@@ -2,4 +2,5 @@ mod StretchesLemmas
 mod ClosestLemmas
 mod CompositionLemmas
 mod CompositionRows
+mod SettlingLemmas
 pub mod MovedLemmas

@@ -1,3 +1,4 @@
 pub mod Composition
 pub mod Moved
+pub mod Settling
 pub mod Stretches

@@ -7,9 +7,10 @@ ghost use Rattle.sourcemap_lists.specs.Tokens.{AreInOrder, destination, position
 ghost use Rattle.sourcemap_composition.specs.Stretches.{source, stretches};
 ghost use Rattle.sourcemap_composition.specs.Composition.{ReachesAhead, RefusesIf, column_without, composed, composed_all, composition, later_start, overlap, pair, passes_the_line};
 
+use crate::settling::sorted;
 use crate::stretches::{Side, Stretch, copy_or, is_before, sorted_copy, stretch_at};
 use sourcemap_errors::errors::{Error, Result};
-use sourcemap_lists::tokens::{NO_ID, RawToken, sort_tokens};
+use sourcemap_lists::tokens::{NO_ID, RawToken};
 use std::alloc::Global;
 
 /// The tokens of `original`, adjusted by those of `adjustment`, which come from the text that the
@@ -33,8 +34,9 @@ pub fn compose(
     let adjustment_copy = sorted_copy(alloc, Side::Adjustment, adjustment)?;
     let originals = copy_or(original, &original_copy);
     let adjustments = copy_or(adjustment, &adjustment_copy);
-    let mut tokens = walk(alloc, adjustments, originals)?;
-    sort_tokens(&mut tokens)?;
+    let walked = walk(alloc, adjustments, originals)?;
+    // in two steps for the prover: what a call answers is known behind its `?`
+    let tokens = sorted(Side::Original, walked)?;
     Ok(tokens)
 }
 

@@ -3,4 +3,5 @@
 
 pub mod composition;
 pub mod moved;
+mod settling;
 pub mod stretches;

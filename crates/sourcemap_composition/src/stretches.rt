@@ -4,6 +4,7 @@ ghost use Rattle.sourcemap_errors.specs.Answer.{Gives};
 ghost use Rattle.sourcemap_lists.specs.Tokens.{position_cmp, sorted_by};
 ghost use Rattle.sourcemap_composition.specs.Stretches.{copy_or, earlier, is_before, place_by, stretches};
 
+use crate::settling::sorted;
 use sourcemap_errors::errors::Result;
 use sourcemap_lists::tokens::RawToken;
 use std::alloc::Global;
@@ -31,7 +32,7 @@ pub struct Stretch {
 }
 
 // Where a token stands in the text where both maps meet.
-fn place_by(side: Side, token: &RawToken) -> (u32, u32)
+pub(crate) fn place_by(side: Side, token: &RawToken) -> (u32, u32)
     ensures { result ≡ place_by side token.now }
 {
     match side {
@@ -95,9 +96,8 @@ pub(crate) fn sorted_copy(
     if are_in_order(side, tokens) {
         return Ok(None);
     }
-    let mut copy = Vec::from_slice(alloc, tokens)?;
-    copy.sort_by_key(|token| place_by(side, token))?;
-    Ok(Some(copy))
+    let copy = Vec::from_slice(alloc, tokens)?;
+    Ok(Some(sorted(side, copy)?))
 }
 
 // The copy of a list, or the list itself where there is none.

@@ -1,9 +1,11 @@
-use Rattle.std.proofs.Common.{◌≡◌, length, sym, ap, subst, ◌∙◌, arith, IsSortedByKey}
+use Rattle.std.proofs.Common.{◌≡◌, List, length, sym, ap, subst, ◌∙◌, Result, Ok, arith, IsSortedByKey}
 use Rattle.std.proofs.lemmas.Result.{err_from_is_err_and}
+use Rattle.sourcemap_errors.specs.declared.errors.Error.{Error}
 use Rattle.sourcemap_errors.proofs.AnswerLemmas.{UnlessMemory-weaker}
 use Rattle.sourcemap_lists.specs.Tokens.{AreInOrder, destination, position_cmp}
 use Rattle.sourcemap_lists.proofs.SortLemmas.{length-sorted_by, sorted-sorted_by}
 use Rattle.sourcemap_lists.proofs.TokensLemmas.{AreInOrder-in_order, length-in_order, position_cmp_total}
+use Rattle.sourcemap_lists.specs.declared.tokens.RawToken.{RawToken}
 use Rattle.sourcemap_composition.specs.Stretches.{source}
 use Rattle.sourcemap_composition.proofs.CompositionLemmas.{composition-refused, sorted_is}
 use Rattle.sourcemap_composition.proofs.composition.compose.Goals as goal
@@ -18,18 +20,21 @@ walk-requires-clause-originals c =
     let is = sorted_is destination c.args.original.now _ _ c.in_ok-original_copy.ensures c.copy_or-originals.ensures in
     subst (IsSortedByKey destination position_cmp) (sym is) (sorted-sorted_by destination position_cmp_total c.args.original.now)
 
-pub returns-in_err-tokens-clause-answer : goal.returns-in_err-tokens-clause-answer
-returns-in_err-tokens-clause-answer c =
+pub returns-in_err-walked-clause-answer : goal.returns-in_err-walked-clause-answer
+returns-in_err-walked-clause-answer c =
     let is_original = sorted_is destination c.args.original.now _ _ c.in_ok-original_copy.ensures c.copy_or-originals.ensures in
     let is_adjustment = sorted_is source c.args.adjustment.now _ _ c.in_ok-adjustment_copy.ensures c.copy_or-adjustments.ensures in
-    let p = err_from_is_err_and c.from_residual-in_err-tokens.result c.from_residual-in_err-tokens.ensures.1 in
+    let p = err_from_is_err_and c.from_residual-in_err-walked.result c.from_residual-in_err-walked.ensures.1 in
     rw (p.1, p.2)
-    (UnlessMemory-weaker c.in_err-tokens.field-0.0
-    (λ h. composition-refused c.args.original.now c.args.adjustment.now _ _ is_original is_adjustment c.in_err-tokens.field-0.0 h.0 h.1)
-    c.in_err-tokens.ensures.refused)
+    (UnlessMemory-weaker c.in_err-walked.field-0.0
+    (λ h. composition-refused c.args.original.now c.args.adjustment.now _ _ is_original is_adjustment c.in_err-walked.field-0.0 h.0 h.1)
+    c.in_err-walked.ensures.refused)
+
+in_place : {xs ys : List RawToken} → ◌≡◌ {A = Result (List RawToken) Error} (Ok xs) (Ok ys) → xs ≡ ys
+in_place e = cc e
 
 pub returns-clause-in_order : goal.returns-clause-in_order
-returns-clause-in_order c = subst AreInOrder (sym c.in_ok-sort_tokens.ensures.sorted) (AreInOrder-in_order c.in_ok-tokens.tokens.items)
+returns-clause-in_order c = subst AreInOrder (in_place c.in_ok-tokens.ensures) (AreInOrder-in_order c.in_ok-walked.walked.items)
 
 pub returns-clause-few : goal.returns-clause-few
 returns-clause-few c =
@@ -37,6 +42,6 @@ returns-clause-few c =
     let is_adjustment = sorted_is source c.args.adjustment.now _ _ c.in_ok-adjustment_copy.ensures c.copy_or-adjustments.ensures in
     let many_original : length c.copy_or-originals.result.now ≡ length c.args.original.now = ap length is_original ∙ length-sorted_by destination position_cmp_total c.args.original.now in
     let many_adjustment : length c.copy_or-adjustments.result.now ≡ length c.args.adjustment.now = ap length is_adjustment ∙ length-sorted_by source position_cmp_total c.args.adjustment.now in
-    let many : length c.sort_tokens.new.tokens.items ≡ length c.in_ok-tokens.tokens.items = ap length c.in_ok-sort_tokens.ensures.sorted ∙ length-in_order c.in_ok-tokens.tokens.items in
-    let few = c.in_ok-tokens.ensures.few in
+    let many : length c.in_ok-tokens.tokens.items ≡ length c.in_ok-walked.walked.items = ap length (sym (in_place c.in_ok-tokens.ensures)) ∙ length-in_order c.in_ok-walked.walked.items in
+    let few = c.in_ok-walked.ensures.few in
     omega arith
