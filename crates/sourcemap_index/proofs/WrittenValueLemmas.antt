@@ -1,15 +1,15 @@
 -- The value that a map of any kind is written as: there is one, and no number in it has a fraction.
-use Rattle.std.proofs.Common.{◌≡◌, ◌∙◌, refl, sym, ap, subst, ℕ, List, [], ◌∷◌, length, codes, map, Option, Some, None, option_map, Bool, true, false, ◌||◌}
+use Rattle.std.proofs.Common.{◌≡◌, ◌∙◌, refl, sym, ap, ℕ, List, [], ◌∷◌, length, codes, map, Option, Some, None, option_map, Bool, true, false, ◌||◌}
 use Rattle.std.specs.Ordering.{nat_cmp, match_ordering}
 use Rattle.std.specs.Cmp.Lexicographic.{slice_cmp}
 use Rattle.std.specs.declared.cmp.Ordering.{Ordering}
 use Rattle.std.specs.declared.cmp.Ordering.TheVariants.{Less, Equal, Greater}
-use Rattle.serde_json.specs.Data.{Data, null, string, array, object, Members, no_members, member, put}
+use Rattle.serde_json.specs.Data.{Data, null, string, array, Members, no_members, member, put}
 use Rattle.serde_json.specs.View.{items_of}
 use Rattle.serde_json.specs.Written.{compact_text, has_float, items_have_float, members_have_float}
 use Rattle.sourcemap_headers.specs.DebugId.{debug_id_text}
 use Rattle.sourcemap_records.specs.Field.{written_number, written_or_null, written_list, put_if, put_all}
-use Rattle.sourcemap_records.specs.Jsontypes.{Scopes, Tree, plain, indexed, Sections, bare, mapped, Place, entries, written, written_fields, written_sections, written_section, written_offset, written_scopes}
+use Rattle.sourcemap_records.specs.Jsontypes.{Scopes, Tree, Sections, Place, entries, written, written_fields, written_sections, written_section, written_offset, written_scopes}
 use Rattle.sourcemap_regular.proofs.WriteLemmas.{record-whole}
 use Rattle.sourcemap_regular.specs.Encode.{record_with, written_contents, written_ids}
 use Rattle.sourcemap_regular.specs.Map.{MapValue}

@@ -2,8 +2,7 @@
 use Rattle.std.proofs.Common.{◌∙◌, sym}
 use Rattle.std.proofs.lemmas.Result.{err_from_is_err_and}
 use Rattle.sourcemap_records.specs.Jsontypes.{flat, tree}
-use Rattle.sourcemap_index.proofs.DecodeIndexLemmas.{hermes_decodes, hermes_refused, regular_decodes, regular_refused, scopes_there}
-use Rattle.sourcemap_index.proofs.FamilyLemmas.{hermes_tree, regular_tree}
+use Rattle.sourcemap_index.proofs.DecodeIndexLemmas.{hermes_refused, regular_refused, scopes_there}
 use Rattle.sourcemap_index.proofs.decode_index.decode_leaf.Goals as goal
 
 pub returns-in_err-map : goal.returns-in_err-map
