@@ -54,6 +54,7 @@ pub use Rattle.sourcemap_index.specs.Decode as Decoder
 pub mod Decoded
 pub use Rattle.sourcemap_index.specs.Equality as IndexEquality
 pub use Rattle.sourcemap_index.specs.Index
+pub use Rattle.sourcemap_index.specs.Names as FunctionNames
 pub use Rattle.sourcemap_index.specs.Rows
 pub use Rattle.sourcemap_index.specs.Section
 pub use Rattle.sourcemap_views.specs.Columns

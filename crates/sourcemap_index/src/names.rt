@@ -29,8 +29,8 @@ impl SourceMapIndex {
         ensures { IsInOrder (index_tree (index_value self.now)) → option_copied result
             ≡ guessed_in (index_tree (index_value self.now)) view.now minified_name.now (line, col) }
     {
-        let token = self.lookup_token(line, col)?;
-        view.get_original_function_name(token, minified_name)
+        let closest = self.lookup_token(line, col)?;
+        view.get_original_function_name(closest, minified_name)
     }
 }
 

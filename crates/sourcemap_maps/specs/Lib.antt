@@ -13,3 +13,4 @@ pub use Rattle.sourcemap_parts.specs.Sources
 pub use Rattle.sourcemap_rewriting.specs.Options
 pub use Rattle.sourcemap_views.specs.Sourceview
 pub use Rattle.sourcemap_views.specs.Walk
+pub use Rattle.sourcemap_regular.specs.Walk as TokenWalk
