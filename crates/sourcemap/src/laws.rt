@@ -7,9 +7,9 @@ pub use sourcemap_core::laws::{
     reduced_answers_alike, segments_are_determined, written_texts_are_determined,
 };
 pub use sourcemap_headers::data_url::data_urls_have_one_answer;
-pub use sourcemap_index::decode::{answers_are_determined, no_other_fault_is_of_urls};
 pub use sourcemap_hermes::encode::written_records_are_determined as hermes_records_are_determined;
 pub use sourcemap_hermes::rewrite::rewriting_keeps_scopes;
+pub use sourcemap_index::decode::{answers_are_determined, no_other_fault_is_of_urls};
 pub use sourcemap_index::laws::{
     encoded_texts_are_compact, encoded_texts_read_back, hermes_maps_are_of_a_kind,
     regular_maps_are_of_a_kind, written_values_have_one_text,

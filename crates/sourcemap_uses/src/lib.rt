@@ -9,6 +9,7 @@ pub mod faults;
 pub mod flattening;
 pub mod linking;
 pub mod merging;
+pub mod naming;
 pub mod places;
 pub mod publishing;
 pub mod quick;
