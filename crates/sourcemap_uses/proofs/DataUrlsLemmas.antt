@@ -1,5 +1,5 @@
 -- A refusal of a data URL is that of the bytes in it.
-use Rattle.std.proofs.Common.{◌≡◌, ◌≢◌, inl, inr, ap, ℕ, List, Result, Ok, Err}
+use Rattle.std.proofs.Common.{◌≢◌, inl, inr, ap, ℕ, List, Result, Ok, Err}
 use Rattle.sourcemap.specs.Answer.{UnlessMemory}
 use Rattle.sourcemap.specs.DataUrl.{Holds}
 use Rattle.sourcemap.specs.Decoder.{BytesDecode, UrlDecodes}

@@ -1,5 +1,6 @@
 pub mod Building
 pub mod DataUrls
 pub mod Faults
+pub mod Naming
 pub mod Places
 pub mod Publishing

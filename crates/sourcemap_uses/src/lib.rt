@@ -10,6 +10,7 @@ pub mod flattening;
 pub mod functions;
 pub mod linking;
 pub mod merging;
+pub mod naming;
 pub mod places;
 pub mod publishing;
 pub mod quick;

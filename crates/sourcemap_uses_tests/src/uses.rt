@@ -12,6 +12,7 @@ use sourcemap_uses::flattening::is_kept_flat;
 use sourcemap_uses::functions::function_at;
 use sourcemap_uses::linking::link;
 use sourcemap_uses::merging::{add_shown, merged_sources};
+use sourcemap_uses::naming::{original_name, source_line};
 use sourcemap_uses::places::{frame_text, place_text};
 use sourcemap_uses::publishing::published;
 use sourcemap_uses::shrinking::shrunk;
@@ -191,5 +192,18 @@ fn a_section_is_linked(rt: HostRuntime) -> std::result::Result<(), Fail> {
             .map(|section| section.get_url() == Some("u")),
     );
     assert!(rt; urls == (Some(true), Some(true)));
+    Ok(())
+}
+
+const BUNDLE: &str =
+    r#"{"version":3,"sources":["a.js"],"sourcesContent":["\nfunction foo() {}"],"names":["foo"],"mappings":"AACA,SAASA"}"#;
+
+#[test]
+fn a_function_has_its_name(rt: HostRuntime) -> std::result::Result<(), Fail> {
+    let alloc = rt.alloc();
+    let name = original_name(alloc, BUNDLE.as_bytes(), "function b(){}", 0, 9, "b")?;
+    assert_eq!(rt; shown(alloc, name).as_str(), "foo");
+    let map = SourceMap::from_slice(alloc, BUNDLE.as_bytes())?;
+    assert_eq!(rt; source_line(&map, 0, 9).unwrap_or(""), "function foo() {}");
     Ok(())
 }

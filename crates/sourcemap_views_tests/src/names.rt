@@ -1,7 +1,7 @@
 // Names of functions that are guessed by a map and a view of the text that was made of its sources.
 use crate::checks::check;
 use sourcemap::decoder::decode_slice;
-use sourcemap::{DecodedMap, SourceView};
+use sourcemap::{DecodedMap, SourceMap, SourceView};
 use sourcemap_errors::errors::Result;
 use std::alloc::Global;
 
@@ -10,39 +10,192 @@ const TEXT: &str = "function b(){}";
 
 const MAP: &str = r#"{"version":3,"sources":["a.js"],"names":["foo"],"mappings":"AAAA,SAASA"}"#;
 
-// The name of the function that is called `minified` where the token closest to a column stands.
-fn name_at(alloc: Global, col: u32, minified: &str) -> Result<String> {
+// The same map in an index, two lines and three columns behind its start.
+const INDEX: &str =
+    r#"{"sections":[{"offset":{"line":2,"column":3},"map":{"sources":["a.js"],"names":["foo"],"mappings":"AAAA,SAASA"}}]}"#;
+
+// The first line is bytecode.
+const HERMES: &str =
+    r#"{"sources":["a.js"],"names":[],"mappings":"AAAA,EAAC;AAAA","x_facebook_sources":[[{"names":["<global>","f"],"mappings":"AAA,CCA"}]]}"#;
+
+// A map, a line, a column, what a function is called in the text, and its name in the source.
+const NAMES: [(&str, (u32, u32), &str, &str); 17] = [
+    (MAP, (0, 9), "b", "foo"),
+    (MAP, (0, 13), "b", "foo"),
+    (MAP, (1, 0), "b", "foo"),
+    (MAP, (0, 9), "c", "none"),
+    (MAP, (0, 9), "b.c", "none"),
+    (MAP, (0, 9), "", "none"),
+    (MAP, (0, 0), "b", "none"),
+    (MAP, (0, 8), "b", "none"),
+    (INDEX, (2, 12), "b", "foo"),
+    (INDEX, (3, 0), "b", "foo"),
+    (INDEX, (2, 12), "c", "none"),
+    (INDEX, (2, 9), "b", "none"),
+    (INDEX, (0, 9), "b", "none"),
+    (HERMES, (0, 0), "b", "<global>"),
+    (HERMES, (0, 1), "b", "<global>"),
+    (HERMES, (0, 7), "b", "f"),
+    (HERMES, (1, 0), "b", "none"),
+];
+
+fn name_in(alloc: Global, map: &str, place: (u32, u32), minified: &str) -> Result<String> {
     let view = SourceView::new(alloc, TEXT)?;
-    let map = decode_slice(alloc, MAP.as_bytes())?;
-    told(alloc, &map, &view, col, minified)
+    let map = decode_slice(alloc, map.as_bytes())?;
+    told(alloc, &map, place, Some(minified), Some(&view))
 }
 
 fn told(
     alloc: Global,
     map: &DecodedMap,
-    view: &SourceView,
-    col: u32,
-    minified: &str,
+    (line, col): (u32, u32),
+    minified: Option<&str>,
+    view: Option<&SourceView>,
 ) -> Result<String> {
-    let name = match map.lookup_token(0, col) {
-        Some(token) => view.get_original_function_name(token, minified),
-        None => None,
+    let name = map.get_original_function_name(line, col, minified, view);
+    Ok(String::from_str(alloc, name.unwrap_or("none"))?)
+}
+
+#[test]
+fn names_of_functions_are_guessed_by_maps(rt: HostRuntime) {
+    for (map, place, minified, want) in NAMES.iter() {
+        check(
+            &rt,
+            minified,
+            name_in(rt.alloc(), map, *place, minified),
+            want,
+        );
+    }
+}
+
+// A map, whether there is a name, whether there is a view, and the answer.
+const LESS: [(&str, bool, bool, &str); 9] = [
+    (MAP, true, true, "foo"),
+    (MAP, false, true, "none"),
+    (MAP, true, false, "none"),
+    (MAP, false, false, "none"),
+    (INDEX, false, true, "none"),
+    (INDEX, true, false, "none"),
+    (HERMES, true, false, "f"),
+    (HERMES, false, true, "f"),
+    (HERMES, false, false, "f"),
+];
+
+fn name_with(alloc: Global, map: &str, with_name: bool, with_view: bool) -> Result<String> {
+    let view = SourceView::new(alloc, TEXT)?;
+    let map = decode_slice(alloc, map.as_bytes())?;
+    let minified = if with_name { Some("b") } else { None };
+    let view = if with_view { Some(&view) } else { None };
+    told(alloc, &map, (0, 9), minified, view)
+}
+
+#[test]
+fn maps_but_hermes_maps_need_a_name_and_a_view(rt: HostRuntime) {
+    for (map, with_name, with_view, want) in LESS.iter() {
+        check(
+            &rt,
+            map,
+            name_with(rt.alloc(), map, *with_name, *with_view),
+            want,
+        );
+    }
+}
+
+// The name by the call of the map's kind.
+fn name_by_kind(alloc: Global, map: &str, (line, col): (u32, u32)) -> Result<String> {
+    let view = SourceView::new(alloc, TEXT)?;
+    let map = decode_slice(alloc, map.as_bytes())?;
+    let name = match &map {
+        DecodedMap::Regular(map) => map.get_original_function_name(line, col, "b", &view),
+        DecodedMap::Index(map) => map.get_original_function_name(line, col, "b", &view),
+        DecodedMap::Hermes(map) => map.get_original_function_name(col),
     };
     Ok(String::from_str(alloc, name.unwrap_or("none"))?)
 }
 
-// A column, what a function is called in the text, and its name in the source.
-const NAMES: [(u32, &str, &str); 5] = [
-    (9, "b", "foo"),
-    (13, "b", "foo"),
-    (9, "c", "none"),
-    (9, "b.c", "none"),
-    (0, "b", "none"),
-];
+#[test]
+fn each_kind_of_map_names_functions(rt: HostRuntime) {
+    check(&rt, "map", name_by_kind(rt.alloc(), MAP, (0, 9)), "foo");
+    check(
+        &rt,
+        "index",
+        name_by_kind(rt.alloc(), INDEX, (2, 12)),
+        "foo",
+    );
+    check(&rt, "hermes", name_by_kind(rt.alloc(), HERMES, (0, 7)), "f");
+}
+
+// How many tokens without a source stand on the second line, and the name of `b` at the last one.
+const FAR: [(u32, &str); 4] = [(1, "foo"), (100, "foo"), (126, "foo"), (127, "none")];
+
+// The map above, with as many tokens on a second line.
+fn with_second_line(alloc: Global, count: u32) -> Result<String> {
+    let mut text = String::from_str(
+        alloc,
+        r#"{"version":3,"sources":["a.js"],"names":["foo"],"mappings":"AAAA,SAASA;A"#,
+    )?;
+    for _ in 1..count {
+        text.push_str(",C")?;
+    }
+    text.push_str("\"}")?;
+    Ok(text)
+}
+
+fn name_from_afar(alloc: Global, count: u32) -> Result<String> {
+    let map = with_second_line(alloc, count)?;
+    name_in(alloc, map.as_str(), (1, count - 1), "b")
+}
 
 #[test]
-fn names_of_functions_are_guessed_by_maps(rt: HostRuntime) {
-    for row in NAMES.iter() {
-        check(&rt, row.1, name_at(rt.alloc(), row.0, row.1), row.2);
+fn walks_are_128_tokens_long(rt: HostRuntime) {
+    for (count, want) in FAR.iter() {
+        check(&rt, want, name_from_afar(rt.alloc(), *count), want);
+    }
+}
+
+const WITH_CONTENTS: &str =
+    r#"{"version":3,"sources":["a.js","b.js","c.js"],"sourcesContent":["x\ny",null,"abc👌def\r\nblah"],"names":[],"mappings":"AAAA,CCAA,CCAA,C"}"#;
+
+// The id of a source, a line of its contents, and that line.
+const LINES: [(u32, u32, &str); 9] = [
+    (0, 0, "x"),
+    (0, 1, "y"),
+    (0, 2, "none"),
+    (1, 0, "none"),
+    (2, 0, "abc👌def"),
+    (2, 1, "blah"),
+    (2, 2, "none"),
+    (3, 0, "none"),
+    (4294967295, 0, "none"),
+];
+
+fn line_told(alloc: Global, view: Option<&SourceView>, line: u32) -> Result<String> {
+    let text = match view {
+        None => None,
+        Some(view) => view.get_line(line),
+    };
+    Ok(String::from_str(alloc, text.unwrap_or("none"))?)
+}
+
+fn line_of_source(alloc: Global, id: u32, line: u32) -> Result<String> {
+    let map = SourceMap::from_slice(alloc, WITH_CONTENTS.as_bytes())?;
+    line_told(alloc, map.get_source_view(id), line)
+}
+
+// The same by the token that leads to the source; the fourth one leads to none.
+fn line_of_token(alloc: Global, id: u32, line: u32) -> Result<String> {
+    let map = SourceMap::from_slice(alloc, WITH_CONTENTS.as_bytes())?;
+    let view = match map.get_token(id as usize) {
+        None => None,
+        Some(token) => token.get_source_view(),
+    };
+    line_told(alloc, view, line)
+}
+
+#[test]
+fn contents_are_views(rt: HostRuntime) {
+    for (id, line, want) in LINES.iter() {
+        check(&rt, want, line_of_source(rt.alloc(), *id, *line), want);
+        check(&rt, want, line_of_token(rt.alloc(), *id, *line), want);
     }
 }

@@ -1,0 +1,39 @@
+//! What stands in the sources behind a place in a bundle: a function's name, a line of text.
+ghost use Rattle.std.specs.Prelude.{◌≡◌, IfOk, option_and_then, option_map, string_bytes};
+ghost use Rattle.std.specs.Option.{option_copied};
+ghost use Rattle.sourcemap.specs.Types.{lookup};
+ghost use Rattle.sourcemap_uses.specs.Naming.{IsNameOf, line_behind};
+
+use sourcemap::{Result, SourceMap, SourceView};
+use std::alloc::Global;
+
+/// What the function that is called `minified` in a bundle, whose code stands at a line and a column
+/// of its text, is called in its source: guessed by the bundle's map, which these bytes hold, and by
+/// the text. `None` if there is no guess. Lines and columns count from 0, columns in UTF-16 units.
+pub fn original_name(
+    alloc: Global,
+    map: &[u8],
+    text: &str,
+    line: u32,
+    col: u32,
+    minified: &str,
+) -> Result<Option<String>>
+    ensures { IfOk result (λ name.
+        IsNameOf map.now text.now (line, col) minified.now (option_map string_bytes name)) }
+{
+    let map = SourceMap::from_slice(alloc, map)?;
+    let view = SourceView::new(alloc, text)?;
+    match map.get_original_function_name(line, col, minified, &view) {
+        None => Ok(None),
+        Some(name) => Ok(Some(String::from_str(alloc, name)?)),
+    }
+}
+
+/// The line of the source that a place in the generated text comes from, if the map has the contents
+/// of that source. It takes no memory.
+pub fn source_line(map: &SourceMap, line: u32, col: u32) -> Option<&str>
+    ensures { option_copied result ≡ option_and_then line_behind (lookup map.now (line, col)) }
+{
+    let token = map.lookup_token(line, col)?;
+    token.get_source_view()?.get_line(token.get_src_line())
+}
