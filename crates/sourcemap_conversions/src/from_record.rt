@@ -14,8 +14,7 @@ use crate::parts::Parts;
 use serde_json::{Number, Value};
 use sourcemap_errors::errors::{Error, Result};
 use sourcemap_line_index::token_list::TokenList;
-use sourcemap_lists::tokens::RawToken;
-use sourcemap_mappings::read::parse_mappings;
+use sourcemap_mappings::read::parse_token_list;
 use sourcemap_parts::contents::Contents;
 use sourcemap_parts::heading::Heading;
 use sourcemap_parts::sources::Sources;
@@ -116,30 +115,16 @@ fn has_room(lists: &RecordLists) -> bool
     names & sources & contents
 }
 
-// The tokens that these texts stand for, in order. The texts are let go.
-fn tokens_in(alloc: Global, texts: RecordTexts, sources: u32, names: u32) -> Result<Vec<RawToken>>
-    ensures answer { IsAnswer (λ tokens. tokens.items)
-        (MappingsAnswer (string_bytes texts.mappings) (string_bytes texts.ranges)
-        (record { sources = sources; names = names })) result }
-    ensures in_order { IfOk result (λ tokens. AreInOrder tokens.items) }
-    ensures within { IfOk result (λ tokens. AllWithin sources names tokens.items) }
-{
-    let mappings = texts.mappings.as_str();
-    let ranges = texts.ranges.as_str();
-    parse_mappings(alloc, mappings, ranges, sources, names)
-}
-
-// The list of these tokens, whose table is made when the texts are gone.
+// The list of the tokens that these texts stand for. The texts are let go.
 fn token_list(alloc: Global, texts: RecordTexts, sources: u32, names: u32) -> Result<TokenList>
     ensures answer { IsAnswer (λ list. list)
         (MappingsAnswer (string_bytes texts.mappings) (string_bytes texts.ranges)
         (record { sources = sources; names = names })) result }
     ensures within { IfOk result (AllWithin sources names) }
 {
-    match tokens_in(alloc, texts, sources, names) {
-        Err(fault) => Err(fault),
-        Ok(tokens) => TokenList::of_ordered(tokens),
-    }
+    let mappings = texts.mappings.as_str();
+    let ranges = texts.ranges.as_str();
+    parse_token_list(alloc, mappings, ranges, sources, names)
 }
 
 // The parts of a map of these tokens.

@@ -1,5 +1,6 @@
 -- How a table of lines grows token by token, and which tokens its rows lead to.
-use Rattle.std.proofs.Common.{◌≡◌, refl, sym, ap, subst, ◌∙◌, ℕ, ◌<◌, ◌≤◌, ◌+◌, ◌-◌, arith, inl, inr, List, [], ◌∷◌, ◌++◌, length, get_or, slice_get, slice_index, Some, None, option_map}
+use Rattle.std.proofs.Common.{◌≡◌, refl, sym, ap, subst, ◌∙◌, ℕ, zero, suc, ◌<◌, ◌≤◌, ◌+◌, ◌-◌, arith, inl, inr, List, [], ◌∷◌, ◌++◌, length, get_or, slice_get, slice_index, Some, None, option_map}
+use Rattle.std.specs.List.{AllByRecursion}
 use Rattle.std.specs.Ordering.{ordering_index}
 use Rattle.std.proofs.lemmas.Bool.{cases_eq, cases_lt}
 use Rattle.std.proofs.lemmas.Bool.Decides.{nat_tests}
@@ -8,8 +9,9 @@ use Rattle.std.proofs.lemmas.List.Sorted.{searchable_from_sorted}
 use Rattle.std.proofs.lemmas.Option.{slice_get-get_or, slice_get_cases, slice_get_past}
 use Rattle.sourcemap_lists.specs.Tokens.{AreInOrder, destination, position_cmp}
 use Rattle.sourcemap_lists.specs.declared.tokens.RawToken.{RawToken}
+use Rattle.sourcemap_lists.proofs.AllLemmas.{All-at}
 use Rattle.sourcemap_lists.proofs.TokensLemmas.{position_cmp_total}
-use Rattle.sourcemap_line_index.specs.LineIndex.{BeginsLine, GoesOnLine, IsLineTable, IsMadeFrom, IsSpan, LineTable, line_at}
+use Rattle.sourcemap_line_index.specs.LineIndex.{BeginsLine, GoesOnLine, IsLineTable, IsMadeFrom, IsSpan, LineTable, line_at, with_row}
 
 -- a place with a line is inside the list, and its token is on that line
 pub inside_list : (tokens : List RawToken) (k line : ℕ) → line_at tokens k ≡ Some line → k < length tokens
@@ -76,8 +78,13 @@ table_kept tokens n table goes_on t = record {
   ends = λ some. let back : n + 1 - 1 ≡ n = omega arith in rw back (goes_on.1 ∙ t.ends some);
 }
 
--- a token that begins a line adds a row
-module _ (tokens : List RawToken) (n line : ℕ) (lines firsts : List ℕ) (up : AreInOrder tokens) (at : line_at tokens n ≡ Some line) (begins : BeginsLine tokens n) (t : IsLineTable tokens n (record { lines = lines; firsts = firsts })) where
+-- the token before a place is on the line of the last row
+last_at : (tokens : List RawToken) (n : ℕ) (lines firsts : List ℕ) → IsLineTable tokens n (record { lines = lines; firsts = firsts })
+    → (row : ℕ) → row + 1 ≡ length lines → line_at tokens (n - 1) ≡ Some (slice_index lines row)
+last_at tokens n lines firsts t row e = let back : length lines - 1 ≡ row = omega arith in subst (λ k. line_at tokens (n - 1) ≡ Some (slice_index lines k)) back (t.ends (omega arith))
+
+-- a token on a line behind those of all rows adds a row
+module _ (tokens : List RawToken) (n line : ℕ) (lines firsts : List ℕ) (at : line_at tokens n ≡ Some line) (behind : (row : ℕ) → row + 1 ≡ length lines → slice_index lines row < line) (t : IsLineTable tokens n (record { lines = lines; firsts = firsts })) where
   old_line : (row : ℕ) → row < length lines → slice_index (lines ++ line ∷ []) row ≡ slice_index lines row
   old_line row l = get_or_append_left lines (line ∷ []) 0 row l
 
@@ -90,25 +97,8 @@ module _ (tokens : List RawToken) (n line : ℕ) (lines firsts : List ℕ) (up :
   new_first : (row : ℕ) → length lines ≡ row → slice_index (firsts ++ n ∷ []) row ≡ n
   new_first row e = get_or_push firsts n 0 row (t.paired ∙ e)
 
-  last_at : (row : ℕ) → row + 1 ≡ length lines → line_at tokens (n - 1) ≡ Some (slice_index lines row)
-  last_at row e = let back : length lines - 1 ≡ row = omega arith in subst (λ k. line_at tokens (n - 1) ≡ Some (slice_index lines k)) back (t.ends (omega arith))
-
-  last_before : (row : ℕ) → row + 1 ≡ length lines → slice_index lines row < line
-  last_before row e =
-      let few = t.few in
-      let last = last_at row e in
-      let within = inside_list tokens n line at in
-      let one = token_of tokens n line at in
-      let here : (get_or tokens n one.0).dst_line ≡ line = token_line tokens n line one.0 at in
-      let there : (get_or tokens (n - 1) one.0).dst_line ≡ slice_index lines row = token_line tokens (n - 1) (slice_index lines row) one.0 last in
-      let rises = lines_rise tokens up (n - 1) n one.0 (omega arith) within in
-      elim (cases_eq (slice_index lines row) line) [
-        | inl same ↦ absurd (begins (omega arith) (at ∙ sym (last ∙ ap Some same)))
-        | inr other ↦ omega arith
-      ]
-
-  pub table_pushed : IsLineTable tokens (n + 1) (record { lines = lines ++ line ∷ []; firsts = firsts ++ n ∷ [] })
-  table_pushed =
+  table_grown : IsLineTable tokens (n + 1) (record { lines = lines ++ line ∷ []; firsts = firsts ++ n ∷ [] })
+  table_grown =
       let many : length (lines ++ line ∷ []) ≡ length lines + 1 = length-append lines (line ∷ []) in
       let many_firsts : length (firsts ++ n ∷ []) ≡ length firsts + 1 = length-append firsts (n ∷ []) in
       let paired = t.paired in
@@ -130,7 +120,7 @@ module _ (tokens : List RawToken) (n line : ℕ) (lines firsts : List ℕ) (up :
           | inr other ↦ rw (old_first row (omega arith), old_line row (omega arith)) (t.on_line row (omega arith))
         ];
         rising = λ row l. elim (cases_eq (length lines) (row + 1)) [
-          | inl here ↦ rw (old_line row (omega arith), new_line (row + 1) here) (last_before row (sym here))
+          | inl here ↦ rw (old_line row (omega arith), new_line (row + 1) here) (behind row (sym here))
           | inr other ↦ rw (old_line row (omega arith), old_line (row + 1) (omega arith)) (t.rising row (omega arith))
         ];
         apart = λ row l. elim (cases_eq (length lines) (row + 1)) [
@@ -138,7 +128,7 @@ module _ (tokens : List RawToken) (n line : ℕ) (lines firsts : List ℕ) (up :
           | inr other ↦ rw (old_first row (omega arith), old_first (row + 1) (omega arith)) (t.apart row (omega arith))
         ];
         abutting = λ row l. elim (cases_eq (length lines) (row + 1)) [
-          | inl here ↦ rw (old_line row (omega arith), new_first (row + 1) here) (last_at row (sym here))
+          | inl here ↦ rw (old_line row (omega arith), new_first (row + 1) here) (last_at tokens n lines firsts t row (sym here))
           | inr other ↦ rw (old_line row (omega arith), old_first (row + 1) (omega arith)) (t.abutting row (omega arith))
         ];
         ends = λ some.
@@ -146,6 +136,93 @@ module _ (tokens : List RawToken) (n line : ℕ) (lines firsts : List ℕ) (up :
             let last : length lines ≡ length (lines ++ line ∷ []) - 1 = omega arith in
             rw (back, new_line (length (lines ++ line ∷ []) - 1) last) at;
       }
+
+-- so does one that begins a line
+module _ (tokens : List RawToken) (n line : ℕ) (lines firsts : List ℕ) (up : AreInOrder tokens) (at : line_at tokens n ≡ Some line) (begins : BeginsLine tokens n) (t : IsLineTable tokens n (record { lines = lines; firsts = firsts })) where
+  last_before : (row : ℕ) → row + 1 ≡ length lines → slice_index lines row < line
+  last_before row e =
+      let few = t.few in
+      let last = last_at tokens n lines firsts t row e in
+      let within = inside_list tokens n line at in
+      let one = token_of tokens n line at in
+      let here : (get_or tokens n one.0).dst_line ≡ line = token_line tokens n line one.0 at in
+      let there : (get_or tokens (n - 1) one.0).dst_line ≡ slice_index lines row = token_line tokens (n - 1) (slice_index lines row) one.0 last in
+      let rises = lines_rise tokens up (n - 1) n one.0 (omega arith) within in
+      elim (cases_eq (slice_index lines row) line) [
+        | inl same ↦ absurd (begins (omega arith) (at ∙ sym (last ∙ ap Some same)))
+        | inr other ↦ omega arith
+      ]
+
+  pub table_pushed : IsLineTable tokens (n + 1) (record { lines = lines ++ line ∷ []; firsts = firsts ++ n ∷ [] })
+  table_pushed = table_grown tokens n line lines firsts at last_before t
+
+same_some : {X : Type 0} {a b : X} → Some a ≡ Some b → a ≡ b
+same_some e = cc e
+
+slice_get_left : {X : Type 0} (xs ys : List X) (k : ℕ) → k < length xs → slice_get (xs ++ ys) k ≡ slice_get xs k
+slice_get_left [] ys k l = absurd (omega arith)
+slice_get_left (x ∷ xs) ys zero l = refl
+slice_get_left (x ∷ xs) ys (suc k) l = slice_get_left xs ys k (omega arith)
+
+line_at_all : (line : ℕ) (more : List RawToken) (k : ℕ) → AllByRecursion (λ t. t.dst_line ≡ line) more → k < length more → line_at more k ≡ Some line
+line_at_all line [] k all l = absurd (omega arith)
+line_at_all line (t ∷ ts) zero all l = ap Some all.0
+line_at_all line (t ∷ ts) (suc k) all l = line_at_all line ts k all.1 (omega arith)
+
+line_at_right : (old more : List RawToken) (k : ℕ) → line_at (old ++ more) (length old + k) ≡ line_at more k
+line_at_right [] more k = let none : 0 + k ≡ k = omega arith in ap (line_at more) none
+line_at_right (t ∷ ts) more k = let next : suc (length ts) + k ≡ suc (length ts + k) = omega arith in rw next (line_at_right ts more k)
+
+-- the tokens of a line behind others of lines before it
+module _ (old more : List RawToken) (line : ℕ) where
+  line_at_left : (k at : ℕ) → line_at old k ≡ Some at → line_at (old ++ more) k ≡ Some at
+  line_at_left k at e = ap (option_map (λ t. t.dst_line)) (slice_get_left old more k (inside_list old k at e)) ∙ e
+
+  -- the table of the first tokens says the same of them when others follow
+  table_of_front : (table : LineTable) → IsLineTable old (length old) table → IsLineTable (old ++ more) (length old) table
+  table_of_front table t = record {
+    paired = t.paired;
+    few = t.few;
+    filled = t.filled;
+    front = t.front;
+    within = t.within;
+    on_line = λ row l. line_at_left _ _ (t.on_line row l);
+    rising = t.rising;
+    apart = t.apart;
+    abutting = λ row l. line_at_left _ _ (t.abutting row l);
+    ends = λ some. line_at_left _ _ (t.ends some);
+  }
+
+  module _ (all : AllByRecursion (λ t. t.dst_line ≡ line) more) where
+    pub line_at_more : (k : ℕ) → k < length more → line_at (old ++ more) (length old + k) ≡ Some line
+    line_at_more k l = line_at_right old more k ∙ line_at_all line more k all l
+
+    table_of_more : (table : LineTable) (k : ℕ) → k < length more → IsLineTable (old ++ more) (length old + 1) table → IsLineTable (old ++ more) (length old + k + 1) table
+    table_of_more table zero l t = let none : length old + 0 ≡ length old = omega arith in rw none t
+    table_of_more table (suc k) l t =
+        let next : length old + suc k ≡ length old + k + 1 = omega arith in
+        let back : length old + k + 1 - 1 ≡ length old + k = omega arith in
+        let here : line_at (old ++ more) (length old + k + 1) ≡ Some line = subst (λ n. line_at (old ++ more) n ≡ Some line) next (line_at_more (suc k) l) in
+        let before : line_at (old ++ more) (length old + k + 1 - 1) ≡ Some line = rw back (line_at_more k (omega arith)) in
+        rw next (table_kept (old ++ more) (length old + k + 1) table (omega arith, here ∙ sym before) (table_of_more table k (omega arith) t))
+
+    behind_rows : (table : LineTable) → AllByRecursion (λ t. t.dst_line < line) old → IsLineTable old (length old) table
+        → (row : ℕ) → row + 1 ≡ length table.lines → slice_index table.lines row < line
+    behind_rows table below t row e =
+        let last = last_at old (length old) table.lines table.firsts t row e in
+        let one = token_of old (length old - 1) (slice_index table.lines row) last in
+        let less : one.0.dst_line < line = All-at (λ t. t.dst_line < line) old (length old - 1) one.0 one.1 below in
+        let own : one.0.dst_line ≡ slice_index table.lines row = same_some (sym (ap (option_map (λ t. t.dst_line)) one.1) ∙ last) in
+        omega (arith, less, own)
+
+    -- tokens of one line behind those of lines before it add one row
+    pub table_of_line : (table : LineTable) → AllByRecursion (λ t. t.dst_line < line) old → 0 < length more
+        → IsLineTable old (length old) table → IsLineTable (old ++ more) (length (old ++ more)) (with_row table line (length old))
+    table_of_line table below some t =
+        let first : line_at (old ++ more) (length old) ≡ Some line = let none : length old + 0 ≡ length old = omega arith in subst (λ n. line_at (old ++ more) n ≡ Some line) none (line_at_more 0 some) in
+        let begun = table_grown (old ++ more) (length old) line table.lines table.firsts first (behind_rows table below t) (table_of_front table t) in
+        let whole : length old + (length more - 1) + 1 ≡ length (old ++ more) = let many = length-append old more in omega arith in
+        subst (λ n. IsLineTable (old ++ more) n (with_row table line (length old))) whole (table_of_more (with_row table line (length old)) (length more - 1) (omega arith) begun)
 
 -- the tokens that the rows lead to; `low` is where those of the row begin
 module _ (tokens : List RawToken) (table : LineTable) (made : IsMadeFrom tokens table) (row low p : ℕ) (within : row < length table.firsts → low ≡ slice_index table.firsts row) (past : length table.firsts ≤ row → low ≡ length tokens) (in_rows : row ≤ length table.lines) where

@@ -1,5 +1,5 @@
 -- The table of the lines that hold tokens, and the number of binary digits of a count.
-use Rattle.std.specs.Prelude.{◌≡◌, ℕ, zero, suc, ◌<◌, ◌≤◌, ◌+◌, ◌-◌, ◌/◌, ◌==◌, if◌then◌else◌, ◌≢◌, List, Option, Some, length, option_map, slice_get, slice_index, slice_index_or}
+use Rattle.std.specs.Prelude.{◌≡◌, ℕ, zero, suc, ◌<◌, ◌≤◌, ◌+◌, ◌-◌, ◌/◌, ◌==◌, if◌then◌else◌, ◌≢◌, List, [], ◌∷◌, ◌++◌, Option, Some, length, option_map, slice_get, slice_index, slice_index_or}
 use Rattle.sourcemap_lists.specs.Tokens.{AreInOrder}
 use Rattle.sourcemap_lists.specs.declared.tokens.RawToken.{RawToken}
 
@@ -7,6 +7,14 @@ use Rattle.sourcemap_lists.specs.declared.tokens.RawToken.{RawToken}
 pub record LineTable : Type 0 where
   pub lines : List ℕ
   pub firsts : List ℕ
+
+-- the table of no tokens
+abbrev pub no_rows : LineTable
+no_rows = record { lines = []; firsts = [] }
+
+-- the table with a row behind the others
+abbrev pub with_row : LineTable → ℕ → ℕ → LineTable
+with_row table line first = record { lines = table.lines ++ line ∷ []; firsts = table.firsts ++ first ∷ [] }
 
 -- the line of the token at this place
 abbrev pub line_at : List RawToken → ℕ → Option ℕ

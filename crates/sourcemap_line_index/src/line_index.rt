@@ -1,9 +1,10 @@
 //! A table of the lines that hold tokens, and the lookup by it.
-ghost use Rattle.std.specs.Prelude.{◌≡◌, ℕ, ◌<◌, ◌≤◌, ◌+◌, ◌-◌, ◌*◌, ◌^◌, IfErr, IfOk, IfSome, false, length, min, option_map, slice_index, true};
+ghost use Rattle.std.specs.Prelude.{◌≡◌, ℕ, ◌<◌, ◌≤◌, ◌+◌, ◌-◌, ◌*◌, ◌^◌, Ok, IfErr, IfOk, IfSome, OnOk, false, length, min, option_map, slice_index, true};
+ghost use Rattle.sourcemap_errors.specs.Answer.{Gives};
 ghost use Rattle.sourcemap_errors.specs.declared.errors.Error.TheVariants.{OutOfMemory};
 ghost use Rattle.sourcemap_lists.specs.Tokens.{AreInOrder, closest_token};
 ghost use Rattle.sourcemap_lists.specs.declared.tokens.RawToken.{RawToken};
-ghost use Rattle.sourcemap_line_index.specs.LineIndex.{BeginsLine, GoesOnLine, IsMadeFrom, IsSpan, Rises, binary_digits, col_at};
+ghost use Rattle.sourcemap_line_index.specs.LineIndex.{BeginsLine, GoesOnLine, IsMadeFrom, IsSpan, Rises, binary_digits, col_at, no_rows, with_row};
 
 use crate::probe::Probe;
 use sourcemap_errors::errors::Result;
@@ -45,6 +46,37 @@ impl LineIndex {
             }
         }
         Ok(LineIndex { lines, firsts })
+    }
+
+    /// The table of no tokens. It takes no memory.
+    pub fn of_none(alloc: Global) -> LineIndex
+        ensures { result ≡ no_rows }
+    {
+        LineIndex {
+            lines: Vec::new(alloc),
+            firsts: Vec::new(alloc),
+        }
+    }
+
+    /// Puts a line behind the others, with the place of its first token: for who knows the lines
+    /// while the tokens are made. Only want of memory refuses, and then the table is of no list.
+    pub fn push(&mut self, line: u32, first: usize) -> Result<()>
+        ensures row { OnOk result (self.new ≡ with_row self.old line first) }
+        ensures memory { IfErr result (λ cause. cause ≡ OutOfMemory) }
+    {
+        self.lines.push(line)?;
+        self.firsts.push(first)?;
+        Ok(())
+    }
+
+    // The same table, in lists of its own. Only want of memory refuses.
+    pub(crate) fn duplicate(&self, alloc: Global) -> Result<LineIndex>
+        ensures { Gives (λ index. index) result (Ok self.now) }
+    {
+        Ok(LineIndex {
+            lines: Vec::from_slice(alloc, self.lines.as_slice())?,
+            firsts: Vec::from_slice(alloc, self.firsts.as_slice())?,
+        })
     }
 
     /// The place of the token closest to the probe's position, in the list that the table was made

@@ -4,7 +4,7 @@ ghost use Rattle.std.specs.Bool.{Decides};
 ghost use Rattle.std.specs.Cmp.{partial_equiv_from_equiv};
 ghost use Rattle.sourcemap_errors.specs.Answer.{Gives};
 ghost use Rattle.sourcemap_lists.specs.Tokens.{AreInOrder, closest_token, in_order};
-ghost use Rattle.sourcemap_line_index.specs.LineIndex.{binary_digits};
+ghost use Rattle.sourcemap_line_index.specs.LineIndex.{IsMadeFrom, binary_digits};
 ghost use Rattle.sourcemap_line_index.specs.TokenList.{same_tokens, same_tokens_equiv};
 
 use crate::line_index::LineIndex;
@@ -52,6 +52,14 @@ impl TokenList {
     {
         let lines = LineIndex::new(*tokens.allocator(), tokens.as_slice())?;
         Ok(TokenList { tokens, lines })
+    }
+
+    /// These tokens beside their table, which was made with them.
+    pub fn with_table(tokens: Vec<RawToken>, lines: LineIndex) -> TokenList
+        requires { IsMadeFrom tokens.items lines }
+        ensures { result ≡ tokens.items }
+    {
+        TokenList { tokens, lines }
     }
 
     /// The tokens as a slice.
@@ -131,8 +139,10 @@ impl TokenList {
     pub fn clone(&self) -> Result<Self>
         ensures { Gives (λ list. list) result (Ok self.now) }
     {
-        let tokens = Vec::from_slice(self.allocator(), self.tokens.as_slice())?;
-        TokenList::of_ordered(tokens)
+        let alloc = self.allocator();
+        let tokens = Vec::from_slice(alloc, self.tokens.as_slice())?;
+        let lines = self.lines.duplicate(alloc)?;
+        Ok(TokenList { tokens, lines })
     }
 
     /// What the list takes its memory from.

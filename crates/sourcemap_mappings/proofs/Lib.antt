@@ -2,6 +2,7 @@ pub mod BufferLemmas
 pub mod ReadAnswers
 pub mod ReadLemmas
 pub mod ReadOrder
+pub mod ReadTable
 pub mod SegmentLemmas
 pub mod WriteBytes
 pub mod WriteLaws

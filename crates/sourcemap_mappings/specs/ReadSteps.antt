@@ -1,8 +1,9 @@
 -- What the steps of the reader of mappings add: a part to a line, a line to a page.
-use Rattle.std.specs.Prelude.{◌≡◌, ℕ, List, [], ◌++◌, Option, IsTrue, false}
+use Rattle.std.specs.Prelude.{◌≡◌, ℕ, ◌<◌, List, [], ◌++◌, length, Option, IsTrue, false}
 use Rattle.std.specs.Option.{option_map_or}
 use Rattle.std.specs.List.{AllByRecursion}
 use Rattle.sourcemap_lists.specs.declared.tokens.RawToken.{RawToken}
+use Rattle.sourcemap_line_index.specs.LineIndex.{IsLineTable, LineTable}
 use Rattle.sourcemap_lists.specs.Tokens.{AreInOrder, position_cmp, destination}
 use Rattle.std.specs.Ordering.{is_lt}
 use denote.Ref.{Bor}
@@ -16,6 +17,16 @@ use Rattle.sourcemap_mappings.specs.Read.{Line, line_tokens, PartsRead, LineText
 abbrev pub AreInOrderTo : ℕ → Sums → List RawToken → Type 0
 AreInOrderTo line sums tokens = IsTrue sums.rises
     → AreInOrder tokens × AllByRecursion (λ t. is_lt (position_cmp (line, sums.column) (destination t)) ≡ false) tokens
+
+-- tokens were put behind the others, all on this line
+abbrev pub AddsOnLine : (line : ℕ) (old new : List RawToken) → Type 0
+AddsOnLine line old new = (more : List RawToken) × (new ≡ old ++ more) × AllByRecursion (λ t. t.dst_line ≡ line) more
+
+-- the table of the tokens before this place becomes that of all of them, where those from there on are of one line behind the others
+abbrev pub AddsRow : (old new : LineTable) (tokens : List RawToken) (first : ℕ) → Type 0
+AddsRow old new tokens first = (line : ℕ) (before more : List RawToken) → tokens ≡ before ++ more → first ≡ length before
+    → AllByRecursion (λ t. t.dst_line < line) before → AllByRecursion (λ t. t.dst_line ≡ line) more
+    → IsLineTable before (length before) old → IsLineTable tokens (length tokens) new
 
 -- parts of a line, from this spot on behind `before` and `here`, give their tokens and bring the sums up to them
 pub record AddsParts (counts : Counts) (spot : Spot) (bits : List ℕ) (before here : List Segment) (parts : List (List ℕ)) (old new : List RawToken) (sums : Sums) : Type 0 where

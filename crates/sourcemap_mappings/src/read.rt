@@ -1,25 +1,39 @@
 //! The text of mappings, read: lines between `;`, the parts of a line between `,`.
-ghost use Rattle.std.specs.Prelude.{◌≡◌, ℕ, ◌+◌, ◌<◌, ◌≤◌, ◌==◌, ℤ, List, [], ◌∷◌, ◌++◌, length, min, Result, if◌then◌else◌, IsTrue, IfOk, IfErr};
+ghost use Rattle.std.specs.Prelude.{◌≡◌, ℕ, ◌+◌, ◌<◌, ◌≤◌, ◌==◌, ℤ, List, [], ◌∷◌, ◌++◌, length, min, Result, if◌then◌else◌, IsTrue, IfOk, IfErr, OnOk};
 ghost use Rattle.std.specs.Option.{option_map_or};
 ghost use Rattle.sourcemap_errors.specs.Answer.{IsAnswer, Gives, UnlessMemory};
 ghost use Rattle.sourcemap_errors.specs.declared.errors.Error.{Error};
+ghost use Rattle.sourcemap_errors.specs.declared.errors.Error.TheVariants.{OutOfMemory};
 ghost use Rattle.sourcemap_lists.specs.declared.tokens.RawToken.{RawToken};
 ghost use Rattle.sourcemap_lists.specs.Tokens.{AreInOrder, AllWithin, in_order};
+ghost use Rattle.sourcemap_line_index.specs.LineIndex.{IsMadeFrom};
 ghost use Rattle.sourcemap_digits.specs.Vlq.{Reads};
 ghost use Rattle.sourcemap_mappings.specs.Segment.{Counts, Segment, parts_of};
 ghost use Rattle.sourcemap_mappings.specs.SegmentSteps.{AreSteps, AreTextSums, AreSums, counts_of};
 ghost use Rattle.sourcemap_mappings.specs.Read.{Line, page_tokens, PartsFault, LineFault, LinesRead, LinesFault, beside, line_texts, MappingsAnswer, lines_of};
-ghost use Rattle.sourcemap_mappings.specs.ReadSteps.{AreInOrderTo, AddsParts, AddsLine, lines_left};
+ghost use Rattle.sourcemap_mappings.specs.ReadSteps.{AddsLine, AddsOnLine, AddsParts, AddsRow, AreInOrderTo, lines_left};
 
 use crate::segment::{Limits, Numbers, Spot, Sums, advanced, check, read_numbers, token_at};
 use sourcemap_digits::bits::test_digits;
 use sourcemap_errors::errors::{Error, Result};
-use sourcemap_lists::tokens::{RawToken, sort_tokens};
+use sourcemap_line_index::line_index::LineIndex;
+use sourcemap_line_index::token_list::TokenList;
+use sourcemap_lists::tokens::RawToken;
 use std::alloc::Global;
 
 // For how many tokens room is made at most before the first is read. A list that grows past what
 // the allocator keeps at hand is moved, and its pages are touched twice.
 const FIRST_TOKENS: usize = 1 << 23;
+
+// What the numbers of the first segment are added to.
+const START: Sums = Sums {
+    rises: true,
+    column: 0,
+    source: 0,
+    line: 0,
+    source_column: 0,
+    name: 0,
+};
 
 /// The first line of a text, up to its `;` or its end, and the text behind that `;` if there is one.
 #[inline]
@@ -53,6 +67,7 @@ fn add_part(
         (PartsFault (counts_of limits) spot.place (before ++ here) (part ∷ []) e)) }
     ensures order { AreInOrderTo spot.line sums tokens.old.items
         → IfOk result (λ after. AreInOrderTo spot.line after tokens.new.items) }
+    ensures on_line { OnOk result (AddsOnLine spot.line tokens.old.items tokens.new.items) }
 {
     if read.count == 0 {
         return Ok(sums);
@@ -80,6 +95,7 @@ fn add_parts(
         (PartsFault (counts_of limits) 0 before (parts_of text.now) e)) }
     ensures order { AreInOrderTo line (record sums { column = 0 }) tokens.old.items
         → IfOk result (λ after. AreInOrderTo line after tokens.new.items) }
+    ensures on_line { OnOk result (AddsOnLine line tokens.old.items tokens.new.items) }
 {
     let mut sums = Sums { column: 0, ..sums };
     let mut rest = text;
@@ -113,6 +129,7 @@ fn add_line(
     ensures order { AreInOrderTo number (record sums { column = 0 }) tokens.old.items
         → IfOk result (λ after. AreInOrderTo (number + 1)
         (record after { column = 0 }) tokens.new.items) }
+    ensures on_line { OnOk result (AddsOnLine number tokens.old.items tokens.new.items) }
 {
     if text.is_empty() {
         return Ok(sums);
@@ -137,35 +154,45 @@ fn next_bits(ranges: Option<&str>) -> (&str, Option<&str>)
     }
 }
 
-// The tokens of the lines, in order of the text, and whether they are in order of destination too.
-fn read_lines(
-    alloc: Global,
-    mappings: &str,
-    ranges: &str,
-    limits: Limits,
-) -> Result<(Vec<RawToken>, bool)>
+// The tokens of the lines in order of the text, and the table of these lines, which is theirs if
+// they rise: if they are in order of destination too.
+#[derive(Drop)]
+struct ReadLines {
+    tokens: Vec<RawToken>,
+    table: LineIndex,
+    rises: bool,
+}
+
+// Puts a row into the table for a line that brought tokens, of which this is the place of the first.
+fn add_row(table: &mut LineIndex, tokens: &[RawToken], first: usize) -> Result<()>
+    ensures row { OnOk result (AddsRow table.old table.new tokens.now first) }
+    ensures memory { IfErr result (λ e. e ≡ OutOfMemory) }
+{
+    if first < tokens.len() {
+        table.push(tokens[first].dst_line, first)?;
+    }
+    Ok(())
+}
+
+fn read_lines(alloc: Global, mappings: &str, ranges: &str, limits: Limits) -> Result<ReadLines>
     ensures read { IfOk result (λ read. (page : List Line)
         × LinesRead (counts_of limits) 0 [] (line_texts mappings.now ranges.now) page
-        × (read.0.items ≡ page_tokens 0 [] page)) }
+        × (read.tokens.items ≡ page_tokens 0 [] page)) }
     ensures fault { IfErr result (λ e. UnlessMemory e
         (LinesFault (counts_of limits) 0 [] (line_texts mappings.now ranges.now) e)) }
-    ensures order { IfOk result (λ read. IsTrue read.1 → AreInOrder read.0.items) }
+    ensures table { IfOk result (λ read. IsTrue read.rises
+        → IsMadeFrom read.tokens.items read.table) }
 {
     let mut tokens = Vec::with_capacity(alloc, (mappings.len() / 5 + 1).min(FIRST_TOKENS))?;
-    let mut sums = Sums {
-        rises: true,
-        column: 0,
-        source: 0,
-        line: 0,
-        source_column: 0,
-        name: 0,
-    };
+    let mut table = LineIndex::of_none(alloc);
+    let mut sums = START;
     let mut lines = Some(mappings);
     let mut ranges = Some(ranges);
     let mut number = 0;
     while let Some(text) = lines {
         let (line, later) = cut(text);
         let (bits, later_bits) = next_bits(ranges);
+        let first = tokens.len();
         sums = add_line(
             &mut tokens,
             line.as_bytes(),
@@ -174,24 +201,28 @@ fn read_lines(
             sums,
             limits,
         )?;
+        add_row(&mut table, tokens.as_slice(), first)?;
         lines = later;
         ranges = later_bits;
         number += 1;
     }
-    Ok((tokens, sums.rises))
+    Ok(ReadLines {
+        tokens,
+        table,
+        rises: sums.rises,
+    })
 }
 
-// The tokens in order of destination, where they may be known to be so already.
-fn sorted(mut tokens: Vec<RawToken>, rises: bool) -> Result<Vec<RawToken>>
-    requires { IsTrue rises → AreInOrder tokens.items }
-    ensures sorted { IfOk result (λ v. v.items ≡ in_order tokens.items) }
-    ensures memory { IfErr result (λ e. e ≡ Error.OutOfMemory) }
+// The list of the tokens, which have their table already if they are in order.
+fn listed(read: ReadLines) -> Result<TokenList>
+    requires { IsTrue read.rises → IsMadeFrom read.tokens.items read.table }
+    ensures sorted { IfOk result (λ list. list ≡ in_order read.tokens.items) }
+    ensures memory { IfErr result (λ e. e ≡ OutOfMemory) }
 {
-    if rises {
-        return Ok(tokens);
+    if read.rises {
+        return Ok(TokenList::with_table(read.tokens, read.table));
     }
-    sort_tokens(&mut tokens)?;
-    Ok(tokens)
+    TokenList::sorted(read.tokens)
 }
 
 /// The tokens that the texts of mappings and of range bits stand for, in order of destination, for
@@ -199,7 +230,28 @@ fn sorted(mut tokens: Vec<RawToken>, rises: bool) -> Result<Vec<RawToken>>
 /// empty that is `IncompatibleSourceMap` past line 4294967295, then `InvalidBase64` in its range
 /// bits, then that of its first faulty segment: a fault of its digits, `BadSegmentSize`,
 /// `BadSourceReference` or `BadNameReference`, tested in this order. Else only want of memory
-/// refuses.
+/// refuses. The table of their lines is made as they are read.
+pub fn parse_token_list(
+    alloc: Global,
+    mappings: &str,
+    ranges: &str,
+    sources: u32,
+    names: u32,
+) -> Result<TokenList>
+    ensures answer { IsAnswer (λ list. list)
+        (MappingsAnswer mappings.now ranges.now
+        (record { sources = sources; names = names })) result }
+    ensures only { (due : Result (List RawToken) Error)
+        → MappingsAnswer mappings.now ranges.now (record { sources = sources; names = names }) due
+        → Gives (λ list. list) result due }
+    ensures within { IfOk result (AllWithin sources names) }
+{
+    let limits = Limits { sources, names };
+    let read = read_lines(alloc, mappings, ranges, limits)?;
+    listed(read)
+}
+
+/// The same tokens alone.
 pub fn parse_mappings(
     alloc: Global,
     mappings: &str,
@@ -216,9 +268,8 @@ pub fn parse_mappings(
     ensures in_order { IfOk result (λ v. AreInOrder v.items) }
     ensures within { IfOk result (λ v. AllWithin sources names v.items) }
 {
-    let limits = Limits { sources, names };
-    let (tokens, rises) = read_lines(alloc, mappings, ranges, limits)?;
-    sorted(tokens, rises)
+    let list = parse_token_list(alloc, mappings, ranges, sources, names)?;
+    Ok(list.into_vec())
 }
 
 /// A law: two texts, of mappings and of range bits, stand for one list of tokens or for one fault.

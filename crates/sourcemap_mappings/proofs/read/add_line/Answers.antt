@@ -3,6 +3,7 @@ use Rattle.sourcemap_mappings.specs.ReadSteps.{AreInOrderTo}
 use Rattle.std.proofs.lemmas.Result.{IfOk-weaker}
 use Rattle.sourcemap_mappings.proofs.ReadLemmas.{AddsLine-none, AddsLine-parts}
 use Rattle.sourcemap_mappings.proofs.ReadOrder.{order_line}
+use Rattle.sourcemap_mappings.proofs.ReadTable.{adds_none}
 use Rattle.sourcemap_mappings.proofs.read.add_line.Goals as goal
 
 pub returns-then-is_empty-clause-added : goal.returns-then-is_empty-clause-added
@@ -25,3 +26,6 @@ returns-clause-order c = λ before.
     IfOk-weaker c.add_parts.result (λ after. AreInOrderTo c.args.number after c.add_parts.new.tokens.items)
     (λ after. AreInOrderTo (c.args.number + 1) (record after { column = 0 }) c.add_parts.new.tokens.items)
     (λ after kept rises. order_line c.args.number after.column c.add_parts.new.tokens.items (kept rises)) (order before)
+
+pub returns-then-is_empty-clause-on_line : goal.returns-then-is_empty-clause-on_line
+returns-then-is_empty-clause-on_line c = adds_none c.args.number c.args.tokens.now.items

@@ -1,10 +1,11 @@
-use Rattle.std.proofs.Common.{◌++◌, ◌∷◌, [], ◌<◌, length, refl, arith}
+use Rattle.std.proofs.Common.{◌++◌, ◌∷◌, [], ◌<◌, length, refl, ap, arith}
 use Rattle.std.proofs.lemmas.Result.{err_from_is_err_and}
 use Rattle.sourcemap_mappings.specs.Segment.{Segment}
 use Rattle.sourcemap_mappings.specs.SegmentSteps.{AreSums}
 use Rattle.sourcemap_errors.proofs.AnswerLemmas.{UnlessMemory-from}
 use Rattle.sourcemap_mappings.proofs.ReadLemmas.{PartsFault-segment, AddsParts-segment, AddsParts-none}
 use Rattle.sourcemap_mappings.proofs.ReadOrder.{order_push}
+use Rattle.sourcemap_mappings.proofs.ReadTable.{adds_none, adds_one}
 use Rattle.sourcemap_mappings.proofs.read.add_part.Goals as goal
 
 pub returns-then-read-eq0-clause-added : goal.returns-then-read-eq0-clause-added
@@ -38,3 +39,10 @@ returns-clause-order c = λ before rises.
     let kept = c.advanced-after.ensures.rises rises in
     rw c.in_ok-push.ensures.items
     (order_push c.args.spot.line c.args.sums.column c.advanced-after.result.column c.args.tokens.now.items c.token_at.result c.token_at.ensures.destination kept.1 (before kept.0))
+
+pub returns-then-read-eq0-clause-on_line : goal.returns-then-read-eq0-clause-on_line
+returns-then-read-eq0-clause-on_line c = adds_none c.args.spot.line c.args.tokens.now.items
+
+pub returns-clause-on_line : goal.returns-clause-on_line
+returns-clause-on_line c =
+    adds_one c.args.spot.line c.args.tokens.now.items _ c.token_at.result c.in_ok-push.ensures.items (ap (λ p. p.0) c.token_at.ensures.destination)

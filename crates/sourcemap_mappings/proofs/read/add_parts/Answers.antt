@@ -2,6 +2,7 @@ use Rattle.std.proofs.Common.{[], arith}
 use Rattle.std.proofs.lemmas.Result.{err_from_is_err_and}
 use Rattle.sourcemap_errors.proofs.AnswerLemmas.{UnlessMemory-from}
 use Rattle.sourcemap_mappings.proofs.ReadLemmas.{PartsSoFar-more, PartsSoFar-fault, PartsSoFar-digits, AddsParts-all}
+use Rattle.sourcemap_mappings.proofs.ReadTable.{adds_both}
 use Rattle.sourcemap_mappings.proofs.read.add_parts.Goals as goal
 
 pub returns-in_err-read-clause-fault : goal.returns-in_err-read-clause-fault
@@ -40,4 +41,8 @@ loop-read-preserved c =
           PartsSoFar-more _ (record { line = c.args.line; place = c.loop-read.place }) _ before _ first.part _ _ _ _ _ _ so_far
           (c.in_ok-sums.ensures.added before so_far.here first.part first.numbers so_far.sums_after first.reads first.steps);
       order = λ before. c.in_ok-sums.ensures.order (c.loop-read.invariant.order before);
+      on_line = adds_both c.args.line _ _ _ c.loop-read.invariant.on_line c.in_ok-sums.ensures.on_line;
     }
+
+pub returns-in_default-clause-on_line : goal.returns-in_default-clause-on_line
+returns-in_default-clause-on_line c = adds_both c.args.line _ _ _ c.loop-read.invariant.on_line c.in_ok-sums.ensures.on_line

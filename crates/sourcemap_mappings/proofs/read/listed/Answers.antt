@@ -1,0 +1,7 @@
+use Rattle.std.proofs.Common.{sym, ◌∙◌}
+use Rattle.sourcemap_lists.proofs.TokensLemmas.{in_order-ordered}
+use Rattle.sourcemap_mappings.proofs.read.listed.Goals as goal
+
+pub returns-then-read-clause-sorted : goal.returns-then-read-clause-sorted
+returns-then-read-clause-sorted c =
+    c.with_table.ensures ∙ sym (in_order-ordered c.args.read.tokens.items (c.requires c.if-read.true).0)
