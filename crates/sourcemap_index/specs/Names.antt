@@ -1,5 +1,5 @@
 -- The original names of functions in maps of any kind.
-use Rattle.std.specs.Prelude.{ℕ, ◌==◌, if◌then◌else◌, List, Option, None, Some, IfSome, option_and_then}
+use Rattle.std.specs.Prelude.{◌≡◌, ℕ, ◌==◌, if◌then◌else◌, List, Option, None, Some, IfSome, option_and_then}
 use Rattle.sourcemap_hermes.specs.Map.{HermesValue, function_name as function_in_bytecode}
 use Rattle.sourcemap_regular.specs.Map.{lookup as lookup_regular}
 use Rattle.sourcemap_regular.specs.Walk.{guessed_from}
@@ -13,6 +13,11 @@ use Rattle.sourcemap_trees.specs.WellFormed.{IsInOrder}
 abbrev pub guessed_in : MapTree → (source minified : List ℕ) → ℕ × ℕ → Option (List ℕ)
 guessed_in t source minified p = option_and_then (guessed_from source minified) (lookup t p)
 
+-- on line 0, the functions of the source that the closest token leads to are in order
+abbrev pub IsInOrderInBytecode : HermesValue → ℕ × ℕ → Type 0
+IsInOrderInBytecode h p = p.0 ≡ 0
+    → IfSome (lookup_regular h.map (0, p.1)) (λ t. IsInOrderAt h.scopes t.raw.src_id)
+
 -- a Hermes map knows its functions by line 0, which is the bytecode
 abbrev pub name_in_bytecode : HermesValue → ℕ × ℕ → Option (List ℕ)
 name_in_bytecode h p = if p.0 == 0 then function_in_bytecode h p.1 else None
@@ -23,7 +28,9 @@ function_name (leaf (hermes h)) source minified p = name_in_bytecode h p
 function_name t (Some source) (Some minified) p = guessed_in t source minified p
 function_name t _ _ p = None
 
--- what the answer rests on: the functions of the source that is asked, or the sections, are in order
-abbrev pub AreNamesInOrder : MapTree → ℕ × ℕ → Type 0
-AreNamesInOrder (leaf (hermes h)) p = IfSome (lookup_regular h.map (0, p.1)) (λ t. IsInOrderAt h.scopes t.raw.src_id)
-AreNamesInOrder t p = IsInOrder t
+-- what the answer rests on: for a place in the bytecode that the functions of its source are in order,
+-- for a guess that sections are; that there is none rests on nothing
+abbrev pub AreNamesInOrder : MapTree → (source minified : Option (List ℕ)) → ℕ × ℕ → Type 0
+AreNamesInOrder (leaf (hermes h)) _ _ p = IsInOrderInBytecode h p
+AreNamesInOrder t (Some _) (Some _) p = IsInOrder t
+AreNamesInOrder t _ _ p = Unit {0}

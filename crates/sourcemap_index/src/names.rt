@@ -1,12 +1,10 @@
 //! The original names of functions in maps of any kind.
-ghost use Rattle.std.specs.Prelude.{◌≡◌, IfSome};
+ghost use Rattle.std.specs.Prelude.{◌≡◌};
 ghost use Rattle.std.specs.Option.{option_copied};
 ghost use Rattle.sourcemap_hermes.specs.Map.{hermes_value};
-ghost use Rattle.sourcemap_regular.specs.Map.{lookup};
-ghost use Rattle.sourcemap_scopes.specs.SourceScopes.{IsInOrderAt};
 ghost use Rattle.sourcemap_trees.specs.MapTree.{index_tree};
 ghost use Rattle.sourcemap_trees.specs.WellFormed.{IsInOrder};
-ghost use Rattle.sourcemap_index.specs.Names.{AreNamesInOrder, function_name, guessed_in, name_in_bytecode};
+ghost use Rattle.sourcemap_index.specs.Names.{AreNamesInOrder, IsInOrderInBytecode, function_name, guessed_in, name_in_bytecode};
 
 use crate::family::{DecodedMap, SourceMapIndex};
 use sourcemap_hermes::map::SourceMapHermes;
@@ -49,7 +47,8 @@ impl DecodedMap {
         minified_name: Option<&str>,
         source_view: Option<&SourceView>,
     ) -> Option<&str>
-        ensures { AreNamesInOrder (map_tree self.now) (line, col) → option_copied result
+        ensures { AreNamesInOrder (map_tree self.now) (option_copied source_view.entry)
+            (option_copied minified_name.entry) (line, col) → option_copied result
             ≡ function_name (map_tree self.now) (option_copied source_view.entry)
             (option_copied minified_name.entry) (line, col) }
     {
@@ -65,8 +64,7 @@ impl DecodedMap {
 
 // The name by a Hermes map.
 fn name_in_bytecode(map: &SourceMapHermes, line: u32, col: u32) -> Option<&str>
-    ensures { IfSome (lookup (hermes_value map.now).map (0, col))
-        (λ t. IsInOrderAt (hermes_value map.now).scopes t.raw.src_id)
+    ensures { IsInOrderInBytecode (hermes_value map.now) (line, col)
         → option_copied result ≡ name_in_bytecode (hermes_value map.now) (line, col) }
 {
     if line == 0 {
