@@ -8,7 +8,7 @@ pub use sourcemap_core::laws::{
 };
 pub use sourcemap_headers::data_url::data_urls_have_one_answer;
 pub use sourcemap_hermes::encode::{
-    written_maps_are_compact as hermes_maps_are_compact,
+    restored_maps_name_functions_alike, written_maps_are_compact as hermes_maps_are_compact,
     written_maps_read_back as hermes_maps_read_back,
     written_records_are_determined as hermes_records_are_determined,
 };

@@ -1,5 +1,6 @@
 pub mod DecodeLemmas
 pub mod EncodeLemmas
 pub mod EqualityLemmas
+pub mod NamesLemmas
 pub mod RewriteLemmas
 pub mod WriteLemmas

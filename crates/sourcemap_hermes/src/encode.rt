@@ -8,7 +8,7 @@ ghost use Rattle.sourcemap_regular.specs.Write.{IsEncoded, IsIo};
 ghost use Rattle.sourcemap_scopes.specs.ScopeLists.{entries_in};
 ghost use Rattle.sourcemap_hermes.specs.Decode.{HermesDecodes, OnlyHermesDecodes};
 ghost use Rattle.sourcemap_hermes.specs.Encode.{IsCompactTextOf, IsRecordOf, RecordAnswer, Restores, scoped};
-ghost use Rattle.sourcemap_hermes.specs.Map.{HermesValue, IsWellFormed, hermes_value};
+ghost use Rattle.sourcemap_hermes.specs.Map.{HermesValue, IsWellFormed, function_name, hermes_value};
 
 use crate::map::SourceMapHermes;
 use sourcemap_errors::errors::Result;
@@ -86,4 +86,10 @@ pub fn written_maps_read_back()
     ensures { (h : HermesValue) (text : List ℕ)
         → IsEncoded (RecordAnswer h) text → IsWellFormed h
         → ReadsBack (BytesStandFor OnlyHermesDecodes text) (Restores h) }
+{}
+
+/// A law: a map that restores another has the name of the same function for each place in the bytecode.
+pub fn restored_maps_name_functions_alike()
+    ensures { (h back : HermesValue) (offset : ℕ) → Restores h back
+        → function_name back offset ≡ function_name h offset }
 {}

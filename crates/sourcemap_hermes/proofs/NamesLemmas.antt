@@ -1,0 +1,37 @@
+-- A map that restores another names the same functions.
+use Rattle.std.proofs.Common.{◌≡◌, sym, ap, ◌∙◌, refl, ℕ, List, length, Option, Some, None, option_map, option_and_then}
+use Rattle.sourcemap_lists.specs.Search.{closest_item}
+use Rattle.sourcemap_lists.specs.Tokens.{closest_token, destination, position_cmp, with_sound_name}
+use Rattle.sourcemap_lists.specs.declared.tokens.RawToken.{RawToken}
+use Rattle.sourcemap_lists.proofs.SearchLemmas.{item-closest}
+use Rattle.sourcemap_lists.proofs.TokensLemmas.{closest_item-reduced}
+use Rattle.sourcemap_regular.specs.Map.{column_behind, distance}
+use Rattle.sourcemap_scopes.specs.SourceScopes.{SourceScopesValue, scope_at}
+use Rattle.sourcemap_hermes.specs.Encode.{Restores}
+use Rattle.sourcemap_hermes.specs.Map.{HermesValue, function_name, token_scope}
+
+-- the scope of a token that is asked at a place
+abbrev scope_of : SourceScopesValue → ℕ × ℕ → RawToken → Option (List ℕ)
+scope_of scopes p t = scope_at scopes t.src_id (t.src_line, column_behind t.src_col (distance t p))
+
+name-item : (h : HermesValue) (offset : ℕ) → function_name h offset ≡ option_and_then (scope_of h.scopes (0, offset)) (closest_item destination position_cmp h.map.tokens (0, offset))
+name-item h offset =
+    through (closest_token h.map.tokens (0, offset))
+    ∙ ap (option_and_then (scope_of h.scopes (0, offset))) (item-closest destination position_cmp h.map.tokens (0, offset))
+  where
+    through : (o : Option (ℕ × RawToken)) → option_and_then (token_scope h.scopes) (option_map (λ found. record { map_of = h.map; raw = found.1; index = found.0; behind = distance found.1 (0, offset) }) o)
+        ≡ option_and_then (scope_of h.scopes (0, offset)) (option_map (λ (e : ℕ × RawToken). e.1) o)
+    through None = refl
+    through (Some found) = refl
+
+pub names_restored : (h back : HermesValue) (offset : ℕ) → Restores h back → function_name back offset ≡ function_name h offset
+names_restored h back offset ((means, kept), same) =
+    name-item back offset
+    ∙ (λ i. option_and_then (scope_of (same i) (0, offset)) (closest_item destination position_cmp (kept.tokens i) (0, offset)))
+    ∙ ap (option_and_then (scope_of h.scopes (0, offset))) (closest_item-reduced (length h.map.names) h.map.tokens (0, offset))
+    ∙ through (closest_item destination position_cmp h.map.tokens (0, offset))
+    ∙ sym (name-item h offset)
+  where
+    through : (o : Option RawToken) → option_and_then (scope_of h.scopes (0, offset)) (option_map (with_sound_name (length h.map.names)) o) ≡ option_and_then (scope_of h.scopes (0, offset)) o
+    through None = refl
+    through (Some t) = refl
