@@ -52,7 +52,10 @@ const TEXTS: [(&str, &str); 19] = [
     ),
     (r#"{"sections":null,"mappings":"A"}"#, "a regular map"),
     // Scopes of sources make a Hermes map, in a section, too.
-    (r#"{"x_facebook_sources":[],"mappings":"A"}"#, "a Hermes map"),
+    (
+        r#"{"x_facebook_sources":[],"mappings":"A"}"#,
+        "a Hermes map",
+    ),
     (
         r#"{"x_facebook_sources":null,"mappings":"A"}"#,
         "a regular map",

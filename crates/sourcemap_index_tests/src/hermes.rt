@@ -99,7 +99,8 @@ fn ids(alloc: Global, text: &str) -> Result<String> {
 
 #[test]
 fn debug_ids_of_hermes_maps_are_set(rt: HostRuntime) {
-    let text = r#"{"sources":["a.js"],"mappings":"AAAA","debugId":"00000000-0000-0000-0000-000000000000","x_facebook_sources":[[{"names":["f"],"mappings":"AAA"}]]}"#;
+    let text =
+        r#"{"sources":["a.js"],"mappings":"AAAA","debugId":"00000000-0000-0000-0000-000000000000","x_facebook_sources":[[{"names":["f"],"mappings":"AAA"}]]}"#;
     let want = "00000000-0000-0000-0000-000000000000 none f";
     check(&rt, text, ids(rt.alloc(), text), want);
 }
@@ -113,10 +114,7 @@ fn kinds(alloc: Global, text: &str) -> Result<String> {
 
 // A text, and why neither, one or the other takes it.
 const KINDS: [(&str, &str); 3] = [
-    (
-        SHORT,
-        "encountered incompatible sourcemap format; no fault",
-    ),
+    (SHORT, "encountered incompatible sourcemap format; no fault"),
     (
         r#"{"mappings":""}"#,
         "no fault; encountered incompatible sourcemap format",

@@ -42,7 +42,8 @@ fn places(rt: HostRuntime) -> std::result::Result<(), Fail> {
 
 #[test]
 fn functions(rt: HostRuntime) -> std::result::Result<(), Fail> {
-    let text = r#"{"sources":["a.js"],"mappings":"AAAA,KACK","x_facebook_sources":[[{"names":["<global>","foo"],"mappings":"AAA,KCC"}]]}"#;
+    let text =
+        r#"{"sources":["a.js"],"mappings":"AAAA,KACK","x_facebook_sources":[[{"names":["<global>","foo"],"mappings":"AAA,KCC"}]]}"#;
     let name = function_at(rt.alloc(), text.as_bytes(), 7)?;
     assert_eq!(rt; shown(rt.alloc(), name).as_str(), "foo");
     Ok(())
