@@ -125,31 +125,32 @@ fn each_kind_of_map_names_functions(rt: HostRuntime) {
     check(&rt, "hermes", name_by_kind(rt.alloc(), HERMES, (0, 7)), "f");
 }
 
-// How many tokens without a source stand on the second line, and the name of `b` at the last one.
-const FAR: [(u32, &str); 4] = [(1, "foo"), (100, "foo"), (126, "foo"), (127, "none")];
+// The column of the last token on the second line, where one without a source stands at each column
+// up to it, and the name of `b` at that one.
+const FAR: [(u32, &str); 4] = [(0, "foo"), (99, "foo"), (125, "foo"), (126, "none")];
 
-// The map above, with as many tokens on a second line.
-fn with_second_line(alloc: Global, count: u32) -> Result<String> {
+// The map above, with these tokens on a second line.
+fn with_second_line(alloc: Global, last: u32) -> Result<String> {
     let mut text = String::from_str(
         alloc,
         r#"{"version":3,"sources":["a.js"],"names":["foo"],"mappings":"AAAA,SAASA;A"#,
     )?;
-    for _ in 1..count {
+    for _ in 0..last {
         text.push_str(",C")?;
     }
     text.push_str("\"}")?;
     Ok(text)
 }
 
-fn name_from_afar(alloc: Global, count: u32) -> Result<String> {
-    let map = with_second_line(alloc, count)?;
-    name_in(alloc, map.as_str(), (1, count - 1), "b")
+fn name_from_afar(alloc: Global, last: u32) -> Result<String> {
+    let map = with_second_line(alloc, last)?;
+    name_in(alloc, map.as_str(), (1, last), "b")
 }
 
 #[test]
 fn walks_are_128_tokens_long(rt: HostRuntime) {
-    for (count, want) in FAR.iter() {
-        check(&rt, want, name_from_afar(rt.alloc(), *count), want);
+    for (last, want) in FAR.iter() {
+        check(&rt, want, name_from_afar(rt.alloc(), *last), want);
     }
 }
 
