@@ -102,6 +102,16 @@ TRIALS = {
         'shift 0', b'{"sections":[],"x_facebook_offsets":[5,null],"x_metro_module_paths":["a.js"]}',
         (0, '{"sections":[],"sources":null,"version":3,"x_facebook_offsets":[5,null],"x_metro_module_paths":["a.js"]}'),
         (0, '{"sections":[],"sources":null,"version":3}')),
+    '`{"mappings":"ACAA","sources":["a.js","b.js"],"x_facebook_sources":[]}`, rewritten as a Hermes map': Trial(
+        'rewrite', b'{"mappings":"ACAA","sources":["a.js","b.js"],"x_facebook_sources":[]}',
+        (0, '"x_facebook_sources":[null]'), (0, '"x_facebook_sources":[]')),
+    '`{"mappings":"ACAA,CDAA","sources":["a.js","b.js"],"x_facebook_sources":[[{"mappings":"AAA","names":["f"]}]]}`, the same': Trial(
+        'rewrite', b'{"mappings":"ACAA,CDAA","sources":["a.js","b.js"],"x_facebook_sources":[[{"mappings":"AAA","names":["f"]}]]}',
+        (0, '"x_facebook_sources":[null,[{"mappings":"AAA","names":["f"]}]]'),
+        (0, '"x_facebook_sources":[[{"mappings":"AAA","names":["f"]}]]')),
+    '`{"mappings":"ACAA","sources":["a.js","b.js"],"x_facebook_sources":[null]}`, the same': Trial(
+        'rewrite', b'{"mappings":"ACAA","sources":["a.js","b.js"],"x_facebook_sources":[null]}',
+        (0, '"x_facebook_sources":[null]'), (101, '')),
     'originals at (0,0) and (0,1), an adjustment at (0,4294967295) that comes from (0,0)': Trial(
         'compose', record('AAAA,CAAC'), (1, 'encountered incompatible sourcemap format'),
         (0, '"mappings":"AAAC,+/////HAAD"'), record('+/////HAAA')),
