@@ -12,7 +12,7 @@ pub use sourcemap_hermes::encode::{
     written_maps_read_back as hermes_maps_read_back,
     written_records_are_determined as hermes_records_are_determined,
 };
-pub use sourcemap_hermes::rewrite::rewriting_keeps_scopes;
+pub use sourcemap_hermes::rewrite::{default_rewriting_keeps_scopes, rewriting_keeps_scopes};
 pub use sourcemap_index::decode::{answers_are_determined, no_other_fault_is_of_urls};
 pub use sourcemap_index::laws::{
     encoded_texts_are_compact, encoded_texts_read_back, hermes_maps_are_of_a_kind,

@@ -3,4 +3,5 @@ pub mod EncodeLemmas
 pub mod EqualityLemmas
 pub mod NamesLemmas
 pub mod RewriteLemmas
+pub mod RewriteTwice
 pub mod WriteLemmas

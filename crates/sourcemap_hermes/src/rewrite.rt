@@ -1,7 +1,7 @@
 //! A Hermes map rewritten with what its tokens use alone.
-ghost use Rattle.std.specs.Prelude.{◌≤◌, IfOk, length};
+ghost use Rattle.std.specs.Prelude.{◌≡◌, ◌≤◌, IfOk, length};
 ghost use Rattle.sourcemap_errors.specs.Answer.{Gives};
-ghost use Rattle.sourcemap_rewriting.specs.Options.{Removal, removal_of};
+ghost use Rattle.sourcemap_rewriting.specs.Options.{Removal, no_removal, removal_of};
 ghost use Rattle.sourcemap_regular.specs.Map.{MeansTheSame};
 ghost use Rattle.sourcemap_regular.specs.Rewrite.{LeavesMeaning, MeansLess, SaysLess};
 ghost use Rattle.sourcemap_hermes.specs.Map.{HermesValue, IsWellFormed, hermes_value};
@@ -50,4 +50,11 @@ impl SourceMapHermes {
 pub fn rewriting_keeps_scopes()
     ensures { (removal : Removal) (h : HermesValue) → length h.map.sources ≤ 4294967295
         → IsWellFormed h → HasDistinctSources h → KeepsScopes h (rewritten removal h) }
+{}
+
+/// A law: a map rewritten with default options is kept by a second such rewriting, its scopes too.
+pub fn default_rewriting_keeps_scopes()
+    ensures { (h : HermesValue) → length h.map.sources ≤ 4294967295
+        → length h.map.names ≤ 4294967295
+        → rewritten no_removal (rewritten no_removal h) ≡ rewritten no_removal h }
 {}
