@@ -17,15 +17,17 @@ with its reason, or as UNEXPLAINED, and then the status is 1:
 
 - panic: the reference panicked
 - line wraps: by the rules a token leads to line 4294967295 of its source, which the reference counts as before all
+- token twice: by the rules this program is right, and the reference's walk comes to its first token twice, since
+  that token's index is one too high where it stands before the position
 - pairs: the text has characters of two UTF-16 units, where the reference counts on from the middle of one
 - no order: functions of a source stand in no order, so that any name of one of them, or none, is right
 """
-import argparse, json, pathlib, random, re, shutil, subprocess, sys, tempfile
+import argparse, collections, json, pathlib, random, re, shutil, subprocess, sys, tempfile
 from comparing import CRATES, answer, noted, reference_program, report
 from composing import tokens_of_record
 from hermes_maps import KEY, closest, function_name, is_in_order
 from index_maps import LAST, is_index, record_of
-import collections
+from walks import guessed_name
 
 WORD = re.compile(r'[A-Za-z_$][A-Za-z0-9_$]*')
 PROGRAM = '''//! Answers questions about texts and maps: a line of JSON for each.
@@ -199,10 +201,18 @@ def cases_of(folder, count):
             yield Case(f'{name}, names', record, text, questions, len(questions))
 
 
-def reason(case, question, there):
+def is_walked_twice(case, question, here, there):
+    """Whether two guesses are those of the rules, for a walk that comes to its first token once, and twice."""
+    asked = case.record, case.text, tuple(question[:2]), question[2]
+    return [json.loads(here), json.loads(there)] == [guessed_name(*asked), guessed_name(*asked, is_doubled=True)]
+
+
+def reason(case, question, here, there):
     if there == 'panic':
         return 'panic'
     if case.text is not None:
+        if case.record and is_walked_twice(case, question, here, there):
+            return 'token twice'
         return 'pairs' if case.record and any(ord(letter) > 0xffff for letter in case.text) else None
     token = closest(tokens_of_record(case.record), lambda token: token[:2], (0, question[1]))
     if token and token.source_line == LAST:
@@ -214,7 +224,7 @@ def notes_of(case, here, there):
     """Each answer beside the reference's, and beside that of the rules where a map has function maps in order."""
     for question, own, other in zip([*case.questions, ['count']], here, there):
         what = f'{case.name}, {question}'
-        yield noted(what, (0, own.encode()), (0, other.encode()), lambda: reason(case, question, other))
+        yield noted(what, (0, own.encode()), (0, other.encode()), lambda: reason(case, question, own, other))
         if case.text is None and is_in_order(case.record):
             due = function_name(case.record, question[1]) if question[0] == 0 else None
             yield noted(f'{what}, by the rules', (0, own.encode()), (0, json.dumps(due, ensure_ascii=False).encode()), lambda: None)
