@@ -222,11 +222,12 @@ def reason(case, question, here, there):
 
 def notes_of(case, here, there):
     """Each answer beside the reference's, and beside that of the rules where a map has function maps in order."""
+    tokens = tokens_of_record(case.record) if case.text is None and case.record else None
     for question, own, other in zip([*case.questions, ['count']], here, there):
         what = f'{case.name}, {question}'
         yield noted(what, (0, own.encode()), (0, other.encode()), lambda: reason(case, question, own, other))
         if case.text is None and is_in_order(case.record):
-            due = function_name(case.record, question[1]) if question[0] == 0 else None
+            due = function_name(case.record, question[1], tokens) if question[0] == 0 else None
             yield noted(f'{what}, by the rules', (0, own.encode()), (0, json.dumps(due, ensure_ascii=False).encode()), lambda: None)
 
 

@@ -65,9 +65,10 @@ def scope(record, source, line, column):
     return names[found.name] if found and found.name < len(names) else None
 
 
-def function_name(record, offset):
-    """The name of the function that a place in the bytecode, a column of line 0, stands in."""
-    token = closest(tokens_of_record(record), lambda token: token[:2], (0, offset))
+def function_name(record, offset, tokens=None):
+    """The name of the function that a place in the bytecode, a column of line 0, stands in. Who asks often hands in
+    the map's tokens."""
+    token = closest(tokens or tokens_of_record(record), lambda token: token[:2], (0, offset))
     if token is None:
         return None
     distance = offset - token.column if token.is_range and token.line == 0 else 0
