@@ -1,8 +1,7 @@
 -- A walk along two lists of stretches meets all pairs that overlap.
-use Rattle.std.proofs.Common.{◌≡◌, refl, sym, ap, subst, ◌∙◌, ℕ, ◌+◌, ◌≤◌, List, [], ◌∷◌, ◌++◌, length, length-append, append_assoc, append-nil, drop, Bool, true, false, ◌||◌, Result, Ok, Err, arith, inl, inr, ◌⊎◌}
+use Rattle.std.proofs.Common.{◌≡◌, refl, sym, ap, subst, ◌∙◌, ℕ, ◌+◌, ◌≤◌, List, [], ◌∷◌, ◌++◌, length, length-append, append_assoc, append-nil, drop, Bool, true, false, ◌||◌, None, slice_get, Result, Ok, Err, arith, inl, inr, ◌⊎◌}
 use Rattle.std.specs.List.{AllByRecursion, flat_map, list_any}
 use Rattle.std.proofs.lemmas.Bool.{cases_Bool, and_left, and_right, and_parts}
-use Rattle.std.proofs.lemmas.List.{drop_all}
 use Rattle.std.proofs.lemmas.Bool.Decides.{nat_tests}
 use Rattle.sourcemap_lists.specs.declared.tokens.RawToken.{RawToken}
 use Rattle.sourcemap_errors.specs.declared.errors.Error.{Error}
@@ -12,7 +11,7 @@ use Rattle.sourcemap_composition.specs.declared.stretches.Stretch.{Stretch}
 use Rattle.sourcemap_composition.specs.declared.stretches.Side.TheVariants.{Original, Adjustment}
 use Rattle.sourcemap_composition.specs.Stretches.{is_before, line_end, source, stretches, stretches_by}
 use Rattle.sourcemap_composition.specs.Composition.{ReachesAhead, composed_all, composition, later_start, overlap, pair, passes_the_line}
-use Rattle.sourcemap_composition.proofs.StretchesLemmas.{IsAt, IsSound, before-chain, behind_earlier, not_both_ways}
+use Rattle.sourcemap_composition.proofs.StretchesLemmas.{IsAt, IsSound, before-chain, drop-past, behind_earlier, not_both_ways}
 
 -- A pair that overlaps.
 
@@ -136,12 +135,12 @@ module _ (S T : List Stretch) (i j : ℕ) (a o : Stretch)
 
 -- the walk has come to the end of one list
 pub walked_all : (S T : List Stretch) (i j : ℕ) (done all : List RawToken) → done ++ composed_all (drop i S) (drop j T) ≡ all
-    → (length S ≤ i) ⊎ (length T ≤ j) → done ≡ all
+    → (slice_get S i ≡ None) ⊎ (slice_get T j ≡ None) → done ≡ all
 walked_all S T i j done all so_far (inl end) =
-    let none : drop i S ≡ [] = drop_all i S end in
+    let none : drop i S ≡ [] = drop-past S i end in
     sym (ap (λ bs. done ++ composed_all bs (drop j T)) none ∙ append-nil done) ∙ so_far
 walked_all S T i j done all so_far (inr end) =
-    let none : drop j T ≡ [] = drop_all j T end in
+    let none : drop j T ≡ [] = drop-past T j end in
     sym (ap (λ os. done ++ composed_all (drop i S) os) none ∙ ap (λ tokens. done ++ tokens) (without_originals (drop i S)) ∙ append-nil done) ∙ so_far
 
 -- What comes of it.

@@ -5,6 +5,7 @@ use Rattle.std.specs.Ordering.{is_lt}
 use Rattle.std.proofs.lemmas.Bool.{cases_Bool}
 use Rattle.std.proofs.lemmas.Bool.Decides.{nat_tests}
 use Rattle.std.proofs.lemmas.List.Sorted.{ranks_by}
+use Rattle.std.proofs.lemmas.Option.{slice_get_within}
 use Rattle.sourcemap_lists.specs.declared.tokens.RawToken.{RawToken}
 use Rattle.sourcemap_lists.specs.Tokens.{position_cmp}
 use Rattle.sourcemap_lists.proofs.AllLemmas.{All-at}
@@ -137,6 +138,12 @@ drop-at [] i x e = cc
 drop-at (y ∷ ys) zero x e = let same : y ≡ x = cc in ap (λ w. w ∷ ys) same
 drop-at (y ∷ ys) (suc i) x e = drop-at ys i x e
 
+pub drop-past : {X : Type 0} (xs : List X) (i : ℕ) → slice_get xs i ≡ None → drop i xs ≡ []
+drop-past [] zero e = refl
+drop-past [] (suc i) e = refl
+drop-past (y ∷ ys) zero e = cc
+drop-past (y ∷ ys) (suc i) e = drop-past ys i e
+
 -- the item at a place, with those that follow it, in a list in which each that follows is not less
 pub record IsAt {X : Type 0} (lt : X → X → Bool) (xs : List X) (i : ℕ) (x : X) : Type 0 where
   pub here : drop i xs ≡ x ∷ drop (i + 1) xs
@@ -152,6 +159,11 @@ at_place lt xs i x r e =
 module _ (place : RawToken → ℕ × ℕ) (tokens : List RawToken) (i : ℕ) (s : Stretch) where
   pub sound_at : slice_get (stretches place tokens) i ≡ Some s → IsSound place s
   sound_at here = All-at (IsSound place) (stretches place tokens) i s here (stretches-sound place tokens)
+
+  pub stretch_within : slice_get (stretches place tokens) i ≡ Some s → i + 1 ≤ length tokens
+  stretch_within here =
+      let within = slice_get_within (stretches place tokens) i s here in
+      omega (arith, within, length-stretches place tokens)
 
   pub stretch_place : IsSortedByKey place position_cmp tokens → slice_get (stretches place tokens) i ≡ Some s
       → IsAt (λ (u s : Stretch). is_before u.start s.end) (stretches place tokens) i s

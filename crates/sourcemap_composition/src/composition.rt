@@ -59,15 +59,17 @@ fn walk(alloc: Global, adjustments: &[RawToken], originals: &[RawToken]) -> Resu
     let mut tokens = Vec::with_capacity(alloc, adjustments.len().max(originals.len()))?;
     let mut at_adjustment = 0;
     let mut at_original = 0;
-    while at_adjustment < adjustments.len() && at_original < originals.len() {
-        let a = stretch_at(Side::Adjustment, adjustments, at_adjustment);
-        let o = stretch_at(Side::Original, originals, at_original);
+    let mut adjustment = stretch_at(Side::Adjustment, adjustments, at_adjustment);
+    let mut original = stretch_at(Side::Original, originals, at_original);
+    while let (Some(a), Some(o)) = (adjustment, original) {
         push_pair(&mut tokens, a, o)?;
         // what follows on its side starts where it ends, or later
         if is_before(o.end, a.end) {
             at_original += 1;
+            original = stretch_at(Side::Original, originals, at_original);
         } else {
             at_adjustment += 1;
+            adjustment = stretch_at(Side::Adjustment, adjustments, at_adjustment);
         }
     }
     Ok(tokens)

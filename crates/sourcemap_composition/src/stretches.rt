@@ -4,7 +4,7 @@ ghost use Rattle.sourcemap_errors.specs.Answer.{Gives};
 ghost use Rattle.sourcemap_lists.specs.Tokens.{position_cmp, sorted_by};
 ghost use Rattle.sourcemap_composition.specs.Stretches.{copy_or, earlier, is_before, place_by, stretches};
 
-use crate::settling::sorted;
+use crate::settling::{next_turn, sorted};
 use sourcemap_errors::errors::Result;
 use sourcemap_lists::tokens::RawToken;
 use std::alloc::Global;
@@ -55,32 +55,18 @@ fn earlier(p: (u32, u32), q: (u32, u32)) -> (u32, u32)
     if is_before(p, q) { p } else { q }
 }
 
-// The stretch of the token at this place of a sorted list.
-pub(crate) fn stretch_at(side: Side, tokens: &[RawToken], index: usize) -> Stretch
-    requires { index < length tokens.now }
-    ensures { slice_get (stretches (place_by side) tokens.now) index ≡ Some result }
+// The stretch of the token at this place of a sorted list, or none behind its end.
+pub(crate) fn stretch_at(side: Side, tokens: &[RawToken], index: usize) -> Option<Stretch>
+    ensures { result ≡ slice_get (stretches (place_by side) tokens.now) index }
 {
-    let token = tokens[index];
+    let token = *tokens.get(index)?;
     let start = place_by(side, &token);
     let line_end = (start.0, 4294967295);
     let end = match tokens.get(index + 1) {
         Some(next) => earlier(place_by(side, next), line_end),
         None => line_end,
     };
-    Stretch { token, start, end }
-}
-
-// Whether no token stands before the one that it follows.
-fn are_in_order(side: Side, tokens: &[RawToken]) -> bool
-    ensures { IsTrue result → IsSortedByKey (place_by side) position_cmp tokens.now }
-{
-    for index in 1..tokens.len() {
-        let last = place_by(side, &tokens[index - 1]);
-        if is_before(place_by(side, &tokens[index]), last) {
-            return false;
-        }
-    }
-    true
+    Some(Stretch { token, start, end })
 }
 
 // The tokens sorted stably, in a list of their own, or none if they are in order already, which
@@ -93,7 +79,7 @@ pub(crate) fn sorted_copy(
     ensures { Gives (copy_or tokens.now) result
         (Ok (sorted_by (place_by side) position_cmp tokens.now)) }
 {
-    if are_in_order(side, tokens) {
+    if next_turn(side, tokens, 1) == tokens.len() {
         return Ok(None);
     }
     let copy = Vec::from_slice(alloc, tokens)?;
