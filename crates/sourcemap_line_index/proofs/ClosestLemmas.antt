@@ -1,5 +1,5 @@
 -- The closest token, from the place among the tokens of its line where a search ends.
-use Rattle.std.proofs.Common.{◌≡◌, sym, ap, subst, ◌∙◌, ℕ, zero, suc, ◌<◌, ◌≤◌, ◌+◌, ◌-◌, ◌*◌, ◌/◌, ◌^◌, arith, inl, inr, eq-eqb, min, true, false, List, get_or, Some, None, Option, option_map}
+use Rattle.std.proofs.Common.{◌≡◌, refl, sym, ap, subst, ◌∙◌, ℕ, zero, suc, ◌<◌, ◌≤◌, ◌+◌, ◌-◌, ◌*◌, ◌/◌, ◌^◌, arith, inl, inr, eq-eqb, min, true, false, List, get_or, Some, None, Option, option_map}
 use Rattle.std.proofs.Math.Nat.{pow-succ'}
 use Rattle.std.specs.Option.{IfSome, SomeIff}
 use Rattle.std.specs.Ordering.{is_eq, is_lt, nat_cmp}
@@ -132,9 +132,38 @@ fewest_within (suc most) n d l small =
 pub binary_digits_fewest : (n d : ℕ) → n < 2 ^ d → binary_digits n ≤ d
 binary_digits_fewest n d small = fewest_within n n d (omega arith) small
 
--- the comparisons of a search for a line, one with the line, those for a column, and one with the column
-pub count_in_all : (start found left end d : ℕ) → found ≤ start + (d + 1) → left ≤ found + d → end ≡ min (left + 1) 4294967295 → end ≤ start + 2 * (d + 1)
-count_in_all start found left end d f l e = omega arith
+thirty_two_times : (d : ℕ) → 2 ^ suc (suc (suc (suc (suc d)))) ≡ 2 * (2 * (2 * (2 * (2 * 2 ^ d))))
+thirty_two_times d = rw (pow-succ' 2 (suc (suc (suc (suc d)))), pow-succ' 2 (suc (suc (suc d))), pow-succ' 2 (suc (suc d)), pow-succ' 2 (suc d), pow-succ' 2 d) refl
 
-pub count_without_last : (start found left d : ℕ) → found ≤ start + (d + 1) → left ≤ found + d → left ≤ start + 2 * (d + 1)
-count_without_last start found left d f l = omega arith
+-- by samples a search for a column makes five comparisons more, and one for a line as many fewer
+count_by_few_lines : (d count lines start found left : ℕ) → count < 2 ^ d → 0 < lines → 32 * lines ≤ count → ((e : ℕ) → lines < 2 ^ e → found ≤ start + (e + 1)) → left ≤ found + (d + 5) → left ≤ start + (2 * d + 1)
+count_by_few_lines zero count lines start found left small some few f l = absurd (omega arith)
+count_by_few_lines (suc zero) count lines start found left small some few f l = absurd (omega arith)
+count_by_few_lines (suc (suc zero)) count lines start found left small some few f l = absurd (omega arith)
+count_by_few_lines (suc (suc (suc zero))) count lines start found left small some few f l = absurd (omega arith)
+count_by_few_lines (suc (suc (suc (suc zero)))) count lines start found left small some few f l = absurd (omega arith)
+count_by_few_lines (suc (suc (suc (suc (suc d))))) count lines start found left small some few f l =
+    let all : count < 2 * (2 * (2 * (2 * (2 * 2 ^ d)))) = subst (λ n. count < n) (thirty_two_times d) small in
+    let line : found ≤ start + (d + 1) = f d (omega arith) in
+    omega arith
+
+-- the comparisons of a search for a line and one with it, and those for a column
+pub count_before_last : (count lines samples start found left d : ℕ) → count < 2 ^ d → lines ≤ count → (lines ≡ 0 → count ≡ 0) → (0 < samples → (0 < count) × (32 * lines ≤ count)) → ((e : ℕ) → lines < 2 ^ e → found ≤ start + (e + 1))
+    → ((e : ℕ) → samples ≡ 0 → count < 2 ^ e → left ≤ found + e) → ((e : ℕ) → count < 2 ^ e → left ≤ found + (e + 5)) → left ≤ start + (2 * d + 1)
+count_before_last count lines samples start found left d small few filled sampled f none some =
+    elim (cases_eq samples 0) [
+      | inl empty ↦ let line = f d (omega arith) in let column = none d empty small in omega arith
+      | inr any ↦
+          let many = sampled (omega arith) in
+          elim (cases_eq lines 0) [
+            | inl empty ↦ let never = filled empty in let least = many.0 in absurd (omega arith)
+            | inr held ↦ count_by_few_lines d count lines start found left small (omega arith) many.1 f (some d small)
+          ]
+    ]
+
+-- and at the end one with the column, if a token is left
+pub count_in_all : (start left end d : ℕ) → left ≤ start + (2 * d + 1) → end ≡ min (left + 1) 4294967295 → end ≤ start + 2 * (d + 1)
+count_in_all start left end d l e = omega arith
+
+pub count_without_last : (start left d : ℕ) → left ≤ start + (2 * d + 1) → left ≤ start + 2 * (d + 1)
+count_without_last start left d l = omega arith

@@ -1,5 +1,6 @@
 pub mod ClosestLemmas
 pub mod LineIndexLemmas
 pub mod ProbeLemmas
+pub mod SamplesLemmas
 pub mod TableLemmas
 pub mod TokenListLemmas

@@ -50,10 +50,10 @@ pub record IsWindow (number : ℕ → ℕ) (key first place left end : ℕ) : Ty
   pub before : first < place → number (place - 1) < key
   pub from : place + left < end → key ≤ number (place + left)
 
-if_less : (a b n : ℕ) → a < b → (if nat_lt a b then n else 0) ≡ n
+pub if_less : (a b n : ℕ) → a < b → (if nat_lt a b then n else 0) ≡ n
 if_less a b n l = grind (arith, nat_tests)
 
-if_not_less : (a b n : ℕ) → b ≤ a → (if nat_lt a b then n else 0) ≡ 0
+pub if_not_less : (a b n : ℕ) → b ≤ a → (if nat_lt a b then n else 0) ≡ 0
 if_not_less a b n ge = grind (arith, nat_tests)
 
 -- the number at the last of the first half tells whether to skip that half

@@ -1,2 +1,3 @@
 pub mod LineIndex
+pub mod Samples
 pub mod TokenList

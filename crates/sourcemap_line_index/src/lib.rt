@@ -3,4 +3,5 @@
 
 pub mod line_index;
 pub mod probe;
+mod samples;
 pub mod token_list;

@@ -4,9 +4,11 @@ ghost use Rattle.sourcemap_errors.specs.Answer.{Gives};
 ghost use Rattle.sourcemap_errors.specs.declared.errors.Error.TheVariants.{OutOfMemory};
 ghost use Rattle.sourcemap_lists.specs.Tokens.{AreInOrder, closest_token};
 ghost use Rattle.sourcemap_lists.specs.declared.tokens.RawToken.{RawToken};
-ghost use Rattle.sourcemap_line_index.specs.LineIndex.{BeginsLine, GoesOnLine, IsMadeFrom, IsSpan, Rises, binary_digits, col_at, no_rows, with_row};
+ghost use Rattle.sourcemap_line_index.specs.LineIndex.{BeginsLine, GoesOnLine, IsMadeFrom, IsSpan, Rises, binary_digits, no_rows, with_row};
+ghost use Rattle.sourcemap_line_index.specs.Samples.{AreSamples};
 
 use crate::probe::Probe;
+use crate::samples::first_by_samples;
 use sourcemap_errors::errors::Result;
 use sourcemap_lists::tokens::RawToken;
 use std::alloc::Global;
@@ -94,8 +96,29 @@ impl LineIndex {
         ensures asked { 0 < length tokens.now
             → min (P.comparisons probe.old + 1) 4294967295 ≤ P.comparisons probe.new }
     {
+        self.closest_by_samples(tokens, &[], probe)
+    }
+
+    // The same, by columns of every eighth token if there are any.
+    pub(crate) fn closest_by_samples<P: Probe>(
+        &self,
+        tokens: &[RawToken],
+        samples: &[u32],
+        probe: &mut P,
+    ) -> Option<usize>
+        requires made { IsMadeFrom tokens.now self.now }
+        requires sampled { AreSamples tokens.now (length self.now.lines) samples.now }
+        ensures answer { result
+            ≡ option_map (λ found. found.0) (closest_token tokens.now (P.position probe.old)) }
+        ensures inside { IfSome result (λ place. place < length tokens.now) }
+        ensures kept { P.position probe.new ≡ P.position probe.old }
+        ensures counted { P.comparisons probe.new
+            ≤ P.comparisons probe.old + 2 * (binary_digits (length tokens.now) + 1) }
+        ensures asked { 0 < length tokens.now
+            → min (P.comparisons probe.old + 1) 4294967295 ≤ P.comparisons probe.new }
+    {
         let (first, end) = self.span_of(tokens, probe);
-        let place = first_at_column(tokens, first, end, probe);
+        let place = first_by_samples(tokens, samples, first, end, probe);
         if place < end && probe.column(tokens[place].dst_col).is_eq() {
             return Some(place);
         }
@@ -108,7 +131,7 @@ impl LineIndex {
         requires { IsMadeFrom tokens.now self.now }
         ensures span { IsSpan tokens.now (P.position probe.old).0 result.0 result.1 }
         ensures kept { P.position probe.new ≡ P.position probe.old }
-        ensures counted { (d : ℕ) → length tokens.now < 2 ^ d
+        ensures counted { (d : ℕ) → length self.now.lines < 2 ^ d
             → P.comparisons probe.new ≤ P.comparisons probe.old + (d + 1) }
         ensures asked { 0 < length tokens.now
             → min (P.comparisons probe.old + 1) 4294967295 ≤ P.comparisons probe.new }
@@ -120,6 +143,13 @@ impl LineIndex {
             return (first, self.first_of(row + 1, tokens.len()));
         }
         (first, first)
+    }
+
+    // How many lines hold tokens.
+    pub(crate) fn rows(&self) -> usize
+        ensures { result ≡ length self.now.lines }
+    {
+        self.lines.len()
     }
 
     // The place of the first token of the line in this row, `end` behind the last row.
@@ -176,34 +206,6 @@ fn first_at_line<P: Probe>(lines: &[u32], probe: &mut P) -> usize
         left = half;
     }
     row
-}
-
-// The place of the first of the tokens from `first` up to `end` that is not left of the probe's
-// column, `end` if there is none.
-fn first_at_column<P: Probe>(tokens: &[RawToken], first: usize, end: usize, probe: &mut P) -> usize
-    requires ordered { first ≤ end }
-    requires within { end ≤ length tokens.now }
-    requires rises { (d : RawToken) → Rises (col_at tokens.now d) first end }
-    ensures at_least { first ≤ result }
-    ensures at_most { result ≤ end }
-    ensures before { (d : RawToken) → first < result
-        → col_at tokens.now d (result - 1) < (P.position probe.old).1 }
-    ensures from { (d : RawToken) → result < end
-        → (P.position probe.old).1 ≤ col_at tokens.now d result }
-    ensures kept { P.position probe.new ≡ P.position probe.old }
-    ensures counted { (d : ℕ) → end - first < 2 ^ d
-        → P.comparisons probe.new ≤ P.comparisons probe.old + d }
-    ensures raised { min (P.comparisons probe.old) 4294967295 ≤ P.comparisons probe.new }
-{
-    let mut place = first;
-    let mut left = end - first;
-    while left > 0 {
-        let half = left / 2;
-        let rest = left - half;
-        place += probe.skip_by_column(tokens[place + rest - 1].dst_col, rest);
-        left = half;
-    }
-    place
 }
 
 /// A law: the binary digits of a count are enough to write it, and no fewer are.

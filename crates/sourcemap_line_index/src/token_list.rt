@@ -9,29 +9,33 @@ ghost use Rattle.sourcemap_line_index.specs.TokenList.{same_tokens, same_tokens_
 
 use crate::line_index::LineIndex;
 use crate::probe::{KeyProbe, Probe};
+use crate::samples::ColumnSamples;
 use sourcemap_errors::errors::Result;
 use sourcemap_lists::tokens::{RawToken, closest_token, sort_tokens};
 use std::alloc::Global;
 use std::marker::Model;
 
 /// Tokens in order of line and column of the generated text, beside the table of the lines that hold
-/// them. No call parts the two.
+/// them, and samples of their columns if lines are long. No call parts them.
 #[derive(Debug, Drop)]
 pub struct TokenList {
     tokens: Vec<RawToken>,
     lines: LineIndex,
+    samples: ColumnSamples,
 }
 
 impl Model for TokenList {
-    ghost use Rattle.std.specs.Prelude.{List};
+    ghost use Rattle.std.specs.Prelude.{List, length};
     ghost use Rattle.sourcemap_line_index.specs.LineIndex.{IsMadeFrom};
+    ghost use Rattle.sourcemap_line_index.specs.Samples.{AreSamples};
     ghost use Rattle.sourcemap_lists.specs.declared.tokens.RawToken.{RawToken};
 
     ghost Value = { List RawToken };
 
     ghost view = { λ list. list.tokens.items };
 
-    ghost invariant = { λ list. IsMadeFrom list.tokens.items list.lines };
+    ghost invariant = { λ list. IsMadeFrom list.tokens.items list.lines
+        × AreSamples list.tokens.items (length list.lines.lines) list.samples };
 }
 
 impl TokenList {
@@ -51,7 +55,7 @@ impl TokenList {
         ensures { Gives (λ list. list) result (Ok tokens.items) }
     {
         let lines = LineIndex::new(*tokens.allocator(), tokens.as_slice())?;
-        Ok(TokenList { tokens, lines })
+        Ok(TokenList::with_table(tokens, lines))
     }
 
     /// These tokens beside their table, which was made with them.
@@ -59,7 +63,12 @@ impl TokenList {
         requires { IsMadeFrom tokens.items lines }
         ensures { result ≡ tokens.items }
     {
-        TokenList { tokens, lines }
+        let samples = ColumnSamples::new(*tokens.allocator(), tokens.as_slice(), lines.rows());
+        TokenList {
+            tokens,
+            lines,
+            samples,
+        }
     }
 
     /// The tokens as a slice.
@@ -110,7 +119,8 @@ impl TokenList {
     {
         let mut probe = KeyProbe::new(line, col);
         let tokens = self.tokens.as_slice();
-        let place = self.lines.closest(tokens, &mut probe);
+        let samples = self.samples.as_slice();
+        let place = self.lines.closest_by_samples(tokens, samples, &mut probe);
         (with_token(tokens, place), probe.count())
     }
 
@@ -142,7 +152,7 @@ impl TokenList {
         let alloc = self.allocator();
         let tokens = Vec::from_slice(alloc, self.tokens.as_slice())?;
         let lines = self.lines.duplicate(alloc)?;
-        Ok(TokenList { tokens, lines })
+        Ok(TokenList::with_table(tokens, lines))
     }
 
     /// What the list takes its memory from.

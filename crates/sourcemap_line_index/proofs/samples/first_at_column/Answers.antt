@@ -3,7 +3,7 @@ use Rattle.std.proofs.lemmas.List.{get_or_default}
 use Rattle.sourcemap_lists.specs.declared.tokens.RawToken.{RawToken}
 use Rattle.sourcemap_line_index.specs.LineIndex.{col_at}
 use Rattle.sourcemap_line_index.proofs.LineIndexLemmas.{Remains-half, raised_on, skipped_at_most, window_halved}
-use Rattle.sourcemap_line_index.proofs.line_index.first_at_column.Goals as goal
+use Rattle.sourcemap_line_index.proofs.samples.first_at_column.Goals as goal
 
 pub loop-left-preserved : goal.loop-left-preserved
 loop-left-preserved g c =

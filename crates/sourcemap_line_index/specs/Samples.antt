@@ -1,0 +1,14 @@
+-- Samples of the columns of tokens: those of every eighth.
+use Rattle.std.specs.Prelude.{◌≡◌, ℕ, ◌<◌, ◌≤◌, ◌*◌, List, length, slice_index}
+use Rattle.sourcemap_lists.specs.declared.tokens.RawToken.{RawToken}
+use Rattle.sourcemap_line_index.specs.LineIndex.{col_at}
+
+-- the columns of the tokens at the places 0, 8, 16 and so on up to the end of the list
+pub record AreColumns (tokens : List RawToken) (columns : List ℕ) : Type 0 where
+  pub inside : (k : ℕ) → k < length columns → 8 * k < length tokens
+  pub own : (k : ℕ) (d : RawToken) → k < length columns → slice_index columns k ≡ col_at tokens d (8 * k)
+  pub all : length tokens ≤ 8 * length columns
+
+-- none, or those of tokens on so few lines that a search by samples stays within its bound
+abbrev pub AreSamples : (tokens : List RawToken) (lines : ℕ) (columns : List ℕ) → Type 0
+AreSamples tokens lines columns = 0 < length columns → AreColumns tokens columns × (32 * lines ≤ length tokens)
