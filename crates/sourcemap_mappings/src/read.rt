@@ -214,11 +214,13 @@ fn read_lines(alloc: Global, mappings: &str, ranges: &str, limits: Limits) -> Re
 }
 
 // The list of the tokens, which have their table already if they are in order.
-fn listed(read: ReadLines) -> Result<TokenList>
+fn listed(mut read: ReadLines) -> Result<TokenList>
     requires { IsTrue read.rises → IsMadeFrom read.tokens.items read.table }
     ensures sorted { IfOk result (λ list. list ≡ in_order read.tokens.items) }
     ensures memory { IfErr result (λ e. e ≡ OutOfMemory) }
 {
+    // room was made for more tokens than texts mostly hold
+    read.tokens.shrink_to_fit();
     if read.rises {
         return Ok(TokenList::with_table(read.tokens, read.table));
     }
