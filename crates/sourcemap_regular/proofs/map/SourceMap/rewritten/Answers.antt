@@ -1,4 +1,5 @@
-use Rattle.std.proofs.Common.{◌≡◌, ℕ, List, [], None, Ok, cond, unwrap_or, sym, ap, subst, ◌∙◌}
+use Rattle.std.proofs.Common.{◌≡◌, ◌≤◌, ℕ, Bool, true, false, List, [], None, Ok, arith, cond, length, unwrap_or, vec_len, sym, ap, subst, ◌∙◌}
+use Rattle.std.proofs.lemmas.List.{length-map}
 use Rattle.sourcemap_texts.specs.Texts.{texts_of}
 use Rattle.sourcemap_rewriting.specs.Rewritten.{AreRewritten, first_ids_used}
 use Rattle.sourcemap_regular.specs.Map.{MapValue, shown_sources}
@@ -6,6 +7,16 @@ use Rattle.sourcemap_regular.specs.MapStored.{map_over, value_of}
 use Rattle.sourcemap_regular.specs.Rewrite.{removal_of, first_ids, rewritten}
 use Rattle.sourcemap_regular.proofs.RewriteLemmas.{tokens-rewritten, names-rewritten, sources-rewritten, contents-rewritten}
 use Rattle.sourcemap_regular.proofs.map.SourceMap.rewritten.Goals as goal
+
+few_if : (is_kept : Bool) (names : List (List ℕ)) → length names ≤ 4294967295 → length (cond is_kept names []) ≤ 4294967295
+few_if true names few = few
+few_if false names few = omega arith
+
+pub rewritten_parts-requires-clause-few_names : goal.rewritten_parts-requires-clause-few_names
+rewritten_parts-requires-clause-few_names c =
+    let kept = c.names_if-names.result in
+    let many : vec_len kept ≡ length (texts_of kept) = rw length-map kept.ok.0 in
+    subst (λ n. n ≤ 4294967295) (sym (many ∙ ap length c.names_if-names.ensures)) (few_if c.args.options.now.with_names (texts_of c.self.inside.names) c.self.invariant)
 
 pub returns-clause-value : goal.returns-clause-value
 returns-clause-value c =
