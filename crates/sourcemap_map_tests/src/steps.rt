@@ -43,6 +43,19 @@ fn two_lines(alloc: Global) -> Result<SourceMap> {
     map_of(alloc, tokens)
 }
 
+// A map of five tokens at columns 0 to 4 of line 0, and of 3,000 at each third column of line 2, known
+// by their numbers from 0.
+fn long_line(alloc: Global) -> Result<SourceMap> {
+    let mut tokens = Vec::new(alloc);
+    for number in 0..5 {
+        tokens.push(token((0, number), number))?;
+    }
+    for number in 0..3000 {
+        tokens.push(token((2, 3 * number), 5 + number))?;
+    }
+    map_of(alloc, tokens)
+}
+
 fn map_of(alloc: Global, tokens: Vec<RawToken>) -> Result<SourceMap> {
     let names = Vec::new(alloc);
     let sources = Vec::new(alloc);
@@ -83,6 +96,22 @@ const ON_TWO_LINES: [Counted; 4] = [
     ((1, 0), 1, 6, "Some(0) true"),
     ((0, 2), 1, 6, "None true"),
     ((2, 5), 1, 6, "Some(1) true"),
+];
+
+const ON_A_LONG_LINE: [Counted; 13] = [
+    ((0, 2), 1, 26, "Some(2) true"),
+    ((1, 0), 1, 26, "Some(4) true"),
+    ((2, 0), 1, 26, "Some(5) true"),
+    ((2, 1), 1, 26, "Some(5) true"),
+    ((2, 8), 1, 26, "Some(7) true"),
+    ((2, 9), 1, 26, "Some(8) true"),
+    ((2, 23), 1, 26, "Some(12) true"),
+    ((2, 24), 1, 26, "Some(13) true"),
+    ((2, 4500), 1, 26, "Some(1505) true"),
+    ((2, 8996), 1, 26, "Some(3003) true"),
+    ((2, 8997), 1, 26, "Some(3004) true"),
+    ((2, NONE), 1, 26, "Some(3004) true"),
+    ((3, 0), 1, 26, "Some(3004) true"),
 ];
 
 #[test]
@@ -128,6 +157,18 @@ fn lines_without_tokens_take_few_comparisons(rt: HostRuntime) {
             &rt,
             "two lines",
             told(rt.alloc(), two_lines(rt.alloc()), row),
+            row.3,
+        );
+    }
+}
+
+#[test]
+fn tokens_of_a_long_line_take_few_comparisons(rt: HostRuntime) {
+    for row in ON_A_LONG_LINE.iter() {
+        check(
+            &rt,
+            "long line",
+            told(rt.alloc(), long_line(rt.alloc()), row),
             row.3,
         );
     }
