@@ -121,10 +121,12 @@ def without_repeats(tokens):
 
 def written(tokens):
     """The mappings and the range mappings of tokens that stand in any order within their lines."""
-    lines, marks, there = [], [], [0, 0, 0, 0]
-    for line in range(max((token.line for token in tokens), default=0) + 1):
-        segments, bits, column = [], [0] * (len(tokens) // 6 + 1), 0
-        for place, token in enumerate(token for token in tokens if token.line == line):
+    lines, marks, there, by_line = [], [], [0, 0, 0, 0], collections.defaultdict(list)
+    for token in tokens:
+        by_line[token.line].append(token)
+    for line in range(max(by_line, default=0) + 1):
+        segments, bits, column = [], [0] * (len(by_line[line]) // 6 + 1), 0
+        for place, token in enumerate(by_line[line]):
             segment, column = digits_of(token.column - column), token.column
             if token.source != LAST:
                 here = [token.source, token.source_line, token.source_column] + [token.name] * (token.name != LAST)

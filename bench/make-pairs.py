@@ -2,14 +2,20 @@
 """Makes small pairs of maps, of which one is to be adjusted by the other, the same on every run.
 
     bench/make-pairs.py FOLDER [--count N] [--seed N]
+    bench/make-pairs.py FOLDER --tokens N..
 
-FOLDER   where NAME.original.map and NAME.adjustment.map are written
---count  how many pairs (5000)
---seed   another one gives other maps (1)
+FOLDER    where NAME.original.map and NAME.adjustment.map are written
+--count   how many pairs (5000)
+--seed    another one gives other maps (1)
+--tokens  large pairs in their place, to be timed: one for each number, with an original of so many tokens
 
 A map has up to sixteen tokens on up to three lines, so few places that many stand at one, lead to one, or cover
 nothing. Their columns are small, with some at the end of a line. In half of the maps tokens stand in no order
 within a line; some have no source, some are range tokens. No two maps have the same sources or names.
+
+The original of a large pair has ten tokens a line. Its adjustment is that of a step that writes the text shorter
+in lines of forty tokens: it has nine in ten of the tokens, in blocks of two hundred, of which one in twenty stands
+behind the next one and one in four hundred at the end of the text.
 """
 import argparse, json, pathlib, random
 from composing import Token, written
@@ -40,15 +46,53 @@ def drawn_map(draws, kind):
     return {**record, 'rangeMappings': marks} if marks else record
 
 
+def steps_on(draws, count, tokens_a_line, farthest):
+    """Places of so many tokens, each behind the last."""
+    column = 0
+    for index in range(count):
+        column = 0 if index % tokens_a_line == 0 else column + draws.randrange(1, farthest)
+        yield index // tokens_a_line, column
+
+
+def reordered(draws, tokens):
+    """The tokens in blocks, some of which change places with the next and a few of which come last."""
+    blocks = [tokens[at:at + 200] for at in range(0, len(tokens), 200)]
+    late = [block for block in blocks if draws.randrange(400) == 0]
+    blocks = [block for block in blocks if block not in late]
+    for at in range(1, len(blocks)):
+        if draws.randrange(20) == 0:
+            blocks[at - 1:at + 1] = blocks[at], blocks[at - 1]
+    return [token for block in blocks + late for token in block]
+
+
+def large_pair(draws, count):
+    """The tokens of an original, and those of its adjustment."""
+    originals = [Token(line, column, index // 7, column % 60, index * 50 // count, index % 2, False)
+                 for index, (line, column) in enumerate(steps_on(draws, count, 10, 13))]
+    kept = reordered(draws, [token for token in originals if draws.randrange(10)])
+    places = steps_on(draws, len(kept), 40, 8)
+    return originals, [Token(line, column, token.line, token.column, 0, LAST, False)
+                       for token, (line, column) in zip(kept, places)]
+
+
+def large_map(tokens, kind):
+    return {'version': 3, 'sources': [f'{kind}-{n}.js' for n in range(50)], 'names': ['one', 'two'],
+            'mappings': written(tokens)[0]}
+
+
 def main():
     words = argparse.ArgumentParser(usage=__doc__)
     words.add_argument('folder', type=pathlib.Path)
     words.add_argument('--count', type=int, default=5000)
     words.add_argument('--seed', type=int, default=1)
+    words.add_argument('--tokens', type=int, nargs='+')
     given = words.parse_args()
     draws = random.Random(given.seed)
     given.folder.mkdir(parents=True, exist_ok=True)
-    for number in range(given.count):
+    for count in given.tokens or []:
+        for kind, tokens in zip(('original', 'adjustment'), large_pair(draws, count)):
+            (given.folder / f'{count:07}.{kind}.map').write_text(json.dumps(large_map(tokens, kind)))
+    for number in range(0 if given.tokens else given.count):
         for kind in ('original', 'adjustment'):
             (given.folder / f'{number:05}.{kind}.map').write_text(json.dumps(drawn_map(draws, kind)))
 
