@@ -55,7 +55,7 @@ refused_adjustment t u m e is (same, other) = rw (is, same) (by_kind u other)
     by_kind (leaf (hermes h)) other = refl
     by_kind (index parts ss) other = refl
 
--- why two regular maps have no adjusted one
-pub not_adjusted : (t u : MapTree) (m n : MapValue) (e : Error) → t ≡ leaf (regular m) → u ≡ leaf (regular n)
-    → UnlessMemory e (adjusted m n ≡ Err e) → UnlessMemory e (adjusted_by t (Some u) ≡ Err e)
-not_adjusted t u m n e is is' h = rw (is, is') h
+-- what two regular maps make
+pub adjusted_trees : (t u : MapTree) (m n : MapValue) (r : Result MapValue Error) → t ≡ leaf (regular m) → u ≡ leaf (regular n)
+    → Gives (λ m. m) r (adjusted m n) → Gives (λ m. m) r (adjusted_by t (Some u))
+adjusted_trees t u m n r is is' h = rw (is, is') h

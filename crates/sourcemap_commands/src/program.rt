@@ -74,21 +74,62 @@ pub fn apply<F: Files>(
 fn said<F: Files>(rt: &F, alloc: Global, command: &Command, map: DecodedMap) -> Result<String>
     ensures { IsAnswer string_bytes (Says command.now (map_tree map) None) result }
 {
-    match (command, map) {
-        (Command::Lookup(line, col), map) => lookup_text(alloc, &map, *line, *col),
-        (Command::Tokens, DecodedMap::Regular(map)) => tokens_text(alloc, &map),
-        (Command::Tokens, DecodedMap::Hermes(map)) => tokens_text(alloc, &map),
-        (Command::Rewrite, DecodedMap::Regular(map)) => rewritten_text(rt, alloc, map),
-        (Command::Rewrite, DecodedMap::Hermes(map)) => hermes_text(rt, alloc, map),
-        (Command::Flatten, DecodedMap::Index(index)) => flat_text(alloc, index),
-        (Command::Shift(rows), DecodedMap::Index(index)) => shifted_text(alloc, index, *rows),
-        (Command::Tokens, DecodedMap::Index(_)) => Err(Error::IncompatibleSourceMap),
-        (Command::Rewrite, DecodedMap::Index(_)) => Err(Error::IncompatibleSourceMap),
-        (Command::Flatten, DecodedMap::Regular(_)) => Err(Error::IncompatibleSourceMap),
-        (Command::Flatten, DecodedMap::Hermes(_)) => Err(Error::IncompatibleSourceMap),
-        (Command::Shift(_), DecodedMap::Regular(_)) => Err(Error::IncompatibleSourceMap),
-        (Command::Shift(_), DecodedMap::Hermes(_)) => Err(Error::IncompatibleSourceMap),
-        (Command::Compose(_), _) => Err(Error::IncompatibleSourceMap),
+    match map {
+        DecodedMap::Regular(map) => said_of_regular(rt, alloc, command, map),
+        DecodedMap::Hermes(map) => said_of_hermes(rt, alloc, command, map),
+        DecodedMap::Index(index) => said_of_index(alloc, command, index),
+    }
+}
+
+// What a command says of a regular map.
+fn said_of_regular<F: Files>(
+    rt: &F,
+    alloc: Global,
+    command: &Command,
+    map: SourceMap,
+) -> Result<String>
+    ensures { IsAnswer string_bytes (Says command.now (leaf (regular map)) None) result }
+{
+    match command {
+        Command::Lookup(line, col) => lookup_text(alloc, &DecodedMap::Regular(map), *line, *col),
+        Command::Tokens => tokens_text(alloc, &map),
+        Command::Rewrite => rewritten_text(rt, alloc, map),
+        Command::Flatten => Err(Error::IncompatibleSourceMap),
+        Command::Compose(_) => Err(Error::IncompatibleSourceMap),
+        Command::Shift(_) => Err(Error::IncompatibleSourceMap),
+    }
+}
+
+// What a command says of a Hermes map.
+fn said_of_hermes<F: Files>(
+    rt: &F,
+    alloc: Global,
+    command: &Command,
+    map: SourceMapHermes,
+) -> Result<String>
+    ensures { IsAnswer string_bytes (Says command.now (leaf (hermes (hermes_value map))) None) result }
+{
+    match command {
+        Command::Lookup(line, col) => lookup_text(alloc, &DecodedMap::Hermes(map), *line, *col),
+        Command::Tokens => tokens_text(alloc, &map),
+        Command::Rewrite => hermes_text(rt, alloc, map),
+        Command::Flatten => Err(Error::IncompatibleSourceMap),
+        Command::Compose(_) => Err(Error::IncompatibleSourceMap),
+        Command::Shift(_) => Err(Error::IncompatibleSourceMap),
+    }
+}
+
+// What a command says of an index.
+fn said_of_index(alloc: Global, command: &Command, index: SourceMapIndex) -> Result<String>
+    ensures { IsAnswer string_bytes (Says command.now (index_tree (index_value index)) None) result }
+{
+    match command {
+        Command::Lookup(line, col) => lookup_text(alloc, &DecodedMap::Index(index), *line, *col),
+        Command::Tokens => Err(Error::IncompatibleSourceMap),
+        Command::Rewrite => Err(Error::IncompatibleSourceMap),
+        Command::Flatten => flat_text(alloc, index),
+        Command::Compose(_) => Err(Error::IncompatibleSourceMap),
+        Command::Shift(rows) => shifted_text(alloc, index, *rows),
     }
 }
 

@@ -1,6 +1,7 @@
 //! Regular maps that the program makes of maps: one rewritten by default, one of an index, and one
 //! adjusted by another.
 ghost use Rattle.std.specs.Prelude.{◌≡◌, MatchResult, Some};
+ghost use Rattle.sourcemap.specs.Adjust.{adjusted as adjusted_values};
 ghost use Rattle.sourcemap.specs.Answer.{Gives, IsAnswer};
 ghost use Rattle.sourcemap.specs.Decoded.{index_value, map_tree};
 ghost use Rattle.sourcemap.specs.Flat.{FlatAnswer};
@@ -44,8 +45,15 @@ pub fn flattened(index: SourceMapIndex) -> Result<SourceMap>
 pub fn adjusted(map: DecodedMap, adjustment: DecodedMap) -> Result<SourceMap>
     ensures { Gives (λ m. m) result (adjusted_by (map_tree map) (Some (map_tree adjustment))) }
 {
-    let mut map = regular_of(map)?;
+    let map = regular_of(map)?;
     let adjustment = regular_of(adjustment)?;
-    map.adjust_mappings(&adjustment)?;
+    adjusted_by_it(map, &adjustment)
+}
+
+// A regular map adjusted by another one.
+fn adjusted_by_it(mut map: SourceMap, adjustment: &SourceMap) -> Result<SourceMap>
+    ensures { Gives (λ m. m) result (adjusted_values map adjustment.now) }
+{
+    map.adjust_mappings(adjustment)?;
     Ok(map)
 }

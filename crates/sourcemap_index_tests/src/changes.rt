@@ -21,13 +21,20 @@ enum Change {
 
 const MAP: &str = r#"{"mappings":"A","debugId":"00000000-0000-0000-0000-000000000000"}"#;
 
-fn made(alloc: Global) -> Result<SourceMapIndex> {
+fn linked(alloc: Global) -> Result<SourceMapSection> {
+    SourceMapSection::new(alloc, (0, 0), Some(String::from_str(alloc, "v")?), None)
+}
+
+fn mapped(alloc: Global) -> Result<SourceMapSection> {
     let map = decode_slice(alloc, MAP.as_bytes())?;
+    SourceMapSection::new(alloc, (1, 2), None, Some(map))
+}
+
+fn made(alloc: Global) -> Result<SourceMapIndex> {
     let file = String::from_str(alloc, "test.js")?;
-    let url = String::from_str(alloc, "v")?;
     let mut sections = Vec::new(alloc);
-    sections.push(SourceMapSection::new(alloc, (0, 0), Some(url), None)?)?;
-    sections.push(SourceMapSection::new(alloc, (1, 2), None, Some(map))?)?;
+    sections.push(linked(alloc)?)?;
+    sections.push(mapped(alloc)?)?;
     Ok(SourceMapIndex::new(alloc, Some(file), sections))
 }
 
@@ -73,12 +80,15 @@ fn has_debug_id(section: Option<&SourceMapSection>) -> bool {
     }
 }
 
-fn changed(alloc: Global, change: Change) -> Result<String> {
-    let mut index = made(alloc)?;
-    apply(&mut index, change)?;
-    let sections = sections_told(alloc, &index)?;
+fn change_told(alloc: Global, index: &mut SourceMapIndex, change: Change) -> Result<String> {
+    apply(index, change)?;
+    let sections = sections_told(alloc, index)?;
     let has_id = has_debug_id(index.get_section(1));
     Ok(format!(in alloc; "{:?} {sections} {has_id}", index.get_file())?)
+}
+
+fn changed(alloc: Global, change: Change) -> Result<String> {
+    change_told(alloc, &mut made(alloc)?, change)
 }
 
 // A change, and what the index is afterwards.
@@ -140,11 +150,14 @@ fn bundled(alloc: Global) -> Result<SourceMapIndex> {
     ))
 }
 
-fn bundle_told(alloc: Global) -> Result<String> {
-    let index = bundled(alloc)?;
+fn lists_told(alloc: Global, index: &SourceMapIndex) -> Result<String> {
     let offsets = index.x_facebook_offsets();
     let paths = index.x_metro_module_paths();
     Ok(format!(in alloc; "{offsets:?} {paths:?} {}", index.is_for_ram_bundle())?)
+}
+
+fn bundle_told(alloc: Global) -> Result<String> {
+    lists_told(alloc, &bundled(alloc)?)
 }
 
 #[test]
@@ -154,12 +167,15 @@ fn indexes_are_made_for_bundles(rt: HostRuntime) {
 }
 
 // The debug id of an index is taken away.
-fn id_taken(alloc: Global) -> Result<String> {
-    let text = r#"{"sections":[],"debug_id":"00000000-0000-0000-0000-000000000000"}"#;
-    let mut map = decode_slice(alloc, text.as_bytes())?;
+fn id_taken_from(alloc: Global, map: &mut DecodedMap) -> Result<String> {
     let before = map.debug_id().is_some();
     map.set_debug_id(None);
     Ok(format!(in alloc; "{before} {}", map.debug_id().is_some())?)
+}
+
+fn id_taken(alloc: Global) -> Result<String> {
+    let text = r#"{"sections":[],"debug_id":"00000000-0000-0000-0000-000000000000"}"#;
+    id_taken_from(alloc, &mut decode_slice(alloc, text.as_bytes())?)
 }
 
 #[test]

@@ -1,5 +1,6 @@
 // Hermes maps among maps of any kind, on their own and in sections.
 use crate::checks::{check, fault_told};
+use serde_json::Value;
 use sourcemap::decoder::decode_slice;
 use sourcemap::errors::Result;
 use sourcemap::types::DecodedMap;
@@ -43,9 +44,12 @@ fn name_told(map: &DecodedMap, offset: u32) -> &str {
     }
 }
 
+fn name_copied(alloc: Global, map: &DecodedMap, offset: u32) -> Result<String> {
+    Ok(String::from_str(alloc, name_told(map, offset))?)
+}
+
 fn name_at(alloc: Global, text: &str, offset: u32) -> Result<String> {
-    let map = decode_slice(alloc, text.as_bytes())?;
-    Ok(String::from_str(alloc, name_told(&map, offset))?)
+    name_copied(alloc, &decode_slice(alloc, text.as_bytes())?, offset)
 }
 
 // A map, a place in the bytecode, and the name of the function there.
@@ -67,11 +71,19 @@ fn functions_of_a_decoded_map_have_names(rt: HostRuntime) {
     }
 }
 
+fn value_of(alloc: Global, text: &str) -> Result<Value> {
+    decode_slice(alloc, text.as_bytes())?.to_value()
+}
+
+fn read_back(alloc: Global, value: &Value) -> Result<Value> {
+    DecodedMap::from_value(alloc, value)?.into_value()
+}
+
 // The text that a map is written as, read back and written once more.
 fn written_again(alloc: Global, text: &str) -> Result<String> {
-    let value = decode_slice(alloc, text.as_bytes())?.to_value()?;
-    let back = DecodedMap::from_value(alloc, &value)?;
-    Ok(DecodedMap::into_value(back)?.to_string(alloc)?)
+    let value = value_of(alloc, text)?;
+    let again = read_back(alloc, &value)?;
+    Ok(again.to_string(alloc)?)
 }
 
 #[test]
@@ -89,12 +101,15 @@ fn id_told(alloc: Global, map: &DecodedMap) -> Result<String> {
 }
 
 // The debug id of a map, and what is left of it once it is taken away.
-fn ids(alloc: Global, text: &str) -> Result<String> {
-    let mut map = decode_slice(alloc, text.as_bytes())?;
-    let old = id_told(alloc, &map)?;
+fn ids_told(alloc: Global, map: &mut DecodedMap) -> Result<String> {
+    let old = id_told(alloc, map)?;
     map.set_debug_id(None);
-    let new = id_told(alloc, &map)?;
-    Ok(format!(in alloc; "{old} {new} {}", name_told(&map, 0))?)
+    let new = id_told(alloc, map)?;
+    Ok(format!(in alloc; "{old} {new} {}", name_told(map, 0))?)
+}
+
+fn ids(alloc: Global, text: &str) -> Result<String> {
+    ids_told(alloc, &mut decode_slice(alloc, text.as_bytes())?)
 }
 
 #[test]

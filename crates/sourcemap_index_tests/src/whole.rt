@@ -161,11 +161,14 @@ fn flat_maps_are_rewritten(rt: HostRuntime) {
     }
 }
 
-fn moved(alloc: Global, text: &str, rows: u32) -> Result<String> {
-    let mut index = index_of(alloc, text)?;
+fn moved_told(alloc: Global, index: &mut SourceMapIndex, rows: u32) -> Result<String> {
     let fits = index.adjust_sections_offset_rows(rows);
-    let told = sections_told(alloc, &index)?;
+    let told = sections_told(alloc, index)?;
     Ok(format!(in alloc; "{fits} {told}")?)
+}
+
+fn moved(alloc: Global, text: &str, rows: u32) -> Result<String> {
+    moved_told(alloc, &mut index_of(alloc, text)?, rows)
 }
 
 const ROWS: &str =
@@ -215,10 +218,13 @@ fn index_written_away(alloc: Global, text: &str) -> Result<String> {
     value_told(alloc, record.into_value(alloc))
 }
 
+fn put(alloc: Global, text: &str, bytes: &mut Vec<u8>) -> Result<()> {
+    decode_slice(alloc, text.as_bytes())?.to_writer(bytes)
+}
+
 fn written_to(alloc: Global, text: &str) -> Result<String> {
-    let map = decode_slice(alloc, text.as_bytes())?;
     let mut bytes = Vec::new(alloc);
-    map.to_writer(&mut bytes)?;
+    put(alloc, text, &mut bytes)?;
     match String::from_utf8(bytes) {
         Ok(text) => Ok(text),
         Err(_) => Err(Error::IncompatibleSourceMap),
@@ -260,14 +266,29 @@ fn indexes_are_written(rt: HostRuntime) {
     }
 }
 
-fn compared(alloc: Global, text: &str, other: &str) -> Result<String> {
-    let map = decode_slice(alloc, text.as_bytes())?;
-    let copy = map.clone()?;
-    let other = decode_slice(alloc, other.as_bytes())?;
-    Ok(format!(in alloc; "{} {}", copy == map, copy == other)?)
+fn equals_copy(map: &DecodedMap) -> Result<bool> {
+    Ok(map.clone()? == *map)
 }
 
-// Whether a copy of an index is equal to it, and to another map.
+fn copy_equals(alloc: Global, text: &str) -> Result<bool> {
+    equals_copy(&decode_slice(alloc, text.as_bytes())?)
+}
+
+fn equals(alloc: Global, map: &DecodedMap, other: &str) -> Result<bool> {
+    Ok(*map == decode_slice(alloc, other.as_bytes())?)
+}
+
+fn texts_equal(alloc: Global, text: &str, other: &str) -> Result<bool> {
+    equals(alloc, &decode_slice(alloc, text.as_bytes())?, other)
+}
+
+fn compared(alloc: Global, text: &str, other: &str) -> Result<String> {
+    let copied = copy_equals(alloc, text)?;
+    let same = texts_equal(alloc, text, other)?;
+    Ok(format!(in alloc; "{copied} {same}")?)
+}
+
+// Whether a copy of an index is equal to it, and the index to another map.
 const COMPARED: [(&str, &str, &str); 7] = [
     (NESTED, NESTED, "true true"),
     (LINKED, NEITHER, "true false"),

@@ -152,13 +152,50 @@ const CALLS: [Call; 5] = [
     Call::AnyToWriter,
 ];
 
+fn put_regular(
+    alloc: Global,
+    map: &SourceMap,
+    call: Call,
+    writer: &mut NarrowWriter,
+) -> Result<()> {
+    match call {
+        Call::Encode => encode(alloc, map, writer),
+        Call::EncodeTo => encode_to(alloc, map, writer),
+        _ => map.to_writer(writer),
+    }
+}
+
+fn put_any(alloc: Global, map: &DecodedMap, call: Call, writer: &mut NarrowWriter) -> Result<()> {
+    match call {
+        Call::EncodeAnyTo => encode_to(alloc, map, writer),
+        _ => map.to_writer(writer),
+    }
+}
+
+fn read_and_put_regular(
+    alloc: Global,
+    text: &str,
+    call: Call,
+    writer: &mut NarrowWriter,
+) -> Result<()> {
+    put_regular(alloc, &regular(alloc, text)?, call, writer)
+}
+
+fn read_and_put_any(
+    alloc: Global,
+    text: &str,
+    call: Call,
+    writer: &mut NarrowWriter,
+) -> Result<()> {
+    put_any(alloc, &decode_slice(alloc, text.as_bytes())?, call, writer)
+}
+
 fn put(alloc: Global, text: &str, call: Call, writer: &mut NarrowWriter) -> Result<()> {
     match call {
-        Call::Encode => encode(alloc, &regular(alloc, text)?, writer),
-        Call::EncodeTo => encode_to(alloc, &regular(alloc, text)?, writer),
-        Call::ToWriter => regular(alloc, text)?.to_writer(writer),
-        Call::EncodeAnyTo => encode_to(alloc, &decode_slice(alloc, text.as_bytes())?, writer),
-        Call::AnyToWriter => decode_slice(alloc, text.as_bytes())?.to_writer(writer),
+        Call::Encode | Call::EncodeTo | Call::ToWriter => {
+            read_and_put_regular(alloc, text, call, writer)
+        }
+        Call::EncodeAnyTo | Call::AnyToWriter => read_and_put_any(alloc, text, call, writer),
     }
 }
 
