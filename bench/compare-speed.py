@@ -1,7 +1,8 @@
 #!/usr/bin/env python3
 """Times this library and a reference program side by side, and writes the ratios as Markdown.
 
-    bench/compare-speed.py REFERENCE [MAP..] [--pairs FOLDER] [--rounds N] [--no-made] [--growth N..] [--instructions]
+    bench/compare-speed.py REFERENCE [MAP..] [--pairs FOLDER] [--rounds N] [--no-made] [--lookups N..] [--growth N..]
+                           [--instructions]
 
 REFERENCE       bench/reference, which is then built, from the public registry if it needs one; or a program
                 over the Rust crate that knows its words `bench OPERATION N`, `stat`, and `slice` and
@@ -12,6 +13,8 @@ MAP             maps to take, as files, index maps too; without any, those that 
                 composed, again and again and in a whole run
 --rounds        rounds of each figure, of which the least counts (7)
 --no-made       no small and odd maps, and no indexes
+--lookups       tokens of made maps, in lines of ten and in one line, of which only lookups are timed
+                (300 1000 5000 20000 100000 2300000), and none for 0
 --growth        tokens of the smallest of four made maps, each with twice the tokens of the one before;
                 a table for each such number (75000 250000), and none for 0
 --instructions  counts instructions with valgrind too, which is slow
@@ -26,7 +29,8 @@ counts, in processor time (user and system). Memory is the most that a process h
 
 The reference is taken at its strongest: its time is that of `slice`, which reads all input before it decodes
 it, and its memory is that of `stream`, which holds no more of the input than it decodes at a time. A checksum
-that the two programs do not share is told on standard error, and the status is then 1.
+that the two programs do not share is told on standard error, and the status is then 1. Rows are told there too
+as they come; a cell has the ratio and, in brackets, the figure here.
 """
 import argparse, json, os, pathlib, shutil, subprocess, sys, tempfile
 from comparing import BENCH, CRATES, TOOL, build_missing, reference_program
@@ -37,6 +41,7 @@ INDEX_OPERATIONS = ['decode', 'decode-reader', 'lookup', 'encode', 'flatten']
 TITLES = {'decode': 'decode a slice', 'decode-reader': 'decode a reader', 'lookup': '1,000,000 lookups',
           'tokens': 'all tokens', 'encode': 'encode', 'rewrite': 'copy and rewrite', 'flatten': 'flatten',
           'compose': 'copy and compose'}
+COUNTED = ['decode', 'decode-reader', 'encode']
 RUNS = (['lookup', '3', '100'], ['rewrite'])
 INDEX_RUNS = (['lookup', '3', '100'], ['flatten'])
 MADE = {'300-tokens': ['300'], '1000-tokens': ['1000'], '5000-tokens': ['5000'], '20000-tokens': ['20000'],
@@ -161,29 +166,64 @@ def shown(figure):
     return f'{figure:.{places}f}'
 
 
-def row(title, pair, unit, scale):
+def cell(pair, unit, scale):
+    """The ratio, and the figure here."""
     if pair is None:
-        return f'| {title} | | | not there |'
+        return 'not there'
     here, there = pair
-    return f'| {title} | {shown(here * scale)} {unit} | {shown(there * scale)} {unit} | {here / there:.2f} |'
+    return f'{here / there:.2f} ({shown(here * scale)} {unit})'
 
 
-def map_table(programs, path, rounds, counted):
-    kilobytes = os.path.getsize(path) / 1e3
-    size = f'{kilobytes / 1e3:.1f} MB' if kilobytes >= 100 else f'{kilobytes:.0f} kB'
-    kind, tokens = subprocess.run([programs.reference, 'stat'], stdin=open(path), capture_output=True,
-                                  text=True).stdout.split('\t')[:2]
-    operations, runs = (INDEX_OPERATIONS, INDEX_RUNS) if kind == 'index' else (OPERATIONS, RUNS)
-    print(f'\n`{os.path.basename(path)}`, {size}, {int(tokens):,} tokens:\n')
-    print('| Operation | Here | Reference | Ratio |\n|---|---|---|---|')
-    for operation in operations:
-        print(row(TITLES[operation], programs.times(path, operation, rounds), 'ms', 1e3), flush=True)
-    for words in runs:
-        print(row('run of `' + ' '.join(words) + '`', programs.whole(path, words, rounds), 'ms', 1e3), flush=True)
-        print(row('its most memory', programs.memory(path, words), 'MB', 1), flush=True)
-    if counted:
-        for operation in ('decode', 'decode-reader', 'encode'):
-            print(row('instructions, ' + TITLES[operation], programs.counts(path, operation), 'million', 1), flush=True)
+class Table:
+    """Rows under one head, which are printed together once all are there."""
+
+    def __init__(self, head):
+        self.lines = ['| ' + ' | '.join(head) + ' |', '|---' * len(head) + '|']
+
+    def add(self, cells):
+        self.lines.append('| ' + ' | '.join(cells) + ' |')
+        print(self.lines[-1], file=sys.stderr, flush=True)
+
+    def show(self, title):
+        if len(self.lines) > 2:
+            print(f'\n{title}:\n', *self.lines, sep='\n', flush=True)
+
+
+class Maps:
+    """The tables of maps of one kind: of operations, and of whole runs."""
+
+    def __init__(self, operations, runs):
+        self.operations, self.runs = operations, runs
+        self.times = Table(['Map', 'Size', 'Tokens', *(TITLES[each] for each in operations)])
+        words = ['`' + ' '.join(each) + '`' for each in runs]
+        self.wholes = Table(['Map', *(head for each in words for head in ('run of ' + each, 'its most memory'))])
+        self.counted = Table(['Map', *(TITLES[each] for each in COUNTED)])
+
+    def add(self, programs, path, tokens, rounds, is_counted):
+        name, size = f'`{os.path.basename(path)}`', os.path.getsize(path) / 1e3
+        size = f'{size / 1e3:.1f} MB' if size >= 100 else f'{size:.0f} kB'
+        times = [cell(programs.times(path, each, rounds), 'ms', 1e3) for each in self.operations]
+        self.times.add([name, size, f'{int(tokens):,}', *times])
+        wholes = [each for words in self.runs for each in (cell(programs.whole(path, words, rounds), 'ms', 1e3),
+                                                           cell(programs.memory(path, words), 'MB', 1))]
+        self.wholes.add([name, *wholes])
+        if is_counted:
+            self.counted.add([name, *(cell(programs.counts(path, each), 'million', 1) for each in COUNTED)])
+
+    def show(self, kind):
+        self.times.show(f'{kind}, operations')
+        self.wholes.show(f'{kind}, whole runs')
+        self.counted.show(f'{kind}, instructions')
+
+
+def map_tables(programs, paths, rounds, is_counted):
+    kinds = {'Regular maps': Maps(OPERATIONS, RUNS), 'Index maps': Maps(INDEX_OPERATIONS, INDEX_RUNS)}
+    for path in paths:
+        kind, tokens = subprocess.run([programs.reference, 'stat'], stdin=open(path), capture_output=True,
+                                      text=True).stdout.split('\t')[:2]
+        kinds['Index maps' if kind == 'index' else 'Regular maps'].add(programs, path, tokens, rounds, is_counted)
+    for kind, maps in kinds.items():
+        maps.show(kind)
 
 
 def lines_of(paths, folder):
@@ -196,17 +236,27 @@ def lines_of(paths, folder):
     return lines
 
 
-def pair_table(programs, path, rounds):
-    adjustment = str(path).replace('.original.map', '.adjustment.map')
-    size, other = (os.path.getsize(each) / 1e6 for each in (path, adjustment))
-    print(f'\n`{path.name}`, {size:.1f} MB, adjusted by one of {other:.1f} MB:\n')
-    print('| Operation | Here | Reference | Ratio |\n|---|---|---|---|')
+def pair_table(programs, paths, rounds):
+    table = Table(['Pair', 'Sizes', TITLES['compose'], 'run of `compose FILE`', 'its most memory'])
+    for path in paths:
+        adjustment = str(path).replace('.original.map', '.adjustment.map')
+        sizes = ', '.join(f'{os.path.getsize(each) / 1e6:.1f} MB' for each in (path, adjustment))
+        with tempfile.TemporaryDirectory() as folder:
+            lines = lines_of((path, adjustment), folder)
+            composed = programs.times(lines, 'compose', rounds)
+        words = ['compose', adjustment]
+        table.add([f"`{path.name.replace('.original.map', '')}`", sizes, cell(composed, 'ms', 1e3),
+                   cell(programs.whole(path, words, rounds), 'ms', 1e3), cell(programs.memory(path, words), 'MB', 1)])
+    table.show('Pairs, of which one is adjusted by the other')
+
+
+def lookup_table(programs, counts, rounds):
+    table = Table(['Tokens', 'in lines of ten', 'in one line'])
     with tempfile.TemporaryDirectory() as folder:
-        lines = lines_of((path, adjustment), folder)
-        print(row(TITLES['compose'], programs.times(lines, 'compose', rounds), 'ms', 1e3), flush=True)
-    words = ['compose', adjustment]
-    print(row('run of `compose FILE`', programs.whole(path, words, rounds), 'ms', 1e3), flush=True)
-    print(row('its most memory', programs.memory(path, words), 'MB', 1), flush=True)
+        for count in counts:
+            paths = [made_map([str(count), '--line', str(line)], folder, f'{count}-by-{line}') for line in (10, count)]
+            table.add([f'{count:,}', *(cell(programs.times(path, 'lookup', rounds), 'ms', 1e3) for path in paths)])
+    table.show('1,000,000 lookups, by tokens')
 
 
 def growth_row(title, programs, figures):
@@ -241,6 +291,7 @@ def main():
     words.add_argument('--pairs', type=pathlib.Path)
     words.add_argument('--rounds', type=int, default=7)
     words.add_argument('--no-made', action='store_true')
+    words.add_argument('--lookups', type=int, nargs='+', default=[300, 1000, 5000, 20000, 100000, 2300000])
     words.add_argument('--growth', type=int, nargs='+', default=[75000, 250000])
     words.add_argument('--instructions', action='store_true')
     given = words.parse_args()
@@ -250,10 +301,10 @@ def main():
         paths = given.maps or gathered_maps(folder)
         if not given.no_made:
             paths += [made_map(made, folder, name) for name, made in MADE.items()]
-        for path in paths:
-            map_table(programs, path, given.rounds, given.instructions)
-    for path in sorted(given.pairs.rglob('*.original.map')) if given.pairs else []:
-        pair_table(programs, path, given.rounds)
+        map_tables(programs, paths, given.rounds, given.instructions)
+    if given.pairs:
+        pair_table(programs, sorted(given.pairs.rglob('*.original.map')), given.rounds)
+    lookup_table(programs, filter(None, given.lookups), given.rounds)
     for smallest in given.growth:
         if smallest:
             growth_table(programs, smallest, given.rounds)
