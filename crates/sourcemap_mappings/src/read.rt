@@ -25,6 +25,11 @@ use std::alloc::Global;
 // the allocator keeps at hand is moved, and its pages are touched twice.
 const FIRST_TOKENS: usize = 1 << 23;
 
+// Lists of so many tokens lie among other small things, and give back the room that they do not
+// need. The end of a longer one's room is pages that were never touched, and an allocator that
+// gets less back than it gave asks the system for such room anew each time.
+const SMALL_LIST: usize = 4096;
+
 // What the numbers of the first segment are added to.
 const START: Sums = Sums {
     rises: true,
@@ -213,14 +218,22 @@ fn read_lines(alloc: Global, mappings: &str, ranges: &str, limits: Limits) -> Re
     })
 }
 
+// Gives back room that was made for more tokens than texts mostly hold.
+fn give_back(tokens: &mut Vec<RawToken>)
+    ensures { tokens.new.items ≡ tokens.old.items }
+{
+    if tokens.len() <= SMALL_LIST {
+        tokens.shrink_to_fit();
+    }
+}
+
 // The list of the tokens, which have their table already if they are in order.
 fn listed(mut read: ReadLines) -> Result<TokenList>
     requires { IsTrue read.rises → IsMadeFrom read.tokens.items read.table }
     ensures sorted { IfOk result (λ list. list ≡ in_order read.tokens.items) }
     ensures memory { IfErr result (λ e. e ≡ OutOfMemory) }
 {
-    // room was made for more tokens than texts mostly hold
-    read.tokens.shrink_to_fit();
+    give_back(&mut read.tokens);
     if read.rises {
         return Ok(TokenList::with_table(read.tokens, read.table));
     }

@@ -4,4 +4,4 @@ use Rattle.sourcemap_mappings.proofs.read.listed.Goals as goal
 
 pub returns-then-read-clause-sorted : goal.returns-then-read-clause-sorted
 returns-then-read-clause-sorted c =
-    c.with_table.ensures ∙ c.shrink_to_fit.ensures.items ∙ sym (in_order-ordered c.args.read.tokens.items (c.requires c.if-read.true).0)
+    c.with_table.ensures ∙ c.give_back.ensures ∙ sym (in_order-ordered c.args.read.tokens.items (c.requires c.if-read.true).0)
