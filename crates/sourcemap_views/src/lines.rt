@@ -1,7 +1,7 @@
 //! A table of the lines of a text.
-ghost use Rattle.std.specs.Prelude.{◌≡◌, ◌+◌, ◌<◌, ◌==◌, Ok, cond, length, slice_get};
+ghost use Rattle.std.specs.Prelude.{◌≡◌, ◌+◌, ◌++◌, ◌<◌, ◌==◌, [], ◌∷◌, Ok, cond, length, slice_get};
 ghost use Rattle.std.specs.List.{AllByRecursion};
-ghost use Rattle.sourcemap_errors.specs.Answer.{Gives};
+ghost use Rattle.sourcemap_errors.specs.Answer.{Changes, Gives};
 ghost use Rattle.sourcemap_views.specs.Columns.{column_place};
 ghost use Rattle.sourcemap_views.specs.Lines.{IsUncut, count_ends, joined, line_ranges, lines_of, starts_with_pair};
 
@@ -15,15 +15,18 @@ use std::marker::Model;
 /// line more than there are such ends.
 #[derive(Debug, Drop)]
 pub struct LineTable {
-    ranges: Vec<(usize, usize)>,
+    // The first lines, as far as their places fit 32 bits: that halves the table of most texts.
+    near: Vec<(u32, u32)>,
+    // The lines behind those.
+    far: Vec<(usize, usize)>,
 }
 
 impl Model for LineTable {
-    ghost use Rattle.std.specs.Prelude.{List, ℕ};
+    ghost use Rattle.std.specs.Prelude.{List, ℕ, ◌++◌};
 
     ghost Value = { List (ℕ × ℕ) };
 
-    ghost view = { λ table. table.ranges.items };
+    ghost view = { λ table. table.near.items ++ table.far.items };
 }
 
 impl LineTable {
@@ -32,15 +35,29 @@ impl LineTable {
         ensures { Gives (λ table. table) result (Ok (line_ranges text.now)) }
     {
         let bytes = text.as_bytes();
-        let mut ranges = Vec::new(alloc);
+        let mut table = LineTable {
+            near: Vec::new(alloc),
+            far: Vec::new(alloc),
+        };
         let mut start = 0;
         while let Some(length) = memchr2(b'\n', b'\r', &bytes[start..]) {
             let end = start + length;
-            ranges.push((start, end))?;
+            table.push(start, end)?;
             start = end + terminator_length(&bytes[end..]);
         }
-        ranges.push((start, bytes.len()))?;
-        Ok(LineTable { ranges })
+        table.push(start, bytes.len())?;
+        Ok(table)
+    }
+
+    // Puts a line behind the others.
+    fn push(&mut self, start: usize, end: usize) -> Result<()>
+        ensures { Changes result self.old self.new (self.old ++ (start, end) ∷ []) }
+    {
+        match (u32::try_from(start), u32::try_from(end)) {
+            (Ok(start), Ok(end)) if self.far.is_empty() => self.near.push((start, end))?,
+            _ => self.far.push((start, end))?,
+        }
+        Ok(())
     }
 
     /// The bytes from which on and up to which a line, counted from 0, stands in the text, without
@@ -48,14 +65,18 @@ impl LineTable {
     pub fn range(&self, line: u32) -> Option<(usize, usize)>
         ensures { result ≡ slice_get self.now line }
     {
-        self.ranges.get(line as usize).copied()
+        let line = line as usize;
+        match self.near.get(line) {
+            Some((start, end)) => Some((*start as usize, *end as usize)),
+            None => self.far.get(line - self.near.len()).copied(),
+        }
     }
 
     /// How many lines there are, all of them, at least one.
     pub fn count(&self) -> usize
         ensures { result ≡ length self.now }
     {
-        self.ranges.len()
+        self.near.len() + self.far.len()
     }
 
     /// The byte place of a column, counted in UTF-16 units from 0, in a line: the first place of a
@@ -71,9 +92,10 @@ impl LineTable {
     pub(crate) fn copy(&self) -> Result<LineTable>
         ensures { Gives (λ table. table) result (Ok self.now) }
     {
-        let alloc = *self.ranges.allocator();
-        let ranges = Vec::from_slice(alloc, self.ranges.as_slice())?;
-        Ok(LineTable { ranges })
+        let alloc = *self.near.allocator();
+        let near = Vec::from_slice(alloc, self.near.as_slice())?;
+        let far = Vec::from_slice(alloc, self.far.as_slice())?;
+        Ok(LineTable { near, far })
     }
 }
 
