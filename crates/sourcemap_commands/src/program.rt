@@ -40,19 +40,18 @@ pub struct Reply {
 }
 
 /// What a command says of a map. For `Lookup` the closest token's text or `none`, and a newline; in
-/// an index in no order it is that of some token or `none`. For `Tokens` the tokens line by line,
-/// each with where it stands in the generated text, its own text, and ` range` if it is a range
-/// token. For `Rewrite` the compact JSON text of the map rewritten with default options, a Hermes map
-/// with the functions of its sources, for
-/// `Flatten` that of the regular map that the index is made flat to, for `Compose` that of the map
-/// adjusted by the second one, for `Shift` that of the index with its sections so many rows further
-/// down, each with a newline. `Compose` takes a second map, and no other command does.
+/// an index in no order it is that of some token or `none`. For `Tokens` a line for each token: its
+/// place in the generated text, its own text, and behind a range token ` range`. For `Rewrite` the
+/// compact JSON text of the map rewritten with default options, a Hermes map with the functions of
+/// its sources, for `Flatten` that of the regular map that the index is made flat to, for `Compose`
+/// that of the map adjusted by the second one, for `Shift` that of the index with its sections so
+/// many rows further down, each with a newline. `Compose` takes a second map, and no other command
+/// does.
 ///
 /// `IncompatibleSourceMap` for an index in `Tokens` and `Rewrite`, for a map that is no index in
 /// `Flatten` and `Shift`, for one that is not regular as either map of `Compose`, where `Compose` would
 /// put a token past column 4294967295, and where `Shift` would put a section past row 4294967295.
-/// `CannotFlatten` as by
-/// `SourceMapIndex::flatten`. Else only want of memory refuses.
+/// `CannotFlatten` as by `SourceMapIndex::flatten`. Else only want of memory refuses.
 pub fn apply<F: Files>(
     rt: &F,
     alloc: Global,

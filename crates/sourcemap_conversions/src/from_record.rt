@@ -57,8 +57,8 @@ struct RecordParts {
     lists: RecordLists,
 }
 
-/// The parts of the map that a record stands for, read as a regular map, whatever its sections and
-/// its function names. More than 4294967295 sources, names or contents are `IncompatibleSourceMap`,
+/// The parts of the regular map that a record stands for; sections and function names that it may
+/// have count for nothing. More than 4294967295 sources, names or contents are `IncompatibleSourceMap`,
 /// then comes the first fault of the mappings. Else only want of memory refuses. The texts of the
 /// tokens are let go once the tokens are there.
 pub fn parts_of_record(alloc: Global, rsm: RawSourceMap) -> Result<Parts>

@@ -11,7 +11,7 @@ use Rattle.sourcemap_digits.specs.Vlq.{digit_value}
 abbrev pub value_at : List ℕ → ℕ → ℕ
 value_at text k = unwrap_or (option_and_then digit_value (slice_get text k)) 0
 
--- bit j of a text is bit j % 6 of the value of digit j / 6
+-- a digit holds six bits of a text, its lowest bit first
 abbrev pub bit_of : List ℕ → ℕ → Bool
 bit_of text j = bit_at (value_at text (j / 6)) (j % 6) == 1
 

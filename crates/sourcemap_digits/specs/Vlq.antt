@@ -25,7 +25,7 @@ glyph v =
     else if v == 62 then 43
     else 47
 
--- another digit of the same number follows this one
+-- the number has digits behind this one
 abbrev pub GoesOn : ℕ → Type 0
 GoesOn c = (v : ℕ) × (digit_value c ≡ Some v) × (32 ≤ v)
 

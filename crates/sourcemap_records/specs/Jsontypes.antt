@@ -232,7 +232,7 @@ written_section place t = object (put_all (
     (codes "offset", Some (written_offset (record { line = place.line; column = place.column }))) ∷
     (codes "url", Some (written_or_null string place.url)) ∷ []) no_members)
 
--- null for a missing version, sources, url or map; any other missing key is left out
+-- what is missing is not written, but for version, sources, url and map, which are null then
 abbrev mutual
   pub written : Tree → Data
   written (plain fields) = object (written_fields fields)

@@ -18,8 +18,8 @@ use sourcemap_records::jsontypes::RawSourceMap;
 use std::alloc::Global;
 use std::io::Read;
 
-/// The map that a record stands for, read as a regular map, whatever its sections and its function
-/// names. More than 4294967295 sources, names or contents are `IncompatibleSourceMap`, then comes
+/// The regular map that a record stands for; sections and function names that it may have count for
+/// nothing. More than 4294967295 sources, names or contents are `IncompatibleSourceMap`, then comes
 /// the first fault of the mappings. Else only want of memory refuses.
 pub fn decode_regular(alloc: Global, rsm: RawSourceMap) -> Result<SourceMap>
     ensures answer { IsAnswer (λ m. m) (RecordDecodes (flat (tree rsm))) result }
