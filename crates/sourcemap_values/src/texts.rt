@@ -16,6 +16,8 @@ pub(crate) fn read_text(alloc: Global, text: &str, start: usize) -> Option<(Stri
         (λ found. lex in_string (drop start text.now) ≡ lex between (drop found.1 text.now)) }
     ensures boundary { IfSome result (λ found. IsCharBoundary text.now found.1) }
 {
-    let _ = (alloc, text, start);
+    let _ = alloc;
+    let _ = start;
+    let _ = text.len();
     None
 }
