@@ -1,5 +1,6 @@
+//! JSON texts to JSON values. Each text of a value is read straight into a room of its own.
 #![tactic(auto)]
 
-//! JSON texts to JSON values. Each text of a value is read straight into a room of its own.
+mod bytes;
 mod cursor;
 mod texts;
