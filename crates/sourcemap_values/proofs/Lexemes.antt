@@ -1,9 +1,10 @@
 -- What the grammar gives, by the first byte of the text.
-use Rattle.std.proofs.Common.{◌≡◌, ◌≢◌, ℕ, Bool, true, false, cond, ◌==◌, List, [], ◌∷◌, Some, ⊎_elim, ◌⊎◌, inl, inr, drop, refl, sym, ap, ◌∙◌}
+use Rattle.std.proofs.Common.{◌≡◌, ◌≢◌, ℕ, Bool, true, false, cond, ◌==◌, List, [], ◌∷◌, ◌++◌, Some, ⊎_elim, ◌⊎◌, inl, inr, drop, refl, sym, ap, ◌∙◌}
 use Rattle.std.proofs.lemmas.Bool.{true≢false, false≢true, eqb-true, or_cases}
-use Rattle.json.specs.Token.{Token, begin_object, end_object, begin_array, end_array, key, string}
+use Rattle.json.specs.Token.{Token, begin_object, end_object, begin_array, end_array, key, string, number, boolean, null, bad}
 use Rattle.json.specs.Text.{content, plain}
-use Rattle.json.specs.Word.{head, is_operator, is_space, ends_word}
+use Rattle.json.specs.Word.{head, word, is_operator, is_space, ends_word}
+use Rattle.json.specs.Ascii.{true_text, false_text, null_text}
 use Rattle.json.specs.Lex.{Lexeme, token, Class, quote, backslash, operator, space, other, class, operator_lexeme, string_token, Mode, between, in_word, in_string, lex_byte, lex}
 use Rattle.json.specs.Lex.{Place, fresh, after_value, after_comma, after_key, may_begin, may_close, if_allowed, place_token, begins_colon, punctuate}
 
@@ -134,3 +135,40 @@ not_before_colon p s ls none may = ap (λ b. place_token p (string s) b (λ next
 
 pub text_token : (p : Place) (t s u : List ℕ) → IsText t s u → may_begin p ≡ true → Behind u → head u ≢ 58 → punctuate p (lex between t) ≡ string s ∷ punctuate after_value (lex between u)
 text_token p t s u is may behind other_byte = ap (punctuate p) (text_lexemes t s u is) ∙ not_before_colon p s _ (no_colon u behind other_byte) may
+
+-- ---- words
+
+-- the word is the lexeme of a token
+abbrev pub IsWordOf : Token → List ℕ → Type 0
+IsWordOf t word = (rest : List ℕ) → ends_word rest ≡ true → lex between (word ++ rest) ≡ token t ∷ lex between rest
+
+after_literal : (t : Token) (rest : List ℕ) → ends_word rest ≡ true → token (cond (ends_word rest) t bad) ∷ lex in_word rest ≡ token t ∷ lex between rest
+after_literal t rest e = ap (λ b. token (cond b t bad) ∷ lex in_word rest) e ∙ ap (λ ls. token t ∷ ls) (at_word_end rest e)
+
+pub true_word : IsWordOf (boolean true) true_text
+unfolding lex word
+true_word rest e = after_literal (boolean true) rest e
+
+pub false_word : IsWordOf (boolean false) false_text
+unfolding lex word
+false_word rest e = after_literal (boolean false) rest e
+
+pub null_word : IsWordOf null null_text
+unfolding lex word
+null_word rest e = after_literal null rest e
+
+-- the token is a value by itself
+abbrev pub IsValue : Token → Type 0
+IsValue t = (p : Place) (ls : List Lexeme) → may_begin p ≡ true → punctuate p (token t ∷ ls) ≡ t ∷ punctuate after_value ls
+
+pub boolean_value : (b : Bool) → IsValue (boolean b)
+unfolding punctuate
+boolean_value b p ls may = allowed (may_begin p) (boolean b) _ _ may
+
+pub null_value : IsValue null
+unfolding punctuate
+null_value p ls may = allowed (may_begin p) null _ _ may
+
+pub number_value : (digits : List ℕ) → IsValue (number digits)
+unfolding punctuate
+number_value digits p ls may = allowed (may_begin p) (number digits) _ _ may

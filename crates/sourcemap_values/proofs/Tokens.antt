@@ -4,12 +4,12 @@ use Rattle.std.proofs.lemmas.List.{drop-drop, drop_all}
 use Rattle.json.specs.Token.{Token, begin_object, end_object, begin_array, end_array, key, string}
 use Rattle.json.specs.Text.{content, plain}
 use Rattle.json.specs.Word.{head, is_space}
-use Rattle.json.specs.Lex.{between, in_string, lex, fresh, after_value, may_begin, punctuate}
+use Rattle.json.specs.Lex.{token, between, in_string, lex, fresh, after_value, may_begin, punctuate}
 use Rattle.sourcemap_values.specs.declared.cursor.Place.{Place}
 use Rattle.sourcemap_values.specs.declared.cursor.Place.TheVariants.{Fresh, AfterValue}
 use Rattle.sourcemap_values.specs.declared.cursor.Spot.{Spot}
-use Rattle.sourcemap_values.specs.Cursor.{grammar_place, tokens_from, Opens, Closes}
-use Rattle.sourcemap_values.proofs.Lexemes.{opens_object as opens_object_there, opens_array as opens_array_there, closes_object as closes_object_there, closes_array as closes_array_there, IsText, key_token, text_token}
+use Rattle.sourcemap_values.specs.Cursor.{grammar_place, tokens_from, Opens, Closes, Passes}
+use Rattle.sourcemap_values.proofs.Lexemes.{opens_object as opens_object_there, opens_array as opens_array_there, closes_object as closes_object_there, closes_array as closes_array_there, IsText, IsValue, IsWordOf, key_token, text_token}
 
 one_on : (text : List ℕ) (place : Place) (at : ℕ) → punctuate (grammar_place place) (lex between (drop 1 (drop at text))) ≡ tokens_from text (record { at = at + 1; place = place })
 one_on text place at = ap (λ t. punctuate (grammar_place place) (lex between t)) (drop-drop 1 at text)
@@ -49,3 +49,9 @@ key_at text spot s at is e = key_token _ _ s _ (is_text text spot s at is) is.ma
 
 pub text_at : (text : List ℕ) (spot : Spot) (s : List ℕ) (at : ℕ) → IsTextAt text spot s at → (is_space (head (drop at text)) ≡ true → length text ≤ at) → head (drop at text) ≢ 58 → tokens_from text spot ≡ string s ∷ tokens_from text (record { at = at; place = AfterValue })
 text_at text spot s at is passed other_byte = text_token _ _ s _ (is_text text spot s at is) is.may (λ e. drop_all at text (passed e)) other_byte
+
+pub word_at : (text word : List ℕ) (t : Token) (spot behind : Spot) → Passes text spot word behind → IsWordOf t word → IsValue t → tokens_from text spot ≡ t ∷ tokens_from text behind
+word_at text word t spot behind h is value =
+    let lexeme : lex between (drop spot.at text) ≡ token t ∷ lex between (drop behind.at text) = ap (lex between) h.1.0 ∙ is (drop behind.at text) h.1.1 in
+    ap (punctuate (grammar_place spot.place)) lexeme ∙ value (grammar_place spot.place) _ h.0
+    ∙ ap (λ place. t ∷ punctuate (grammar_place place) (lex between (drop behind.at text))) (sym h.2)

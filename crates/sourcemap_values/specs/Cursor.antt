@@ -5,6 +5,7 @@ use Rattle.json.specs.Lex as grammar
 use Rattle.json.specs.Lex.{between, lex, may_begin, may_close, punctuate}
 use Rattle.serde_json.specs.Read.{number_of}
 use Rattle.serde_json.specs.View.{number_view}
+use Rattle.sourcemap_values.specs.Words.{IsWordAt}
 use Rattle.sourcemap_values.specs.declared.cursor.Step.{Step}
 use Rattle.sourcemap_values.specs.declared.cursor.Step.TheVariants.{BeginObject, EndObject, BeginArray, EndArray, Key, Text, Number, Bool, Null, End}
 use Rattle.sourcemap_values.specs.declared.cursor.Place.{Place}
@@ -44,3 +45,7 @@ Opens spot behind = (may_begin (grammar_place spot.place) ≡ true) × (behind �
 -- and so does one that may close here
 abbrev pub Closes : Spot → Spot → Type 0
 Closes spot behind = (may_close (grammar_place spot.place) ≡ true) × (behind ≡ record { at = spot.at + 1; place = AfterValue })
+
+-- and so does a word that may begin here
+abbrev pub Passes : List ℕ → Spot → List ℕ → Spot → Type 0
+Passes text spot word behind = (may_begin (grammar_place spot.place) ≡ true) × IsWordAt text spot.at word behind.at × (behind.place ≡ AfterValue)

@@ -4,10 +4,11 @@ ghost use Rattle.std.specs.Prelude.{◌≡◌, ◌<◌, IfSome, drop, length};
 ghost use Rattle.json.specs.Lex.{may_begin, may_close, tokens};
 ghost use Rattle.json.specs.Word.{head};
 ghost use Rattle.sourcemap_values.specs.declared.cursor.Place.TheVariants.{AfterValue};
-ghost use Rattle.sourcemap_values.specs.Cursor.{Closes, Leads, Opens, Takes, grammar_place, tokens_from};
+ghost use Rattle.sourcemap_values.specs.Cursor.{Closes, Leads, Opens, Passes, Takes, grammar_place, tokens_from};
 
 use crate::bytes::{after_space, byte_at};
 use crate::texts::read_text;
+use crate::words::{whole_number, word_end};
 use serde_json::Number;
 use std::alloc::Global;
 use std::marker::Model;
@@ -143,8 +144,11 @@ fn take(alloc: Global, text: &str, spot: Spot) -> Option<(Step, Spot)>
         b'[' => Some((Step::BeginArray, opened(text, spot)?)),
         b'}' => Some((Step::EndObject, closed(text, spot)?)),
         b']' => Some((Step::EndArray, closed(text, spot)?)),
+        b't' => Some((Step::Bool(true), behind_word(text, spot, b"true")?)),
+        b'f' => Some((Step::Bool(false), behind_word(text, spot, b"false")?)),
+        b'n' => Some((Step::Null, behind_word(text, spot, b"null")?)),
         b' ' => take_end(text, spot),
-        _ => None,
+        _ => take_number(text, spot),
     }
 }
 
@@ -212,4 +216,35 @@ fn take_text(alloc: Global, text: &str, spot: Spot) -> Option<(Step, Spot)>
         place: Place::AfterValue,
     };
     Some((Step::Text(found), behind))
+}
+
+// The spot behind this word, if it stands here and a value may begin.
+#[inline(always)]
+fn behind_word(text: &str, spot: Spot, word: &[u8]) -> Option<Spot>
+    requires { spot.at < length text.now }
+    ensures { IfSome result (λ behind. Passes text.now spot word.now behind) }
+{
+    if !spot.place.may_begin() {
+        return None;
+    }
+    Some(Spot {
+        at: word_end(text, spot.at, word)?,
+        place: Place::AfterValue,
+    })
+}
+
+// The number that begins at this spot.
+#[inline(always)]
+fn take_number(text: &str, spot: Spot) -> Option<(Step, Spot)>
+    ensures { IfSome result (λ taken. Leads text.now spot taken.0 taken.1) }
+{
+    if !spot.place.may_begin() {
+        return None;
+    }
+    let (value, at) = whole_number(text, spot.at)?;
+    let behind = Spot {
+        at,
+        place: Place::AfterValue,
+    };
+    Some((Step::Number(Number::from(value)), behind))
 }

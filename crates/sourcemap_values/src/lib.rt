@@ -4,3 +4,4 @@
 mod bytes;
 mod cursor;
 mod texts;
+mod words;
