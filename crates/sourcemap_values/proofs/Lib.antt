@@ -1,0 +1,4 @@
+mod Heads
+mod Lexemes
+mod Numerals
+mod Tokens

@@ -1,0 +1,13 @@
+use Rattle.std.proofs.Common.{◌≡◌, drop, sym, ap, ◌∙◌, arith}
+use Rattle.std.proofs.lemmas.List.{drop-drop}
+use Rattle.json.specs.Word.{head}
+use Rattle.json.specs.Lex.{between, lex, after_comma, punctuate}
+use Rattle.sourcemap_values.proofs.Lexemes.{passes_comma}
+use Rattle.sourcemap_values.proofs.cursor.pass_comma_at.Goals as goal
+
+pub returns-then-byte_at-eq44 : goal.returns-then-byte_at-eq44
+returns-then-byte_at-eq44 c =
+    let d = c.args.text.now in
+    let at = c.args.at in
+    let first : head (drop at d) ≡ 44 = grind arith in
+    ap (punctuate after_comma) (c.after_space.ensures.same ∙ ap (lex between) (sym (drop-drop 1 at d))) ∙ sym (passes_comma (drop at d) first)

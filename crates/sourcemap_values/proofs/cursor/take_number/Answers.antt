@@ -1,0 +1,20 @@
+use Rattle.std.proofs.Common.{◌≡◌, ◌<◌, ◌^◌, Some, decimal, true, refl, sym, ap, ◌∙◌, arith}
+use Rattle.json.proofs.Printed.Decimals.{IsNumber-decimal}
+use Rattle.json.proofs.Printed.Numbers.{lex-number}
+use Rattle.json.specs.Token.{number}
+use Rattle.json.specs.Lex.{may_begin}
+use Rattle.serde_json.proofs.Numbers.{number_of-decimal}
+use Rattle.sourcemap_values.specs.Cursor.{grammar_place}
+use Rattle.sourcemap_values.proofs.Lexemes.{number_value}
+use Rattle.sourcemap_values.proofs.Tokens.{word_at}
+use Rattle.sourcemap_values.proofs.cursor.take_number.Goals as goal
+
+pub returns : goal.returns
+returns c =
+    let n = c.in_ok-value.value in
+    let fits : n < 2 ^ 64 = omega arith in
+    let may : may_begin (grammar_place c.args.spot.place) ≡ true = cc in (
+      decimal n,
+      word_at c.args.text.now (decimal n) (number (decimal n)) c.args.spot _ (may, c.in_ok-value.ensures, refl) (λ rest e. lex-number (decimal n) rest (IsNumber-decimal n fits) e) (number_value (decimal n)),
+      number_of-decimal n fits ∙ ap Some (sym c.from.ensures),
+    )

@@ -1,0 +1,16 @@
+-- Words of a JSON text: what stands between brackets, commas, colons and white space.
+use Rattle.std.specs.Prelude.{◌≡◌, ℕ, ◌+◌, List, ◌++◌, drop, length, true}
+use Rattle.std.specs.Str.Parse.{AllDigits, digits_value}
+use Rattle.json.specs.Word.{ends_word}
+
+-- the word stands from a place on and ends at another
+abbrev pub IsWordAt : List ℕ → ℕ → List ℕ → ℕ → Type 0
+IsWordAt text from word end = (drop from text ≡ word ++ drop end text) × (ends_word (drop end text) ≡ true)
+
+-- the digits from a place to another write the value
+pub record AreDigits (text : List ℕ) (from value end : ℕ) : Type 0 where
+  pub digits : List ℕ
+  pub split : drop from text ≡ digits ++ drop end text
+  pub all : AllDigits 10 digits
+  pub value_is : digits_value 10 digits ≡ value
+  pub size : end ≡ from + length digits

@@ -1,0 +1,60 @@
+//! The bytes of a JSON text: what stands at a place, and the white space behind it.
+ghost use Rattle.std.specs.Prelude.{◌≡◌, ◌≢◌, ◌<◌, ◌≤◌, ◌||◌, drop, length, true};
+ghost use Rattle.json.specs.Word.{head, is_operator, is_space, ends_word};
+ghost use Rattle.json.specs.Lex.{between, lex};
+
+/// The byte at a place, a space behind the end of the text.
+#[inline(always)]
+pub(crate) fn byte_at(text: &str, at: usize) -> u8
+    ensures value { result ≡ head (drop at text.now) }
+    ensures inside { result ≢ 32 → at < length text.now }
+{
+    let bytes = text.as_bytes();
+    if at < bytes.len() { bytes[at] } else { b' ' }
+}
+
+/// Whether a byte is white space.
+#[inline(always)]
+fn is_white(byte: u8) -> bool
+    ensures { result ≡ is_space byte }
+{
+    (byte == b' ') | (byte == b'\t') | (byte == b'\n') | (byte == b'\r')
+}
+
+/// Whether a byte stands between words: a bracket, a colon or a comma.
+#[inline(always)]
+fn is_mark(byte: u8) -> bool
+    ensures { result ≡ is_operator byte }
+{
+    (byte == b'{')
+        | (byte == b'}')
+        | (byte == b'[')
+        | (byte == b']')
+        | (byte == b':')
+        | (byte == b',')
+}
+
+/// Whether no word goes on at a place: a mark stands there, white space or the end of the text.
+#[inline(always)]
+pub(crate) fn is_word_end(text: &str, at: usize) -> bool
+    ensures { result ≡ ends_word (drop at text.now) }
+{
+    let byte = byte_at(text, at);
+    is_mark(byte) | is_white(byte)
+}
+
+/// The place behind the white space that begins at a place. The same lexemes follow.
+#[inline(always)]
+pub(crate) fn after_space(text: &str, from: usize) -> usize
+    ensures same { lex between (drop result text.now) ≡ lex between (drop from text.now) }
+    ensures passed { is_space (head (drop result text.now)) ≡ true → length text.now ≤ result }
+{
+    let mut at = from;
+    while at < text.len() {
+        if !is_white(byte_at(text, at)) {
+            return at;
+        }
+        at += 1;
+    }
+    at
+}

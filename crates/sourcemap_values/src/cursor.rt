@@ -1,0 +1,250 @@
+//! A cursor along the tokens of a JSON text, which reads each text into a room of its own. It knows
+//! what source maps are written with, and gives up on all else.
+ghost use Rattle.std.specs.Prelude.{◌≡◌, ◌<◌, IfSome, drop, length};
+ghost use Rattle.json.specs.Lex.{may_begin, may_close, tokens};
+ghost use Rattle.json.specs.Word.{head};
+ghost use Rattle.sourcemap_values.specs.declared.cursor.Place.TheVariants.{AfterValue};
+ghost use Rattle.sourcemap_values.specs.Cursor.{Closes, Leads, Opens, Passes, Takes, grammar_place, tokens_from};
+
+use crate::bytes::{after_space, byte_at};
+use crate::texts::read_text;
+use crate::words::{whole_number, word_end};
+use serde_json::Number;
+use std::alloc::Global;
+use std::marker::Model;
+
+/// What stands next in a JSON text.
+#[derive(Drop)]
+pub(crate) enum Step {
+    BeginObject,
+    EndObject,
+    BeginArray,
+    EndArray,
+    Key(String),
+    Text(String),
+    Number(Number),
+    Bool(bool),
+    Null,
+    End,
+}
+
+/// What stands before a place, and so what may follow.
+#[derive(Clone, Copy, Drop)]
+pub(crate) enum Place {
+    Fresh,
+    AfterValue,
+    AfterComma,
+}
+
+impl Place {
+    // Whether a value or a key may begin here.
+    #[inline(always)]
+    fn may_begin(self) -> bool
+        ensures { result ≡ may_begin (grammar_place self) }
+    {
+        matches!(self, Place::Fresh | Place::AfterComma)
+    }
+
+    // Whether a closing bracket or the end of the text may stand here.
+    #[inline(always)]
+    fn may_close(self) -> bool
+        ensures { result ≡ may_close (grammar_place self) }
+    {
+        matches!(self, Place::Fresh | Place::AfterValue)
+    }
+}
+
+/// Where a cursor stands.
+#[derive(Clone, Copy, Drop)]
+pub(crate) struct Spot {
+    at: usize,
+    place: Place,
+}
+
+/// A place in a JSON text. Contracts see the tokens that are still to come.
+#[derive(Drop)]
+pub(crate) struct Cursor<'a> {
+    text: &'a str,
+    spot: Spot,
+}
+
+impl<'a> Model for Cursor<'a> {
+    ghost use Rattle.std.specs.Prelude.{List};
+    ghost use Rattle.json.specs.Token.{Token, tokens_code};
+    ghost use Rattle.sourcemap_values.specs.Cursor.{tokens_from};
+
+    ghost Value = { List Token };
+
+    ghost coded = { tokens_code };
+
+    ghost view = { λ c. tokens_from c.text.now c.spot };
+}
+
+impl<'a> Cursor<'a> {
+    /// The start of a text.
+    pub(crate) fn new(text: &'a str) -> Cursor<'a>
+        ensures { result ≡ tokens text.now }
+    {
+        let spot = Spot {
+            at: 0,
+            place: Place::Fresh,
+        };
+        Cursor { text, spot }
+    }
+
+    /// What stands next, behind which the cursor stands then. `None` where it gives up: then nothing
+    /// is said of the text, or memory ran out.
+    pub(crate) fn next(&mut self, alloc: Global) -> Option<Step>
+        ensures { IfSome result (λ step. Takes self.old step self.new) }
+    {
+        let spot = pass_comma(self.text, self.spot);
+        let (step, behind) = take(alloc, self.text, spot)?;
+        self.spot = behind;
+        Some(step)
+    }
+}
+
+// The spot behind white space and the comma that may follow a value.
+#[inline(always)]
+fn pass_comma(text: &str, spot: Spot) -> Spot
+    ensures { tokens_from text.now result ≡ tokens_from text.now spot }
+{
+    let at = after_space(text, spot.at);
+    match spot.place {
+        Place::AfterValue => pass_comma_at(text, at),
+        place => Spot { at, place },
+    }
+}
+
+// The spot behind the comma that may stand here, behind a value.
+#[inline(always)]
+fn pass_comma_at(text: &str, at: usize) -> Spot
+    ensures { tokens_from text.now result ≡ tokens_from text.now (record { at = at; place = AfterValue }) }
+{
+    if byte_at(text, at) == b',' {
+        return Spot {
+            at: after_space(text, at + 1),
+            place: Place::AfterComma,
+        };
+    }
+    Spot {
+        at,
+        place: Place::AfterValue,
+    }
+}
+
+// The token that begins at this spot, and the spot behind it.
+#[inline(always)]
+fn take(alloc: Global, text: &str, spot: Spot) -> Option<(Step, Spot)>
+    ensures { IfSome result (λ taken. Leads text.now spot taken.0 taken.1) }
+{
+    match byte_at(text, spot.at) {
+        b'"' => take_text(alloc, text, spot),
+        b'{' => Some((Step::BeginObject, opened(text, spot)?)),
+        b'[' => Some((Step::BeginArray, opened(text, spot)?)),
+        b'}' => Some((Step::EndObject, closed(text, spot)?)),
+        b']' => Some((Step::EndArray, closed(text, spot)?)),
+        b't' => Some((Step::Bool(true), behind_word(text, spot, b"true")?)),
+        b'f' => Some((Step::Bool(false), behind_word(text, spot, b"false")?)),
+        b'n' => Some((Step::Null, behind_word(text, spot, b"null")?)),
+        b' ' => take_end(text, spot),
+        _ => take_number(text, spot),
+    }
+}
+
+// The spot behind an opening bracket, if one may stand here.
+#[inline(always)]
+fn opened(text: &str, spot: Spot) -> Option<Spot>
+    requires { spot.at < length text.now }
+    ensures { IfSome result (λ behind. Opens spot behind) }
+{
+    if spot.place.may_begin() {
+        return Some(Spot {
+            at: spot.at + 1,
+            place: Place::Fresh,
+        });
+    }
+    None
+}
+
+// The spot behind a closing bracket, if one may stand here.
+#[inline(always)]
+fn closed(text: &str, spot: Spot) -> Option<Spot>
+    requires { spot.at < length text.now }
+    ensures { IfSome result (λ behind. Closes spot behind) }
+{
+    if spot.place.may_close() {
+        return Some(Spot {
+            at: spot.at + 1,
+            place: Place::AfterValue,
+        });
+    }
+    None
+}
+
+// The end of the text, if it stands here and no token is missing.
+#[inline(always)]
+fn take_end(text: &str, spot: Spot) -> Option<(Step, Spot)>
+    ensures { IfSome result (λ taken. Leads text.now spot taken.0 taken.1) }
+{
+    if spot.at >= text.len() && spot.place.may_close() {
+        return Some((Step::End, spot));
+    }
+    None
+}
+
+// The text that begins at this spot: a key if a colon follows it.
+#[inline(always)]
+fn take_text(alloc: Global, text: &str, spot: Spot) -> Option<(Step, Spot)>
+    requires { head (drop spot.at text.now) ≡ 34 }
+    ensures { IfSome result (λ taken. Leads text.now spot taken.0 taken.1) }
+{
+    if !spot.place.may_begin() {
+        return None;
+    }
+    let (found, end) = read_text(alloc, text, spot.at + 1)?;
+    let at = after_space(text, end);
+    if byte_at(text, at) == b':' {
+        let behind = Spot {
+            at: at + 1,
+            place: Place::Fresh,
+        };
+        return Some((Step::Key(found), behind));
+    }
+    let behind = Spot {
+        at,
+        place: Place::AfterValue,
+    };
+    Some((Step::Text(found), behind))
+}
+
+// The spot behind this word, if it stands here and a value may begin.
+#[inline(always)]
+fn behind_word(text: &str, spot: Spot, word: &[u8]) -> Option<Spot>
+    requires { spot.at < length text.now }
+    ensures { IfSome result (λ behind. Passes text.now spot word.now behind) }
+{
+    if !spot.place.may_begin() {
+        return None;
+    }
+    Some(Spot {
+        at: word_end(text, spot.at, word)?,
+        place: Place::AfterValue,
+    })
+}
+
+// The number that begins at this spot.
+#[inline(always)]
+fn take_number(text: &str, spot: Spot) -> Option<(Step, Spot)>
+    ensures { IfSome result (λ taken. Leads text.now spot taken.0 taken.1) }
+{
+    if !spot.place.may_begin() {
+        return None;
+    }
+    let (value, at) = whole_number(text, spot.at)?;
+    let behind = Spot {
+        at,
+        place: Place::AfterValue,
+    };
+    Some((Step::Number(Number::from(value)), behind))
+}

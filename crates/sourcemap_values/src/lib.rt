@@ -1,0 +1,7 @@
+//! JSON texts to JSON values. Each text of a value is read straight into a room of its own.
+#![tactic(auto)]
+
+mod bytes;
+mod cursor;
+mod texts;
+mod words;

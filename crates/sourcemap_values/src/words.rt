@@ -1,0 +1,84 @@
+//! The words of JSON: literals, and numbers that are whole, short and without a sign.
+ghost use Rattle.std.specs.Prelude.{◌≡◌, ◌+◌, ◌<◌, ◌≤◌, IfSome, decimal, drop, length};
+ghost use Rattle.std.specs.Bool.{OnTrue};
+ghost use Rattle.json.specs.Word.{head};
+ghost use Rattle.sourcemap_values.specs.Words.{AreDigits, IsWordAt};
+
+use crate::bytes::{byte_at, is_word_end};
+
+// A number that is as great may not have another digit.
+const GREAT: u64 = 1_000_000_000_000_000;
+
+/// The place behind this word, if it stands here and goes on no further.
+#[inline(always)]
+pub(crate) fn word_end(text: &str, from: usize, word: &[u8]) -> Option<usize>
+    requires { from ≤ length text.now }
+    ensures { IfSome result (λ end. IsWordAt text.now from word.now end) }
+{
+    if !text.as_bytes()[from..].starts_with(word) {
+        return None;
+    }
+    let end = from + word.len();
+    if is_word_end(text, end) {
+        Some(end)
+    } else {
+        None
+    }
+}
+
+/// The number that stands here, and the place behind it.
+#[inline(always)]
+pub(crate) fn whole_number(text: &str, from: usize) -> Option<(u64, usize)>
+    ensures { IfSome result (λ read. IsWordAt text.now from (decimal read.0) read.1) }
+{
+    let (value, end) = digits(text, from)?;
+    if end == from || !is_shortest(text, from, end) {
+        return None;
+    }
+    if is_word_end(text, end) {
+        Some((value, end))
+    } else {
+        None
+    }
+}
+
+// Whether no zero leads these digits, or they are just a zero.
+#[inline(always)]
+fn is_shortest(text: &str, from: usize, end: usize) -> bool
+    requires { from < end }
+    ensures { OnTrue result (head (drop from text.now) ≡ 48 → end ≡ from + 1) }
+{
+    end - from == 1 || byte_at(text, from) != b'0'
+}
+
+// The digits that stand here, as a number, and the place behind them.
+#[inline(always)]
+fn digits(text: &str, from: usize) -> Option<(u64, usize)>
+    ensures { IfSome result (λ read. AreDigits text.now from read.0 read.1) }
+{
+    let mut value = 0;
+    let mut at = from;
+    while let Some(digit) = digit_at(text, at) {
+        if value >= GREAT {
+            return None;
+        }
+        value = 10 * value + digit;
+        at += 1;
+    }
+    Some((value, at))
+}
+
+// The value of the digit that stands here.
+#[inline(always)]
+fn digit_at(text: &str, at: usize) -> Option<u64>
+    ensures byte { IfSome result (λ digit. head (drop at text.now) ≡ 48 + digit) }
+    ensures small { IfSome result (λ digit. digit < 10) }
+    ensures inside { IfSome result (λ _. at < length text.now) }
+{
+    let byte = byte_at(text, at);
+    if b'0' <= byte && byte <= b'9' {
+        Some(u64::from(byte - b'0'))
+    } else {
+        None
+    }
+}
