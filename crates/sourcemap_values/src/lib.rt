@@ -2,4 +2,5 @@
 
 //! JSON texts to JSON values. Each text of a value is read straight into a room of its own.
 mod cursor;
+mod runs;
 mod texts;
