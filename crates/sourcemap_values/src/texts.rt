@@ -8,6 +8,7 @@ ghost use Rattle.sourcemap_values.specs.Texts.{Says};
 
 use crate::runs::{byte_at, run_end};
 use std::alloc::Global;
+use std::simd::prelude::*;
 
 /// The text that begins at `start`, behind its opening quote, and the place behind its closing one.
 /// `None` where it gives up: then nothing is said of the text, or memory ran out.
@@ -21,10 +22,11 @@ pub(crate) fn read_text(alloc: Global, text: &str, start: usize) -> Option<(Stri
 {
     let run = plain_run(text, start);
     let stop = start + run.len();
-    if byte_at(text.as_bytes(), stop) == b'"' {
-        return Some((String::from_str(alloc, run).ok()?, stop + 1));
+    match byte_at(text.as_bytes(), stop) {
+        b'"' => Some((String::from_str(alloc, run).ok()?, stop + 1)),
+        b'\\' => read_escaped(alloc, text, start),
+        _ => None,
     }
-    read_escaped(alloc, text, start)
 }
 
 // The same of a text with escapes: run by run, each with the escape behind it.
@@ -52,15 +54,28 @@ fn read_escaped(alloc: Global, text: &str, start: usize) -> Option<(String, usiz
     }
 }
 
-// How long the text is as it stands, with its escapes. What it says is no longer.
+// How far it is to a quote with no backslash before it. What the text says is no longer, since it
+// ends there or, where its last character is a backslash, before.
 fn room_needed(text: &[u8], start: usize) -> usize
     requires { start ≤ length text.now }
 {
-    let mut stop = run_end(text, start);
-    while byte_at(text, stop) == b'\\' && text.len() - stop >= 2 {
-        stop = run_end(text, stop + 2);
+    let mut at = start + 1;
+    while at + 32 <= text.len() {
+        let before = u8x32::from_slice(&text[at - 1..]);
+        let quotes = closing_quotes(u8x32::from_slice(&text[at..]), before);
+        if quotes != 0 {
+            return at - start + quotes.trailing_zeros() as usize;
+        }
+        at += 32;
     }
-    stop - start
+    text.len() - start
+}
+
+// Which of these bytes are quotes with no backslash before them: a bit for each.
+#[inline(always)]
+fn closing_quotes(bytes: u8x32, before: u8x32) -> u64 {
+    let quotes = bytes.simd_eq(u8x32::splat(b'"'));
+    (quotes & before.simd_ne(u8x32::splat(b'\\'))).to_bitmask()
 }
 
 /// The plain bytes from a place on.

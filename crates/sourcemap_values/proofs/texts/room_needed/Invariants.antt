@@ -1,8 +1,8 @@
-use Rattle.std.proofs.Common.{◌-◌, ◌≤◌, length}
+use Rattle.std.proofs.Common.{◌+◌, ◌-◌, ◌<◌, ◌≤◌, length}
 use Rattle.sourcemap_values.proofs.texts.room_needed.Given as goal
 
-abbrev pub invariant-loop-stop : goal.invariant-loop-stop
-invariant-loop-stop l = (l.start ≤ l.stop) × (l.stop ≤ length l.text)
+abbrev pub invariant-loop-at : goal.invariant-loop-at
+invariant-loop-at l = (l.start < l.at) × (l.at ≤ length l.text + 1)
 
-abbrev pub decreases-loop-stop : goal.decreases-loop-stop
-decreases-loop-stop l = length l.text - l.stop
+abbrev pub decreases-loop-at : goal.decreases-loop-at
+decreases-loop-at l = length l.text + 1 - l.at
