@@ -2,3 +2,5 @@ mod Heads
 mod Lexemes
 mod Numerals
 mod Tokens
+pub mod RunLemmas
+pub mod TextLemmas

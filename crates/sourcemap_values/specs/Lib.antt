@@ -1,2 +1,4 @@
 pub mod Words
 pub mod Cursor
+pub mod Runs
+pub mod Texts

@@ -3,5 +3,6 @@
 
 mod bytes;
 mod cursor;
+mod runs;
 mod texts;
 mod words;
