@@ -9,6 +9,7 @@ use crate::jsontypes::RawSourceMap;
 use serde_json::Value;
 use sourcemap_errors::errors::Result;
 use sourcemap_headers::header::strip_junk_header;
+use sourcemap_values::values::value_from_slice;
 use std::alloc::Global;
 use std::io::Read;
 
@@ -32,7 +33,7 @@ pub fn read_json(alloc: Global, bytes: &[u8]) -> Result<Value>
         (λ e. UnlessMemory e (HoldNoJson bytes.now e)) }
 {
     let text = strip_junk_header(bytes)?;
-    Ok(Value::from_slice(alloc, text)?)
+    Ok(value_from_slice(alloc, text)?)
 }
 
 // The same of bytes that are let go once the value is read.

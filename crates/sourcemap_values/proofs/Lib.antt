@@ -4,3 +4,4 @@ mod Numerals
 mod Tokens
 pub mod RunLemmas
 pub mod TextLemmas
+mod Turns

@@ -6,3 +6,4 @@ mod cursor;
 mod runs;
 mod texts;
 mod words;
+pub mod values;

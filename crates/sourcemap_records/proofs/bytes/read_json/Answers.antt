@@ -2,5 +2,5 @@
 use Rattle.std.proofs.Common.{rules}
 use Rattle.sourcemap_records.proofs.bytes.read_json.Goals as goal
 
-pub returns-in_err-from_slice : goal.returns-in_err-from_slice
-returns-in_err-from_slice c = search rules
+pub returns-in_err-value_from_slice : goal.returns-in_err-value_from_slice
+returns-in_err-value_from_slice c = search rules

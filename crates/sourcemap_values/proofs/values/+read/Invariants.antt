@@ -1,0 +1,33 @@
+use Rattle.std.proofs.Common.{ℕ, ◌+◌, ◌*◌, ◌≤◌, List, length}
+use Rattle.json.specs.Token.{Token}
+use Rattle.serde_json.specs.Data.{Items, Members, no_members}
+use Rattle.serde_json.specs.View.{members_view}
+use Rattle.sourcemap_values.specs.Values.{BeginsWithItems, BeginsWithMembers}
+use Rattle.sourcemap_values.proofs.Turns.{in_front}
+use Rattle.sourcemap_values.proofs.values.+read.Given as goal
+
+abbrev pub decreases-read : goal.decreases-read
+decreases-read l = 2 * l.depth
+
+abbrev pub decreases-read_items : goal.decreases-read_items
+decreases-read_items l = 2 * l.depth + 1
+
+abbrev pub decreases-read_members : goal.decreases-read_members
+decreases-read_members l = 2 * l.depth + 1
+
+-- whatever items the cursor's tokens begin with, the first tokens begin with those found and them
+abbrev pub invariant-read_items-items : goal.invariant-read_items-items
+invariant-read_items-items l =
+    (most : ℕ) × (length l.cursor ≤ most)
+    × ((ds : Items) (new : List Token) → BeginsWithItems l.depth most l.cursor ds new → BeginsWithItems l.depth (length l.initial.cursor) l.initial.cursor (in_front l.found.items ds) new)
+
+abbrev pub decreases-read_items-items : goal.decreases-read_items-items
+decreases-read_items-items l = length l.cursor
+
+abbrev pub invariant-read_members-members : goal.invariant-read_members-members
+invariant-read_members-members l =
+    (most : ℕ) × (length l.cursor ≤ most)
+    × ((after : Members) (new : List Token) → BeginsWithMembers l.depth most l.cursor (members_view l.found.entries) after new → BeginsWithMembers l.depth (length l.initial.cursor) l.initial.cursor no_members after new)
+
+abbrev pub decreases-read_members-members : goal.decreases-read_members-members
+decreases-read_members-members l = length l.cursor

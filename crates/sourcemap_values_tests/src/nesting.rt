@@ -1,0 +1,83 @@
+// Levels of arrays and objects, and texts of each length.
+use crate::answers::{answer, check, kit_answer};
+use serde_json::Result;
+use std::alloc::Global;
+
+// What opens a level and what closes it, how many levels there are, and what the innermost holds.
+const LEVELS: [(&str, &str, usize, &str); 7] = [
+    ("[", "]", 1, "7"),
+    ("[", "]", 127, ""),
+    ("[", "]", 127, "7"),
+    ("{\"a\":", "}", 127, "7"),
+    ("[{\"a\":", "}]", 63, "[]"),
+    ("[", "]", 126, "{}"),
+    ("{\"a\":[", "]}", 63, ""),
+];
+
+const TOO_MANY: [(&str, &str, usize, &str); 5] = [
+    ("[", "]", 128, ""),
+    ("[", "]", 127, "[]"),
+    ("[", "]", 127, "{}"),
+    ("{\"a\":", "}", 128, "7"),
+    ("[{\"a\":", "}]", 64, "7"),
+];
+
+fn nested(alloc: Global, row: &(&str, &str, usize, &str)) -> Result<String> {
+    let (open, close, levels, inner) = *row;
+    let before = open.repeat(alloc, levels)?;
+    let after = close.repeat(alloc, levels)?;
+    Ok(format!(in alloc; "{before}{inner}{after}")?)
+}
+
+#[test]
+fn levels(rt: HostRuntime) -> Result<()> {
+    for row in LEVELS.iter() {
+        let text = nested(rt.alloc(), row)?;
+        check(
+            &rt,
+            text.as_str(),
+            answer(rt.alloc(), text.as_bytes()),
+            text.as_str(),
+        );
+    }
+    for row in TOO_MANY.iter() {
+        let text = nested(rt.alloc(), row)?;
+        check(
+            &rt,
+            text.as_str(),
+            answer(rt.alloc(), text.as_bytes()),
+            "none",
+        );
+        check(
+            &rt,
+            text.as_str(),
+            kit_answer(rt.alloc(), text.as_bytes()),
+            "none",
+        );
+    }
+    Ok(())
+}
+
+// Between the quotes of a text, behind a run of plain bytes.
+const ENDS: [&str; 4] = ["", "\\n", "\\\"é", "😀\\\\ab"];
+
+fn padded(alloc: Global, length: usize, end: &str) -> Result<String> {
+    let plain = "a".repeat(alloc, length)?;
+    Ok(format!(in alloc; "\"{plain}{end}\"")?)
+}
+
+#[test]
+fn lengths(rt: HostRuntime) -> Result<()> {
+    for end in ENDS.iter() {
+        for length in 0..100 {
+            let text = padded(rt.alloc(), length, end)?;
+            check(
+                &rt,
+                text.as_str(),
+                answer(rt.alloc(), text.as_bytes()),
+                text.as_str(),
+            );
+        }
+    }
+    Ok(())
+}

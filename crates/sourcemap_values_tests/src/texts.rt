@@ -1,0 +1,128 @@
+// Texts, numbers and literals, alone in a text of JSON.
+use crate::answers::{answer, check, kit_answer};
+
+// A JSON text, and its value written compactly.
+const STRINGS: [(&str, &str); 36] = [
+    (r#""""#, r#""""#),
+    (r#""plain""#, r#""plain""#),
+    (r#""\"\\\/\b\f\n\r\t""#, r#""\"\\/\b\f\n\r\t""#),
+    (r#""a\nb\\n\"c\"""#, r#""a\nb\\n\"c\"""#),
+    (r#""\u0041\u000a\u0022""#, r#""A\n\"""#),
+    (r#""\u00e9\u20AC""#, r#""é€""#),
+    (r#""\ud83d\ude00""#, r#""😀""#),
+    (r#""\uD83D\uDE00!""#, r#""😀!""#),
+    (r#""\u0000\u001f""#, r#""\u0000\u001f""#),
+    (r#""\\u0041""#, r#""\\u0041""#),
+    (r#""é€😀""#, r#""é€😀""#),
+    (
+        "\"\u{7f}\u{80}\u{7ff}\u{800}\u{ffff}\u{10000}\u{10ffff}\"",
+        "\"\u{7f}\u{80}\u{7ff}\u{800}\u{ffff}\u{10000}\u{10ffff}\"",
+    ),
+    (
+        "\"\u{2028}\u{2029}\u{feff}\"",
+        "\"\u{2028}\u{2029}\u{feff}\"",
+    ),
+    (r#""[1,{\"a\":2}] // x""#, r#""[1,{\"a\":2}] // x""#),
+    (r#""\ud83d""#, "none"),
+    (r#""\ude00""#, "none"),
+    (r#""\ude00\ud83d""#, "none"),
+    (r#""\ud83dx""#, "none"),
+    (r#""\ud83d\n""#, "none"),
+    (r#""\ud83d\u0041""#, "none"),
+    (r#""\ud83d\ud83d""#, "none"),
+    (r#""\x41""#, "none"),
+    (r#""\'""#, "none"),
+    (r#""\N""#, "none"),
+    (r#""\u41""#, "none"),
+    (r#""\u00g0""#, "none"),
+    (r#""\u+041""#, "none"),
+    ("\"\\\n\"", "none"),
+    ("\"\u{1}\"", "none"),
+    ("\"a\tb\"", "none"),
+    ("\"a\nb\"", "none"),
+    ("\"\u{1f}\"", "none"),
+    (r#"""#, "none"),
+    (r#""a"#, "none"),
+    (r#""a\""#, "none"),
+    ("'a'", "none"),
+];
+
+const NUMBERS: [(&str, &str); 37] = [
+    ("0", "0"),
+    ("3", "3"),
+    ("10", "10"),
+    ("4294967296", "4294967296"),
+    ("18446744073709551615", "18446744073709551615"),
+    ("18446744073709551616", "1.8446744073709552e+19"),
+    ("99999999999999999999", "1e+20"),
+    ("-7", "-7"),
+    ("-9223372036854775808", "-9223372036854775808"),
+    ("-9223372036854775809", "-9.223372036854776e+18"),
+    ("-0", "-0.0"),
+    ("1.5", "1.5"),
+    ("10.25", "10.25"),
+    ("1.0", "1.0"),
+    ("1e2", "100.0"),
+    ("1E+2", "100.0"),
+    ("1e-2", "0.01"),
+    ("0e0", "0.0"),
+    ("1e-400", "0.0"),
+    ("1e400", "none"),
+    ("00", "none"),
+    ("007", "none"),
+    ("-01", "none"),
+    ("-", "none"),
+    ("--1", "none"),
+    ("+1", "none"),
+    (".5", "none"),
+    ("1.", "none"),
+    ("1.e2", "none"),
+    ("1e", "none"),
+    ("1e+", "none"),
+    ("0x10", "none"),
+    ("1a", "none"),
+    ("1_000", "none"),
+    ("1,5", "none"),
+    ("NaN", "none"),
+    ("Infinity", "none"),
+];
+
+const LITERALS: [(&str, &str); 13] = [
+    ("null", "null"),
+    ("true", "true"),
+    ("false", "false"),
+    ("nul", "none"),
+    ("nulll", "none"),
+    ("tru", "none"),
+    ("truex", "none"),
+    ("true1", "none"),
+    ("falsy", "none"),
+    ("True", "none"),
+    ("NULL", "none"),
+    ("n ull", "none"),
+    ("undefined", "none"),
+];
+
+#[test]
+fn strings(rt: HostRuntime) {
+    for (text, want) in STRINGS.iter() {
+        check(&rt, text, answer(rt.alloc(), text.as_bytes()), want);
+        check(&rt, text, kit_answer(rt.alloc(), text.as_bytes()), want);
+    }
+}
+
+#[test]
+fn numbers(rt: HostRuntime) {
+    for (text, want) in NUMBERS.iter() {
+        check(&rt, text, answer(rt.alloc(), text.as_bytes()), want);
+        check(&rt, text, kit_answer(rt.alloc(), text.as_bytes()), want);
+    }
+}
+
+#[test]
+fn literals(rt: HostRuntime) {
+    for (text, want) in LITERALS.iter() {
+        check(&rt, text, answer(rt.alloc(), text.as_bytes()), want);
+        check(&rt, text, kit_answer(rt.alloc(), text.as_bytes()), want);
+    }
+}
