@@ -1,10 +1,6 @@
-use Rattle.std.proofs.Common.{◌≡◌, ◌+◌, get_or, ap, ◌∙◌, arith}
-use Rattle.std.specs.Char.{digit_value}
-use Rattle.json.specs.Text.{code_unit}
-use Rattle.sourcemap_values.specs.Texts.{SpellsUnit}
+use Rattle.std.proofs.Common.{◌+◌, get_or, Some, ap, ◌∙◌, arith}
 use Rattle.sourcemap_values.proofs.EscapeLemmas.{unit_of_digits}
 use Rattle.sourcemap_values.proofs.escapes.code_unit.Goals as goal
-use Rattle.std.proofs.Common.{Some}
 
 pub returns : goal.returns
 returns c =
@@ -15,7 +11,7 @@ returns c =
     let third = c.in_ok-third.ensures in
     let fourth = c.in_ok-fourth.ensures in
     let unit = unit_of_digits (get_or text (at + 2) 32) (get_or text (at + 3) 32) (get_or text (at + 4) 32) (get_or text (at + 5) 32)
-        (omega (arith, first.value, first.small)) (omega (arith, second.value, second.small)) (omega (arith, third.value, third.small)) (omega (arith, fourth.value, fourth.small)) in
+    (omega (arith, first.value, first.small)) (omega (arith, second.value, second.small)) (omega (arith, third.value, third.small)) (omega (arith, fourth.value, fourth.small)) in
     record {
       backslash = cc;
       letter = cc;
