@@ -2,6 +2,7 @@ mod Heads
 mod Lexemes
 mod Numerals
 mod Tokens
+pub mod EscapeLemmas
 pub mod RunLemmas
 pub mod TextLemmas
 mod Turns

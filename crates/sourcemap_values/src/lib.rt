@@ -3,6 +3,7 @@
 
 mod bytes;
 mod cursor;
+mod escapes;
 mod runs;
 mod texts;
 mod words;

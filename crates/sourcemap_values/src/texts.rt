@@ -1,11 +1,11 @@
 //! The texts of JSON: what stands between two quotes, read into a room of its own.
-ghost use Rattle.std.specs.Prelude.{◌≡◌, ◌+◌, ◌<◌, ◌≤◌, length, drop, Some, IfSome, string_bytes};
-ghost use Rattle.std.specs.Char.{encode_utf8};
+ghost use Rattle.std.specs.Prelude.{◌≡◌, ◌+◌, ◌≤◌, length, drop, Some, IfSome, string_bytes};
 ghost use Rattle.std.specs.Str.{IsCharBoundary};
-ghost use Rattle.json.specs.Text.{content, plain, short_escape};
+ghost use Rattle.json.specs.Text.{content, plain};
 ghost use Rattle.json.specs.Lex.{lex, in_string, between};
 ghost use Rattle.sourcemap_values.specs.Texts.{Says};
 
+use crate::escapes::escape;
 use crate::runs::{byte_at, run_end};
 use std::alloc::Global;
 use std::simd::prelude::*;
@@ -87,39 +87,4 @@ fn plain_run(text: &str, from: usize) -> &str
 {
     let end = run_end(text.as_bytes(), from);
     &text[from..end]
-}
-
-/// The character that the escape at a place stands for, and the place behind it.
-fn escape(text: &str, at: usize) -> Option<(char, usize)>
-    requires { at ≤ length text.now }
-    ensures says { IfSome result
-        (λ found. Says (drop at text.now) (encode_utf8 found.0) (drop found.1 text.now)) }
-    ensures boundary { IfSome result (λ found. IsCharBoundary text.now found.1) }
-    ensures forward { IfSome result (λ found. at < found.1) }
-{
-    let bytes = text.as_bytes();
-    if byte_at(bytes, at) != b'\\' {
-        return None;
-    }
-    let character = short_escape(byte_at(bytes, at + 1))?;
-    Some((character, at + 2))
-}
-
-// What a backslash and this byte stand for.
-#[tactic(auto, unfolding(json::specs::Text::short_escape))]
-fn short_escape(byte: u8) -> Option<char>
-    ensures value { IfSome result (λ character. short_escape byte ≡ Some character) }
-    ensures ascii { IfSome result (λ character. (character < 128) × (byte < 128)) }
-{
-    match byte {
-        b'"' => Some('"'),
-        b'\\' => Some('\\'),
-        b'/' => Some('/'),
-        b'b' => Some('\u{8}'),
-        b'f' => Some('\u{c}'),
-        b'n' => Some('\n'),
-        b'r' => Some('\r'),
-        b't' => Some('\t'),
-        _ => None,
-    }
 }
