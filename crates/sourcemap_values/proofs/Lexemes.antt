@@ -1,5 +1,6 @@
 -- What the grammar gives, by the first byte of the text.
-use Rattle.std.proofs.Common.{◌≡◌, ◌≢◌, ℕ, Bool, true, false, cond, ◌==◌, List, [], ◌∷◌, ◌++◌, Some, ⊎_elim, ◌⊎◌, inl, inr, drop, refl, sym, ap, ◌∙◌}
+use Rattle.std.proofs.Common.{◌≡◌, ◌≢◌, ◌+◌, ℕ, Bool, true, false, cond, ◌==◌, List, [], ◌∷◌, ◌++◌, Some, ⊎_elim, ◌⊎◌, inl, inr, drop, refl, sym, ap, ◌∙◌}
+use Rattle.std.proofs.lemmas.List.{drop-drop}
 use Rattle.std.proofs.lemmas.Bool.{true≢false, false≢true, eqb-true, or_cases}
 use Rattle.json.specs.Token.{Token, begin_object, end_object, begin_array, end_array, key, string, number, boolean, null, bad}
 use Rattle.json.specs.Text.{content, plain}
@@ -46,10 +47,13 @@ unfolding lex
 at_quote [] e = absurd (false≢true (ap (λ x. is_quote_class (class x)) e))
 at_quote (x ∷ xs) e = rw e refl
 
-pub at_space : (t : List ℕ) → is_space (head t) ≡ true → lex between (drop 1 t) ≡ lex between t
+at_space : (t : List ℕ) → is_space (head t) ≡ true → lex between (drop 1 t) ≡ lex between t
 unfolding lex
 at_space [] e = refl
 at_space (x ∷ xs) e = rw (space_class x e) refl
+
+pub space_passed : (text : List ℕ) (at : ℕ) → is_space (head (drop at text)) ≡ true → lex between (drop (at + 1) text) ≡ lex between (drop at text)
+space_passed text at white = ap (lex between) (sym (drop-drop 1 at text)) ∙ at_space (drop at text) white
 
 pub at_word_end : (t : List ℕ) → ends_word t ≡ true → lex in_word t ≡ lex between t
 unfolding lex

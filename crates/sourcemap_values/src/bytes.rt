@@ -54,6 +54,23 @@ pub(crate) fn after_space(text: &str, from: usize) -> usize
         if !is_white(byte_at(text, at)) {
             return at;
         }
+        at = after_blanks(text, at + 1);
+    }
+    at
+}
+
+// The place behind the blanks that begin at a place. A test for one byte alone is fast, and most
+// white space of a text that is laid out is blanks.
+#[inline(always)]
+fn after_blanks(text: &str, from: usize) -> usize
+    ensures same { lex between (drop result text.now) ≡ lex between (drop from text.now) }
+    ensures ahead { from ≤ result }
+{
+    let mut at = from;
+    while at < text.len() {
+        if byte_at(text, at) != b' ' {
+            return at;
+        }
         at += 1;
     }
     at
