@@ -7,6 +7,8 @@ mod answers;
 #[cfg(test)]
 mod bytes;
 #[cfg(test)]
+mod changes;
+#[cfg(test)]
 mod nesting;
 #[cfg(test)]
 mod structures;
