@@ -1,12 +1,13 @@
 //! A cursor along the tokens of a JSON text, which reads each text into a room of its own. It knows
 //! what source maps are written with, and gives up on all else.
-ghost use Rattle.std.specs.Prelude.{◌≡◌, ◌<◌, IfSome, drop, length};
+ghost use Rattle.std.specs.Prelude.{◌≡◌, ◌<◌, IfOk, drop, length};
 ghost use Rattle.json.specs.Lex.{may_begin, may_close, tokens};
 ghost use Rattle.json.specs.Word.{head};
 ghost use Rattle.sourcemap_values.specs.declared.cursor.Place.TheVariants.{AfterValue};
 ghost use Rattle.sourcemap_values.specs.Cursor.{Closes, Leads, Opens, Passes, Takes, grammar_place, tokens_from};
 
 use crate::bytes::{after_space, byte_at};
+use crate::stop::Stop;
 use crate::texts::read_text;
 use crate::words::{whole_number, word_end};
 use serde_json::Number;
@@ -92,15 +93,14 @@ impl<'a> Cursor<'a> {
         Cursor { text, spot }
     }
 
-    /// What stands next, behind which the cursor stands then. `None` where it gives up: then nothing
-    /// is said of the text, or memory ran out.
-    pub(crate) fn next(&mut self, alloc: Global) -> Option<Step>
-        ensures { IfSome result (λ step. Takes self.old step self.new) }
+    /// What stands next, behind which the cursor stands then.
+    pub(crate) fn next(&mut self, alloc: Global) -> Result<Step, Stop>
+        ensures { IfOk result (λ step. Takes self.old step self.new) }
     {
         let spot = pass_comma(self.text, self.spot);
         let (step, behind) = take(alloc, self.text, spot)?;
         self.spot = behind;
-        Some(step)
+        Ok(step)
     }
 }
 
@@ -135,18 +135,18 @@ fn pass_comma_at(text: &str, at: usize) -> Spot
 
 // The token that begins at this spot, and the spot behind it.
 #[inline(always)]
-fn take(alloc: Global, text: &str, spot: Spot) -> Option<(Step, Spot)>
-    ensures { IfSome result (λ taken. Leads text.now spot taken.0 taken.1) }
+fn take(alloc: Global, text: &str, spot: Spot) -> Result<(Step, Spot), Stop>
+    ensures { IfOk result (λ taken. Leads text.now spot taken.0 taken.1) }
 {
     match byte_at(text, spot.at) {
         b'"' => take_text(alloc, text, spot),
-        b'{' => Some((Step::BeginObject, opened(text, spot)?)),
-        b'[' => Some((Step::BeginArray, opened(text, spot)?)),
-        b'}' => Some((Step::EndObject, closed(text, spot)?)),
-        b']' => Some((Step::EndArray, closed(text, spot)?)),
-        b't' => Some((Step::Bool(true), behind_word(text, spot, b"true")?)),
-        b'f' => Some((Step::Bool(false), behind_word(text, spot, b"false")?)),
-        b'n' => Some((Step::Null, behind_word(text, spot, b"null")?)),
+        b'{' => Ok((Step::BeginObject, opened(text, spot)?)),
+        b'[' => Ok((Step::BeginArray, opened(text, spot)?)),
+        b'}' => Ok((Step::EndObject, closed(text, spot)?)),
+        b']' => Ok((Step::EndArray, closed(text, spot)?)),
+        b't' => Ok((Step::Bool(true), behind_word(text, spot, b"true")?)),
+        b'f' => Ok((Step::Bool(false), behind_word(text, spot, b"false")?)),
+        b'n' => Ok((Step::Null, behind_word(text, spot, b"null")?)),
         b' ' => take_end(text, spot),
         _ => take_number(text, spot),
     }
@@ -154,53 +154,53 @@ fn take(alloc: Global, text: &str, spot: Spot) -> Option<(Step, Spot)>
 
 // The spot behind an opening bracket, if one may stand here.
 #[inline(always)]
-fn opened(text: &str, spot: Spot) -> Option<Spot>
+fn opened(text: &str, spot: Spot) -> Result<Spot, Stop>
     requires { spot.at < length text.now }
-    ensures { IfSome result (λ behind. Opens spot behind) }
+    ensures { IfOk result (λ behind. Opens spot behind) }
 {
     if spot.place.may_begin() {
-        return Some(Spot {
+        return Ok(Spot {
             at: spot.at + 1,
             place: Place::Fresh,
         });
     }
-    None
+    Err(Stop::Unknown)
 }
 
 // The spot behind a closing bracket, if one may stand here.
 #[inline(always)]
-fn closed(text: &str, spot: Spot) -> Option<Spot>
+fn closed(text: &str, spot: Spot) -> Result<Spot, Stop>
     requires { spot.at < length text.now }
-    ensures { IfSome result (λ behind. Closes spot behind) }
+    ensures { IfOk result (λ behind. Closes spot behind) }
 {
     if spot.place.may_close() {
-        return Some(Spot {
+        return Ok(Spot {
             at: spot.at + 1,
             place: Place::AfterValue,
         });
     }
-    None
+    Err(Stop::Unknown)
 }
 
 // The end of the text, if it stands here and no token is missing.
 #[inline(always)]
-fn take_end(text: &str, spot: Spot) -> Option<(Step, Spot)>
-    ensures { IfSome result (λ taken. Leads text.now spot taken.0 taken.1) }
+fn take_end(text: &str, spot: Spot) -> Result<(Step, Spot), Stop>
+    ensures { IfOk result (λ taken. Leads text.now spot taken.0 taken.1) }
 {
     if spot.at >= text.len() && spot.place.may_close() {
-        return Some((Step::End, spot));
+        return Ok((Step::End, spot));
     }
-    None
+    Err(Stop::Unknown)
 }
 
 // The text that begins at this spot: a key if a colon follows it.
 #[inline(always)]
-fn take_text(alloc: Global, text: &str, spot: Spot) -> Option<(Step, Spot)>
+fn take_text(alloc: Global, text: &str, spot: Spot) -> Result<(Step, Spot), Stop>
     requires { head (drop spot.at text.now) ≡ 34 }
-    ensures { IfSome result (λ taken. Leads text.now spot taken.0 taken.1) }
+    ensures { IfOk result (λ taken. Leads text.now spot taken.0 taken.1) }
 {
     if !spot.place.may_begin() {
-        return None;
+        return Err(Stop::Unknown);
     }
     let (found, end) = read_text(alloc, text, spot.at + 1)?;
     let at = after_space(text, end);
@@ -209,25 +209,25 @@ fn take_text(alloc: Global, text: &str, spot: Spot) -> Option<(Step, Spot)>
             at: at + 1,
             place: Place::Fresh,
         };
-        return Some((Step::Key(found), behind));
+        return Ok((Step::Key(found), behind));
     }
     let behind = Spot {
         at,
         place: Place::AfterValue,
     };
-    Some((Step::Text(found), behind))
+    Ok((Step::Text(found), behind))
 }
 
 // The spot behind this word, if it stands here and a value may begin.
 #[inline(always)]
-fn behind_word(text: &str, spot: Spot, word: &[u8]) -> Option<Spot>
+fn behind_word(text: &str, spot: Spot, word: &[u8]) -> Result<Spot, Stop>
     requires { spot.at < length text.now }
-    ensures { IfSome result (λ behind. Passes text.now spot word.now behind) }
+    ensures { IfOk result (λ behind. Passes text.now spot word.now behind) }
 {
     if !spot.place.may_begin() {
-        return None;
+        return Err(Stop::Unknown);
     }
-    Some(Spot {
+    Ok(Spot {
         at: word_end(text, spot.at, word)?,
         place: Place::AfterValue,
     })
@@ -235,16 +235,16 @@ fn behind_word(text: &str, spot: Spot, word: &[u8]) -> Option<Spot>
 
 // The number that begins at this spot.
 #[inline(always)]
-fn take_number(text: &str, spot: Spot) -> Option<(Step, Spot)>
-    ensures { IfSome result (λ taken. Leads text.now spot taken.0 taken.1) }
+fn take_number(text: &str, spot: Spot) -> Result<(Step, Spot), Stop>
+    ensures { IfOk result (λ taken. Leads text.now spot taken.0 taken.1) }
 {
     if !spot.place.may_begin() {
-        return None;
+        return Err(Stop::Unknown);
     }
     let (value, at) = whole_number(text, spot.at)?;
     let behind = Spot {
         at,
         place: Place::AfterValue,
     };
-    Some((Step::Number(Number::from(value)), behind))
+    Ok((Step::Number(Number::from(value)), behind))
 }

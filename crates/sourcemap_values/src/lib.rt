@@ -5,6 +5,7 @@ mod bytes;
 mod cursor;
 mod escapes;
 mod runs;
+mod stop;
 mod texts;
 mod words;
 pub mod values;

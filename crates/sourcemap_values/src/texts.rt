@@ -1,5 +1,5 @@
 //! The texts of JSON: what stands between two quotes, read into a room of its own.
-ghost use Rattle.std.specs.Prelude.{◌≡◌, ◌+◌, ◌≤◌, length, drop, Some, IfSome, string_bytes};
+ghost use Rattle.std.specs.Prelude.{◌≡◌, ◌+◌, ◌≤◌, length, drop, Some, IfOk, string_bytes};
 ghost use Rattle.std.specs.Str.{IsCharBoundary};
 ghost use Rattle.json.specs.Text.{content, plain};
 ghost use Rattle.json.specs.Lex.{lex, in_string, between};
@@ -7,49 +7,49 @@ ghost use Rattle.sourcemap_values.specs.Texts.{Says};
 
 use crate::escapes::escape;
 use crate::runs::{byte_at, run_end};
+use crate::stop::Stop;
 use std::alloc::Global;
 use std::simd::prelude::*;
 
 /// The text that begins at `start`, behind its opening quote, and the place behind its closing one.
-/// `None` where it gives up: then nothing is said of the text, or memory ran out.
-pub(crate) fn read_text(alloc: Global, text: &str, start: usize) -> Option<(String, usize)>
+pub(crate) fn read_text(alloc: Global, text: &str, start: usize) -> Result<(String, usize), Stop>
     requires { IsCharBoundary text.now start }
-    ensures content { IfSome result
+    ensures content { IfOk result
         (λ found. content plain (drop start text.now) ≡ Some (string_bytes found.0)) }
-    ensures behind { IfSome result
+    ensures behind { IfOk result
         (λ found. lex in_string (drop start text.now) ≡ lex between (drop found.1 text.now)) }
-    ensures boundary { IfSome result (λ found. IsCharBoundary text.now found.1) }
+    ensures boundary { IfOk result (λ found. IsCharBoundary text.now found.1) }
 {
     let run = plain_run(text, start);
     let stop = start + run.len();
     match byte_at(text.as_bytes(), stop) {
-        b'"' => Some((String::from_str(alloc, run).ok()?, stop + 1)),
+        b'"' => Ok((String::from_str(alloc, run)?, stop + 1)),
         b'\\' => read_escaped(alloc, text, start),
-        _ => None,
+        _ => Err(Stop::Unknown),
     }
 }
 
 // The same of a text with escapes: run by run, each with the escape behind it.
-fn read_escaped(alloc: Global, text: &str, start: usize) -> Option<(String, usize)>
+fn read_escaped(alloc: Global, text: &str, start: usize) -> Result<(String, usize), Stop>
     requires { IsCharBoundary text.now start }
-    ensures content { IfSome result
+    ensures content { IfOk result
         (λ found. content plain (drop start text.now) ≡ Some (string_bytes found.0)) }
-    ensures behind { IfSome result
+    ensures behind { IfOk result
         (λ found. lex in_string (drop start text.now) ≡ lex between (drop found.1 text.now)) }
-    ensures boundary { IfSome result (λ found. IsCharBoundary text.now found.1) }
+    ensures boundary { IfOk result (λ found. IsCharBoundary text.now found.1) }
 {
     let room = room_needed(text.as_bytes(), start);
-    let mut said = String::with_capacity(alloc, room).ok()?;
+    let mut said = String::with_capacity(alloc, room)?;
     let mut at = start;
     loop {
         let run = plain_run(text, at);
         let stop = at + run.len();
-        said.push_str(run).ok()?;
+        said.push_str(run)?;
         if byte_at(text.as_bytes(), stop) == b'"' {
-            return Some((said, stop + 1));
+            return Ok((said, stop + 1));
         }
-        let (character, next) = escape(text, stop)?;
-        said.push(character).ok()?;
+        let (character, next) = escape(text, stop).ok_or(Stop::Unknown)?;
+        said.push(character)?;
         at = next;
     }
 }

@@ -1,6 +1,6 @@
 //! JSON values from their texts. The fast way goes along a cursor and keeps each text in the room
 //! that the cursor read it into. Where it gives up, the kit's reader answers.
-ghost use Rattle.std.specs.Prelude.{◌≡◌, ◌<◌, ◌≤◌, List, length, Some, None, IfSome, IfOk, IfErr, IsUtf8};
+ghost use Rattle.std.specs.Prelude.{◌≡◌, ◌<◌, ◌≤◌, List, length, Some, None, IfOk, IfErr, IsUtf8};
 ghost use Rattle.json.specs.Token.{Token};
 ghost use Rattle.serde_json.specs.Data.{no_members, depth as nesting};
 ghost use Rattle.serde_json.specs.Errors.{IsMemory, IsOfText};
@@ -10,9 +10,10 @@ ghost use Rattle.sourcemap_values.specs.Cursor.{Takes};
 ghost use Rattle.sourcemap_values.specs.Values.{BeginsWithValue, BeginsWithItems, BeginsWithMembers};
 
 use crate::cursor::{Cursor, Step};
+use crate::stop::Stop;
 use serde_json::{Error, Map, Value};
 use simdutf8::compat::from_utf8;
-use std::alloc::Global;
+use std::alloc::{AllocError, Global};
 
 // Levels of arrays and objects, as many as the kit's reader takes.
 const MAX_DEPTH: usize = 127;
@@ -26,94 +27,93 @@ pub fn value_from_slice(alloc: Global, bytes: &[u8]) -> Result<Value, Error>
     ensures nests { IfOk result (λ v. nesting (view v) ≤ max_depth) }
     ensures err { IfErr result (λ e. ¬ IsMemory e → IsUtf8 bytes.now
         → read_text bytes.now ≡ None) }
-    ensures memory { IfErr result (λ e. IsMemory e → 0 < length bytes.now) }
     ensures kind { IfErr result (λ e. ¬ IsMemory e → IsOfText e) }
 {
     let Ok(text) = from_utf8(bytes) else {
         return Value::from_slice(alloc, bytes);
     };
     match known(alloc, text) {
-        Some(value) => Ok(value),
-        None => Value::from_str(alloc, text),
+        Ok(value) => Ok(value),
+        Err(Stop::Unknown) => Value::from_str(alloc, text),
+        Err(Stop::OutOfMemory) => Err(Error::from(AllocError)),
     }
 }
 
-/// The JSON value that a text is, by the fast way. `None` where it gives up: then nothing is said
-/// of the text, or memory ran out.
-fn known(alloc: Global, text: &str) -> Option<Value>
-    ensures { IfSome result (λ v. read_text text.now ≡ Some (view v)) }
+/// The JSON value that a text is, by the fast way.
+fn known(alloc: Global, text: &str) -> Result<Value, Stop>
+    ensures { IfOk result (λ v. read_text text.now ≡ Some (view v)) }
 {
     let mut cursor = Cursor::new(text);
     let first = cursor.next(alloc)?;
     let value = read(alloc, first, &mut cursor, MAX_DEPTH)?;
     match cursor.next(alloc)? {
-        Step::End => Some(value),
-        _ => None,
+        Step::End => Ok(value),
+        _ => Err(Stop::Unknown),
     }
 }
 
 /// The value that begins with the step `first`, behind which the cursor stands, of at most `depth`
-/// levels. `None` where no value begins so, where it is deeper, and where the cursor gives up.
+/// levels.
 #[cycle(read)]
-fn read(alloc: Global, first: Step, cursor: &mut Cursor<'_>, depth: usize) -> Option<Value>
-    ensures { IfSome result (λ v. (old : List Token) → Takes old first cursor.old
+fn read(alloc: Global, first: Step, cursor: &mut Cursor<'_>, depth: usize) -> Result<Value, Stop>
+    ensures { IfOk result (λ v. (old : List Token) → Takes old first cursor.old
         → BeginsWithValue depth old (view v) cursor.new) }
 {
     match first {
-        Step::Text(text) => Some(Value::String(text)),
-        Step::Number(number) => Some(Value::Number(number)),
-        Step::Bool(is_true) => Some(Value::Bool(is_true)),
-        Step::Null => Some(Value::Null),
-        Step::EndObject | Step::EndArray | Step::Key(_) | Step::End => None,
+        Step::Text(text) => Ok(Value::String(text)),
+        Step::Number(number) => Ok(Value::Number(number)),
+        Step::Bool(is_true) => Ok(Value::Bool(is_true)),
+        Step::Null => Ok(Value::Null),
+        Step::EndObject | Step::EndArray | Step::Key(_) | Step::End => Err(Stop::Unknown),
         Step::BeginArray => {
             if depth == 0 {
-                return None;
+                return Err(Stop::Unknown);
             }
-            Some(Value::Array(read_items(alloc, cursor, depth - 1)?))
+            Ok(Value::Array(read_items(alloc, cursor, depth - 1)?))
         }
         Step::BeginObject => {
             if depth == 0 {
-                return None;
+                return Err(Stop::Unknown);
             }
-            Some(Value::Object(read_members(alloc, cursor, depth - 1)?))
+            Ok(Value::Object(read_members(alloc, cursor, depth - 1)?))
         }
     }
 }
 
 /// The items of an array whose opening bracket has been read, and its closing one.
 #[cycle(read)]
-fn read_items(alloc: Global, cursor: &mut Cursor<'_>, depth: usize) -> Option<Vec<Value>>
-    ensures { IfSome result (λ v. BeginsWithItems depth (length cursor.old) cursor.old
+fn read_items(alloc: Global, cursor: &mut Cursor<'_>, depth: usize) -> Result<Vec<Value>, Stop>
+    ensures { IfOk result (λ v. BeginsWithItems depth (length cursor.old) cursor.old
         (items_view v.items) cursor.new) }
 {
     let mut found = Vec::new(alloc);
     'items: loop {
         let first = cursor.next(alloc)?;
         if let Step::EndArray = first {
-            return Some(found);
+            return Ok(found);
         }
         let item = read(alloc, first, cursor, depth)?;
-        found.push(item).ok()?;
+        found.push(item)?;
     }
 }
 
 /// The members of an object whose opening bracket has been read, and its closing one. Of doubled
 /// keys the last one's value stays.
 #[cycle(read)]
-fn read_members(alloc: Global, cursor: &mut Cursor<'_>, depth: usize) -> Option<Map<String, Value>>
-    ensures { IfSome result (λ m. BeginsWithMembers depth (length cursor.old) cursor.old
+fn read_members(alloc: Global, cursor: &mut Cursor<'_>, depth: usize) -> Result<Map<String, Value>, Stop>
+    ensures { IfOk result (λ m. BeginsWithMembers depth (length cursor.old) cursor.old
         no_members (members_view m.entries) cursor.new) }
 {
     let mut found = Map::new(alloc);
     'members: loop {
         match cursor.next(alloc)? {
-            Step::EndObject => return Some(found),
+            Step::EndObject => return Ok(found),
             Step::Key(key) => {
                 let first = cursor.next(alloc)?;
                 let member = read(alloc, first, cursor, depth)?;
-                drop(found.insert(key, member).ok()?);
+                drop(found.insert(key, member)?);
             }
-            _ => return None,
+            _ => return Err(Stop::Unknown),
         }
     }
 }

@@ -1,44 +1,45 @@
 //! The words of JSON: literals, and numbers that are whole, short and without a sign.
-ghost use Rattle.std.specs.Prelude.{◌≡◌, ◌+◌, ◌<◌, ◌≤◌, IfSome, decimal, drop, length};
+ghost use Rattle.std.specs.Prelude.{◌≡◌, ◌+◌, ◌<◌, ◌≤◌, IfOk, IfSome, decimal, drop, length};
 ghost use Rattle.std.specs.Bool.{OnTrue};
 ghost use Rattle.json.specs.Word.{head};
 ghost use Rattle.sourcemap_values.specs.Words.{AreDigits, IsWordAt};
 
 use crate::bytes::{byte_at, is_word_end};
+use crate::stop::Stop;
 
 // A number that is as great may not have another digit.
 const GREAT: u64 = 1_000_000_000_000_000;
 
 /// The place behind this word, if it stands here and goes on no further.
 #[inline(always)]
-pub(crate) fn word_end(text: &str, from: usize, word: &[u8]) -> Option<usize>
+pub(crate) fn word_end(text: &str, from: usize, word: &[u8]) -> Result<usize, Stop>
     requires { from ≤ length text.now }
-    ensures { IfSome result (λ end. IsWordAt text.now from word.now end) }
+    ensures { IfOk result (λ end. IsWordAt text.now from word.now end) }
 {
     if !text.as_bytes()[from..].starts_with(word) {
-        return None;
+        return Err(Stop::Unknown);
     }
     let end = from + word.len();
     if is_word_end(text, end) {
-        Some(end)
+        Ok(end)
     } else {
-        None
+        Err(Stop::Unknown)
     }
 }
 
 /// The number that stands here, and the place behind it.
 #[inline(always)]
-pub(crate) fn whole_number(text: &str, from: usize) -> Option<(u64, usize)>
-    ensures { IfSome result (λ read. IsWordAt text.now from (decimal read.0) read.1) }
+pub(crate) fn whole_number(text: &str, from: usize) -> Result<(u64, usize), Stop>
+    ensures { IfOk result (λ read. IsWordAt text.now from (decimal read.0) read.1) }
 {
     let (value, end) = digits(text, from)?;
     if end == from || !is_shortest(text, from, end) {
-        return None;
+        return Err(Stop::Unknown);
     }
     if is_word_end(text, end) {
-        Some((value, end))
+        Ok((value, end))
     } else {
-        None
+        Err(Stop::Unknown)
     }
 }
 
@@ -53,19 +54,19 @@ fn is_shortest(text: &str, from: usize, end: usize) -> bool
 
 // The digits that stand here, as a number, and the place behind them.
 #[inline(always)]
-fn digits(text: &str, from: usize) -> Option<(u64, usize)>
-    ensures { IfSome result (λ read. AreDigits text.now from read.0 read.1) }
+fn digits(text: &str, from: usize) -> Result<(u64, usize), Stop>
+    ensures { IfOk result (λ read. AreDigits text.now from read.0 read.1) }
 {
     let mut value = 0;
     let mut at = from;
     while let Some(digit) = digit_at(text, at) {
         if value >= GREAT {
-            return None;
+            return Err(Stop::Unknown);
         }
         value = 10 * value + digit;
         at += 1;
     }
-    Some((value, at))
+    Ok((value, at))
 }
 
 // The value of the digit that stands here.

@@ -5,7 +5,7 @@ use Rattle.serde_json.specs.Data.{null, boolean, number, string}
 use Rattle.serde_json.specs.View.{view, number_view, members_view}
 use Rattle.serde_json.specs.declared.value.Value.{String, Number, Bool, Null, the_lemmas}
 use Rattle.serde_json.proofs.Views.{members_view-insert_entry}
-use Rattle.sourcemap_values.proofs.Turns.{one_token, whole_array, whole_object, value_shorter, next_item, no_more_items, in_front-no_items, in_front-item, next_member, no_more_members, on_ok}
+use Rattle.sourcemap_values.proofs.Turns.{one_token, whole_array, whole_object, value_shorter, next_item, no_more_items, in_front-no_items, in_front-item, next_member, no_more_members}
 use Rattle.sourcemap_values.proofs.values.+read.Goals as goal
 
 pub read-returns-in-Text : goal.read-returns-in-Text
@@ -55,7 +55,7 @@ read_items-items-preserved t c =
     let v = c.in_ok-item.item in
     let here = c.in_ok-item.ensures _ c.in_ok-first.ensures in
     let less = value_shorter c.args.depth _ l.cursor _ here in
-    let grown = rw (← c.in_ok-ok.ensures.variant) at c.push.ensures.items in (
+    let grown = c.in_ok-push.ensures.items in (
       most - 1,
       omega (arith, less, l.invariant.1),
       λ ds new more. rw (grown, ← in_front-item l.found.items v ds) (l.invariant.2 _ new (next_item c.args.depth most (view v) ds l.cursor _ new (omega (arith, less, l.invariant.1)) here more)),
@@ -80,7 +80,7 @@ read_members-members-preserved t c =
     let here = c.in_ok-member-in-Key.ensures _ c.in_ok-first-in-Key.ensures in
     let less = value_shorter c.args.depth _ c.next.new.self _ here in
     let lesser = ap length named in
-    let inserted = ap members_view (on_ok c.insert.result _ c.in_ok-ok-in-Key.ensures.variant c.insert.ensures.entries) ∙ members_view-insert_entry l.found.entries c.in-Key.key v in (
+    let inserted = ap members_view c.in_ok-insert-in-Key.ensures.entries ∙ members_view-insert_entry l.found.entries c.in-Key.key v in (
       most - 1,
       omega (arith, less, lesser, l.invariant.1),
       λ after new more. l.invariant.2 after new (next_member c.args.depth most _ (view v) _ after l.cursor _ _ new (omega (arith, less, lesser, l.invariant.1)) named here (rw inserted at more)),
