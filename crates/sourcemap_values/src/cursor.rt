@@ -1,6 +1,6 @@
 //! A cursor along the tokens of a JSON text, which reads each text into a room of its own. It knows
 //! what source maps are written with, and gives up on all else.
-ghost use Rattle.std.specs.Prelude.{◌≡◌, ◌<◌, IfSome, drop, length};
+ghost use Rattle.std.specs.Prelude.{◌≡◌, ◌<◌, ◌+◌, ◌^◌, IfSome, drop, length};
 ghost use Rattle.json.specs.Lex.{may_begin, may_close, tokens};
 ghost use Rattle.json.specs.Word.{head};
 ghost use Rattle.sourcemap_values.specs.declared.cursor.Place.TheVariants.{AfterValue};
@@ -140,10 +140,10 @@ fn take(alloc: Global, text: &str, spot: Spot) -> Option<(Step, Spot)>
 {
     match byte_at(text, spot.at) {
         b'"' => take_text(alloc, text, spot),
-        b'{' => Some((Step::BeginObject, opened(text, spot)?)),
-        b'[' => Some((Step::BeginArray, opened(text, spot)?)),
-        b'}' => Some((Step::EndObject, closed(text, spot)?)),
-        b']' => Some((Step::EndArray, closed(text, spot)?)),
+        b'{' => Some((Step::BeginObject, opened(spot)?)),
+        b'[' => Some((Step::BeginArray, opened(spot)?)),
+        b'}' => Some((Step::EndObject, closed(spot)?)),
+        b']' => Some((Step::EndArray, closed(spot)?)),
         b't' => Some((Step::Bool(true), behind_word(text, spot, b"true")?)),
         b'f' => Some((Step::Bool(false), behind_word(text, spot, b"false")?)),
         b'n' => Some((Step::Null, behind_word(text, spot, b"null")?)),
@@ -154,8 +154,8 @@ fn take(alloc: Global, text: &str, spot: Spot) -> Option<(Step, Spot)>
 
 // The spot behind an opening bracket, if one may stand here.
 #[inline(always)]
-fn opened(text: &str, spot: Spot) -> Option<Spot>
-    requires { spot.at < length text.now }
+fn opened(spot: Spot) -> Option<Spot>
+    requires { spot.at + 1 < 2 ^ 64 }
     ensures { IfSome result (λ behind. Opens spot behind) }
 {
     if spot.place.may_begin() {
@@ -169,8 +169,8 @@ fn opened(text: &str, spot: Spot) -> Option<Spot>
 
 // The spot behind a closing bracket, if one may stand here.
 #[inline(always)]
-fn closed(text: &str, spot: Spot) -> Option<Spot>
-    requires { spot.at < length text.now }
+fn closed(spot: Spot) -> Option<Spot>
+    requires { spot.at + 1 < 2 ^ 64 }
     ensures { IfSome result (λ behind. Closes spot behind) }
 {
     if spot.place.may_close() {
