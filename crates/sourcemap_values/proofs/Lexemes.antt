@@ -14,23 +14,23 @@ use Rattle.json.specs.Lex.{Place, fresh, after_value, after_comma, after_key, ma
 is_in : (k : Class) (x c : ℕ) → class c ≡ k → (x == c) ≡ true → class x ≡ k
 is_in k x c is e = ap class (eqb-true x c e) ∙ is
 
-pub space_class : (x : ℕ) → is_space x ≡ true → class x ≡ space
+space_class : (x : ℕ) → is_space x ≡ true → class x ≡ space
 space_class x e =
     let is = is_in space x in
     ⊎_elim (λ e. ⊎_elim (λ e. ⊎_elim (is 32 refl) (is 9 refl) (or_cases _ _ e)) (is 10 refl) (or_cases _ _ e)) (is 13 refl) (or_cases _ _ e)
 
-pub operator_class : (x : ℕ) → is_operator x ≡ true → class x ≡ operator
+operator_class : (x : ℕ) → is_operator x ≡ true → class x ≡ operator
 operator_class x e =
     let is = is_in operator x in
     ⊎_elim (λ e. ⊎_elim (λ e. ⊎_elim (λ e. ⊎_elim (λ e. ⊎_elim (is 123 refl) (is 125 refl) (or_cases _ _ e)) (is 91 refl) (or_cases _ _ e)) (is 93 refl) (or_cases _ _ e)) (is 58 refl) (or_cases _ _ e)) (is 44 refl) (or_cases _ _ e)
 
 -- ---- lexemes
 
-pub nothing : (m : Mode) → lex m [] ≡ []
+nothing : (m : Mode) → lex m [] ≡ []
 unfolding lex
 nothing m = refl
 
-pub at_operator : (c : ℕ) (t : List ℕ) → class c ≡ operator → head t ≡ c → lex between t ≡ operator_lexeme c ∷ lex between (drop 1 t)
+at_operator : (c : ℕ) (t : List ℕ) → class c ≡ operator → head t ≡ c → lex between t ≡ operator_lexeme c ∷ lex between (drop 1 t)
 unfolding lex
 at_operator c [] k e = cc (ap class e)
 at_operator c (x ∷ xs) k e = rw (e, k) refl
@@ -42,7 +42,7 @@ is_quote_class operator = false
 is_quote_class space = false
 is_quote_class other = false
 
-pub at_quote : (t : List ℕ) → head t ≡ 34 → lex between t ≡ token (string_token (content plain (drop 1 t))) ∷ lex in_string (drop 1 t)
+at_quote : (t : List ℕ) → head t ≡ 34 → lex between t ≡ token (string_token (content plain (drop 1 t))) ∷ lex in_string (drop 1 t)
 unfolding lex
 at_quote [] e = absurd (false≢true (ap (λ x. is_quote_class (class x)) e))
 at_quote (x ∷ xs) e = rw e refl
@@ -55,7 +55,7 @@ at_space (x ∷ xs) e = rw (space_class x e) refl
 pub space_passed : (text : List ℕ) (at : ℕ) → is_space (head (drop at text)) ≡ true → lex between (drop (at + 1) text) ≡ lex between (drop at text)
 space_passed text at white = ap (lex between) (sym (drop-drop 1 at text)) ∙ at_space (drop at text) white
 
-pub at_word_end : (t : List ℕ) → ends_word t ≡ true → lex in_word t ≡ lex between t
+at_word_end : (t : List ℕ) → ends_word t ≡ true → lex in_word t ≡ lex between t
 unfolding lex
 at_word_end [] e = refl
 at_word_end (x ∷ xs) e = ⊎_elim (λ e. rw (operator_class x e) refl) (λ e. rw (space_class x e) refl) (or_cases _ _ e)

@@ -1,6 +1,5 @@
 -- What tokens begin with, a turn of a reader at a time.
-use Rattle.std.proofs.Common.{◌≡◌, ℕ, ◌-◌, ◌<◌, ◌≤◌, List, [], ◌∷◌, ◌++◌, length, Some, None, option_map, option_and_then, true, true≢false, Result, Ok, Err, Vec, BTreeMap, String, Global, refl, sym, ap, ◌∙◌}
-use Rattle.std.specs.Result.{is_ok, OnOk}
+use Rattle.std.proofs.Common.{◌≡◌, ℕ, ◌-◌, ◌<◌, ◌≤◌, List, [], ◌∷◌, ◌++◌, length, Some, None, option_map, option_and_then, Vec, BTreeMap, String, Global, refl, sym, ap, ◌∙◌}
 use Rattle.json.specs.Token.{Token}
 use Rattle.json.specs.Json as json
 use Rattle.json.specs.Json.{parse_map, after_end_array, read_key, if_last}
@@ -84,9 +83,3 @@ next_member depth most k d before after old member rest new some named h more = 
 
 pub no_more_members : (depth most : ℕ) (ms : Members) (old new : List Token) → length old ≤ most → old ≡ Token.end_object ∷ new → BeginsWithMembers depth most old ms ms new
 no_more_members depth most ms old new enough closed = (json.no_members, members_end (json.value depth) most old new enough (ap read_key closed), refl)
-
--- ---- a call that returned
-
-pub on_ok : {A E : Type 0} (r : Result A E) (P : Type 0) → true ≡ is_ok r → OnOk r P → P
-on_ok (Ok a) P is h = h
-on_ok (Err e) P is h = absurd (true≢false is)

@@ -1,5 +1,5 @@
 //! The bytes of a JSON text: what stands at a place, and the white space behind it.
-ghost use Rattle.std.specs.Prelude.{◌≡◌, ◌≢◌, ◌<◌, ◌≤◌, ◌||◌, drop, length, true};
+ghost use Rattle.std.specs.Prelude.{◌≡◌, ◌≢◌, ◌<◌, ◌≤◌, ◌||◌, drop, get_or, length, true};
 ghost use Rattle.json.specs.Word.{head, is_operator, is_space, ends_word};
 ghost use Rattle.json.specs.Lex.{between, lex};
 
@@ -7,6 +7,7 @@ ghost use Rattle.json.specs.Lex.{between, lex};
 #[inline(always)]
 pub(crate) fn byte_at(text: &str, at: usize) -> u8
     ensures value { result ≡ head (drop at text.now) }
+    ensures got { result ≡ get_or text.now at 32 }
     ensures inside { result ≢ 32 → at < length text.now }
 {
     let bytes = text.as_bytes();

@@ -1,6 +1,6 @@
 //! A cursor along the tokens of a JSON text, which reads each text into a room of its own. It knows
 //! what source maps are written with, and gives up on all else.
-ghost use Rattle.std.specs.Prelude.{◌≡◌, ◌<◌, IfOk, drop, length};
+ghost use Rattle.std.specs.Prelude.{◌≡◌, ◌<◌, ◌+◌, ◌^◌, IfOk, drop, length};
 ghost use Rattle.json.specs.Lex.{may_begin, may_close, tokens};
 ghost use Rattle.json.specs.Word.{head};
 ghost use Rattle.sourcemap_values.specs.declared.cursor.Place.TheVariants.{AfterValue};
@@ -140,10 +140,10 @@ fn take(alloc: Global, text: &str, spot: Spot) -> Result<(Step, Spot), Stop>
 {
     match byte_at(text, spot.at) {
         b'"' => take_text(alloc, text, spot),
-        b'{' => Ok((Step::BeginObject, opened(text, spot)?)),
-        b'[' => Ok((Step::BeginArray, opened(text, spot)?)),
-        b'}' => Ok((Step::EndObject, closed(text, spot)?)),
-        b']' => Ok((Step::EndArray, closed(text, spot)?)),
+        b'{' => Ok((Step::BeginObject, opened(spot)?)),
+        b'[' => Ok((Step::BeginArray, opened(spot)?)),
+        b'}' => Ok((Step::EndObject, closed(spot)?)),
+        b']' => Ok((Step::EndArray, closed(spot)?)),
         b't' => Ok((Step::Bool(true), behind_word(text, spot, b"true")?)),
         b'f' => Ok((Step::Bool(false), behind_word(text, spot, b"false")?)),
         b'n' => Ok((Step::Null, behind_word(text, spot, b"null")?)),
@@ -154,8 +154,8 @@ fn take(alloc: Global, text: &str, spot: Spot) -> Result<(Step, Spot), Stop>
 
 // The spot behind an opening bracket, if one may stand here.
 #[inline(always)]
-fn opened(text: &str, spot: Spot) -> Result<Spot, Stop>
-    requires { spot.at < length text.now }
+fn opened(spot: Spot) -> Result<Spot, Stop>
+    requires { spot.at + 1 < 2 ^ 64 }
     ensures { IfOk result (λ behind. Opens spot behind) }
 {
     if spot.place.may_begin() {
@@ -169,8 +169,8 @@ fn opened(text: &str, spot: Spot) -> Result<Spot, Stop>
 
 // The spot behind a closing bracket, if one may stand here.
 #[inline(always)]
-fn closed(text: &str, spot: Spot) -> Result<Spot, Stop>
-    requires { spot.at < length text.now }
+fn closed(spot: Spot) -> Result<Spot, Stop>
+    requires { spot.at + 1 < 2 ^ 64 }
     ensures { IfOk result (λ behind. Closes spot behind) }
 {
     if spot.place.may_close() {

@@ -5,7 +5,7 @@ ghost use Rattle.std.specs.Str.{IsCharBoundary};
 ghost use Rattle.json.specs.Text.{is_high_surrogate, is_low_surrogate, short_escape, surrogate_pair};
 ghost use Rattle.sourcemap_values.specs.Texts.{Says, SpellsUnit};
 
-use crate::runs::byte_at;
+use crate::bytes::byte_at;
 
 /// The character that the escape at a place stands for, and the place behind it.
 pub(crate) fn escape(text: &str, at: usize) -> Option<(char, usize)>
@@ -15,11 +15,10 @@ pub(crate) fn escape(text: &str, at: usize) -> Option<(char, usize)>
     ensures boundary { IfSome result (λ found. IsCharBoundary text.now found.1) }
     ensures forward { IfSome result (λ found. at < found.1) }
 {
-    let bytes = text.as_bytes();
-    if byte_at(bytes, at) != b'\\' {
+    if byte_at(text, at) != b'\\' {
         return None;
     }
-    let byte = byte_at(bytes, at + 1);
+    let byte = byte_at(text, at + 1);
     if byte == b'u' {
         return unicode_escape(text, at);
     }
@@ -54,11 +53,11 @@ fn unicode_escape(text: &str, at: usize) -> Option<(char, usize)>
     ensures boundary { IfSome result (λ found. IsCharBoundary text.now found.1) }
     ensures forward { IfSome result (λ found. at < found.1) }
 {
-    let unit = code_unit(text.as_bytes(), at)?;
+    let unit = code_unit(text, at)?;
     if let Some(character) = char::from_u32(unit) {
         return Some((character, at + 6));
     }
-    let low = code_unit(text.as_bytes(), at + 6)?;
+    let low = code_unit(text, at + 6)?;
     let character = surrogate_pair(unit, low)?;
     Some((character, at + 12))
 }
@@ -76,7 +75,7 @@ fn surrogate_pair(high: u32, low: u32) -> Option<char>
 }
 
 // The code unit that `\u` and four digits at a place spell.
-fn code_unit(text: &[u8], at: usize) -> Option<u32>
+fn code_unit(text: &str, at: usize) -> Option<u32>
     requires { at ≤ length text.now + 6 }
     ensures { IfSome result (λ unit. SpellsUnit text.now at unit) }
 {
@@ -90,7 +89,7 @@ fn code_unit(text: &[u8], at: usize) -> Option<u32>
     Some(first * 4096 + second * 256 + third * 16 + fourth)
 }
 
-fn digit(text: &[u8], at: usize) -> Option<u32>
+fn digit(text: &str, at: usize) -> Option<u32>
     ensures value { IfSome result (λ value. value ≡ digit_value (get_or text.now at 32)) }
     ensures small { IfSome result (λ value. value < 16) }
 {

@@ -1,18 +1,10 @@
 //! Runs of plain bytes, those that stand for themselves in a text of JSON.
-ghost use Rattle.std.specs.Prelude.{◌≡◌, ◌+◌, ◌≤◌, length, drop, get_or, map};
+ghost use Rattle.std.specs.Prelude.{◌≡◌, ◌+◌, ◌≤◌, length, drop, map};
 ghost use Rattle.std.specs.List.{prefix_len};
 ghost use Rattle.std.specs.Simd.Lanes.{mask_l};
 ghost use Rattle.sourcemap_values.specs.Runs.{is_plain, is_stop};
 
 use std::simd::prelude::*;
-
-/// The byte at a place, or a space behind the text.
-#[inline(always)]
-pub(crate) fn byte_at(text: &[u8], at: usize) -> u8
-    ensures { result ≡ get_or text.now at 32 }
-{
-    if at < text.len() { text[at] } else { b' ' }
-}
 
 /// Where the run of plain bytes ends that begins at `from`.
 #[inline(always)]

@@ -5,8 +5,9 @@ ghost use Rattle.json.specs.Text.{content, plain};
 ghost use Rattle.json.specs.Lex.{lex, in_string, between};
 ghost use Rattle.sourcemap_values.specs.Texts.{Says};
 
+use crate::bytes::byte_at;
 use crate::escapes::escape;
-use crate::runs::{byte_at, run_end};
+use crate::runs::run_end;
 use crate::stop::Stop;
 use std::alloc::Global;
 use std::simd::prelude::*;
@@ -22,7 +23,7 @@ pub(crate) fn read_text(alloc: Global, text: &str, start: usize) -> Result<(Stri
 {
     let run = plain_run(text, start);
     let stop = start + run.len();
-    match byte_at(text.as_bytes(), stop) {
+    match byte_at(text, stop) {
         b'"' => Ok((String::from_str(alloc, run)?, stop + 1)),
         b'\\' => read_escaped(alloc, text, start),
         _ => Err(Stop::Unknown),
@@ -45,7 +46,7 @@ fn read_escaped(alloc: Global, text: &str, start: usize) -> Result<(String, usiz
         let run = plain_run(text, at);
         let stop = at + run.len();
         said.push_str(run)?;
-        if byte_at(text.as_bytes(), stop) == b'"' {
+        if byte_at(text, stop) == b'"' {
             return Ok((said, stop + 1));
         }
         let (character, next) = escape(text, stop).ok_or(Stop::Unknown)?;
