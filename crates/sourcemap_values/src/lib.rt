@@ -7,5 +7,5 @@ mod escapes;
 mod runs;
 mod stop;
 mod texts;
-mod words;
 pub mod values;
+mod words;

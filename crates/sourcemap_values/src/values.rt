@@ -100,7 +100,11 @@ fn read_items(alloc: Global, cursor: &mut Cursor<'_>, depth: usize) -> Result<Ve
 /// The members of an object whose opening bracket has been read, and its closing one. Of doubled
 /// keys the last one's value stays.
 #[cycle(read)]
-fn read_members(alloc: Global, cursor: &mut Cursor<'_>, depth: usize) -> Result<Map<String, Value>, Stop>
+fn read_members(
+    alloc: Global,
+    cursor: &mut Cursor<'_>,
+    depth: usize,
+) -> Result<Map<String, Value>, Stop>
     ensures { IfOk result (λ m. BeginsWithMembers depth (length cursor.old) cursor.old
         no_members (members_view m.entries) cursor.new) }
 {
