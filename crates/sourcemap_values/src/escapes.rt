@@ -26,7 +26,7 @@ pub(crate) fn escape(text: &str, at: usize) -> Option<(char, usize)>
     Some((character, at + 2))
 }
 
-// What a backslash and this byte stand for.
+/// What a backslash and this byte stand for.
 #[tactic(auto, unfolding(json::specs::Text::short_escape))]
 fn short_escape(byte: u8) -> Option<char>
     ensures value { IfSome result (λ character. short_escape byte ≡ Some character) }
@@ -45,7 +45,7 @@ fn short_escape(byte: u8) -> Option<char>
     }
 }
 
-// The same of `\u` with four digits, or of two of them that are a pair of surrogates.
+/// The same of `\u` with four digits, or of two of them that are a pair of surrogates.
 fn unicode_escape(text: &str, at: usize) -> Option<(char, usize)>
     requires { at ≤ length text.now }
     ensures says { IfSome result
@@ -62,7 +62,7 @@ fn unicode_escape(text: &str, at: usize) -> Option<(char, usize)>
     Some((character, at + 12))
 }
 
-// The character that a pair of surrogates stands for.
+/// The character that a pair of surrogates stands for.
 fn surrogate_pair(high: u32, low: u32) -> Option<char>
     ensures high { IfSome result (λ _. is_high_surrogate high ≡ true) }
     ensures low { IfSome result (λ _. is_low_surrogate low ≡ true) }
@@ -74,7 +74,7 @@ fn surrogate_pair(high: u32, low: u32) -> Option<char>
     char::from_u32(0x10000 + (high - 0xd800) * 1024 + (low - 0xdc00))
 }
 
-// The code unit that `\u` and four digits at a place spell.
+/// The code unit that `\u` and four digits at a place spell.
 fn code_unit(text: &str, at: usize) -> Option<u32>
     requires { at ≤ length text.now + 6 }
     ensures { IfSome result (λ unit. SpellsUnit text.now at unit) }
@@ -89,6 +89,7 @@ fn code_unit(text: &str, at: usize) -> Option<u32>
     Some(first * 4096 + second * 256 + third * 16 + fourth)
 }
 
+/// The hexadecimal digit at a place.
 fn digit(text: &str, at: usize) -> Option<u32>
     ensures value { IfSome result (λ value. value ≡ digit_value (get_or text.now at 32)) }
     ensures small { IfSome result (λ value. value < 16) }

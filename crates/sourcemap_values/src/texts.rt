@@ -30,7 +30,7 @@ pub(crate) fn read_text(alloc: Global, text: &str, start: usize) -> Result<(Stri
     }
 }
 
-// The same of a text with escapes: run by run, each with the escape behind it.
+/// The same of a text with escapes: run by run, each with the escape behind it.
 fn read_escaped(alloc: Global, text: &str, start: usize) -> Result<(String, usize), Stop>
     requires { IsCharBoundary text.now start }
     ensures content { IfOk result
@@ -55,8 +55,8 @@ fn read_escaped(alloc: Global, text: &str, start: usize) -> Result<(String, usiz
     }
 }
 
-// How far it is to a quote with no backslash before it. What the text says is no longer, since it
-// ends there or, where its last character is a backslash, before.
+/// How far it is to a quote with no backslash before it. What the text says is no longer, since it
+/// ends there or, where its last character is a backslash, before.
 fn room_needed(text: &[u8], start: usize) -> usize
     requires { start ≤ length text.now }
 {
@@ -72,7 +72,7 @@ fn room_needed(text: &[u8], start: usize) -> usize
     text.len() - start
 }
 
-// Which of these bytes are quotes with no backslash before them: a bit for each.
+/// Which of these bytes are quotes with no backslash before them: a bit for each.
 #[inline(always)]
 fn closing_quotes(bytes: u8x32, before: u8x32) -> u64 {
     let quotes = bytes.simd_eq(u8x32::splat(b'"'));
