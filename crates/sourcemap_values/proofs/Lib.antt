@@ -1,1 +1,3 @@
 mod Turns
+pub mod RunLemmas
+pub mod TextLemmas

@@ -1,2 +1,4 @@
 pub mod Cursor
 pub mod Values
+pub mod Runs
+pub mod Texts

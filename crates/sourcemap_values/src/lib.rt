@@ -3,3 +3,5 @@
 //! JSON texts to JSON values. Each text of a value is read straight into a room of its own.
 mod cursor;
 pub mod values;
+mod runs;
+mod texts;

@@ -1,0 +1,72 @@
+-- Runs of plain bytes, found a vector at a time by the mask of the bytes that end them.
+use Rattle.std.proofs.Common.{◌≡◌, ℕ, suc, ◌+◌, ◌*◌, ◌%◌, ◌^◌, ◌<◌, ◌≤◌, Bool, true, false, not, ◌||◌, cond, eqb, ltb, List, [], ◌∷◌, map, replicate, length, drop, refl, sym, ap, ◌∙◌, arith}
+use Rattle.std.proofs.lemmas.Simd.{chunk-drop, length-chunk, leading_from_mask_l, trailing_mask_l, zip2_splat, zip2_of_maps, map-map, mask_l-mod}
+use Rattle.std.proofs.lemmas.List.{length-drop, length-map}
+use Rattle.std.proofs.lemmas.List.Folds.{prefix_len-append}
+use Rattle.std.proofs.lemmas.List.Sums.{prefix_len-le-length}
+use Rattle.std.proofs.lemmas.Bool.{eq-eqb, ne_eqb}
+use Rattle.std.specs.List.{prefix_len}
+use Rattle.sourcemap_values.specs.Runs.{is_stop, is_plain}
+use lib.Bits.{bit_or}
+use lib.Lanes.{chunk, mask_l, top, zip2}
+use lib.Count.{count_trailing_zeros}
+
+-- ---- the mask
+
+abbrev full_if : Bool → ℕ
+full_if b = cond b 255 0
+
+either_top : (a b c : Bool) → top 7 (bit_or (bit_or (full_if a) (full_if b)) (full_if c)) ≡ (a || b || c)
+either_top true true true = refl
+either_top true true false = refl
+either_top true false true = refl
+either_top true false false = refl
+either_top false true true = refl
+either_top false true false = refl
+either_top false false true = refl
+either_top false false false = refl
+
+pub mask_of_stops : (n : ℕ) (v : List ℕ) → length v ≡ n → n ≤ 64
+    → mask_l (map (top 7) (zip2 bit_or (zip2 bit_or (zip2 (λ x y. full_if (eqb x y)) v (replicate n 34)) (zip2 (λ x y. full_if (eqb x y)) v (replicate n 92))) (zip2 (λ x y. full_if (ltb x y)) v (replicate n 32)))) % 2 ^ 64
+    ≡ mask_l (map is_stop v)
+mask_of_stops n v long few =
+    let equals = λ (x y : ℕ). full_if (eqb x y) in
+    let below = λ (x y : ℕ). full_if (ltb x y) in
+    let two = zip2_of_maps bit_or (λ x. equals x 34) (λ x. equals x 92) v (zip2_splat equals v n 34 long) (zip2_splat equals v n 92 long) in
+    let three = zip2_of_maps bit_or (λ x. bit_or (equals x 34) (equals x 92)) (λ x. below x 32) v two (zip2_splat below v n 32 long) in
+    ap (λ lanes. mask_l (map (top 7) lanes) % 2 ^ 64) three ∙ ap (λ lanes. mask_l lanes % 2 ^ 64) (map-map (top 7) _ v ∙ (λ i. map (λ x. either_top (eqb x 34) (eqb x 92) (ltb x 32) i) v))
+    ∙ mask_l-mod (map is_stop v) 64 (omega (arith, length-map v is_stop))
+
+-- ---- what it says of a run
+
+stops_within : (stop : Bool) (m n l : ℕ) → (0 < m → n < l) → 0 < cond stop 1 0 + 2 * m → cond (not stop) (1 + n) 0 < suc l
+stops_within true m n l rest some = omega arith
+stops_within false m n l rest some = let m_some : 0 < m = omega arith in omega (arith, rest m_some)
+
+run_ends_within : (xs : List ℕ) → 0 < mask_l (map is_stop xs) → prefix_len is_plain xs < length xs
+run_ends_within [] some = absurd (omega arith)
+run_ends_within (x ∷ xs) some = stops_within (is_stop x) (mask_l (map is_stop xs)) (prefix_len is_plain xs) (length xs) (run_ends_within xs) some
+
+module _ (text : List ℕ) (at n : ℕ) (room : at + n ≤ length text) where
+  split : prefix_len is_plain (drop at text)
+      ≡ cond (eqb (prefix_len is_plain (chunk at n text)) (length (chunk at n text))) (length (chunk at n text) + prefix_len is_plain (drop (at + n) text)) (prefix_len is_plain (chunk at n text))
+  split = ap (prefix_len is_plain) (chunk-drop at n text) ∙ prefix_len-append is_plain (chunk at n text) (drop (at + n) text)
+
+  -- none of these bytes ends the run
+  pub run_goes_on : mask_l (map is_stop (chunk at n text)) ≡ 0 → prefix_len is_plain (drop at text) ≡ n + prefix_len is_plain (drop (at + n) text)
+  run_goes_on none =
+      let part = chunk at n text in
+      let rest = prefix_len is_plain (drop (at + n) text) in
+      split ∙ ap (λ whole. cond whole (length part + rest) (prefix_len is_plain part)) (eq-eqb _ _ (leading_from_mask_l is_stop part none)) ∙ ap (λ k. k + rest) (length-chunk at n text room)
+
+  -- the lowest bit is where it ends
+  pub run_stops : n ≤ 64 → 0 < mask_l (map is_stop (chunk at n text)) → prefix_len is_plain (drop at text) ≡ count_trailing_zeros 64 (mask_l (map is_stop (chunk at n text)))
+  run_stops few some =
+      let part = chunk at n text in
+      let rest = prefix_len is_plain (drop (at + n) text) in
+      let within = run_ends_within part some in
+      split ∙ ap (λ whole. cond whole (length part + rest) (prefix_len is_plain part)) (ne_eqb _ _ (λ (e : prefix_len is_plain part ≡ length part). omega arith))
+      ∙ sym (trailing_mask_l is_stop 64 part (omega (arith, length-chunk at n text room)) some)
+
+pub run_within : (text : List ℕ) (at : ℕ) → at ≤ length text → at + prefix_len is_plain (drop at text) ≤ length text
+run_within text at h = omega (arith, prefix_len-le-length is_plain (drop at text), length-drop at text)

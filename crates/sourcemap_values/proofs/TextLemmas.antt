@@ -1,0 +1,116 @@
+-- What parts of a text say, and where the lexer stands behind them.
+use Rattle.std.proofs.Common.{◌≡◌, ◌≢◌, ℕ, suc, ◌+◌, ◌-◌, ◌<◌, ◌≤◌, Bool, true, false, ◌||◌, cond, ◌==◌, nat_lt, List, [], ◌∷◌, ◌++◌, length, take, drop, get_or, Option, Some, None, option_and_then, refl, sym, ap, ◌∙◌, subst, arith, lt_of_not-le}
+use Rattle.std.proofs.lemmas.List.{append_assoc, append-nil, drop_more, drop-drop, get_or_past, get_or_default, get_or-drop, length-drop}
+use Rattle.std.proofs.lemmas.Bool.{or_parts, not-true, ne_eqb}
+use Rattle.std.proofs.lemmas.Option.{none-some}
+use Rattle.std.proofs.lemmas.Bool.Decides.{nat_tests}
+use Rattle.std.proofs.lemmas.List.Sums.{prefix_len_stops}
+use Rattle.std.proofs.lemmas.Str.{IsCharBoundary-after_ascii}
+use Rattle.std.specs.List.{prefix_len}
+use Rattle.std.specs.Str.{IsUtf8, IsCharBoundary}
+use Rattle.json.specs.Text.{content, plain, after_backslash, after_u, prepend, short_escape}
+use Rattle.json.specs.Word.{is_operator, is_space}
+use Rattle.json.specs.Lex.{Lexeme, quote, backslash, operator, space, other, Mode, between, in_string, lex_byte, lex}
+use Rattle.sourcemap_values.specs.Runs.{is_plain}
+use Rattle.sourcemap_values.specs.Texts.{Says}
+
+prepend-append : (a b : List ℕ) (rest : Option (List ℕ)) → prepend a (prepend b rest) ≡ prepend (a ++ b) rest
+prepend-append a b None = refl
+prepend-append a b (Some s) = ap Some (sym (append_assoc a b s))
+
+prepend-nil : (rest : Option (List ℕ)) → prepend [] rest ≡ rest
+prepend-nil None = refl
+prepend-nil (Some s) = refl
+
+pub Says-nothing : (text : List ℕ) → Says text [] text
+Says-nothing text = record { bytes = sym (prepend-nil (content plain text)); goes_on = refl }
+
+pub Says-then : (a b c x y : List ℕ) → Says a x b → Says b y c → Says a (x ++ y) c
+Says-then a b c x y first second = record {
+  bytes = first.bytes ∙ ap (prepend x) second.bytes ∙ prepend-append x y (content plain c);
+  goes_on = first.goes_on ∙ second.goes_on;
+}
+
+passes : (o s : Bool) (x : ℕ) (xs : List ℕ) (k : Mode → List Lexeme) → lex_byte in_string (cond o operator (cond s space other)) x xs k ≡ k in_string
+passes true s x xs k = refl
+passes false true x xs k = refl
+passes false false x xs k = refl
+
+Says-plain : (x : ℕ) (xs : List ℕ) → is_plain x ≡ true → Says (x ∷ xs) (x ∷ []) xs
+unfolding content lex
+Says-plain x xs plain_byte =
+    let none = or_parts ((x == 34) || (x == 92)) (nat_lt x 32) (not-true _ plain_byte) in
+    let tests = or_parts (x == 34) (x == 92) none.0 in
+    record {
+      bytes = λ i. cond (tests.0 i) (Some []) (cond (tests.1 i) (content after_backslash xs) (cond (none.1 i) None (prepend (x ∷ []) (content plain xs))));
+      goes_on = (λ i. lex_byte in_string (cond (tests.0 i) quote (cond (tests.1 i) backslash (cond (is_operator x) operator (cond (is_space x) space other)))) x xs (λ next. lex next xs))
+          ∙ passes (is_operator x) (is_space x) x xs (λ next. lex next xs);
+    }
+
+run_byte : (p : Bool) (x n : ℕ) (xs : List ℕ) → is_plain x ≡ p → Says xs (take n xs) (drop n xs) → Says (x ∷ xs) (take (cond p (1 + n) 0) (x ∷ xs)) (drop (cond p (1 + n) 0) (x ∷ xs))
+run_byte false x n xs e rest = Says-nothing (x ∷ xs)
+run_byte true x n xs e rest =
+    let next : suc n ≡ 1 + n = omega arith in
+    subst (λ k. Says (x ∷ xs) (take k (x ∷ xs)) (drop k (x ∷ xs))) next (Says-then (x ∷ xs) xs (drop n xs) (x ∷ []) (take n xs) (Says-plain x xs e) rest)
+
+-- plain bytes say themselves
+pub Says-run : (xs : List ℕ) → Says xs (take (prefix_len is_plain xs) xs) (drop (prefix_len is_plain xs) xs)
+Says-run [] = Says-nothing []
+Says-run (x ∷ xs) = run_byte (is_plain x) x (prefix_len is_plain xs) xs refl (Says-run xs)
+
+refuses : (x y c : ℕ) → short_escape y ≡ None → short_escape x ≡ Some c → x ≢ y
+refuses x y c none some same = absurd (none-some c (sym none ∙ ap short_escape (sym same) ∙ some))
+
+escape_bytes : (x c : ℕ) (xs : List ℕ) → short_escape x ≡ Some c → Says (92 ∷ x ∷ xs) (c ∷ []) xs
+unfolding content lex short_escape
+escape_bytes x c xs is =
+    let stands_for = λ (s : ℕ). prepend (s ∷ []) (content plain xs) in
+    record {
+      bytes = ap (λ u. cond u (content after_u xs) (option_and_then stands_for (short_escape x))) (ne_eqb x 117 (refuses x 117 c refl is)) ∙ ap (option_and_then stands_for) is;
+      goes_on = refl;
+    }
+
+-- where the byte behind a backslash stands for a character, it is a byte of the text
+pub escape_within : (text : List ℕ) (at c : ℕ) → short_escape (get_or text (at + 1) 32) ≡ Some c → at + 1 < length text
+unfolding short_escape
+escape_within text at c is = lt_of_not-le (λ past. refuses (get_or text (at + 1) 32) 32 c refl is (get_or_past text (at + 1) 32 past))
+
+-- an escape of two bytes says one
+pub Says-escape : (text : List ℕ) (at c : ℕ) → get_or text at 32 ≡ 92 → short_escape (get_or text (at + 1) 32) ≡ Some c → Says (drop at text) (c ∷ []) (drop (at + 2) text)
+Says-escape text at c slash is =
+    let within = escape_within text at c is in
+    let first : drop at text ≡ 92 ∷ drop (at + 1) text = drop_more text at 32 (omega arith) ∙ ap (λ x. x ∷ drop (at + 1) text) slash in
+    let next : at + 1 + 1 ≡ at + 2 = omega arith in
+    let both : drop at text ≡ 92 ∷ get_or text (at + 1) 32 ∷ drop (at + 2) text =
+    first ∙ ap (λ xs. 92 ∷ xs) (drop_more text (at + 1) 32 within ∙ ap (λ k. get_or text (at + 1) 32 ∷ drop k text) next) in
+    subst (λ before. Says before (c ∷ []) (drop (at + 2) text)) (sym both) (escape_bytes (get_or text (at + 1) 32) c (drop (at + 2) text) is)
+
+-- ---- at places of a text
+
+pub run_at : (text : List ℕ) (from end : ℕ) → end ≡ from + prefix_len is_plain (drop from text) → Says (drop from text) (take (end - from) (drop from text)) (drop end text)
+run_at text from end is =
+    let long : prefix_len is_plain (drop from text) ≡ end - from = omega arith in
+    let behind : drop (prefix_len is_plain (drop from text)) (drop from text) ≡ drop end text = drop-drop (prefix_len is_plain (drop from text)) from text ∙ ap (λ k. drop k text) (sym is) in
+    subst (λ n. Says (drop from text) (take n (drop from text)) (drop end text)) long (subst (Says (drop from text) (take (prefix_len is_plain (drop from text)) (drop from text))) behind (Says-run (drop from text)))
+
+ascii_stop : (x : ℕ) → is_plain x ≡ false → x < 128
+ascii_stop x stop = grind (arith, nat_tests)
+
+-- a text may be cut where a run ends
+pub run_boundary : (text : List ℕ) (from end : ℕ) → end ≡ from + prefix_len is_plain (drop from text) → end ≤ length text → IsCharBoundary text end
+run_boundary text from end is within =
+    let stops : end < length text → get_or text end 0 < 128 = λ inside. ascii_stop (get_or text end 0)
+    (ap (λ k. is_plain (get_or text k 0)) is ∙ ap is_plain (sym (get_or-drop from text (prefix_len is_plain (drop from text)) 0)) ∙ prefix_len_stops is_plain (drop from text) 0 (omega (arith, length-drop from text))) in
+    (within, λ inside high. absurd (omega (arith, stops inside)))
+
+-- a quote ends the text
+pub quote_ends : (text said : List ℕ) (from at : ℕ) → IsUtf8 text → Says (drop from text) said (drop at text) → get_or text at 32 ≡ 34
+    → (content plain (drop from text) ≡ Some said) × (lex in_string (drop from text) ≡ lex between (drop (at + 1) text)) × IsCharBoundary text (at + 1)
+unfolding content lex
+quote_ends text said from at utf8 says quoted =
+    let within : at < length text = lt_of_not-le (λ past. omega (arith, get_or_past text at 32 past)) in
+    let first : drop at text ≡ 34 ∷ drop (at + 1) text = drop_more text at 32 within ∙ ap (λ x. x ∷ drop (at + 1) text) quoted in (
+      says.bytes ∙ ap (λ behind. prepend said (content plain behind)) first ∙ ap Some (append-nil said),
+      says.goes_on ∙ ap (lex in_string) first,
+      IsCharBoundary-after_ascii text at utf8 within (omega (arith, get_or_default text at 0 32 within)),
+    )

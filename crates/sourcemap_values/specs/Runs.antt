@@ -1,0 +1,10 @@
+-- Runs of plain bytes: those that stand for themselves in a text of JSON.
+use Rattle.std.specs.Prelude.{ℕ, Bool, not, ◌||◌, ◌==◌, nat_lt}
+use Rattle.json.specs.Ascii as ascii
+
+-- a byte that ends a run: a quote, a backslash or a control byte
+abbrev pub is_stop : ℕ → Bool
+is_stop x = (x == ascii.quote) || (x == ascii.backslash) || nat_lt x ascii.space
+
+abbrev pub is_plain : ℕ → Bool
+is_plain x = not (is_stop x)

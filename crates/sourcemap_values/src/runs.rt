@@ -1,0 +1,65 @@
+//! Runs of plain bytes, those that stand for themselves in a text of JSON.
+ghost use Rattle.std.specs.Prelude.{◌≡◌, ◌+◌, ◌≤◌, length, drop, get_or, map};
+ghost use Rattle.std.specs.List.{prefix_len};
+ghost use Rattle.std.specs.Simd.Lanes.{mask_l};
+ghost use Rattle.sourcemap_values.specs.Runs.{is_plain, is_stop};
+
+use std::simd::prelude::*;
+
+/// The byte at a place, or a space behind the text.
+#[inline(always)]
+pub(crate) fn byte_at(text: &[u8], at: usize) -> u8
+    ensures { result ≡ get_or text.now at 32 }
+{
+    if at < text.len() { text[at] } else { b' ' }
+}
+
+/// Where the run of plain bytes ends that begins at `from`.
+#[inline(always)]
+pub(crate) fn run_end(text: &[u8], from: usize) -> usize
+    requires { from ≤ length text.now }
+    ensures value { result ≡ from + prefix_len is_plain (drop from text.now) }
+    ensures within { result ≤ length text.now }
+{
+    let mut at = from;
+    while text.len() - at >= 32 {
+        let stops = stops(u8x32::from_slice(&text[at..]));
+        if stops != 0 {
+            return at + stops.trailing_zeros() as usize;
+        }
+        at += 32;
+    }
+    run_end_by_bytes(text, at)
+}
+
+// Which of these bytes end a run: a bit for each, the lowest for the first.
+#[inline(always)]
+fn stops(bytes: u8x32) -> u64
+    ensures { result ≡ mask_l (map is_stop bytes) }
+{
+    let quotes = bytes.simd_eq(u8x32::splat(b'"'));
+    let backslashes = bytes.simd_eq(u8x32::splat(b'\\'));
+    let controls = bytes.simd_lt(u8x32::splat(b' '));
+    (quotes | backslashes | controls).to_bitmask()
+}
+
+// The same byte by byte, for the last few of the text.
+#[inline(never)]
+fn run_end_by_bytes(text: &[u8], from: usize) -> usize
+    requires { from ≤ length text.now }
+    ensures value { result ≡ from + prefix_len is_plain (drop from text.now) }
+    ensures within { result ≤ length text.now }
+{
+    let mut at = from;
+    while at < text.len() && is_plain(text[at]) {
+        at += 1;
+    }
+    at
+}
+
+#[inline(always)]
+fn is_plain(byte: u8) -> bool
+    ensures { result ≡ is_plain byte }
+{
+    byte != b'"' && byte != b'\\' && byte >= b' '
+}
