@@ -3,7 +3,7 @@ use Rattle.std.proofs.Common.{◌≡◌, ℕ, ◌-◌, ◌<◌, ◌≤◌, List,
 use Rattle.std.specs.Result.{is_ok, OnOk}
 use Rattle.json.specs.Token.{Token}
 use Rattle.json.specs.Json as json
-use Rattle.json.specs.Json.{parse_map, after_end_array, read_key, if_last}
+use Rattle.json.specs.Json.{parse_map, after_end_array, read_key}
 use Rattle.json.proofs.Grammar.{left, value_is, value-begin_array, value-begin_object, items_end, items_more, members_end, members_more, skip_value-shorter}
 use Rattle.serde_json.specs.Data.{Data, array, object, Items, no_items, item, Members, put}
 use Rattle.serde_json.specs.Read.{of_json, of_items, of_members}

@@ -7,7 +7,7 @@ const TEXTS: [&str; 4] = [
     r#"{"version":3,"sources":["a.js",null],"names":["x\n\"y"],"mappings":"AAAA;CACA","b":{"c":[]}}"#,
     r#"["\u0041\ud83d\ude00",10,-1.5e+2,true,false,null,"é€😀",{"a" : 1 , "a":2}]"#,
     r#"{"a":[[],{"\\":{}},[0,1,2]],"\/\b\f\n\r\t":"plain text of more than thirty-two bytes\n"}"#,
-    r#"[18446744073709551615,0,007,{},"",[[[["a"]]]]]"#,
+    r#"[18446744073709551615,0,7,{},"",[[[["a"]]]]]"#,
 ];
 
 // What takes a byte's place, one that is no UTF-8 among them.
@@ -36,7 +36,7 @@ fn changed(alloc: Global, text: &str, mut number: u64) -> Result<Vec<u8>> {
 #[test]
 fn changes(rt: HostRuntime) -> Result<()> {
     for text in TEXTS.iter() {
-        for number in 0..1500 {
+        for number in 0..1000 {
             let bytes = changed(rt.alloc(), text, number)?;
             let want = kit_answer(rt.alloc(), bytes.as_slice())?;
             check(
