@@ -1,3 +1,4 @@
 mod Turns
+pub mod EscapeLemmas
 pub mod RunLemmas
 pub mod TextLemmas

@@ -1,14 +1,13 @@
 -- What parts of a text say, and where the lexer stands behind them.
-use Rattle.std.proofs.Common.{◌≡◌, ◌≢◌, ℕ, suc, ◌+◌, ◌-◌, ◌<◌, ◌≤◌, Bool, true, false, ◌||◌, cond, ◌==◌, nat_lt, List, [], ◌∷◌, ◌++◌, length, take, drop, get_or, Option, Some, None, option_and_then, refl, sym, ap, ◌∙◌, subst, arith, lt_of_not-le}
+use Rattle.std.proofs.Common.{◌≡◌, ℕ, suc, ◌+◌, ◌-◌, ◌<◌, ◌≤◌, Bool, true, false, ◌||◌, cond, ◌==◌, nat_lt, List, [], ◌∷◌, ◌++◌, length, take, drop, get_or, Option, Some, None, refl, sym, ap, ◌∙◌, subst, arith, lt_of_not-le}
 use Rattle.std.proofs.lemmas.List.{append_assoc, append-nil, drop_more, drop-drop, get_or_past, get_or_default, get_or-drop, length-drop}
-use Rattle.std.proofs.lemmas.Bool.{or_parts, not-true, ne_eqb}
-use Rattle.std.proofs.lemmas.Option.{none-some}
+use Rattle.std.proofs.lemmas.Bool.{or_parts, not-true}
 use Rattle.std.proofs.lemmas.Bool.Decides.{nat_tests}
 use Rattle.std.proofs.lemmas.List.Sums.{prefix_len_stops}
 use Rattle.std.proofs.lemmas.Str.{IsCharBoundary-after_ascii}
 use Rattle.std.specs.List.{prefix_len}
 use Rattle.std.specs.Str.{IsUtf8, IsCharBoundary}
-use Rattle.json.specs.Text.{content, plain, after_backslash, after_u, prepend, short_escape}
+use Rattle.json.specs.Text.{content, plain, after_backslash, prepend}
 use Rattle.json.specs.Word.{is_operator, is_space}
 use Rattle.json.specs.Lex.{Lexeme, quote, backslash, operator, space, other, Mode, between, in_string, lex_byte, lex}
 use Rattle.sourcemap_values.specs.Runs.{is_plain}
@@ -36,7 +35,7 @@ passes true s x xs k = refl
 passes false true x xs k = refl
 passes false false x xs k = refl
 
-Says-plain : (x : ℕ) (xs : List ℕ) → is_plain x ≡ true → Says (x ∷ xs) (x ∷ []) xs
+pub Says-plain : (x : ℕ) (xs : List ℕ) → is_plain x ≡ true → Says (x ∷ xs) (x ∷ []) xs
 unfolding content lex
 Says-plain x xs plain_byte =
     let none = or_parts ((x == 34) || (x == 92)) (nat_lt x 32) (not-true _ plain_byte) in
@@ -57,33 +56,6 @@ run_byte true x n xs e rest =
 pub Says-run : (xs : List ℕ) → Says xs (take (prefix_len is_plain xs) xs) (drop (prefix_len is_plain xs) xs)
 Says-run [] = Says-nothing []
 Says-run (x ∷ xs) = run_byte (is_plain x) x (prefix_len is_plain xs) xs refl (Says-run xs)
-
-refuses : (x y c : ℕ) → short_escape y ≡ None → short_escape x ≡ Some c → x ≢ y
-refuses x y c none some same = absurd (none-some c (sym none ∙ ap short_escape (sym same) ∙ some))
-
-escape_bytes : (x c : ℕ) (xs : List ℕ) → short_escape x ≡ Some c → Says (92 ∷ x ∷ xs) (c ∷ []) xs
-unfolding content lex short_escape
-escape_bytes x c xs is =
-    let stands_for = λ (s : ℕ). prepend (s ∷ []) (content plain xs) in
-    record {
-      bytes = ap (λ u. cond u (content after_u xs) (option_and_then stands_for (short_escape x))) (ne_eqb x 117 (refuses x 117 c refl is)) ∙ ap (option_and_then stands_for) is;
-      goes_on = refl;
-    }
-
--- where the byte behind a backslash stands for a character, it is a byte of the text
-pub escape_within : (text : List ℕ) (at c : ℕ) → short_escape (get_or text (at + 1) 32) ≡ Some c → at + 1 < length text
-unfolding short_escape
-escape_within text at c is = lt_of_not-le (λ past. refuses (get_or text (at + 1) 32) 32 c refl is (get_or_past text (at + 1) 32 past))
-
--- an escape of two bytes says one
-pub Says-escape : (text : List ℕ) (at c : ℕ) → get_or text at 32 ≡ 92 → short_escape (get_or text (at + 1) 32) ≡ Some c → Says (drop at text) (c ∷ []) (drop (at + 2) text)
-Says-escape text at c slash is =
-    let within = escape_within text at c is in
-    let first : drop at text ≡ 92 ∷ drop (at + 1) text = drop_more text at 32 (omega arith) ∙ ap (λ x. x ∷ drop (at + 1) text) slash in
-    let next : at + 1 + 1 ≡ at + 2 = omega arith in
-    let both : drop at text ≡ 92 ∷ get_or text (at + 1) 32 ∷ drop (at + 2) text =
-    first ∙ ap (λ xs. 92 ∷ xs) (drop_more text (at + 1) 32 within ∙ ap (λ k. get_or text (at + 1) 32 ∷ drop k text) next) in
-    subst (λ before. Says before (c ∷ []) (drop (at + 2) text)) (sym both) (escape_bytes (get_or text (at + 1) 32) c (drop (at + 2) text) is)
 
 -- ---- at places of a text
 

@@ -3,5 +3,6 @@
 //! JSON texts to JSON values. Each text of a value is read straight into a room of its own.
 mod cursor;
 pub mod values;
+mod escapes;
 mod runs;
 mod texts;

@@ -32,7 +32,7 @@ pub(crate) fn run_end(text: &[u8], from: usize) -> usize
     run_end_by_bytes(text, at)
 }
 
-// Which of these bytes end a run: a bit for each, the lowest for the first.
+/// Which of these bytes end a run: a bit for each, the lowest for the first.
 #[inline(always)]
 fn stops(bytes: u8x32) -> u64
     ensures { result ≡ mask_l (map is_stop bytes) }
@@ -43,7 +43,7 @@ fn stops(bytes: u8x32) -> u64
     (quotes | backslashes | controls).to_bitmask()
 }
 
-// The same byte by byte, for the last few of the text.
+/// The same byte by byte, for the last few of the text.
 #[inline(never)]
 fn run_end_by_bytes(text: &[u8], from: usize) -> usize
     requires { from ≤ length text.now }
@@ -57,6 +57,7 @@ fn run_end_by_bytes(text: &[u8], from: usize) -> usize
     at
 }
 
+/// Whether a byte stands for itself.
 #[inline(always)]
 fn is_plain(byte: u8) -> bool
     ensures { result ≡ is_plain byte }

@@ -1,11 +1,11 @@
 //! The texts of JSON: what stands between two quotes, read into a room of its own.
-ghost use Rattle.std.specs.Prelude.{◌≡◌, ◌+◌, ◌<◌, ◌≤◌, length, drop, Some, IfSome, string_bytes};
-ghost use Rattle.std.specs.Char.{encode_utf8};
+ghost use Rattle.std.specs.Prelude.{◌≡◌, ◌+◌, ◌≤◌, length, drop, Some, IfSome, string_bytes};
 ghost use Rattle.std.specs.Str.{IsCharBoundary};
-ghost use Rattle.json.specs.Text.{content, plain, short_escape};
+ghost use Rattle.json.specs.Text.{content, plain};
 ghost use Rattle.json.specs.Lex.{lex, in_string, between};
 ghost use Rattle.sourcemap_values.specs.Texts.{Says};
 
+use crate::escapes::escape;
 use crate::runs::{byte_at, run_end};
 use std::alloc::Global;
 use std::simd::prelude::*;
@@ -29,7 +29,7 @@ pub(crate) fn read_text(alloc: Global, text: &str, start: usize) -> Option<(Stri
     }
 }
 
-// The same of a text with escapes: run by run, each with the escape behind it.
+/// The same of a text with escapes: run by run, each with the escape behind it.
 fn read_escaped(alloc: Global, text: &str, start: usize) -> Option<(String, usize)>
     requires { IsCharBoundary text.now start }
     ensures content { IfSome result
@@ -54,8 +54,8 @@ fn read_escaped(alloc: Global, text: &str, start: usize) -> Option<(String, usiz
     }
 }
 
-// How far it is to a quote with no backslash before it. What the text says is no longer, since it
-// ends there or, where its last character is a backslash, before.
+/// How far it is to a quote with no backslash before it. What the text says is no longer, since it
+/// ends there or, where its last character is a backslash, before.
 fn room_needed(text: &[u8], start: usize) -> usize
     requires { start ≤ length text.now }
 {
@@ -71,7 +71,7 @@ fn room_needed(text: &[u8], start: usize) -> usize
     text.len() - start
 }
 
-// Which of these bytes are quotes with no backslash before them: a bit for each.
+/// Which of these bytes are quotes with no backslash before them: a bit for each.
 #[inline(always)]
 fn closing_quotes(bytes: u8x32, before: u8x32) -> u64 {
     let quotes = bytes.simd_eq(u8x32::splat(b'"'));
@@ -87,39 +87,4 @@ fn plain_run(text: &str, from: usize) -> &str
 {
     let end = run_end(text.as_bytes(), from);
     &text[from..end]
-}
-
-/// The character that the escape at a place stands for, and the place behind it.
-fn escape(text: &str, at: usize) -> Option<(char, usize)>
-    requires { at ≤ length text.now }
-    ensures says { IfSome result
-        (λ found. Says (drop at text.now) (encode_utf8 found.0) (drop found.1 text.now)) }
-    ensures boundary { IfSome result (λ found. IsCharBoundary text.now found.1) }
-    ensures forward { IfSome result (λ found. at < found.1) }
-{
-    let bytes = text.as_bytes();
-    if byte_at(bytes, at) != b'\\' {
-        return None;
-    }
-    let character = short_escape(byte_at(bytes, at + 1))?;
-    Some((character, at + 2))
-}
-
-// What a backslash and this byte stand for.
-#[tactic(auto, unfolding(json::specs::Text::short_escape))]
-fn short_escape(byte: u8) -> Option<char>
-    ensures value { IfSome result (λ character. short_escape byte ≡ Some character) }
-    ensures ascii { IfSome result (λ character. (character < 128) × (byte < 128)) }
-{
-    match byte {
-        b'"' => Some('"'),
-        b'\\' => Some('\\'),
-        b'/' => Some('/'),
-        b'b' => Some('\u{8}'),
-        b'f' => Some('\u{c}'),
-        b'n' => Some('\n'),
-        b'r' => Some('\r'),
-        b't' => Some('\t'),
-        _ => None,
-    }
 }
