@@ -1,3 +1,4 @@
+<<<<<<< HEAD
 mod Heads
 mod Lexemes
 mod Numerals
@@ -6,3 +7,9 @@ pub mod EscapeLemmas
 pub mod RunLemmas
 pub mod TextLemmas
 mod Turns
+=======
+mod Turns
+pub mod EscapeLemmas
+pub mod RunLemmas
+pub mod TextLemmas
+>>>>>>> values-read

@@ -8,4 +8,7 @@ mod runs;
 mod stop;
 mod texts;
 pub mod values;
+<<<<<<< HEAD
 mod words;
+=======
+>>>>>>> values-read
