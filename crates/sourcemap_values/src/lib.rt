@@ -8,7 +8,4 @@ mod runs;
 mod stop;
 mod texts;
 pub mod values;
-<<<<<<< HEAD
 mod words;
-=======
->>>>>>> values-read
