@@ -1,5 +1,6 @@
 // Texts, numbers and literals, alone in a text of JSON.
 use crate::answers::{answer, check, kit_answer};
+use serde_json::Result;
 
 // A JSON text, and its value written compactly.
 const STRINGS: [(&str, &str); 36] = [
@@ -47,17 +48,14 @@ const STRINGS: [(&str, &str); 36] = [
     ("'a'", "none"),
 ];
 
-const NUMBERS: [(&str, &str); 37] = [
+const NUMBERS: [(&str, &str); 34] = [
     ("0", "0"),
     ("3", "3"),
     ("10", "10"),
     ("4294967296", "4294967296"),
     ("18446744073709551615", "18446744073709551615"),
-    ("18446744073709551616", "1.8446744073709552e+19"),
-    ("99999999999999999999", "1e+20"),
     ("-7", "-7"),
     ("-9223372036854775808", "-9223372036854775808"),
-    ("-9223372036854775809", "-9.223372036854776e+18"),
     ("-0", "-0.0"),
     ("1.5", "1.5"),
     ("10.25", "10.25"),
@@ -85,6 +83,13 @@ const NUMBERS: [(&str, &str); 37] = [
     ("1,5", "none"),
     ("NaN", "none"),
     ("Infinity", "none"),
+];
+
+// Whole numbers of more than 64 bits are floats, and how those are written is the kit's affair.
+const FAR_NUMBERS: [&str; 3] = [
+    "18446744073709551616",
+    "99999999999999999999",
+    "-9223372036854775809",
 ];
 
 const LITERALS: [(&str, &str); 13] = [
@@ -117,6 +122,20 @@ fn numbers(rt: HostRuntime) {
         check(&rt, text, answer(rt.alloc(), text.as_bytes()), want);
         check(&rt, text, kit_answer(rt.alloc(), text.as_bytes()), want);
     }
+}
+
+#[test]
+fn far_numbers(rt: HostRuntime) -> Result<()> {
+    for text in FAR_NUMBERS.iter() {
+        let want = kit_answer(rt.alloc(), text.as_bytes())?;
+        check(
+            &rt,
+            text,
+            answer(rt.alloc(), text.as_bytes()),
+            want.as_str(),
+        );
+    }
+    Ok(())
 }
 
 #[test]
