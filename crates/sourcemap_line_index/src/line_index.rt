@@ -1,6 +1,6 @@
 //! A table of the lines that hold tokens, and the lookup by it.
-ghost use Rattle.std.specs.Prelude.{◌≡◌, ℕ, ◌<◌, ◌≤◌, ◌+◌, ◌-◌, ◌*◌, ◌^◌, Ok, IfErr, IfOk, IfSome, OnOk, false, length, min, option_map, slice_index, true};
-ghost use Rattle.sourcemap_errors.specs.Answer.{Gives};
+ghost use Rattle.std.specs.Prelude.{◌≡◌, ℕ, ◌<◌, ◌≤◌, ◌+◌, ◌-◌, ◌*◌, ◌^◌, Ok, IfErr, IfOk, IfSome, false, length, min, option_map, slice_index, true};
+ghost use Rattle.sourcemap_errors.specs.Answer.{Changes, Gives};
 ghost use Rattle.sourcemap_errors.specs.declared.errors.Error.TheVariants.{OutOfMemory};
 ghost use Rattle.sourcemap_lists.specs.Tokens.{AreInOrder, closest_token};
 ghost use Rattle.sourcemap_lists.specs.declared.tokens.RawToken.{RawToken};
@@ -61,11 +61,12 @@ impl LineIndex {
     }
 
     /// Puts a line behind the others, with the place of its first token: for who knows the lines
-    /// while the tokens are made. Only want of memory refuses, and then the table is of no list.
+    /// while the tokens are made. Only want of memory refuses, and leaves the table as it was.
     pub fn push(&mut self, line: u32, first: usize) -> Result<()>
-        ensures row { OnOk result (self.new ≡ with_row self.old line first) }
-        ensures memory { IfErr result (λ cause. cause ≡ OutOfMemory) }
+        ensures { Changes result self.old self.new (with_row self.old line first) }
     {
+        // makes sure that the last step succeeds
+        self.firsts.reserve(1)?;
         self.lines.push(line)?;
         self.firsts.push(first)?;
         Ok(())

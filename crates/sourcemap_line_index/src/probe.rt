@@ -49,8 +49,8 @@ pub trait Probe {
         ensures { result ≡ comparisons self.now };
 }
 
-/// The probe of one line and one column.
-#[derive(Debug, Drop)]
+/// The probe of one line and one column. It is not `Debug`, since that would print the position.
+#[derive(Drop)]
 pub struct KeyProbe {
     line: u32,
     col: u32,

@@ -33,22 +33,22 @@ impl Model for ColumnSamples {
 }
 
 impl ColumnSamples {
-    /// The samples of these tokens, which stand on so many lines. There are none if lines are short
-    /// or memory is wanting: they are for speed alone.
-    pub(crate) fn new(alloc: Global, tokens: &[RawToken], lines: usize) -> ColumnSamples
-        ensures { AreSamples tokens.now lines result }
+    /// The samples of these tokens, which stand on so many lines. There are none if lines are short.
+    /// Only want of memory refuses.
+    pub(crate) fn new(
+        alloc: Global,
+        tokens: &[RawToken],
+        lines: usize,
+    ) -> Result<ColumnSamples, AllocError>
+        ensures { IfOk result (λ samples. AreSamples tokens.now lines samples) }
     {
         if tokens.len() < MANY || tokens.len() / LONG < lines {
-            return ColumnSamples {
+            return Ok(ColumnSamples {
                 columns: Vec::new(alloc),
-            };
+            });
         }
-        match columns_of(alloc, tokens) {
-            Ok(columns) => ColumnSamples { columns },
-            Err(_) => ColumnSamples {
-                columns: Vec::new(alloc),
-            },
-        }
+        let columns = columns_of(alloc, tokens)?;
+        Ok(ColumnSamples { columns })
     }
 
     /// The samples as a slice.

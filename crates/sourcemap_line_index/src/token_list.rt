@@ -55,20 +55,21 @@ impl TokenList {
         ensures { Gives (λ list. list) result (Ok tokens.items) }
     {
         let lines = LineIndex::new(*tokens.allocator(), tokens.as_slice())?;
-        Ok(TokenList::with_table(tokens, lines))
+        TokenList::with_table(tokens, lines)
     }
 
-    /// These tokens beside their table, which was made with them.
-    pub fn with_table(tokens: Vec<RawToken>, lines: LineIndex) -> TokenList
+    /// These tokens beside their table, which was made with them. Only want of memory refuses, and
+    /// both are let go then.
+    pub fn with_table(tokens: Vec<RawToken>, lines: LineIndex) -> Result<TokenList>
         requires { IsMadeFrom tokens.items lines }
-        ensures { result ≡ tokens.items }
+        ensures { Gives (λ list. list) result (Ok tokens.items) }
     {
-        let samples = ColumnSamples::new(*tokens.allocator(), tokens.as_slice(), lines.rows());
-        TokenList {
+        let samples = ColumnSamples::new(*tokens.allocator(), tokens.as_slice(), lines.rows())?;
+        Ok(TokenList {
             tokens,
             lines,
             samples,
-        }
+        })
     }
 
     /// The tokens as a slice.
@@ -152,7 +153,7 @@ impl TokenList {
         let alloc = self.allocator();
         let tokens = Vec::from_slice(alloc, self.tokens.as_slice())?;
         let lines = self.lines.duplicate(alloc)?;
-        Ok(TokenList::with_table(tokens, lines))
+        TokenList::with_table(tokens, lines)
     }
 
     /// What the list takes its memory from.

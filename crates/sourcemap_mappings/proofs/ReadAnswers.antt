@@ -4,7 +4,7 @@ use Rattle.std.proofs.lemmas.Bool.Decides.{nat_tests}
 use Rattle.sourcemap_lists.specs.declared.tokens.RawToken.{RawToken}
 use Rattle.sourcemap_errors.specs.declared.errors.Error.{Error}
 use Rattle.sourcemap_errors.specs.declared.errors.Error.TheVariants.{OutOfMemory}
-use Rattle.sourcemap_errors.specs.Answer.{IsAnswer, UnlessMemory}
+use Rattle.sourcemap_errors.specs.Answer.{Gives, IsAnswer, UnlessMemory}
 use Rattle.sourcemap_digits.specs.Bits.{first_foreign}
 use Rattle.sourcemap_digits.specs.Vlq.{Reads, HasFault, SegmentAnswers}
 use Rattle.sourcemap_lists.specs.Tokens.{in_order, IsWithin, AllWithin}
@@ -213,6 +213,11 @@ AllWithin-page counts n before (text ∷ texts) (line ∷ page) small h =
     (AllWithin-text counts n before text line small h.0) (AllWithin-page counts (n + 1) (before ++ line.segments) texts page small h.1)
 
 -- From the tokens of a page to the answer.
+
+-- what a call gives is what was due, and whatever that is equal to
+pub given_same : {X : Type 0} (result : Result X Error) (due same : X) → Gives (λ x. x) result (Ok due) → due ≡ same → IfOk result (λ x. x ≡ same)
+given_same (Ok x) due same given e = cc
+given_same (Err _) due same given e = tt
 
 module _ (mappings ranges : List ℕ) (counts : Counts) (tokens : List RawToken)
     (page : List Line) (reads : LinesRead counts 0 [] (line_texts mappings ranges) page) (is : tokens ≡ page_tokens 0 [] page) where

@@ -235,7 +235,7 @@ fn listed(mut read: ReadLines) -> Result<TokenList>
 {
     give_back(&mut read.tokens);
     if read.rises {
-        return Ok(TokenList::with_table(read.tokens, read.table));
+        return TokenList::with_table(read.tokens, read.table);
     }
     TokenList::sorted(read.tokens)
 }

@@ -1,5 +1,5 @@
 //! A map adjusted by another one.
-ghost use Rattle.std.specs.Prelude.{◌≡◌, ℕ, OnErr, OnOk};
+ghost use Rattle.std.specs.Prelude.{◌≡◌, ℕ, ◌≤◌, ◌+◌, OnErr, OnOk, length};
 ghost use Rattle.sourcemap_errors.specs.Answer.{Gives};
 ghost use Rattle.sourcemap_composition.specs.declared.stretches.Stretch.{Stretch};
 ghost use Rattle.sourcemap_composition.specs.Composition.{moved};
@@ -22,6 +22,9 @@ impl SourceMap {
         ensures value { Gives (λ _. self.new) result (adjusted self.old adjustment.now) }
         ensures unchanged { OnErr result (self.new ≡ self.old) }
         ensures well_formed { IsWellFormed self.old → IsWellFormed self.new }
+        // no more tokens than both lists have together
+        ensures few { OnOk result (length self.new.tokens
+            ≤ length self.old.tokens + length adjustment.now.tokens) }
         // a position that the adjustment moves, and no other to the same place, has its old meaning
         ensures meaning { (a : Stretch) (q : ℕ × ℕ) → IsWellFormed self.old
             → IsMovedAlone self.old.tokens adjustment.now.tokens a q
