@@ -55,7 +55,8 @@ fn without_map(index: &mut SourceMapIndex, id: u32) -> Result<()> {
     }
 }
 
-fn with_index(index: &mut SourceMapIndex, id: u32, map: DecodedMap) -> Result<()> {
+fn with_index(alloc: Global, index: &mut SourceMapIndex, id: u32) -> Result<()> {
+    let map = decode_slice(alloc, br#"{"sections":[]}"#)?;
     match index.get_section_mut(id) {
         None => Ok(()),
         Some(section) => section.set_sourcemap(Some(map)),
@@ -75,7 +76,7 @@ fn apply(alloc: Global, index: &mut SourceMapIndex, change: Change) -> Result<()
         Change::File => index.set_file(Some("other.js")),
         Change::Url(id) => with_url(index, id),
         Change::Map(id) => without_map(index, id),
-        Change::NewMap(id) => { with_index(index, id, decode_slice(alloc, br#"{"sections":[]}"#)?) }
+        Change::NewMap(id) => with_index(alloc, index, id),
         Change::DebugId(id) => {
             without_debug_id(index, id);
             Ok(())
@@ -194,7 +195,6 @@ fn empty(alloc: Global) -> Result<SourceMapIndex> {
     Ok(SourceMapIndex::new(alloc, Some(file), Vec::new(alloc)))
 }
 
-// The text that an index is written as, and whether it is read back as the same index.
 fn written(alloc: Global, index: &SourceMapIndex) -> Result<String> {
     let value = index.as_raw_sourcemap()?.into_value(alloc)?;
     Ok(value.to_string(alloc)?)
@@ -211,6 +211,7 @@ fn is_read_from(alloc: Global, text: &str, index: &SourceMapIndex) -> Result<boo
     Ok(is_index(&decode_slice(alloc, text.as_bytes())?, index))
 }
 
+// The text that an index is written as, and whether it is read back as the same index.
 fn writing_told(alloc: Global, index: &SourceMapIndex) -> Result<String> {
     let text = written(alloc, index)?;
     let is_read_back = is_read_from(alloc, text.as_str(), index)?;
