@@ -162,3 +162,38 @@ fn files_are_not_read(rt: HostRuntime) {
     let want = "encountered incompatible sourcemap format";
     check(&rt, want, rewritten(&rt, rt.alloc(), PATHS, &options), want);
 }
+
+// A map, and the ids that the sources of the map rewritten by default had in it. Of equal texts it is
+// the one that a token uses first.
+const OLD_IDS: [(&str, &str); 4] = [
+    (TWO_SOURCES, "[1]"),
+    (TWO_NAMES, "[1, 0]"),
+    (
+        r#"{"mappings":"AEAA,CDAA,CDAA","sources":["a.js","b.js","b.js"]}"#,
+        "[2, 0]",
+    ),
+    (r#"{"mappings":"A","sources":["a.js"]}"#, "[]"),
+];
+
+fn ids_told(alloc: Global, answer: Result<(SourceMap, Vec<u32>)>) -> Result<String> {
+    let (_, ids) = answer?;
+    Ok(format!(in alloc; "{ids:?}")?)
+}
+
+fn old_ids<F: Files>(
+    rt: &F,
+    alloc: Global,
+    text: &str,
+    options: &RewriteOptions<'_>,
+) -> Result<String> {
+    let map = SourceMap::from_slice(alloc, text.as_bytes())?;
+    ids_told(alloc, map.rewrite_with_ids(rt, options))
+}
+
+#[test]
+fn sources_are_known_by_their_old_ids(rt: HostRuntime) {
+    let options = RewriteOptions::default();
+    for (text, want) in OLD_IDS.iter() {
+        check(&rt, text, old_ids(&rt, rt.alloc(), text, &options), want);
+    }
+}

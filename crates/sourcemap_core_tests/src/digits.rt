@@ -1,6 +1,6 @@
 //! Segments of numbers and texts of bits.
 use crate::checks::check;
-use sourcemap_core::bits::{decode_rmi, encode_rmi};
+use sourcemap_core::bits::{decode_rmi, encode_rmi, push_bits};
 use sourcemap_core::errors::Result;
 use sourcemap_core::vlq::{generate_vlq_segment, parse_vlq_segment};
 use std::alloc::Global;
@@ -78,6 +78,31 @@ fn bits_written(alloc: Global, places: &[usize]) -> Result<String> {
 fn writes_bits(rt: HostRuntime) {
     for (places, want) in BITS.iter() {
         check(&rt, want, bits_written(rt.alloc(), places), want);
+    }
+}
+
+// A text, the places of the true bits among twenty, and the text with theirs behind it.
+const PUSHED: [(&str, &[usize], &str); 3] = [
+    (";", &[12], ";AAB"),
+    ("", &[5], "g"),
+    ("AAB;", &[], "AAB;"),
+];
+
+fn bits_pushed(alloc: Global, start: &str, bits: &[bool]) -> Result<String> {
+    let mut text = String::from_str(alloc, start)?;
+    push_bits(&mut text, bits)?;
+    Ok(text)
+}
+
+fn pushed(alloc: Global, start: &str, places: &[usize]) -> Result<String> {
+    let bits = bits(alloc, places)?;
+    bits_pushed(alloc, start, bits.as_slice())
+}
+
+#[test]
+fn writes_bits_behind_a_text(rt: HostRuntime) {
+    for (start, places, want) in PUSHED.iter() {
+        check(&rt, want, pushed(rt.alloc(), start, places), want);
     }
 }
 

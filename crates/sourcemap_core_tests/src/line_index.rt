@@ -111,3 +111,35 @@ fn finds_between_lines(rt: HostRuntime) {
         check(&rt, want, between_lines(rt.alloc(), *place), want);
     }
 }
+
+// The lines that hold tokens, and the place of the first token of each.
+const ROWS: [(u32, usize); 3] = [(0, 0), (2, 1), (4, 4)];
+
+fn table_by_rows(alloc: Global) -> Result<LineIndex> {
+    let mut table = LineIndex::of_none(alloc);
+    for (line, first) in ROWS.iter() {
+        table.push(*line, *first)?;
+    }
+    Ok(table)
+}
+
+fn table_by_tokens(alloc: Global) -> Result<LineIndex> {
+    let list = tokens_on_lines(alloc)?;
+    LineIndex::new(alloc, list.as_slice())
+}
+
+fn table_told(alloc: Global, table: Result<LineIndex>) -> Result<String> {
+    let table = table?;
+    Ok(format!(in alloc; "{table:?}")?)
+}
+
+fn tables_compared(alloc: Global) -> Result<String> {
+    let by_rows = table_told(alloc, table_by_rows(alloc))?;
+    let by_tokens = table_told(alloc, table_by_tokens(alloc))?;
+    Ok(format!(in alloc; "{}", by_rows == by_tokens)?)
+}
+
+#[test]
+fn tables_are_made_row_by_row(rt: HostRuntime) {
+    check(&rt, "rows", tables_compared(rt.alloc()), "true");
+}

@@ -2,7 +2,7 @@
 use crate::checks::check;
 use sourcemap_core::errors::Result;
 use sourcemap_core::interner::Interner;
-use sourcemap_core::tokens::{NO_ID, RawToken, tokens_in_order};
+use sourcemap_core::tokens::{NO_ID, RawToken, sort_tokens, tokens_in_order};
 use sourcemap_core::utils::greatest_lower_bound;
 use sourcemap_line_index::token_list::TokenList;
 use std::alloc::Global;
@@ -66,9 +66,17 @@ fn sorted(alloc: Global) -> Result<String> {
     columns(alloc, list.as_slice())
 }
 
+// The same tokens, sorted where they stand.
+fn sorted_in_place(alloc: Global) -> Result<String> {
+    let mut tokens = tokens(alloc)?;
+    sort_tokens(&mut tokens)?;
+    columns(alloc, tokens.as_slice())
+}
+
 #[test]
 fn sorts_tokens_stably(rt: HostRuntime) {
     check(&rt, "sorted", sorted(rt.alloc()), "1 3 0 2 ");
+    check(&rt, "in place", sorted_in_place(rt.alloc()), "1 3 0 2 ");
 }
 
 fn orders(alloc: Global) -> Result<(bool, bool)> {

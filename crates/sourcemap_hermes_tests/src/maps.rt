@@ -6,6 +6,7 @@ use sourcemap_hermes::decode::decode_hermes;
 use sourcemap_hermes::map::SourceMapHermes;
 use sourcemap_records::jsontypes::RawSourceMap;
 use sourcemap_regular::encode::Encodable;
+use sourcemap_regular::token::Token;
 use std::alloc::Global;
 
 pub fn name_told(alloc: Global, name: Option<&str>) -> Result<String> {
@@ -75,6 +76,26 @@ fn names_of_functions(rt: HostRuntime) {
     }
 }
 
+fn scope_told(alloc: Global, map: &SourceMapHermes, token: Option<Token<'_>>) -> Result<String> {
+    match token {
+        None => name_told(alloc, None),
+        Some(token) => name_told(alloc, map.get_scope_for_token(token)),
+    }
+}
+
+// The name of the function that the closest token to a place in the bytecode leads to.
+fn scope_at(alloc: Global, text: &str, offset: u32) -> Result<String> {
+    let map = SourceMapHermes::from_reader(alloc, text.as_bytes())?;
+    scope_told(alloc, &map, map.lookup_token(0, offset))
+}
+
+#[test]
+fn scopes_of_tokens(rt: HostRuntime) {
+    for (text, offset, want) in NAMES.iter() {
+        check(&rt, text, scope_at(rt.alloc(), text, *offset), want);
+    }
+}
+
 // The record of a map, as text.
 fn written(alloc: Global, text: &str) -> Result<String> {
     let map = SourceMapHermes::from_slice(alloc, text.as_bytes())?;
@@ -129,6 +150,46 @@ fn bytes_read_back(rt: HostRuntime) {
     .iter()
     {
         check(&rt, text, is_read_back(rt.alloc(), text), "true");
+    }
+}
+
+fn equals_copy(map: &SourceMapHermes) -> Result<bool> {
+    Ok(map.clone()? == *map)
+}
+
+// Whether a reader is read as the bytes are that it gives.
+fn is_streamed(alloc: Global, text: &str, map: &SourceMapHermes) -> Result<bool> {
+    Ok(SourceMapHermes::from_reader(alloc, text.as_bytes())? == *map)
+}
+
+fn copies_told(alloc: Global, text: &str, map: &SourceMapHermes) -> Result<String> {
+    let is_copied = equals_copy(map)?;
+    let is_streamed = is_streamed(alloc, text, map)?;
+    Ok(format!(in alloc; "{is_copied} {is_streamed}")?)
+}
+
+fn copied(alloc: Global, text: &str) -> Result<String> {
+    copies_told(
+        alloc,
+        text,
+        &SourceMapHermes::from_slice(alloc, text.as_bytes())?,
+    )
+}
+
+#[test]
+fn copies_and_maps_of_readers_are_equal(rt: HostRuntime) {
+    for text in [
+        TWO_FUNCTIONS,
+        SECOND_SOURCE,
+        SHORT,
+        LONG,
+        BROKEN,
+        RANGE,
+        NO_SOURCE,
+    ]
+    .iter()
+    {
+        check(&rt, text, copied(rt.alloc(), text), "true true");
     }
 }
 

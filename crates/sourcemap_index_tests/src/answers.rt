@@ -2,6 +2,7 @@
 use crate::checks::check;
 use sourcemap::decoder::decode_slice;
 use sourcemap::errors::{Error, Result};
+use sourcemap::jsontypes::DebugId;
 use sourcemap::types::{DecodedMap, SourceMapIndex};
 use std::alloc::Global;
 
@@ -103,4 +104,22 @@ fn indexes_answer_by_their_parts(rt: HostRuntime) {
     for (text, question, want) in ANSWERS.iter() {
         check(&rt, want, answer(rt.alloc(), text, *question), want);
     }
+}
+
+// Whether the debug id of the index is the one of this text.
+fn has_id(map: &DecodedMap, id: &str) -> bool {
+    map.debug_id().is_some() && map.debug_id() == DebugId::parse(id)
+}
+
+fn id_compared(alloc: Global, text: &str, id: &str) -> Result<String> {
+    let is_same = has_id(&decode_slice(alloc, text.as_bytes())?, id);
+    Ok(format!(in alloc; "{is_same}")?)
+}
+
+#[test]
+fn debug_ids_of_indexes_are_those_of_their_texts(rt: HostRuntime) {
+    let id = "0123456789abcdef0123456789abcdef";
+    check(&rt, id, id_compared(rt.alloc(), FULL, id), "true");
+    let other = "1123456789abcdef0123456789abcdef";
+    check(&rt, other, id_compared(rt.alloc(), FULL, other), "false");
 }

@@ -2,6 +2,7 @@
 use crate::checks::check;
 use crate::decoding::sections_told;
 use sourcemap::decoder::decode_slice;
+use sourcemap::encoder::Encodable;
 use sourcemap::errors::Result;
 use sourcemap::types::{DecodedMap, SourceMapIndex, SourceMapSection};
 use std::alloc::Global;
@@ -15,6 +16,8 @@ enum Change {
     Url(u32),
     // the map of the section of this number is taken away
     Map(u32),
+    // the section of this number gets an index of no section in place of its map
+    NewMap(u32),
     // the debug id of the map of the section of this number is taken away
     DebugId(u32),
 }
@@ -52,6 +55,14 @@ fn without_map(index: &mut SourceMapIndex, id: u32) -> Result<()> {
     }
 }
 
+fn with_index(alloc: Global, index: &mut SourceMapIndex, id: u32) -> Result<()> {
+    let map = decode_slice(alloc, br#"{"sections":[]}"#)?;
+    match index.get_section_mut(id) {
+        None => Ok(()),
+        Some(section) => section.set_sourcemap(Some(map)),
+    }
+}
+
 fn without_debug_id(index: &mut SourceMapIndex, id: u32) {
     let section = index.get_section_mut(id);
     if let Some(map) = section.and_then(|section| section.get_sourcemap_mut()) {
@@ -59,12 +70,13 @@ fn without_debug_id(index: &mut SourceMapIndex, id: u32) {
     }
 }
 
-fn apply(index: &mut SourceMapIndex, change: Change) -> Result<()> {
+fn apply(alloc: Global, index: &mut SourceMapIndex, change: Change) -> Result<()> {
     match change {
         Change::Nothing => Ok(()),
         Change::File => index.set_file(Some("other.js")),
         Change::Url(id) => with_url(index, id),
         Change::Map(id) => without_map(index, id),
+        Change::NewMap(id) => with_index(alloc, index, id),
         Change::DebugId(id) => {
             without_debug_id(index, id);
             Ok(())
@@ -81,7 +93,7 @@ fn has_debug_id(section: Option<&SourceMapSection>) -> bool {
 }
 
 fn change_told(alloc: Global, index: &mut SourceMapIndex, change: Change) -> Result<String> {
-    apply(index, change)?;
+    apply(alloc, index, change)?;
     let sections = sections_told(alloc, index)?;
     let has_id = has_debug_id(index.get_section(1));
     Ok(format!(in alloc; "{:?} {sections} {has_id}", index.get_file())?)
@@ -92,7 +104,7 @@ fn changed(alloc: Global, change: Change) -> Result<String> {
 }
 
 // A change, and what the index is afterwards.
-const CHANGES: [(Change, &str); 8] = [
+const CHANGES: [(Change, &str); 11] = [
     (
         Change::Nothing,
         r#"Some("test.js") 0:0 Some("v") no map;1:2 None a map; true"#,
@@ -116,6 +128,18 @@ const CHANGES: [(Change, &str); 8] = [
     (
         Change::Map(1),
         r#"Some("test.js") 0:0 Some("v") no map;1:2 None no map; false"#,
+    ),
+    (
+        Change::NewMap(0),
+        r#"Some("test.js") 0:0 Some("v") an index;1:2 None a map; true"#,
+    ),
+    (
+        Change::NewMap(1),
+        r#"Some("test.js") 0:0 Some("v") no map;1:2 None an index; false"#,
+    ),
+    (
+        Change::NewMap(2),
+        r#"Some("test.js") 0:0 Some("v") no map;1:2 None a map; true"#,
     ),
     (
         Change::DebugId(0),
@@ -164,6 +188,53 @@ fn bundle_told(alloc: Global) -> Result<String> {
 fn indexes_are_made_for_bundles(rt: HostRuntime) {
     let want = r#"Some([Some(5), None]) Some(["a.js"]) true"#;
     check(&rt, "a bundle", bundle_told(rt.alloc()), want);
+}
+
+fn empty(alloc: Global) -> Result<SourceMapIndex> {
+    let file = String::from_str(alloc, "test.js")?;
+    Ok(SourceMapIndex::new(alloc, Some(file), Vec::new(alloc)))
+}
+
+fn written(alloc: Global, index: &SourceMapIndex) -> Result<String> {
+    let value = index.as_raw_sourcemap()?.into_value(alloc)?;
+    Ok(value.to_string(alloc)?)
+}
+
+fn is_index(map: &DecodedMap, index: &SourceMapIndex) -> bool {
+    match map {
+        DecodedMap::Index(map) => *map == *index,
+        _ => false,
+    }
+}
+
+fn is_read_from(alloc: Global, text: &str, index: &SourceMapIndex) -> Result<bool> {
+    Ok(is_index(&decode_slice(alloc, text.as_bytes())?, index))
+}
+
+// The text that an index is written as, and whether it is read back as the same index.
+fn writing_told(alloc: Global, index: &SourceMapIndex) -> Result<String> {
+    let text = written(alloc, index)?;
+    let is_read_back = is_read_from(alloc, text.as_str(), index)?;
+    Ok(format!(in alloc; "{text} {is_read_back}")?)
+}
+
+fn made_index_told(alloc: Global, index: Result<SourceMapIndex>) -> Result<String> {
+    writing_told(alloc, &index?)
+}
+
+#[test]
+fn indexes_of_no_section_are_written_and_read_back(rt: HostRuntime) {
+    let alloc = rt.alloc();
+    let want = r#"{"file":"test.js","sections":[],"sources":null,"version":3} true"#;
+    check(&rt, "a file", made_index_told(alloc, empty(alloc)), want);
+    let want =
+        r#"{"sections":[],"sources":null,"version":3,"x_facebook_offsets":[5,null],"x_metro_module_paths":["a.js"]} true"#;
+    check(
+        &rt,
+        "a bundle",
+        made_index_told(alloc, bundled(alloc)),
+        want,
+    );
 }
 
 // The debug id of an index is taken away.

@@ -1,8 +1,8 @@
 // Positions that are looked up in index maps.
 use crate::checks::check;
 use sourcemap::decoder::decode_slice;
-use sourcemap::errors::Result;
-use sourcemap::types::{DecodedMap, Token};
+use sourcemap::errors::{Error, Result};
+use sourcemap::types::{DecodedMap, SourceMap, Token};
 use std::alloc::Global;
 
 // Two maps, the second from the middle of a line on.
@@ -104,5 +104,40 @@ fn positions_are_looked_up_in_the_closest_section(rt: HostRuntime) {
             looked_up_by_index(alloc, text, *line, *col),
             want,
         );
+    }
+}
+
+// An index, a line and a column, and what is printed there by the index, and by its flat map. Where
+// the earlier section has a token behind the start of the later one, the flat map has it there.
+const FLAT_PLACES: [(&str, u32, u32, &str, &str); 4] = [
+    (TWO, 10, 4, "b.js:0:0", "b.js:0:0"),
+    (TWO, 10, 9, "b.js:0:0", "b.js:0:0"),
+    (TWO, 10, 3, "a.js:0:0", "a.js:0:0"),
+    (MIXED, 0, 9, "b.js:0:0", "a.js:0:0"),
+];
+
+fn flat(alloc: Global, text: &str) -> Result<SourceMap> {
+    match decode_slice(alloc, text.as_bytes())? {
+        DecodedMap::Index(index) => index.flatten(),
+        _ => Err(Error::IncompatibleSourceMap),
+    }
+}
+
+fn looked_up_flat(alloc: Global, text: &str, line: u32, col: u32) -> Result<String> {
+    let map = flat(alloc, text)?;
+    token_told(alloc, map.lookup_token(line, col))
+}
+
+#[test]
+fn positions_are_looked_up_in_an_index_and_in_its_flat_map(rt: HostRuntime) {
+    let alloc = rt.alloc();
+    for (text, line, col, by_index, by_flat) in FLAT_PLACES.iter() {
+        check(
+            &rt,
+            text,
+            looked_up_by_index(alloc, text, *line, *col),
+            by_index,
+        );
+        check(&rt, text, looked_up_flat(alloc, text, *line, *col), by_flat);
     }
 }

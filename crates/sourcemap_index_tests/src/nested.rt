@@ -1,6 +1,7 @@
 // Index maps in one another, made in memory and read from text.
 use crate::checks::{check, fault_told};
 use crate::lookups::token_told;
+use serde_json::Value;
 use sourcemap::decoder::decode_slice;
 use sourcemap::errors::Result;
 use sourcemap::types::{DecodedMap, SourceMapIndex, SourceMapSection};
@@ -66,4 +67,45 @@ fn indexes_in_one_another_are_looked_up(rt: HostRuntime) {
         );
         check(&rt, want, read(alloc, *depth), want);
     }
+}
+
+// What the flat map of an index prints at the place 0:0.
+fn flat_looked_up(alloc: Global, map: DecodedMap) -> Result<String> {
+    match map {
+        DecodedMap::Index(index) => {
+            let flat = index.flatten()?;
+            token_told(alloc, flat.lookup_token(0, 0))
+        }
+        _ => Ok(String::from_str(alloc, "no index")?),
+    }
+}
+
+fn flattened(alloc: Global, depth: usize) -> Result<String> {
+    flat_looked_up(alloc, nested(alloc, depth)?)
+}
+
+fn value_read(alloc: Global, value: &Value) -> Result<DecodedMap> {
+    DecodedMap::from_value(alloc, value)
+}
+
+// The value of a map read back: what it prints at the place 0:0, and whether it is the same map.
+fn read_back_told(alloc: Global, map: &DecodedMap) -> Result<String> {
+    let value = map.to_value()?;
+    told_beside(alloc, map, &value_read(alloc, &value)?)
+}
+
+fn told_beside(alloc: Global, map: &DecodedMap, back: &DecodedMap) -> Result<String> {
+    let token = token_told(alloc, back.lookup_token(0, 0))?;
+    Ok(format!(in alloc; "{token} {}", *back == *map)?)
+}
+
+fn read_back(alloc: Global, depth: usize) -> Result<String> {
+    read_back_told(alloc, &nested(alloc, depth)?)
+}
+
+#[test]
+fn a_hundred_indexes_in_one_another_are_made_flat_and_read_back(rt: HostRuntime) {
+    let alloc = rt.alloc();
+    check(&rt, "flat", flattened(alloc, 100), "a.js:0:0");
+    check(&rt, "by values", read_back(alloc, 100), "a.js:0:0 true");
 }

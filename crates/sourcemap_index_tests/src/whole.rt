@@ -4,7 +4,7 @@ use crate::decoding::sections_told;
 use serde_json::Value;
 use sourcemap::decoder::decode_slice;
 use sourcemap::errors::{Error, Result};
-use sourcemap::types::{DecodedMap, RewriteOptions, SourceMap, SourceMapIndex};
+use sourcemap::types::{DecodedMap, RewriteOptions, SourceMap, SourceMapIndex, SourceMapSection};
 use std::alloc::Global;
 use std::rt::Files;
 
@@ -28,6 +28,18 @@ const BUNDLE: &str =
 // The second section has a Hermes map, from the middle of a line on.
 const HERMES: &str =
     r#"{"sections":[{"offset":{"line":0,"column":0},"map":{"sources":["a.js"],"mappings":"AAAA"}},{"offset":{"line":1,"column":2},"map":{"sources":["b.js"],"mappings":"AAAA;AAAA","x_facebook_sources":[[{"names":["f"],"mappings":"AAA"}],null]}}]}"#;
+
+// Two sections whose maps have a source of one text.
+const SHARED: &str =
+    r#"{"sections":[{"offset":{"line":0,"column":0},"map":{"sources":["a.js"],"sourcesContent":["x"],"mappings":"AAAA"}},{"offset":{"line":1,"column":0},"map":{"sources":["a.js"],"sourcesContent":["y"],"mappings":"AAAA","ignoreList":[0]}}]}"#;
+
+// The column counts from the offset on the first line of a section alone.
+const INDENTED: &str =
+    r#"{"sections":[{"offset":{"line":10,"column":4},"map":{"sources":["a.js"],"mappings":"AAAA;AAAA"}}]}"#;
+
+// Of two faults that of the first section.
+const PAST_THE_COLUMNS: &str =
+    r#"{"sections":[{"offset":{"line":0,"column":4294967295},"map":{"sources":["a.js"],"mappings":"CAAA"}},{"offset":{"line":1,"column":0}}]}"#;
 
 fn index_of(alloc: Global, text: &str) -> Result<SourceMapIndex> {
     match decode_slice(alloc, text.as_bytes())? {
@@ -55,13 +67,25 @@ fn flat(alloc: Global, text: &str) -> Result<String> {
 }
 
 // An index, and its flat map or the fault.
-const FLAT: [(&str, &str); 7] = [
+const FLAT: [(&str, &str); 10] = [
     (
         TWO,
         r#"{"mappings":"AAAA;;;;;;;;;;ICAA","names":[],"sources":["a.js","b.js"],"version":3}"#,
     ),
     (
         PAST_THE_END,
+        "cannot flatten the indexed sourcemap: a position passes 4294967295",
+    ),
+    (
+        SHARED,
+        r#"{"ignoreList":[0],"mappings":"AAAA;AAAA","names":[],"sources":["a.js"],"sourcesContent":["y"],"version":3}"#,
+    ),
+    (
+        INDENTED,
+        r#"{"mappings":";;;;;;;;;;IAAA;AAAA","names":[],"sources":["a.js"],"version":3}"#,
+    ),
+    (
+        PAST_THE_COLUMNS,
         "cannot flatten the indexed sourcemap: a position passes 4294967295",
     ),
     (
@@ -177,8 +201,31 @@ const ROWS: &str =
 const LAST_ROW: &str =
     r#"{"sections":[{"offset":{"line":0,"column":0}},{"offset":{"line":4294967295,"column":0}}]}"#;
 
+const TWO_ROWS: &str =
+    r#"{"sections":[{"offset":{"line":0,"column":0}},{"offset":{"line":10,"column":0}}]}"#;
+
+const FOUR_ROWS: &str =
+    r#"{"sections":[{"offset":{"line":0,"column":0}},{"offset":{"line":10,"column":0}},{"offset":{"line":20,"column":0}},{"offset":{"line":4294967295,"column":0}}]}"#;
+
 // An index, how many rows it moves down, whether it can, and its sections then.
-const MOVED: [(&str, u32, &str); 3] = [
+const MOVED: [(&str, u32, &str); 8] = [
+    (TWO_ROWS, 0, "true 0:0 None no map;10:0 None no map;"),
+    (
+        TWO_ROWS,
+        1000000,
+        "true 1000000:0 None no map;1000010:0 None no map;",
+    ),
+    (
+        TWO_ROWS,
+        4294967295,
+        "false 0:0 None no map;10:0 None no map;",
+    ),
+    (
+        FOUR_ROWS,
+        1,
+        "false 0:0 None no map;10:0 None no map;20:0 None no map;4294967295:0 None no map;",
+    ),
+    (r#"{"sections":[]}"#, 1, "true "),
     (
         ROWS,
         1,
@@ -222,17 +269,35 @@ fn put(alloc: Global, text: &str, bytes: &mut Vec<u8>) -> Result<()> {
     decode_slice(alloc, text.as_bytes())?.to_writer(bytes)
 }
 
-fn written_to(alloc: Global, text: &str) -> Result<String> {
-    let mut bytes = Vec::new(alloc);
-    put(alloc, text, &mut bytes)?;
+fn put_index(alloc: Global, text: &str, bytes: &mut Vec<u8>) -> Result<()> {
+    index_of(alloc, text)?.to_writer(bytes)
+}
+
+fn text_of(bytes: Vec<u8>) -> Result<String> {
     match String::from_utf8(bytes) {
         Ok(text) => Ok(text),
         Err(_) => Err(Error::IncompatibleSourceMap),
     }
 }
 
+fn written_to(alloc: Global, text: &str) -> Result<String> {
+    let mut bytes = Vec::new(alloc);
+    put(alloc, text, &mut bytes)?;
+    text_of(bytes)
+}
+
+fn index_written_to(alloc: Global, text: &str) -> Result<String> {
+    let mut bytes = Vec::new(alloc);
+    put_index(alloc, text, &mut bytes)?;
+    text_of(bytes)
+}
+
 // An index, and the text that it is written as.
-const WRITTEN: [(&str, &str); 5] = [
+const WRITTEN: [(&str, &str); 6] = [
+    (
+        r#"{"sections":[],"debugId":"0123456789abcdef0123456789abcdef"}"#,
+        r#"{"debugId":"01234567-89ab-cdef-0123-456789abcdef","sections":[],"sources":null,"version":3}"#,
+    ),
     (
         BUNDLE,
         r#"{"sections":[],"sources":null,"version":3,"x_facebook_offsets":[5,null],"x_metro_module_paths":["a.js"]}"#,
@@ -263,6 +328,7 @@ fn indexes_are_written(rt: HostRuntime) {
         check(&rt, text, written_away(alloc, text), want);
         check(&rt, text, index_written_away(alloc, text), want);
         check(&rt, text, written_to(alloc, text), want);
+        check(&rt, text, index_written_to(alloc, text), want);
     }
 }
 
@@ -312,5 +378,35 @@ fn copies_are_equal(rt: HostRuntime) {
     let alloc = rt.alloc();
     for (text, other, want) in COMPARED.iter() {
         check(&rt, text, compared(alloc, text, other), want);
+    }
+}
+
+// Whether copies of an index and of its first section equal what they were made of.
+
+fn index_equals_copy(index: &SourceMapIndex) -> Result<bool> {
+    Ok(index.clone()? == *index)
+}
+
+fn section_equals_copy(section: Option<&SourceMapSection>) -> Result<bool> {
+    match section {
+        None => Ok(false),
+        Some(section) => Ok(section.clone()? == *section),
+    }
+}
+
+fn copies_told(alloc: Global, index: &SourceMapIndex) -> Result<String> {
+    let index_copied = index_equals_copy(index)?;
+    let section_copied = section_equals_copy(index.get_section(0))?;
+    Ok(format!(in alloc; "{index_copied} {section_copied}")?)
+}
+
+fn parts_copied(alloc: Global, text: &str) -> Result<String> {
+    copies_told(alloc, &index_of(alloc, text)?)
+}
+
+#[test]
+fn copies_of_indexes_and_sections_are_equal(rt: HostRuntime) {
+    for text in [TWO, LINKED, NEITHER, NESTED, HERMES].iter() {
+        check(&rt, text, parts_copied(rt.alloc(), text), "true true");
     }
 }

@@ -58,7 +58,8 @@ fn drops_the_header(rt: HostRuntime) {
 }
 
 // Bytes, and what a slice keeps of them: of a line end of two bytes the second stays.
-const STRIPPED: [(&[u8], &str); 2] = [
+const STRIPPED: [(&[u8], &str); 3] = [
+    (b")]}", ""),
     (b")]}garbage\r\n[1, 2, 3]", "\n[1, 2, 3]"),
     (b")]}'\r[1, 2, 3]", "invalid data"),
 ];

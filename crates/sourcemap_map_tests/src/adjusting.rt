@@ -37,8 +37,21 @@ const NEIGHBOURS: [Row; 2] = [
     ((0, 1), (0, 1, 2), NONE, false),
 ];
 
+// Two tokens, and adjustments that take both to one place.
+const APART: [Row; 2] = [
+    ((0, 0), (0, 1, 1), NONE, false),
+    ((0, 5), (0, 2, 2), NONE, false),
+];
+
+const TOGETHER: [Row; 2] = [
+    ((0, 0), (0, 0, 0), NONE, false),
+    ((0, 0), (0, 0, 5), NONE, false),
+];
+
 // The tokens of both maps, a place, and what is printed there.
-const ADJUSTED: [(&[Row], &[Row], (u32, u32), &str); 11] = [
+const ADJUSTED: [(&[Row], &[Row], (u32, u32), &str); 13] = [
+    (&APART, &TOGETHER, (0, 0), "o.js:1:1"),
+    (&APART, &TOGETHER, (0, 3), "o.js:2:2"),
     (&CUT, &MOVED, (17, 22), "none"),
     (&CUT, &MOVED, (17, 23), "o.js:102:35"),
     (&CUT, &MOVED, (17, 30), "o.js:102:35"),
@@ -73,8 +86,14 @@ fn adjusted_maps_are_looked_up(rt: HostRuntime) {
     }
 }
 
-// The tokens of `AAAA,KAAK`, and of `EAAA`; then those of `AAAO` with ranges `B`, and of `EAAU`.
-const WRITTEN: [(&[Row], &[Row], &str); 2] = [
+// The tokens of `AAAA,KAAK`, and of `EAAA`; then those of `AAAO` with ranges `B`, and of `EAAU`; then
+// two that are taken to one place, in the order in which they stood.
+const WRITTEN: [(&[Row], &[Row], &str); 3] = [
+    (
+        &APART,
+        &TOGETHER,
+        r#"{"file":"f","mappings":"AACC,AACC","names":[],"sources":["o.js"],"version":3}"#,
+    ),
     (
         &[
             ((0, 0), (0, 0, 0), NONE, false),

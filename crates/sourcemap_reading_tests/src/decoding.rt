@@ -117,6 +117,22 @@ fn maps_of_any_kind_are_read(rt: HostRuntime) {
     }
 }
 
+// So many bytes from the beginning of a text, read as a map.
+fn beginning_read(alloc: Global, text: &str, end: usize) -> Result<String> {
+    match text.as_bytes().get(..end) {
+        None => Ok(String::from_str(alloc, "none")?),
+        Some(bytes) => looked_up(alloc, decode_slice(alloc, bytes)),
+    }
+}
+
+#[test]
+fn proper_beginnings_of_a_text_are_no_json(rt: HostRuntime) {
+    let want = "bad json: the text is not JSON";
+    for end in 0..README.len() {
+        check(&rt, want, beginning_read(rt.alloc(), README, end), want);
+    }
+}
+
 // Whether a map equals its copy, and whether it differs from it once its debug id is away.
 fn copied(map: &mut DecodedMap) -> Result<(bool, bool)> {
     let copy = map.clone()?;

@@ -3,6 +3,7 @@ use crate::checks::check;
 use serde_json::Value;
 use sourcemap_errors::errors::{Error, Result};
 use sourcemap_records::jsontypes::RawSourceMap;
+use sourcemap_scopes::function_map::HermesFunctionMap;
 use sourcemap_scopes::scope_lists::ScopeLists;
 use sourcemap_scopes::source_scopes::SourceScopes;
 use std::alloc::Global;
@@ -258,4 +259,39 @@ fn copies_are_equal(rt: HostRuntime) {
     let want =
         r#"{"sources":null,"version":null,"x_facebook_sources":[null,[{"mappings":"AAA","names":["f"]}]]}"#;
     check(&rt, SECOND, copied(alloc, SECOND), want);
+}
+
+// Scope mappings, a line and a column of the source, and the index of the name of its function, or
+// that there are no functions.
+const FUNCTIONS: [(&str, u32, u32, &str); 5] = [
+    ("AAA,KCC", 0, 0, "Some(0) true"),
+    ("AAA,KCC", 1, 5, "Some(1) true"),
+    ("KAA", 0, 4, "None true"),
+    ("", 0, 0, "None true"),
+    ("AAA,!", 0, 0, "no functions"),
+];
+
+// The index by a copy, and whether that equals what it was made of.
+fn index_told(alloc: Global, map: &HermesFunctionMap, line: u32, col: u32) -> Result<String> {
+    let copy = map.clone()?;
+    Ok(format!(in alloc; "{:?} {}", copy.name_index(line, col), copy == *map)?)
+}
+
+fn index_at(alloc: Global, mappings: &str, line: u32, col: u32) -> Result<String> {
+    match HermesFunctionMap::read(alloc, mappings)? {
+        None => Ok(String::from_str(alloc, "no functions")?),
+        Some(map) => index_told(alloc, &map, line, col),
+    }
+}
+
+#[test]
+fn copies_of_function_maps_answer_alike(rt: HostRuntime) {
+    for (mappings, line, col, want) in FUNCTIONS.iter() {
+        check(
+            &rt,
+            mappings,
+            index_at(rt.alloc(), mappings, *line, *col),
+            want,
+        );
+    }
 }

@@ -26,6 +26,11 @@ lookup 0 0|[]|1 bad json: a field has the wrong type
 lookup 0 0|{"version":4294967296}|1 bad json: a field has the wrong type
 lookup 0 0|{"mappings":"AAAAAA"}|1 got 6 segments, expected 4 or 5
 lookup 0 0|{"mappings":"AAAA"}|1 bad reference to source #0
+lookup 0 0|{"sources":["a.js"],"mappings":"AAAAA"}|1 bad reference to name #0
+lookup 0 0|{"mappings":"A!"}|1 invalid base64 character: !
+lookup 0 0|{"mappings":"A","rangeMappings":"!"}|1 invalid base64 character: !
+lookup 0 0|{"sources":["a.js"],"mappings":"ggggggggggggI"}|1 vlq decode caused an overflow
+lookup 0 0|{"sources":["a.js"],"mappings":"g"}|1 leftover cur/shift in vlq decode
 lookup 0 0|{"sections":[]}|0 none
 lookup 10 4|TWO|0 b.js:0:0
 lookup 10 9|TWO|0 b.js:0:0
@@ -43,6 +48,7 @@ rewrite|{"sources":["a.js","b.js"],"mappings":"ACAA","x_facebook_sources":[]}|0 
 flatten|TWO|0 {"mappings":"AAAA;;;;;;;;;;ICAA","names":[],"sources":["a.js","b.js"],"version":3}
 flatten|{"sections":[]}|0 {"mappings":"","names":[],"sources":[],"version":3}
 flatten|{"sections":[{"offset":{"line":0,"column":0},"url":"u"}]}|1 cannot flatten the indexed sourcemap: Section has an unresolved sourcemap: u
+flatten|{"sections":[{"offset":{"line":0,"column":0}}]}|1 cannot flatten the indexed sourcemap: Section has an unresolved sourcemap: <unknown url>
 flatten|{"sections":[{"offset":{"line":4294967295,"column":0},"map":{"sources":["a.js"],"mappings":";AAAA"}}]}|1 cannot flatten the indexed sourcemap: a position passes 4294967295
 flatten|{"sections":[{"offset":{"line":1,"column":2},"map":{"sources":["b.js"],"mappings":"AAAA","x_facebook_sources":[[{"names":["f"],"mappings":"AAA"}]]}}]}|0 {"mappings":";EAAA","names":[],"sources":["b.js"],"version":3}
 flatten|MAP|1 encountered incompatible sourcemap format
@@ -54,7 +60,7 @@ shift 0|MAP|1 encountered incompatible sourcemap format
 shift 0|HERMES|1 encountered incompatible sourcemap format"#;
 
 // An index of two maps, and one of a section that has no map.
-const TWO: &str =
+pub const TWO: &str =
     r#"{"version":3,"sections":[{"offset":{"line":0,"column":0},"map":{"version":3,"sources":["a.js"],"names":[],"mappings":"AAAA"}},{"offset":{"line":10,"column":4},"map":{"version":3,"sources":["b.js"],"names":[],"mappings":"AAAA"}}]}"#;
 
 // A Hermes map of two sources, of which tokens use the second.

@@ -1,7 +1,7 @@
 // Names of functions that are guessed by a map and a view of the text that was made of its sources.
 use crate::checks::check;
 use sourcemap::decoder::decode_slice;
-use sourcemap::{DecodedMap, SourceMap, SourceView};
+use sourcemap::{DecodedMap, SourceMap, SourceView, Token};
 use sourcemap_errors::errors::Result;
 use std::alloc::Global;
 
@@ -198,5 +198,51 @@ fn contents_are_views(rt: HostRuntime) {
     for (id, line, want) in LINES.iter() {
         check(&rt, want, line_of_source(rt.alloc(), *id, *line), want);
         check(&rt, want, line_of_token(rt.alloc(), *id, *line), want);
+    }
+}
+
+// A token at each of the columns 3, 4 and 5 of line 0.
+const COLUMNS: &str = r#"{"sources":["a.js"],"mappings":"GAAA,CAAA,CAAA"}"#;
+
+fn push_walked(told: &mut String, token: Token<'_>, identifier: Option<&str>) -> Result<()> {
+    write!(told, "{}:{} ", token.get_dst_line(), token.get_dst_col())?;
+    told.push_str(identifier.unwrap_or("none"))?;
+    told.push_str("; ")?;
+    Ok(())
+}
+
+fn push_walk(told: &mut String, view: &SourceView, last: Token<'_>) -> Result<()> {
+    for (token, identifier) in view.rev_token_iter(last) {
+        push_walked(told, token, identifier)?;
+    }
+    Ok(())
+}
+
+fn walk_told(alloc: Global, view: &SourceView, last: Option<Token<'_>>) -> Result<String> {
+    let mut told = String::new(alloc);
+    if let Some(last) = last {
+        push_walk(&mut told, view, last)?;
+    }
+    Ok(told)
+}
+
+fn walked(alloc: Global, text: &str, last: usize) -> Result<String> {
+    let view = SourceView::new(alloc, text)?;
+    let map = SourceMap::from_slice(alloc, COLUMNS.as_bytes())?;
+    walk_told(alloc, &view, map.get_token(last))
+}
+
+// The index of a token, and the places and identifiers along the walk back from it.
+const WALKS: [(usize, &str); 4] = [
+    (2, "0:5 def; 0:4 def; 0:3 none; "),
+    (1, "0:4 def; 0:3 none; "),
+    (0, "0:3 none; "),
+    (3, ""),
+];
+
+#[test]
+fn walks_along_the_tokens_of_a_map_find_identifiers(rt: HostRuntime) {
+    for (last, want) in WALKS.iter() {
+        check(&rt, want, walked(rt.alloc(), "abc👌def", *last), want);
     }
 }

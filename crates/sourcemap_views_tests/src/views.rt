@@ -108,25 +108,29 @@ fn lines_in_turn(rt: HostRuntime) {
     }
 }
 
-// Lines of one view that are asked out of turn, and past its end.
-const ASKED: [(u32, &str); 6] = [
-    (0, "[a]"),
-    (0, "[a]"),
-    (2, "[c]"),
-    (1, "[b]"),
-    (3, "none"),
-    (4294967295, "none"),
+// Lines of a view that are asked out of turn, and past its end.
+const ASKED: [(&str, u32, &str); 9] = [
+    ("a\r\nb\nc", 0, "[a]"),
+    ("a\r\nb\nc", 0, "[a]"),
+    ("a\r\nb\nc", 2, "[c]"),
+    ("a\r\nb\nc", 1, "[b]"),
+    ("a\r\nb\nc", 3, "none"),
+    ("a\r\nb\nc", 4294967295, "none"),
+    // Behind the last line end there is an empty line.
+    ("a\nb\nc\n", 2, "[c]"),
+    ("a\nb\nc\n", 3, "[]"),
+    ("a\nb\nc\n", 4, "none"),
 ];
 
-fn asked(alloc: Global, line: u32) -> Result<String> {
-    let view = SourceView::from_string(alloc, String::from_str(alloc, "a\r\nb\nc")?)?;
+fn asked(alloc: Global, text: &str, line: u32) -> Result<String> {
+    let view = SourceView::from_string(alloc, String::from_str(alloc, text)?)?;
     shown(alloc, view.get_line(line))
 }
 
 #[test]
 fn lines_out_of_turn(rt: HostRuntime) {
-    for (line, want) in ASKED.iter() {
-        check(&rt, want, asked(rt.alloc(), *line), want);
+    for (text, line, want) in ASKED.iter() {
+        check(&rt, want, asked(rt.alloc(), text, *line), want);
     }
 }
 

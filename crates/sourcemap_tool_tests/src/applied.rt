@@ -1,0 +1,90 @@
+// What commands say of maps of one kind and another, by the call that applies them.
+use crate::runs::TWO;
+use sourcemap::{DecodedMap, Error, decode_slice};
+use sourcemap_commands::command::Command;
+use sourcemap_commands::program::apply;
+use std::test::Fail;
+
+const RANGED: &str = r#"{"sources":["a.js"],"mappings":"AAAO","rangeMappings":"B"}"#;
+
+const RANGED_WITHOUT_SOURCE: &str = r#"{"mappings":"A","rangeMappings":"B"}"#;
+
+// A map, a line and a column, and what `lookup` says of it.
+const LOOKUPS: [(&str, (u32, u32), &str); 6] = [
+    (RANGED, (0, 5), "a.js:0:12\n"),
+    (RANGED, (3, 5), "a.js:0:7\n"),
+    (
+        RANGED_WITHOUT_SOURCE,
+        (0, 5),
+        "<unknown>:4294967295:4294967295\n",
+    ),
+    (TWO, (10, 4), "b.js:0:0\n"),
+    (TWO, (10, 9), "b.js:0:0\n"),
+    (TWO, (10, 3), "a.js:0:0\n"),
+];
+
+// Whether a command has this answer.
+fn is_text(answer: Result<String, Error>, want: &str) -> Result<bool, Fail> {
+    Ok(answer?.as_str() == want)
+}
+
+fn looks_up(
+    rt: &HostRuntime,
+    map: DecodedMap,
+    (line, col): (u32, u32),
+    want: &str,
+) -> Result<bool, Fail> {
+    let command = Command::Lookup(line, col);
+    is_text(apply(rt, rt.alloc(), &command, map, None), want)
+}
+
+fn says_at(rt: &HostRuntime, text: &str, place: (u32, u32), want: &str) -> Result<bool, Fail> {
+    let map = decode_slice(rt.alloc(), text.as_bytes())?;
+    looks_up(rt, map, place, want)
+}
+
+#[test]
+fn lookups_are_applied(rt: HostRuntime) -> Result<(), Fail> {
+    for (text, place, want) in LOOKUPS.iter() {
+        assert!(rt; says_at(&rt, text, *place, want)?, "{text} {place:?}");
+    }
+    Ok(())
+}
+
+const FLAT: &str =
+    r#"{"mappings":"AAAA;;;;;;;;;;ICAA","names":[],"sources":["a.js","b.js"],"version":3}
+"#;
+
+fn flattened(rt: &HostRuntime, text: &str) -> Result<String, Error> {
+    let map = decode_slice(rt.alloc(), text.as_bytes())?;
+    apply(rt, rt.alloc(), &Command::Flatten, map, None)
+}
+
+// An index, and why it cannot be made flat.
+const REFUSED: [(&str, &str); 2] = [
+    (
+        r#"{"sections":[{"offset":{"line":4294967295,"column":0},"map":{"sources":["a.js"],"mappings":";AAAA"}}]}"#,
+        "a position passes 4294967295",
+    ),
+    (
+        r#"{"sections":[{"offset":{"line":0,"column":0},"url":"u"}]}"#,
+        "Section has an unresolved sourcemap: u",
+    ),
+];
+
+// Whether an index is refused for this reason.
+fn is_refused(answer: Result<String, Error>, want: &str) -> bool {
+    match answer {
+        Err(Error::CannotFlatten(why)) => why.as_str() == want,
+        _ => false,
+    }
+}
+
+#[test]
+fn flattening_is_applied(rt: HostRuntime) -> Result<(), Fail> {
+    assert!(rt; is_text(flattened(&rt, TWO), FLAT)?);
+    for (text, want) in REFUSED.iter() {
+        assert!(rt; is_refused(flattened(&rt, text), want), "{text}");
+    }
+    Ok(())
+}
