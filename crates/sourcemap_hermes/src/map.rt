@@ -21,8 +21,8 @@ impl SourceMapHermes {
     /// The name of the function that a token's place in its source stands in, by the id of the
     /// source; a range token that was looked up stands as many columns further. There is none where
     /// the source has no function map, none of its functions begins so early, or the function has
-    /// no name. So it is where the functions of the source stand in order of their beginnings; else
-    /// the answer is the name of one of them, or none.
+    /// no name. So it is where the functions of the source stand in order of their beginnings; of
+    /// others nothing is promised but that the call answers.
     pub fn get_scope_for_token(&self, token: Token<'_>) -> Option<&str>
         ensures { IsInOrderAt (hermes_value self.now).scopes (token_value token.entry).raw.src_id
             → option_copied result

@@ -56,8 +56,8 @@ impl HermesFunctionMap {
 
     /// The index of the name of the function that a place in the source stands in, whose line and
     /// column count from 0: of the first function that begins there, and if none does, of the last
-    /// one that begins before it. So it is where functions stand in order of their beginnings; else
-    /// the answer is the index of some function's name, or none.
+    /// one that begins before it. So it is where functions stand in order of their beginnings; of
+    /// others nothing is promised but that the call answers.
     pub fn name_index(&self, line: u32, col: u32) -> Option<u32>
         ensures { AreOffsetsInOrder self.now
             → result ≡ option_map (λ o. o.name_index) (closest_offset self.now (line, col)) }

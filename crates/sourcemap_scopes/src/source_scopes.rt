@@ -83,7 +83,7 @@ impl SourceScopes {
     /// column count from 0: of the first function that begins there, and if none does, of the last
     /// one that begins before it. There is none where no function begins so early, the source has
     /// no function map, or the function has no name. So it is where the functions of the source
-    /// stand in order of their beginnings; else the answer is the name of one of them, or none.
+    /// stand in order of their beginnings; of others nothing is promised but that the call answers.
     pub fn scope(&self, source: u32, line: u32, col: u32) -> Option<&str>
         ensures { IsInOrderAt self.now source
             → option_copied result ≡ scope_at self.now source (line, col) }
