@@ -1,5 +1,5 @@
 -- A text is cut at its first terminator, then at the first of what follows.
-use Rattle.std.proofs.Common.{◌≡◌, refl, sym, ap, subst, ◌∙◌, ℕ, zero, suc, ◌+◌, ◌-◌, ◌<◌, ◌≤◌, ◌==◌, List, [], ◌∷◌, ◌++◌, length, take, drop, get_or, true, false, cond, arith, inl, inr, append_assoc, add-one, IsUtf8, IsCharBoundary, slice_get, Some, None, slice_range, ap₂, subst₂, IsAscii, append-nil, map}
+use Rattle.std.proofs.Common.{◌≡◌, refl, sym, ap, subst, ◌∙◌, ℕ, zero, suc, ◌+◌, ◌-◌, ◌*◌, ◌/◌, ◌%◌, ◌^◌, ◌<◌, ◌≤◌, ◌==◌, Bool, not, ◌||◌, eqb, replicate, pow-suc, List, [], ◌∷◌, ◌++◌, length, take, drop, get_or, true, false, cond, arith, inl, inr, append_assoc, add-one, IsUtf8, IsCharBoundary, slice_get, Some, None, slice_range, ap₂, subst₂, IsAscii, append-nil, map}
 use Rattle.std.specs.Bool.{⊤}
 use Rattle.std.proofs.lemmas.Bool.{cases_Bool, cases_lt, both_ways, and_parts, eqb-true}
 use Rattle.std.proofs.lemmas.Option.{none-some, same_Some, slice_get_past}
@@ -8,8 +8,15 @@ use Rattle.std.proofs.lemmas.Bool.Decides.{nat_tests}
 use Rattle.std.proofs.lemmas.Bool.{false_from_ne_true}
 use Rattle.std.proofs.lemmas.List.{length-take-le, length-drop, take_rest, drop-drop, drop_at, take_at, length-append, length-map, get_or-drop, get_or-append-add, get_or_append_left}
 use Rattle.memchr.specs.Find.{NoneBefore, Nowhere, Passes, is_byte2}
-use Rattle.sourcemap_views.specs.Lines.{Line, ended_by, with_body, with_return, is_terminator, is_pair, starts_with_pair, lines_of, joined, ranges_from, line_ranges, line_bodies, count_ends, IsUncut}
-use Rattle.std.specs.List.{AllByRecursion}
+use Rattle.sourcemap_views.specs.Lines.{Line, ended_by, with_body, with_return, is_terminator, is_pair, starts_with_pair, lines_of, joined, ranges_from, line_ranges, line_bodies, count_ends, IsUncut, IsTabled}
+use Rattle.std.specs.List.{AllByRecursion, prefix_len}
+use Rattle.std.proofs.lemmas.Simd.{length-chunk, trailing_mask_l, zip2_splat, zip2_of_maps, map-map, mask_l-mod, run_in_chunk_fails, run_in_chunk_stops, none_from_empty_mask}
+use Rattle.std.proofs.lemmas.List.{drop-take}
+use Rattle.std.proofs.lemmas.Nat.{shr-shr}
+use Rattle.std.proofs.Math.Nat.{div-one, zero-div, mul_comm, div-div-eq-div-mul}
+use lib.Bits.{bit_or}
+use lib.Lanes.{chunk, mask_l, top, zip2}
+use lib.Count.{count_trailing_zeros}
 
 -- how many bytes a terminator has at the front of a text
 abbrev pub terminator_len : List ℕ → ℕ
@@ -68,6 +75,13 @@ lines_of-uncut (byte ∷ text) none =
 append_row : {X : Type 0} (xs ys : List X) (x : X) → (xs ++ x ∷ []) ++ ys ≡ xs ++ x ∷ ys
 append_row xs ys x = append_assoc xs (x ∷ []) ys
 
+some_bytes : (pair : Bool) → 0 < cond pair 2 1
+some_bytes true = omega arith
+some_bytes false = omega arith
+
+pub terminator-some : (text : List ℕ) → 0 < terminator_len text
+terminator-some text = some_bytes (starts_with_pair text)
+
 pub terminator-inside : (text : List ℕ) → 0 < length text → terminator_len text ≤ length text
 terminator-inside [] l = absurd (omega arith)
 terminator-inside (byte ∷ []) l =
@@ -95,28 +109,7 @@ pub ranges-uncut : (rest : List ℕ) (start : ℕ) → ((k : ℕ) → k < length
     → ranges_from start (lines_of rest) ≡ (start, start + length rest) ∷ []
 ranges-uncut rest start none = ap (ranges_from start) (lines_of-uncut rest none)
 
--- ---- what a search from a place finds
-
-pub end_found : (text : List ℕ) (start at : ℕ)
-    → NoneBefore (Passes (is_byte2 10 13) (take (length text - start) (drop start text))) 0 (length (take (length text - start) (drop start text))) at × Passes (is_byte2 10 13) (take (length text - start) (drop start text)) at
-    → EndsAt (drop start text) at
-end_found text start at f =
-    let same = take_rest text start in
-    let found : NoneBefore (Passes (is_byte2 10 13) (drop start text)) 0 (length (drop start text)) at × Passes (is_byte2 10 13) (drop start text) at
-    = subst (λ hay. NoneBefore (Passes (is_byte2 10 13) hay) 0 (length hay) at × Passes (is_byte2 10 13) hay at) same f in
-    record {
-      inside = found.0.high;
-      ends = found.1;
-      before = λ k l. false_from_ne_true _ (found.0.before k (omega arith) l);
-    }
-
-pub none_found : (text : List ℕ) (start : ℕ)
-    → Nowhere (Passes (is_byte2 10 13) (take (length text - start) (drop start text))) 0 (length (take (length text - start) (drop start text)))
-    → (k : ℕ) → k < length (drop start text) → is_terminator (get_or (drop start text) k 0) ≡ false
-none_found text start f =
-    let none : Nowhere (Passes (is_byte2 10 13) (drop start text)) 0 (length (drop start text))
-    = subst (λ hay. Nowhere (Passes (is_byte2 10 13) hay) 0 (length hay)) (take_rest text start) f in
-    λ k l. false_from_ne_true _ (none k (omega arith) l)
+-- ---- a table under way
 
 -- the table goes on behind a line
 pub table-more : (text : List ℕ) (start at len : ℕ) (ranges more : List (ℕ × ℕ))
@@ -151,6 +144,169 @@ table-last text start ranges more within pushed none left =
     let len = length-drop start text in
     let end : start + length (drop start text) ≡ length text = omega arith in
     sym (pushed ∙ ap (λ n. ranges ++ (start, n) ∷ []) (sym end) ∙ ap (λ xs. ranges ++ xs) (sym (ranges-uncut (drop start text) start none)) ∙ left)
+
+pub tabled-at-start : (text : List ℕ) → IsTabled text [] 0 0
+tabled-at-start text = record { within = omega arith; left = refl; quiet = λ k l m. absurd (omega arith) }
+
+-- the place of an end that is no part of the one before it
+pub tabled-end : (text : List ℕ) (start end len : ℕ) (table more : List (ℕ × ℕ))
+    → IsTabled text table start end
+    → start ≤ end → end < length text → is_terminator (get_or text end 0) ≡ true
+    → more ≡ table ++ (start, end) ∷ []
+    → len ≡ terminator_len (take (length text - end) (drop end text))
+    → IsTabled text more (end + len) (end + 1)
+tabled-end text start end len table more t ordered inside ends pushed found =
+    let at = end - start in
+    let is : start + at ≡ end = omega arith in
+    let left = length-drop start text in
+    let here : EndsAt (drop start text) at = record {
+      inside = omega arith;
+      ends = ap is_terminator (get_or-drop start text at 0 ∙ ap (λ n. get_or text n 0) is) ∙ ends;
+      before = λ k l. ap is_terminator (get_or-drop start text k 0) ∙ t.quiet (start + k) (omega arith) (omega arith);
+    } in
+    let some = terminator-some (take (length text - end) (drop end text)) in
+    let goes_on = table-more text start at len table more (subst (λ n. more ≡ table ++ (start, n) ∷ []) (sym is) pushed)
+    (subst (λ n. len ≡ terminator_len (take (length text - n) (drop n text))) (sym is) found) here t.left in
+    record {
+      within = omega (arith, goes_on.0);
+      left = subst (λ n. more ++ ranges_from (n + len) (lines_of (drop (n + len) text)) ≡ line_ranges text) is goes_on.1;
+      quiet = λ k l m. absurd (omega (arith, some));
+    }
+
+-- the `\n` of a `\r\n`
+pub tabled-pair : (text : List ℕ) (start end : ℕ) (table : List (ℕ × ℕ)) → IsTabled text table start end → end < start → IsTabled text table start (end + 1)
+tabled-pair text start end table t behind =
+    record { within = t.within; left = t.left; quiet = λ k l m. absurd (omega arith) }
+
+-- bytes that end no line
+pub tabled-on : (text : List ℕ) (start place to : ℕ) (table : List (ℕ × ℕ)) → IsTabled text table start place
+    → ((k : ℕ) → place ≤ k → k < to → is_terminator (get_or text k 0) ≡ false)
+    → IsTabled text table start to
+tabled-on text start place to table t none =
+    record {
+      within = t.within;
+      left = t.left;
+      quiet = λ k l m. elim (cases_lt k place) [ inl before ↦ t.quiet k l before | inr behind ↦ none k behind m ];
+    }
+
+pub tabled-byte : (text : List ℕ) (start place : ℕ) (table : List (ℕ × ℕ)) → IsTabled text table start place
+    → is_terminator (get_or text place 0) ≡ false → IsTabled text table start (place + 1)
+tabled-byte text start place table t none =
+    tabled-on text start place (place + 1) table t (λ k l m. let is : place ≡ k = omega arith in subst (λ n. is_terminator (get_or text n 0) ≡ false) is none)
+
+pub tabled-whole : (text : List ℕ) (start : ℕ) (table more : List (ℕ × ℕ)) → IsTabled text table start (length text)
+    → more ≡ table ++ (start, length text) ∷ [] → line_ranges text ≡ more
+tabled-whole text start table more t pushed =
+    let left = length-drop start text in
+    table-last text start table more t.within pushed (λ k l. ap is_terminator (get_or-drop start text k 0) ∙ t.quiet (start + k) (omega arith) (omega arith)) t.left
+
+-- ---- the ends of a block, as a mask
+
+abbrev full_if : Bool → ℕ
+full_if b = cond b 255 0
+
+either_top : (a b : Bool) → top 7 (bit_or (full_if a) (full_if b)) ≡ (a || b)
+either_top true true = refl
+either_top true false = refl
+either_top false true = refl
+either_top false false = refl
+
+pub mask_of_ends : (n : ℕ) (v : List ℕ) → length v ≡ n → n ≤ 64
+    → mask_l (map (top 7) (zip2 bit_or (zip2 (λ x y. full_if (eqb x y)) v (replicate n 10)) (zip2 (λ x y. full_if (eqb x y)) v (replicate n 13)))) % 2 ^ 64
+    ≡ mask_l (map is_terminator v)
+mask_of_ends n v long few =
+    let equals = λ (x y : ℕ). full_if (eqb x y) in
+    let two = zip2_of_maps bit_or (λ x. equals x 10) (λ x. equals x 13) v (zip2_splat equals v n 10 long) (zip2_splat equals v n 13 long) in
+    ap (λ lanes. mask_l (map (top 7) lanes) % 2 ^ 64) two ∙ ap (λ lanes. mask_l lanes % 2 ^ 64) (map-map (top 7) _ v ∙ (λ i. map (λ x. either_top (eqb x 10) (eqb x 13) i) v))
+    ∙ mask_l-mod (map is_terminator v) 64 (omega (arith, length-map v is_terminator))
+
+ends_within : (stop : Bool) (m n l : ℕ) → (0 < m → n < l) → 0 < cond stop 1 0 + 2 * m → cond (not stop) (1 + n) 0 < suc l
+ends_within true m n l rest some = omega arith
+ends_within false m n l rest some = let m_some : 0 < m = omega arith in omega (arith, rest m_some)
+
+first_within : (xs : List ℕ) → 0 < mask_l (map is_terminator xs) → prefix_len (λ x. not (is_terminator x)) xs < length xs
+first_within [] some = absurd (omega arith)
+first_within (x ∷ xs) some = ends_within (is_terminator x) (mask_l (map is_terminator xs)) (prefix_len (λ x. not (is_terminator x)) xs) (length xs) (first_within xs) some
+
+half : (b : Bool) (n : ℕ) → (cond b 1 0 + 2 * n) / 2 ≡ n
+half true n = omega arith
+half false n = omega arith
+
+-- the mask without its lowest bits
+pub mask-behind : (xs : List ℕ) (k : ℕ) → mask_l (map is_terminator xs) / 2 ^ k ≡ mask_l (map is_terminator (drop k xs))
+mask-behind xs zero = div-one (mask_l (map is_terminator xs))
+mask-behind [] (suc k) = zero-div (2 ^ suc k)
+mask-behind (x ∷ xs) (suc k) =
+    ap (λ n. mask_l (map is_terminator (x ∷ xs)) / n) (pow-suc 2 k ∙ mul_comm (2 ^ k) 2) ∙ sym (div-div-eq-div-mul (mask_l (map is_terminator (x ∷ xs))) 2 (2 ^ k))
+    ∙ ap (λ n. n / 2 ^ k) (half (is_terminator x) (mask_l (map is_terminator xs))) ∙ mask-behind xs k
+
+-- what the lowest bit says of the bytes from a place up to an end
+pub record Lowest (text : List ℕ) (place end left gap : ℕ) : Type 0 where
+  pub inside : place + gap < end
+  pub quiet : (k : ℕ) → place ≤ k → k < place + gap → is_terminator (get_or text k 0) ≡ false
+  pub ends : is_terminator (get_or text (place + gap) 0) ≡ true
+  pub behind : left / 2 ^ gap / 2 ≡ mask_l (map is_terminator (chunk (place + gap + 1) (end - (place + gap + 1)) text))
+
+lowest : (text : List ℕ) (place end : ℕ) → place ≤ end → end ≤ length text → end ≤ place + 64 → 0 < mask_l (map is_terminator (chunk place (end - place) text))
+    → Lowest text place end (mask_l (map is_terminator (chunk place (end - place) text))) (count_trailing_zeros 64 (mask_l (map is_terminator (chunk place (end - place) text))))
+lowest text place end ordered room few some =
+    let n = end - place in
+    let part = chunk place n text in
+    let gap = count_trailing_zeros 64 (mask_l (map is_terminator part)) in
+    let fits : place + n ≤ length text = omega arith in
+    let long = length-chunk place n text fits in
+    let is : gap ≡ prefix_len (λ x. not (is_terminator x)) part = trailing_mask_l is_terminator 64 part (omega arith) some in
+    let below : gap < n = omega (arith, first_within part some, is, long) in
+    let all : gap + 1 + (end - (place + gap + 1)) ≡ n = omega arith in
+    let to : place + (gap + 1) ≡ place + gap + 1 = omega arith in
+    let rest : drop (gap + 1) part ≡ chunk (place + gap + 1) (end - (place + gap + 1)) text =
+    ap (λ m. drop (gap + 1) (take m (drop place text))) (sym all) ∙ drop-take (gap + 1) (end - (place + gap + 1)) (drop place text)
+    ∙ ap (take (end - (place + gap + 1))) (drop-drop (gap + 1) place text ∙ ap (λ m. drop m text) to) in
+    record {
+      inside = omega arith;
+      quiet = run_in_chunk_fails is_terminator text place n gap 0 fits is;
+      ends = run_in_chunk_stops is_terminator text place n gap 0 fits is below;
+      behind = shr-shr (mask_l (map is_terminator part)) gap 1 ∙ mask-behind part (gap + 1) ∙ ap (λ xs. mask_l (map is_terminator xs)) rest;
+    }
+
+pub lowest_bit : (text : List ℕ) (place end left : ℕ) → place ≤ end → end ≤ length text → end ≤ place + 64
+    → left ≡ mask_l (map is_terminator (chunk place (end - place) text)) → 0 < left → Lowest text place end left (count_trailing_zeros 64 left)
+lowest_bit text place end left ordered room few is some =
+    subst (λ m. Lowest text place end m (count_trailing_zeros 64 m)) (sym is) (lowest text place end ordered room few (subst (λ m. 0 < m) is some))
+
+-- no bit is left
+pub no_bit : (text : List ℕ) (place end left : ℕ) → place ≤ end → end ≤ length text → left ≡ mask_l (map is_terminator (chunk place (end - place) text)) → left ≡ 0
+    → (k : ℕ) → place ≤ k → k < end → is_terminator (get_or text k 0) ≡ false
+no_bit text place end left ordered room is none k l m = none_from_empty_mask is_terminator text place (end - place) 0 (omega arith) (sym is ∙ none) k l (omega arith)
+
+-- ---- what a search from a place finds
+
+from_there : (text : List ℕ) (start to : ℕ) → ((k : ℕ) → k < to - start → is_terminator (get_or (drop start text) k 0) ≡ false)
+    → (k : ℕ) → start ≤ k → k < to → is_terminator (get_or text k 0) ≡ false
+from_there text start to none k l m =
+    let is : start + (k - start) ≡ k = omega arith in
+    ap (λ n. is_terminator (get_or text n 0)) (sym is) ∙ ap is_terminator (sym (get_or-drop start text (k - start) 0)) ∙ none (k - start) (omega arith)
+
+pub end_found : (text : List ℕ) (start at : ℕ)
+    → NoneBefore (Passes (is_byte2 10 13) (take (length text - start) (drop start text))) 0 (length (take (length text - start) (drop start text))) at × Passes (is_byte2 10 13) (take (length text - start) (drop start text)) at
+    → (start ≤ length text → start + at ≤ length text) × ((k : ℕ) → start ≤ k → k < start + at → is_terminator (get_or text k 0) ≡ false)
+end_found text start at f =
+    let found : NoneBefore (Passes (is_byte2 10 13) (drop start text)) 0 (length (drop start text)) at × Passes (is_byte2 10 13) (drop start text) at
+    = subst (λ hay. NoneBefore (Passes (is_byte2 10 13) hay) 0 (length hay) at × Passes (is_byte2 10 13) hay at) (take_rest text start) f in
+    let high = found.0.high in
+    let left = length-drop start text in (
+      λ h. omega arith,
+      from_there text start (start + at) (λ k l. false_from_ne_true _ (found.0.before k (omega arith) (omega arith))),
+    )
+
+pub none_found : (text : List ℕ) (start : ℕ)
+    → Nowhere (Passes (is_byte2 10 13) (take (length text - start) (drop start text))) 0 (length (take (length text - start) (drop start text)))
+    → (k : ℕ) → start ≤ k → k < length text → is_terminator (get_or text k 0) ≡ false
+none_found text start f =
+    let none : Nowhere (Passes (is_byte2 10 13) (drop start text)) 0 (length (drop start text))
+    = subst (λ hay. Nowhere (Passes (is_byte2 10 13) hay) 0 (length hay)) (take_rest text start) f in
+    let left = length-drop start text in
+    from_there text start (length text) (λ k l. false_from_ne_true _ (none k (omega arith) (omega arith)))
 
 -- ---- lines in their text
 

@@ -1,5 +1,5 @@
 -- The lines of a text, and where they stand in it.
-use Rattle.std.specs.Prelude.{ℕ, ◌+◌, ◌==◌, Bool, ◌&&◌, ◌||◌, cond, List, [], ◌∷◌, ◌++◌, length, slice_index, drop, map, not, false, ◌≡◌}
+use Rattle.std.specs.Prelude.{ℕ, ◌+◌, ◌<◌, ◌≤◌, ◌==◌, Bool, ◌&&◌, ◌||◌, cond, List, [], ◌∷◌, ◌++◌, length, slice_index, drop, map, not, false, ◌≡◌}
 use Rattle.std.specs.List.{list_any}
 
 -- a line: its own text, and what ends it, `\n`, `\r` or `\r\n`; nothing ends the last line
@@ -65,3 +65,10 @@ count_ends (byte ∷ text) = cond (is_terminator byte && not (is_pair byte text)
 -- a line that holds nothing that ends one
 abbrev pub IsUncut : Line → Type 0
 IsUncut line = list_any is_terminator line.body ≡ false
+
+-- a table under way: its lines and those of the text from `start` on are all that the text has, and from there up to
+-- `place` no line ends; the next line may start behind `place`, between the bytes of `\r\n`
+pub record IsTabled (text : List ℕ) (table : List (ℕ × ℕ)) (start place : ℕ) : Type 0 where
+  pub within : start ≤ length text
+  pub left : table ++ ranges_from start (lines_of (drop start text)) ≡ line_ranges text
+  pub quiet : (k : ℕ) → start ≤ k → k < place → is_terminator (slice_index text k) ≡ false

@@ -1,15 +1,21 @@
 //! A table of the lines of a text.
-ghost use Rattle.std.specs.Prelude.{◌≡◌, ◌+◌, ◌++◌, ◌<◌, ◌==◌, [], ◌∷◌, Ok, cond, length, slice_get};
+ghost use Rattle.std.specs.Prelude.{◌≡◌, ◌+◌, ◌++◌, ◌<◌, ◌≤◌, ◌==◌, [], ◌∷◌, MatchResult, Ok, ℕ, cond, drop, false, length, map, slice_get, slice_index, take, true};
 ghost use Rattle.std.specs.List.{AllByRecursion};
+ghost use Rattle.std.specs.Simd.Lanes.{mask_l};
 ghost use Rattle.sourcemap_errors.specs.Answer.{Changes, Gives};
+ghost use Rattle.sourcemap_errors.specs.declared.errors.Error.TheVariants.{OutOfMemory};
 ghost use Rattle.sourcemap_views.specs.Columns.{column_place};
-ghost use Rattle.sourcemap_views.specs.Lines.{IsUncut, count_ends, joined, line_ranges, lines_of, starts_with_pair};
+ghost use Rattle.sourcemap_views.specs.Lines.{IsTabled, IsUncut, count_ends, is_terminator, joined, line_ranges, lines_of, starts_with_pair};
 
 use crate::columns::reach;
 use memchr::memchr2;
 use sourcemap_errors::errors::Result;
 use std::alloc::Global;
 use std::marker::Model;
+use std::simd::prelude::*;
+
+// How many bytes are looked at in one step.
+const BLOCK: usize = 64;
 
 /// Where the lines of a text stand, in bytes. A line ends at `\n`, `\r` or `\r\n`, and there is one
 /// line more than there are such ends.
@@ -40,22 +46,80 @@ impl LineTable {
             far: Vec::new(alloc),
         };
         let mut start = 0;
-        while let Some(length) = memchr2(b'\n', b'\r', &bytes[start..]) {
-            let end = start + length;
-            table.push(start, end)?;
-            start = end + terminator_length(&bytes[end..]);
+        let mut place = 0;
+        while bytes.len() - place >= BLOCK {
+            let ends = ends(u8x64::from_slice(&bytes[place..]));
+            start = table.push_block(bytes, start, place, ends)?;
+            place = next_place(bytes, place + BLOCK, ends == 0);
         }
+        start = table.push_rest(bytes, start, place)?;
         table.push(start, bytes.len())?;
         Ok(table)
     }
 
+    // Goes on from a place to behind the block there, of which these are the ends, and answers where
+    // the line at hand starts.
+    #[inline(always)]
+    fn push_block(&mut self, bytes: &[u8], start: usize, from: usize, ends: u64) -> Result<usize>
+        requires room { from + 64 ≤ length bytes.now }
+        requires ends { ends ≡ mask_l (map is_terminator (take 64 (drop from bytes.now))) }
+        requires before { IsTabled bytes.now self.old start from }
+        ensures { MatchResult result (λ next. IsTabled bytes.now self.new next (from + 64)) (λ e. e ≡ OutOfMemory) }
+    {
+        let mut left = ends;
+        let mut start = start;
+        let mut place = from;
+        while left != 0 {
+            let gap = left.trailing_zeros();
+            let end = place + gap as usize;
+            start = self.push_end(bytes, start, end)?;
+            left = left >> gap >> 1;
+            place = end + 1;
+        }
+        Ok(start)
+    }
+
+    // The same up to the end of the text, byte by byte.
+    fn push_rest(&mut self, bytes: &[u8], start: usize, from: usize) -> Result<usize>
+        requires room { from ≤ length bytes.now }
+        requires before { IsTabled bytes.now self.old start from }
+        ensures { MatchResult result (λ next. IsTabled bytes.now self.new next (length bytes.now)) (λ e. e ≡ OutOfMemory) }
+    {
+        let mut start = start;
+        for place in from..bytes.len() {
+            if is_end(bytes[place]) {
+                start = self.push_end(bytes, start, place)?;
+            }
+        }
+        Ok(start)
+    }
+
+    // Goes on from a byte that ends a line to behind it. The `\n` of a `\r\n` stands before the
+    // start of the line at hand: its line is in the table by then.
+    #[inline(always)]
+    fn push_end(&mut self, bytes: &[u8], start: usize, end: usize) -> Result<usize>
+        requires inside { end < length bytes.now }
+        requires ends { is_terminator (slice_index bytes.now end) ≡ true }
+        requires before { IsTabled bytes.now self.old start end }
+        ensures { MatchResult result (λ next. IsTabled bytes.now self.new next (end + 1)) (λ e. e ≡ OutOfMemory) }
+    {
+        if end < start {
+            return Ok(start);
+        }
+        self.push(start, end)?;
+        Ok(end + terminator_length(&bytes[end..]))
+    }
+
     // Puts a line behind the others.
+    #[inline(always)]
     fn push(&mut self, start: usize, end: usize) -> Result<()>
+        requires { start ≤ end }
         ensures { Changes result self.old self.new (self.old ++ (start, end) ∷ []) }
     {
-        match (u32::try_from(start), u32::try_from(end)) {
-            (Ok(start), Ok(end)) if self.far.is_empty() => self.near.push((start, end))?,
-            _ => self.far.push((start, end))?,
+        if end <= u32::MAX as usize && self.far.is_empty() {
+            self.near.push((start as u32, end as u32))?;
+        } else {
+            self.far.push((start, end))?;
         }
         Ok(())
     }
@@ -97,6 +161,40 @@ impl LineTable {
         let far = Vec::from_slice(alloc, self.far.as_slice())?;
         Ok(LineTable { near, far })
     }
+}
+
+// Where to go on from a place: there, or in a long line at its end, for which it is searched.
+#[inline(always)]
+fn next_place(bytes: &[u8], from: usize, is_long: bool) -> usize
+    requires { from ≤ length bytes.now }
+    ensures ahead { from ≤ result }
+    ensures within { result ≤ length bytes.now }
+    ensures quiet { (k : ℕ) → from ≤ k → k < result → is_terminator (slice_index bytes.now k) ≡ false }
+{
+    if !is_long {
+        return from;
+    }
+    match memchr2(b'\n', b'\r', &bytes[from..]) {
+        Some(gap) => from + gap,
+        None => bytes.len(),
+    }
+}
+
+// Which of these bytes end a line: a bit for each, the lowest for the first.
+#[inline(always)]
+fn ends(bytes: u8x64) -> u64
+    ensures { result ≡ mask_l (map is_terminator bytes) }
+{
+    let newlines = bytes.simd_eq(u8x64::splat(b'\n'));
+    let returns = bytes.simd_eq(u8x64::splat(b'\r'));
+    (newlines | returns).to_bitmask()
+}
+
+// Whether a byte ends a line.
+fn is_end(byte: u8) -> bool
+    ensures { result ≡ is_terminator byte }
+{
+    byte == b'\n' || byte == b'\r'
 }
 
 // How many bytes the line terminator takes with which a text starts.

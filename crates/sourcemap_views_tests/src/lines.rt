@@ -3,6 +3,7 @@ use crate::checks::check;
 use sourcemap_errors::errors::Result;
 use sourcemap_views::lines::LineTable;
 use std::alloc::Global;
+use std::process::Abort;
 
 // A text, how many lines it has, and where its first five lines stand.
 const TEXTS: [(&str, &str); 9] = [
@@ -40,6 +41,96 @@ fn tables(rt: HostRuntime) {
     for (text, want) in TEXTS.iter() {
         check(&rt, text, told(rt.alloc(), text), want);
     }
+}
+
+// Texts of `a` alone, but for these ends from these places on, and how long the text is: blocks of
+// bytes are looked at at once, and these stand around their edges.
+const ENDS: [(&str, usize, usize); 27] = [
+    ("\n", 30, 64),
+    ("\n", 31, 64),
+    ("\n", 32, 33),
+    ("\n", 33, 128),
+    ("\n", 62, 128),
+    ("\n", 63, 64),
+    ("\n", 63, 128),
+    ("\n", 64, 128),
+    ("\n", 65, 128),
+    ("\r", 31, 32),
+    ("\r", 32, 64),
+    ("\r", 63, 64),
+    ("\r", 63, 200),
+    ("\r", 64, 128),
+    ("\r\n", 30, 32),
+    ("\r\n", 31, 64),
+    ("\r\n", 32, 64),
+    ("\r\n", 62, 64),
+    ("\r\n", 63, 65),
+    ("\r\n", 63, 128),
+    ("\r\n", 64, 128),
+    ("\r\r\n", 62, 128),
+    ("\n\r\n\r", 62, 128),
+    ("\r\n", 127, 192),
+    ("\n", 255, 256),
+    ("\n\n\r\r\r\n\n\r\n\r\n\n\n\n\n\r\r\n", 50, 130),
+    ("", 0, 64),
+];
+
+fn with_ends(alloc: Global, ends: &str, place: usize, length: usize) -> Result<String> {
+    let mut text = String::new(alloc);
+    for _ in 0..place {
+        text.push_str("a")?;
+    }
+    text.push_str(ends)?;
+    for _ in text.len()..length {
+        text.push_str("a")?;
+    }
+    Ok(text)
+}
+
+// The lines of a text, found one character after the other.
+fn counted(alloc: Global, text: &str) -> Result<String> {
+    let mut answer = String::new(alloc);
+    let mut start = 0usize;
+    let mut place = 0usize;
+    let mut is_behind_return = false;
+    for character in text.chars() {
+        let is_pair = is_behind_return && character == '\n';
+        if is_pair {
+            start = place.saturating_add(1);
+        } else if character == '\n' || character == '\r' {
+            push_range(&mut answer, Some((start, place)))?;
+            start = place.saturating_add(1);
+        }
+        is_behind_return = character == '\r';
+        place = place.saturating_add(1);
+    }
+    push_range(&mut answer, Some((start, place)))?;
+    Ok(answer)
+}
+
+fn all_ranges(alloc: Global, text: &str) -> Result<String> {
+    let table = LineTable::new(alloc, text)?;
+    let mut answer = String::new(alloc);
+    let count = u32::try_from(table.count()).unwrap_or(u32::MAX);
+    for line in 0..count {
+        push_range(&mut answer, table.range(line))?;
+    }
+    Ok(answer)
+}
+
+fn check_ends(rt: &impl Abort, alloc: Global, text: &str) -> Result<()> {
+    let want = counted(alloc, text)?;
+    check(rt, text, all_ranges(alloc, text), want.as_str());
+    Ok(())
+}
+
+#[test]
+fn edges(rt: HostRuntime) -> Result<()> {
+    for (ends, place, length) in ENDS.iter() {
+        let text = with_ends(rt.alloc(), ends, *place, *length)?;
+        check_ends(&rt, rt.alloc(), text.as_str())?;
+    }
+    Ok(())
 }
 
 // A line, a column in UTF-16 units, and its place in bytes.

@@ -1,16 +1,12 @@
 use Rattle.std.proofs.Common.{Ok, ap, sym, ◌∙◌}
 use Rattle.sourcemap_views.specs.Lines.{line_ranges}
-use Rattle.sourcemap_views.proofs.LinesLemmas.{end_found, none_found, table-more, table-last}
+use Rattle.sourcemap_views.proofs.LinesLemmas.{tabled-on, tabled-whole}
 use Rattle.sourcemap_views.proofs.lines.LineTable.new.Goals as goal
 
-pub loop-length-preserved : goal.loop-length-preserved
-loop-length-preserved c =
-    let text = c.as_bytes-bytes.result.now in
-    let more = table-more text c.loop-length.start c.in-Some.length c.terminator_length.result _ _ c.in_ok-push.ensures c.terminator_length.ensures
-    (end_found text c.loop-length.start c.in-Some.length c.in-Some.ensures) c.loop-length.invariant.left in
-    record { within = more.0; left = more.1 }
+pub loop-place-preserved : goal.loop-place-preserved
+loop-place-preserved c =
+    (c.next_place-place.ensures.within, tabled-on c.as_bytes-bytes.result.now _ _ _ _ c.in_ok-start.ensures c.next_place-place.ensures.quiet)
 
 pub returns : goal.returns
 returns c =
-    let text = c.as_bytes-bytes.result.now in
-    ap Ok (ap line_ranges (sym c.as_bytes-bytes.ensures.value) ∙ table-last text c.loop-length.start _ _ c.loop-length.invariant.within c.in_ok-push-2.ensures (none_found text c.loop-length.start c.in_default.ensures) c.loop-length.invariant.left)
+    ap Ok (ap line_ranges (sym c.as_bytes-bytes.ensures.value) ∙ tabled-whole c.as_bytes-bytes.result.now _ _ _ c.in_ok-start-2.ensures c.in_ok-push.ensures)

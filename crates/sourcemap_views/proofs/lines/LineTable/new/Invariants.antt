@@ -1,12 +1,9 @@
-use Rattle.std.proofs.Common.{◌≡◌, ◌≤◌, ◌-◌, ◌++◌, length, drop}
-use Rattle.sourcemap_views.specs.Lines.{lines_of, line_ranges, ranges_from}
+use Rattle.std.proofs.Common.{◌≤◌, ◌-◌, length}
+use Rattle.sourcemap_views.specs.Lines.{IsTabled}
 use Rattle.sourcemap_views.proofs.lines.LineTable.new.Given as goal
 
-abbrev pub invariant-loop-length : goal.invariant-loop-length
-invariant-loop-length l = record {
-  within : l.start ≤ length l.bytes;
-  left : l.table ++ ranges_from l.start (lines_of (drop l.start l.bytes)) ≡ line_ranges l.bytes;
-}
+abbrev pub invariant-loop-place : goal.invariant-loop-place
+invariant-loop-place l = (l.place ≤ length l.bytes) × IsTabled l.bytes l.table l.start l.place
 
-abbrev pub decreases-loop-length : goal.decreases-loop-length
-decreases-loop-length l = length l.bytes - l.start
+abbrev pub decreases-loop-place : goal.decreases-loop-place
+decreases-loop-place l = length l.bytes - l.place
