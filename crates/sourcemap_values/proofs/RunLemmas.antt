@@ -1,7 +1,7 @@
 -- Runs of plain bytes, found a vector at a time by the mask of the bytes that end them.
-use Rattle.std.proofs.Common.{◌≡◌, ℕ, suc, ◌+◌, ◌*◌, ◌%◌, ◌^◌, ◌<◌, ◌≤◌, Bool, true, false, not, ◌||◌, cond, eqb, ltb, List, [], ◌∷◌, map, replicate, length, drop, refl, sym, ap, ◌∙◌, arith}
+use Rattle.std.proofs.Common.{◌≡◌, ℕ, suc, ◌+◌, ◌*◌, ◌%◌, ◌^◌, ◌<◌, ◌≤◌, Bool, true, false, not, ◌||◌, cond, eqb, ltb, List, [], ◌∷◌, ◌++◌, ◌-◌, map, replicate, length, take, drop, refl, sym, ap, ◌∙◌, arith, take-add}
 use Rattle.std.proofs.lemmas.Simd.{chunk-drop, length-chunk, leading_from_mask_l, trailing_mask_l, zip2_splat, zip2_of_maps, map-map, mask_l-mod}
-use Rattle.std.proofs.lemmas.List.{length-drop, length-map}
+use Rattle.std.proofs.lemmas.List.{append_assoc, drop-drop, length-drop, length-map, take-take}
 use Rattle.std.proofs.lemmas.List.Folds.{prefix_len-append}
 use Rattle.std.proofs.lemmas.List.Sums.{prefix_len-le-length}
 use Rattle.std.proofs.lemmas.Bool.{eq-eqb, ne_eqb}
@@ -10,6 +10,7 @@ use Rattle.sourcemap_values.specs.Runs.{is_stop, is_plain}
 use lib.Bits.{bit_or}
 use lib.Lanes.{chunk, mask_l, top, zip2}
 use lib.Count.{count_trailing_zeros}
+use lib.Seq.{take-append-add}
 
 -- ---- the mask
 
@@ -68,5 +69,28 @@ module _ (text : List ℕ) (at n : ℕ) (room : at + n ≤ length text) where
       split ∙ ap (λ whole. cond whole (length part + rest) (prefix_len is_plain part)) (ne_eqb _ _ (λ (e : prefix_len is_plain part ≡ length part). omega arith))
       ∙ sym (trailing_mask_l is_stop 64 part (omega (arith, length-chunk at n text room)) some)
 
+  pub stop_within : n ≤ 64 → 0 < mask_l (map is_stop (chunk at n text)) → count_trailing_zeros 64 (mask_l (map is_stop (chunk at n text))) ≤ n
+  stop_within few some =
+      let part = chunk at n text in
+      let long = length-chunk at n text room in
+      omega (arith, long, run_ends_within part some, trailing_mask_l is_stop 64 part (omega (arith, long)) some)
+
 pub run_within : (text : List ℕ) (at : ℕ) → at ≤ length text → at + prefix_len is_plain (drop at text) ≤ length text
 run_within text at h = omega (arith, prefix_len-le-length is_plain (drop at text), length-drop at text)
+
+-- ---- a run that is copied
+
+-- some more bytes behind those that are copied already
+pub copied_more : (said before text : List ℕ) (from at n : ℕ) → from ≤ at → said ≡ before ++ take (at - from) (drop from text)
+    → said ++ take n (drop at text) ≡ before ++ take (at + n - from) (drop from text)
+copied_more said before text from at n behind is =
+    let rest = drop from text in
+    let there : drop at text ≡ drop (at - from) rest = ap (λ k. drop k text) (omega arith) ∙ sym (drop-drop (at - from) from text) in
+    let count : (at - from) + n ≡ at + n - from = omega arith in
+    ap (λ xs. xs ++ take n (drop at text)) is ∙ append_assoc before (take (at - from) rest) (take n (drop at text))
+    ∙ ap (λ xs. before ++ (take (at - from) rest ++ take n xs)) there ∙ ap (λ xs. before ++ xs) (sym (take-add (at - from) n rest)) ∙ ap (λ k. before ++ take k rest) count
+
+-- a block that is cut off behind its first bytes
+pub cut_back : (said block all : List ℕ) (n most : ℕ) → n ≤ most → all ≡ said ++ take most block → take (length said + n) all ≡ said ++ take n block
+cut_back said block all n most few is =
+    ap (take (length said + n)) is ∙ take-append-add said (take most block) n ∙ ap (λ xs. said ++ xs) (take-take n most block few)

@@ -4,14 +4,14 @@ use Rattle.std.proofs.lemmas.List.{append_assoc, append-nil, drop_more, drop-dro
 use Rattle.std.proofs.lemmas.Bool.{or_parts, not-true}
 use Rattle.std.proofs.lemmas.Bool.Decides.{nat_tests}
 use Rattle.std.proofs.lemmas.List.Sums.{prefix_len_stops}
-use Rattle.std.proofs.lemmas.Str.{IsCharBoundary-after_ascii}
+use Rattle.std.proofs.lemmas.Str.{IsCharBoundary-after_ascii, IsUtf8-append, IsUtf8-between}
 use Rattle.std.specs.List.{prefix_len}
 use Rattle.std.specs.Str.{IsUtf8, IsCharBoundary}
 use Rattle.json.specs.Text.{content, plain, after_backslash, prepend}
 use Rattle.json.specs.Word.{is_operator, is_space}
 use Rattle.json.specs.Lex.{Lexeme, quote, backslash, operator, space, other, Mode, between, in_string, lex_byte, lex}
 use Rattle.sourcemap_values.specs.Runs.{is_plain}
-use Rattle.sourcemap_values.specs.Texts.{Says}
+use Rattle.sourcemap_values.specs.Texts.{Adds, Says}
 
 prepend-append : (a b : List ℕ) (rest : Option (List ℕ)) → prepend a (prepend b rest) ≡ prepend (a ++ b) rest
 prepend-append a b None = refl
@@ -86,3 +86,23 @@ quote_ends text said from at utf8 says quoted =
       says.goes_on ∙ ap (lex in_string) first,
       IsCharBoundary-after_ascii text at utf8 within (omega (arith, get_or_default text at 0 32 within)),
     )
+
+-- what a text says up to a place is UTF-8, and so it is with the run of plain bytes from there on
+pub run_says : (text said all : List ℕ) (from at end : ℕ) → IsUtf8 text → IsCharBoundary text at → end ≡ at + prefix_len is_plain (drop at text) → end ≤ length text
+    → all ≡ said ++ take (end - at) (drop at text) → Says (drop from text) said (drop at text) → IsUtf8 said
+    → Says (drop from text) all (drop end text) × IsUtf8 all × IsCharBoundary text end
+run_says text said all from at end utf8 begins is within copied says said_utf8 =
+    let run = take (end - at) (drop at text) in
+    let ends = run_boundary text at end is within in (
+      subst (λ bytes. Says (drop from text) bytes (drop end text)) (sym copied) (Says-then (drop from text) (drop at text) (drop end text) said run says (run_at text at end is)),
+      subst IsUtf8 (sym copied) (IsUtf8-append said run said_utf8 (IsUtf8-between text at end utf8 (omega arith) begins ends)),
+      ends,
+    )
+
+-- and with what an escape adds
+pub escape_says : (text said all : List ℕ) (from at next : ℕ) → Says (drop from text) said (drop at text) → IsUtf8 said → Adds text at said all next
+    → Says (drop from text) all (drop next text) × IsUtf8 all
+escape_says text said all from at next says said_utf8 adds = (
+  subst (λ bytes. Says (drop from text) bytes (drop next text)) (sym adds.appended) (Says-then (drop from text) (drop at text) (drop next text) said adds.added says adds.says),
+  subst IsUtf8 (sym adds.appended) (IsUtf8-append said adds.added said_utf8 adds.utf8),
+)

@@ -67,6 +67,7 @@ pub(crate) struct Spot {
 pub(crate) struct Cursor<'a> {
     text: &'a str,
     spot: Spot,
+    scratch: Vec<u8>,
 }
 
 impl<'a> Model for Cursor<'a> {
@@ -83,14 +84,19 @@ impl<'a> Model for Cursor<'a> {
 
 impl<'a> Cursor<'a> {
     /// The start of a text.
-    pub(crate) fn new(text: &'a str) -> Cursor<'a>
+    pub(crate) fn new(alloc: Global, text: &'a str) -> Cursor<'a>
         ensures { result ≡ tokens text.now }
     {
         let spot = Spot {
             at: 0,
             place: Place::Fresh,
         };
-        Cursor { text, spot }
+        let scratch = Vec::new(alloc);
+        Cursor {
+            text,
+            spot,
+            scratch,
+        }
     }
 
     /// What stands next, behind which the cursor stands then.
@@ -98,7 +104,7 @@ impl<'a> Cursor<'a> {
         ensures { IfOk result (λ step. Takes self.old step self.new) }
     {
         let spot = pass_comma(self.text, self.spot);
-        let (step, behind) = take(alloc, self.text, spot)?;
+        let (step, behind) = take(alloc, self.text, spot, &mut self.scratch)?;
         self.spot = behind;
         Ok(step)
     }
@@ -135,11 +141,11 @@ fn pass_comma_at(text: &str, at: usize) -> Spot
 
 // The token that begins at this spot, and the spot behind it.
 #[inline(always)]
-fn take(alloc: Global, text: &str, spot: Spot) -> Result<(Step, Spot), Stop>
+fn take(alloc: Global, text: &str, spot: Spot, scratch: &mut Vec<u8>) -> Result<(Step, Spot), Stop>
     ensures { IfOk result (λ taken. Leads text.now spot taken.0 taken.1) }
 {
     match byte_at(text, spot.at) {
-        b'"' => take_text(alloc, text, spot),
+        b'"' => take_text(alloc, text, spot, scratch),
         b'{' => Ok((Step::BeginObject, opened(spot)?)),
         b'[' => Ok((Step::BeginArray, opened(spot)?)),
         b'}' => Ok((Step::EndObject, closed(spot)?)),
@@ -195,14 +201,19 @@ fn take_end(text: &str, spot: Spot) -> Result<(Step, Spot), Stop>
 
 // The text that begins at this spot: a key if a colon follows it.
 #[inline(always)]
-fn take_text(alloc: Global, text: &str, spot: Spot) -> Result<(Step, Spot), Stop>
+fn take_text(
+    alloc: Global,
+    text: &str,
+    spot: Spot,
+    scratch: &mut Vec<u8>,
+) -> Result<(Step, Spot), Stop>
     requires { head (drop spot.at text.now) ≡ 34 }
     ensures { IfOk result (λ taken. Leads text.now spot taken.0 taken.1) }
 {
     if !spot.place.may_begin() {
         return Err(Stop::Unknown);
     }
-    let (found, end) = read_text(alloc, text, spot.at + 1)?;
+    let (found, end) = read_text(alloc, text, spot.at + 1, scratch)?;
     let at = after_space(text, end);
     if byte_at(text, at) == b':' {
         let behind = Spot {

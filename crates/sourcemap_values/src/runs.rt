@@ -1,9 +1,10 @@
 //! Runs of plain bytes, those that stand for themselves in a text of JSON.
-ghost use Rattle.std.specs.Prelude.{◌≡◌, ◌+◌, ◌≤◌, length, drop, map};
+ghost use Rattle.std.specs.Prelude.{◌≡◌, ◌+◌, ◌-◌, ◌≤◌, ◌++◌, IfOk, length, take, drop, map};
 ghost use Rattle.std.specs.List.{prefix_len};
 ghost use Rattle.std.specs.Simd.Lanes.{mask_l};
 ghost use Rattle.sourcemap_values.specs.Runs.{is_plain, is_stop};
 
+use std::alloc::AllocError;
 use std::simd::prelude::*;
 
 /// Where the run of plain bytes ends that begins at `from`.
@@ -22,6 +23,32 @@ pub(crate) fn run_end(text: &[u8], from: usize) -> usize
         at += 32;
     }
     run_end_by_bytes(text, at)
+}
+
+/// Puts the run of plain bytes that begins at `from` behind `said`; the answer is where it ends.
+#[inline(always)]
+pub(crate) fn copy_run(said: &mut Vec<u8>, text: &[u8], from: usize) -> Result<usize, AllocError>
+    requires { from ≤ length text.now }
+    ensures value { IfOk result (λ end. end ≡ from + prefix_len is_plain (drop from text.now)) }
+    ensures within { IfOk result (λ end. end ≤ length text.now) }
+    ensures copied { IfOk result
+        (λ end. said.new.items ≡ said.old.items ++ take (end - from) (drop from text.now)) }
+{
+    let mut at = from;
+    while text.len() - at >= 32 {
+        let before = said.len();
+        let stops = stops(u8x32::from_slice(&text[at..]));
+        said.extend_from_slice(&text[at..at + 32])?;
+        if stops != 0 {
+            let plain = stops.trailing_zeros() as usize;
+            said.truncate(before + plain);
+            return Ok(at + plain);
+        }
+        at += 32;
+    }
+    let end = run_end_by_bytes(text, at);
+    said.extend_from_slice(&text[at..end])?;
+    Ok(end)
 }
 
 /// Which of these bytes end a run: a bit for each, the lowest for the first.

@@ -43,7 +43,7 @@ pub fn value_from_slice(alloc: Global, bytes: &[u8]) -> Result<Value, Error>
 fn known(alloc: Global, text: &str) -> Result<Value, Stop>
     ensures { IfOk result (λ v. read_text text.now ≡ Some (view v)) }
 {
-    let mut cursor = Cursor::new(text);
+    let mut cursor = Cursor::new(alloc, text);
     let first = cursor.next(alloc)?;
     let value = read(alloc, first, &mut cursor, MAX_DEPTH)?;
     match cursor.next(alloc)? {

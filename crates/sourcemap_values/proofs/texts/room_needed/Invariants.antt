@@ -1,8 +1,0 @@
-use Rattle.std.proofs.Common.{◌+◌, ◌-◌, ◌<◌, ◌≤◌, length}
-use Rattle.sourcemap_values.proofs.texts.room_needed.Given as goal
-
-abbrev pub invariant-loop-at : goal.invariant-loop-at
-invariant-loop-at l = (l.start < l.at) × (l.at ≤ length l.text + 1)
-
-abbrev pub decreases-loop-at : goal.decreases-loop-at
-decreases-loop-at l = length l.text + 1 - l.at
