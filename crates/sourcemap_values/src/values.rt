@@ -90,6 +90,8 @@ fn read_items(alloc: Global, cursor: &mut Cursor<'_>, depth: usize) -> Result<Ve
     'items: loop {
         let first = cursor.next(alloc)?;
         if let Step::EndArray = first {
+            // what it grew by is of use to the texts behind it
+            found.shrink_to_fit();
             return Ok(found);
         }
         let item = read(alloc, first, cursor, depth)?;

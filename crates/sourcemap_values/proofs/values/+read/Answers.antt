@@ -42,7 +42,8 @@ read-returns t c = λ old taken.
 pub read_items-returns-in-EndArray : goal.read_items-returns-in-EndArray
 read_items-returns-in-EndArray t c =
     let l = c.items in
-    rw in_front-no_items at (l.invariant.2 _ _ (no_more_items c.args.depth l.invariant.0 l.cursor _ l.invariant.1 (rw c.in-EndArray.is at c.in_ok-first.ensures)))
+    let found = rw in_front-no_items at (l.invariant.2 _ _ (no_more_items c.args.depth l.invariant.0 l.cursor _ l.invariant.1 (rw c.in-EndArray.is at c.in_ok-first.ensures))) in
+    rw c.shrink_to_fit.ensures.items (found)
 
 pub read_items-items-smaller : goal.read_items-items-smaller
 read_items-items-smaller t c =
