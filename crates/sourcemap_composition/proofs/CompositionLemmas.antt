@@ -11,7 +11,7 @@ use Rattle.sourcemap_composition.specs.declared.stretches.Stretch.{Stretch}
 use Rattle.sourcemap_composition.specs.declared.stretches.Side.TheVariants.{Original, Adjustment}
 use Rattle.sourcemap_composition.specs.Stretches.{is_before, line_end, source, stretches, stretches_by}
 use Rattle.sourcemap_composition.specs.Composition.{ReachesAhead, composed_all, composition, later_start, overlap, pair, passes_the_line}
-use Rattle.sourcemap_composition.proofs.StretchesLemmas.{IsAt, IsSound, before-chain, drop-past, behind_earlier, not_both_ways}
+use Rattle.sourcemap_composition.proofs.StretchesLemmas.{IsAt, IsSound, before-chain, drop-past, not_both_ways}
 
 -- A pair that overlaps.
 
@@ -56,12 +56,12 @@ none_behind a o (u ∷ us) ends follow =
     let no : overlap a u ≡ false = and_right (is_before a.start u.end) (is_before u.start a.end) (before-chain u.start o.end a.end follow.0 ends) in
     rw (apart a u no) (none_behind a o us ends follow.1)
 
--- an original that ends before an adjustment has no pair with those that follow
-skipped : (a o : Stretch) (bs os : List Stretch) → is_before o.end a.end ≡ true
+-- an original that ends no later than an adjustment has no pair with those that follow
+skipped : (a o : Stretch) (bs os : List Stretch) → is_before a.end o.end ≡ false
     → AllByRecursion (λ (b : Stretch). is_before b.start a.end ≡ false) bs → composed_all bs (o ∷ os) ≡ composed_all bs os
 skipped a o [] os ends follow = refl
 skipped a o (b ∷ bs) os ends follow =
-    let behind : is_before b.start o.end ≡ false = behind_earlier b.start o.end a.end ends follow.0 in
+    let behind : is_before b.start o.end ≡ false = before-chain b.start a.end o.end follow.0 ends in
     let no : overlap b o ≡ false = and_left (is_before b.start o.end) (is_before o.start b.end) behind in
     rw (apart b o no, skipped a o bs os ends follow.1)
 
@@ -77,7 +77,14 @@ first_adjustment a o bs os ends follow = rw (none_behind a o os ends follow, app
 first_original : (a o : Stretch) (bs os : List Stretch) → is_before o.end a.end ≡ true
     → AllByRecursion (λ (b : Stretch). is_before b.start a.end ≡ false) bs
     → composed_all (a ∷ bs) (o ∷ os) ≡ pair a o ++ composed_all (a ∷ bs) os
-first_original a o bs os ends follow = rw (skipped a o bs os ends follow, append_assoc)
+first_original a o bs os ends follow = rw (skipped a o bs os (not_both_ways o.end a.end ends) follow, append_assoc)
+
+first_both : (a o : Stretch) (bs os : List Stretch) → is_before o.end a.end ≡ false → is_before a.end o.end ≡ false
+    → AllByRecursion (λ (u : Stretch). is_before u.start o.end ≡ false) os
+    → AllByRecursion (λ (b : Stretch). is_before b.start a.end ≡ false) bs
+    → composed_all (a ∷ bs) (o ∷ os) ≡ pair a o ++ composed_all bs os
+first_both a o bs os ends ends_too behind follow =
+    first_adjustment a o bs os ends behind ∙ ap (λ tokens. pair a o ++ tokens) (skipped a o bs os ends_too follow)
 
 -- The walk: `done` are the tokens of the pairs behind it.
 
@@ -123,6 +130,13 @@ module _ (S T : List Stretch) (i j : ℕ) (a o : Stretch)
       append_assoc done (pair a o) (composed_all (drop i S) (drop (j + 1) T))
       ∙ ap (λ bs. done ++ (pair a o ++ composed_all bs (drop (j + 1) T))) at_a.here
       ∙ ap (λ tokens. done ++ tokens) (sym (first_original a o (drop (i + 1) S) (drop (j + 1) T) ends at_a.later))
+      ∙ opened
+
+  pub next_both : is_before o.end a.end ≡ false → is_before a.end o.end ≡ false
+      → (done ++ pair a o) ++ composed_all (drop (i + 1) S) (drop (j + 1) T) ≡ all
+  next_both ends ends_too =
+      append_assoc done (pair a o) (composed_all (drop (i + 1) S) (drop (j + 1) T))
+      ∙ ap (λ tokens. done ++ tokens) (sym (first_both a o (drop (i + 1) S) (drop (j + 1) T) ends ends_too at_o.later at_a.later))
       ∙ opened
 
   -- a token of this pair is one of all

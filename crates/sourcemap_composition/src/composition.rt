@@ -67,9 +67,15 @@ fn walk(alloc: Global, adjustments: &[RawToken], originals: &[RawToken]) -> Resu
         if is_before(o.end, a.end) {
             at_original += 1;
             original = stretch_at(Side::Original, originals, at_original);
-        } else {
+        } else if is_before(a.end, o.end) {
             at_adjustment += 1;
             adjustment = stretch_at(Side::Adjustment, adjustments, at_adjustment);
+        } else {
+            // most end together, and what follows either starts where the other ends, or later
+            at_adjustment += 1;
+            at_original += 1;
+            adjustment = stretch_at(Side::Adjustment, adjustments, at_adjustment);
+            original = stretch_at(Side::Original, originals, at_original);
         }
     }
     Ok(tokens)

@@ -1,5 +1,5 @@
 //! The positions that each token of a sorted list covers.
-ghost use Rattle.std.specs.Prelude.{◌≡◌, ◌<◌, Ok, Some, IsSortedByKey, IsTrue, length, slice_get};
+ghost use Rattle.std.specs.Prelude.{◌≡◌, ◌<◌, ◌+◌, ◌*◌, Ok, Some, IsSortedByKey, IsTrue, length, slice_get};
 ghost use Rattle.sourcemap_errors.specs.Answer.{Gives};
 ghost use Rattle.sourcemap_lists.specs.Tokens.{position_cmp, sorted_by};
 ghost use Rattle.sourcemap_composition.specs.Stretches.{copy_or, earlier, is_before, place_by, stretches};
@@ -41,11 +41,18 @@ pub(crate) fn place_by(side: Side, token: &RawToken) -> (u32, u32)
     }
 }
 
+// A position as one number, so that two are compared without a branch.
+fn number_of(p: (u32, u32)) -> u64
+    ensures { result ≡ 4294967296 * p.0 + p.1 }
+{
+    4294967296 * u64::from(p.0) + u64::from(p.1)
+}
+
 // Whether a position comes before another, line first.
 pub(crate) fn is_before(p: (u32, u32), q: (u32, u32)) -> bool
     ensures { result ≡ is_before p q }
 {
-    p.0 < q.0 || (p.0 == q.0 && p.1 < q.1)
+    number_of(p) < number_of(q)
 }
 
 // The first of two positions.

@@ -6,7 +6,7 @@ use Rattle.sourcemap_lists.specs.Tokens.{destination}
 use Rattle.sourcemap_composition.specs.Composition.{composed_all, pair, passes_the_line}
 use Rattle.sourcemap_composition.specs.Stretches.{source, stretches}
 use Rattle.sourcemap_composition.proofs.StretchesLemmas.{sound_at, stretch_place, stretch_within}
-use Rattle.sourcemap_composition.proofs.CompositionLemmas.{length-pair, next_adjustment, next_original, none-append, passes_of_all, reaches_ahead, walked_all}
+use Rattle.sourcemap_composition.proofs.CompositionLemmas.{length-pair, next_adjustment, next_both, next_original, none-append, passes_of_all, reaches_ahead, walked_all}
 use Rattle.sourcemap_composition.proofs.composition.walk.Goals as goal
 use Rattle.sourcemap_composition.proofs.composition.walk.Goals.{in_default, in_default-2}
 
@@ -38,6 +38,12 @@ loop-adjustment-smaller-then-is_before c =
     let within = stretch_within destination c.args.originals.now state.at_original c.in-Some-Some.o (sym state.invariant.original ∙ c.in-Some-Some.is-1) in
     omega (arith, within)
 
+pub loop-adjustment-smaller-then-is_before-2 : goal.loop-adjustment-smaller-then-is_before-2
+loop-adjustment-smaller-then-is_before-2 c =
+    let state = c.loop-adjustment in
+    let within = stretch_within source c.args.adjustments.now state.at_adjustment c.in-Some-Some.a (sym state.invariant.adjustment ∙ c.in-Some-Some.is-0) in
+    omega (arith, within)
+
 pub loop-adjustment-smaller : goal.loop-adjustment-smaller
 loop-adjustment-smaller c =
     let state = c.loop-adjustment in
@@ -66,8 +72,8 @@ loop-adjustment-preserved-then-is_before c =
       few = rw pushed (omega arith);
     }
 
-pub loop-adjustment-preserved : goal.loop-adjustment-preserved
-loop-adjustment-preserved c =
+pub loop-adjustment-preserved-then-is_before-2 : goal.loop-adjustment-preserved-then-is_before-2
+loop-adjustment-preserved-then-is_before-2 c =
     let state = c.loop-adjustment in
     let a = c.in-Some-Some.a in
     let o = c.in-Some-Some.o in
@@ -78,12 +84,35 @@ loop-adjustment-preserved c =
     let pushed = c.in_ok-push_pair.ensures.pushed in
     let few = length-pair done a o in
     record {
-      adjustment = c.stretch_at-adjustment-else-is_before.ensures;
+      adjustment = c.stretch_at-adjustment-then-is_before-2.ensures;
       original = state.invariant.original;
       in_adjustments = stretch_within source c.args.adjustments.now state.at_adjustment a here;
       in_originals = state.invariant.in_originals;
       so_far = rw pushed (next_adjustment (stretches source c.args.adjustments.now) (stretches destination c.args.originals.now) state.at_adjustment state.at_original a o at_a at_o done _ state.invariant.so_far
           (sym c.is_before.ensures ∙ c.if-is_before.false));
+      within = rw pushed (none-append passes_the_line done (pair a o) state.invariant.within c.in_ok-push_pair.ensures.within);
+      few = rw pushed (omega arith);
+    }
+
+pub loop-adjustment-preserved : goal.loop-adjustment-preserved
+loop-adjustment-preserved c =
+    let state = c.loop-adjustment in
+    let a = c.in-Some-Some.a in
+    let o = c.in-Some-Some.o in
+    let here : slice_get (stretches source c.args.adjustments.now) state.at_adjustment ≡ Some a = sym state.invariant.adjustment ∙ c.in-Some-Some.is-0 in
+    let here_too : slice_get (stretches destination c.args.originals.now) state.at_original ≡ Some o = sym state.invariant.original ∙ c.in-Some-Some.is-1 in
+    let at_a = stretch_place source c.args.adjustments.now state.at_adjustment a c.requires.adjustments here in
+    let at_o = stretch_place destination c.args.originals.now state.at_original o c.requires.originals here_too in
+    let done = state.tokens.items in
+    let pushed = c.in_ok-push_pair.ensures.pushed in
+    let few = length-pair done a o in
+    record {
+      adjustment = c.stretch_at-adjustment-else-is_before-2.ensures;
+      original = c.stretch_at-original-else-is_before-2.ensures;
+      in_adjustments = stretch_within source c.args.adjustments.now state.at_adjustment a here;
+      in_originals = stretch_within destination c.args.originals.now state.at_original o here_too;
+      so_far = rw pushed (next_both (stretches source c.args.adjustments.now) (stretches destination c.args.originals.now) state.at_adjustment state.at_original a o at_a at_o done _ state.invariant.so_far
+          (sym c.is_before.ensures ∙ c.if-is_before.false) (sym c.is_before-else-is_before.ensures ∙ c.if-is_before-2.false));
       within = rw pushed (none-append passes_the_line done (pair a o) state.invariant.within c.in_ok-push_pair.ensures.within);
       few = rw pushed (omega arith);
     }
