@@ -105,7 +105,9 @@ impl<'a> Cursor<'a> {
     {
         let spot = pass_comma(self.text, self.spot);
         let (step, behind) = take(alloc, self.text, spot, &mut self.scratch)?;
-        self.spot = behind;
+        // Field by field, so that the bytes between them are not copied, which takes longer.
+        self.spot.at = behind.at;
+        self.spot.place = behind.place;
         Ok(step)
     }
 }
