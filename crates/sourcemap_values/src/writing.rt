@@ -1,5 +1,5 @@
 //! JSON values to their compact texts. The kit's writer answers for a value that holds a fraction.
-ghost use Rattle.std.specs.Prelude.{◌≡◌, ◌≤◌, ◌++◌, ◌∷◌, [], Some, false, IfOk, IfSome, OnOk, int_lt, pos, FitsSigned};
+ghost use Rattle.std.specs.Prelude.{◌≡◌, ◌≤◌, ◌++◌, ◌∷◌, [], Some, false, IfOk, IfSome, OnOk, int_lt, pos, FitsSigned, IsUtf8};
 ghost use Rattle.std.specs.Int.{w64};
 ghost use Rattle.serde_json.specs.Data.{depth};
 ghost use Rattle.serde_json.specs.Read.{read, max_depth};
@@ -17,6 +17,7 @@ use std::alloc::{AllocError, Global};
 pub fn value_to_vec(alloc: Global, value: &Value) -> Result<Vec<u8>, AllocError>
     ensures text { IfOk result (λ b. has_float (view value.now) ≡ false
         → b.items ≡ compact_text (view value.now)) }
+    ensures utf8 { IfOk result (λ b. IsUtf8 b.items) }
     ensures reads_back { IfOk result (λ b. depth (view value.now) ≤ max_depth
         → read b.items ≡ Some (view value.now)) }
 {
@@ -34,7 +35,8 @@ fn room_for(value: &Value) -> Option<usize>
     ensures { IfSome result (λ _. IsPlainValue (view value.now)) }
 {
     match value {
-        Value::Null | Value::Bool(_) => Some(6),
+        Value::Null => Some(5),
+        Value::Bool(_is_true) => Some(6),
         Value::Number(number) => room_for_number(number),
         Value::String(text) => Some(room_for_text(text)),
         Value::Array(items) => room_for_items(items),
