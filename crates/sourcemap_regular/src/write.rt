@@ -14,6 +14,7 @@ use crate::encode::Encodable;
 use crate::map::SourceMap;
 use sourcemap_errors::errors::Result;
 use sourcemap_headers::data_url::data_url;
+use sourcemap_values::writing::value_to_vec;
 use std::alloc::Global;
 use std::io::Write;
 
@@ -23,7 +24,7 @@ fn text_of<M: Encodable>(alloc: Global, map: &M) -> Result<Vec<u8>>
     ensures fault { IfErr result (λ e. UnlessMemory e (M.encodes map.now (Err e))) }
 {
     let value = map.as_raw_sourcemap()?.into_value(alloc)?;
-    Ok(value.to_vec(alloc)?)
+    Ok(value_to_vec(alloc, &value)?)
 }
 
 /// Writes the compact JSON text of the record that the map is written as, to a writer that is

@@ -6,3 +6,5 @@ mod EscapeLemmas
 mod RunLemmas
 mod TextLemmas
 mod Turns
+mod QuoteLemmas
+mod WritingLemmas

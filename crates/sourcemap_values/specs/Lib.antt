@@ -3,3 +3,4 @@ pub mod Cursor
 pub mod Runs
 pub mod Texts
 pub mod Values
+pub mod Writing

@@ -4,8 +4,10 @@
 mod bytes;
 mod cursor;
 mod escapes;
+mod quoting;
 mod runs;
 mod stop;
 mod texts;
 pub mod values;
 mod words;
+pub mod writing;

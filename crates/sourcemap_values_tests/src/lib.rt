@@ -16,3 +16,5 @@ mod nesting;
 mod structures;
 #[cfg(test)]
 mod texts;
+#[cfg(test)]
+mod written;

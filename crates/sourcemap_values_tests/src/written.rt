@@ -1,0 +1,125 @@
+// The texts that values are written to.
+use crate::answers::check;
+use serde_json::{Result, Value};
+use sourcemap_values::writing::value_to_vec;
+use std::alloc::Global;
+use std::str::from_utf8;
+
+// A text, and how it stands in JSON.
+const TEXTS: [(&str, &str); 14] = [
+    ("", r#""""#),
+    ("plain", r#""plain""#),
+    ("\"", r#""\"""#),
+    ("\\", r#""\\""#),
+    ("/'", r#""/'""#),
+    ("\u{8}\t\n\u{c}\r", r#""\b\t\n\f\r""#),
+    ("\u{0}\u{1}\u{7}", r#""\u0000\u0001\u0007""#),
+    (
+        "\u{b}\u{e}\u{10}\u{1a}\u{1f}",
+        r#""\u000b\u000e\u0010\u001a\u001f""#,
+    ),
+    (" \u{7f}", "\" \u{7f}\""),
+    ("é€😀", r#""é€😀""#),
+    ("\né\n€\n😀\n", r#""\né\n€\n😀\n""#),
+    ("a\"b\\c\nd", r#""a\"b\\c\nd""#),
+    (
+        "exactly thirty-two plain bytes..\t",
+        r#""exactly thirty-two plain bytes..\t""#,
+    ),
+    (
+        "thirty bytes, then three more €\"",
+        r#""thirty bytes, then three more €\"""#,
+    ),
+];
+
+// A JSON text, and how its value is written.
+const VALUES: [(&str, &str); 20] = [
+    ("null", "null"),
+    ("true", "true"),
+    ("false", "false"),
+    ("0", "0"),
+    ("18446744073709551615", "18446744073709551615"),
+    ("-1", "-1"),
+    ("-9223372036854775808", "-9223372036854775808"),
+    ("1.5", "1.5"),
+    ("-0", "-0.0"),
+    ("[ ]", "[]"),
+    ("{ }", "{}"),
+    ("[[], {}, [[]]]", "[[],{},[[]]]"),
+    ("[1, -2, 3]", "[1,-2,3]"),
+    (r#"[null, true, false, "a"]"#, r#"[null,true,false,"a"]"#),
+    (r#"{"a": 1}"#, r#"{"a":1}"#),
+    (
+        r#"{"b": [1, {"d": null}], "a\n": {"": {}}, "c": "x\ty"}"#,
+        r#"{"a\n":{"":{}},"b":[1,{"d":null}],"c":"x\ty"}"#,
+    ),
+    (
+        r#"["a\n", 0.25, {"b": "\""}]"#,
+        r#"["a\n",0.25,{"b":"\""}]"#,
+    ),
+    (r#"{"a": {"b": [1e300]}}"#, r#"{"a":{"b":[1e+300]}}"#),
+    ("[18446744073709551616]", "[1.8446744073709552e+19]"),
+    ("[[[[[[[[7]]]]]]]]", "[[[[[[[[7]]]]]]]]"),
+];
+
+// Lengths of runs about those of the blocks that are copied.
+const LENGTHS: [usize; 9] = [0, 1, 15, 31, 32, 33, 63, 64, 65];
+
+fn written(alloc: Global, value: &Value) -> Result<String> {
+    let bytes = value_to_vec(alloc, value)?;
+    match from_utf8(bytes.as_slice()) {
+        Ok(text) => Ok(String::from_str(alloc, text)?),
+        Err(_) => Ok(String::from_str(alloc, "no UTF-8")?),
+    }
+}
+
+// So many of this text, then `between`, then as many again, with `around` at both ends.
+fn two_runs(alloc: Global, run: &str, len: usize, between: &str, around: &str) -> Result<String> {
+    let mut text = String::from_str(alloc, around)?;
+    for part in [run, between, run].iter() {
+        let times = if *part == between { 1 } else { len };
+        for _ in 0..times {
+            text.push_str(part)?;
+        }
+    }
+    text.push_str(around)?;
+    Ok(text)
+}
+
+#[test]
+fn texts(rt: HostRuntime) -> Result<()> {
+    for (text, want) in TEXTS.iter() {
+        let value = Value::String(String::from_str(rt.alloc(), text)?);
+        check(&rt, want, written(rt.alloc(), &value), want);
+    }
+    Ok(())
+}
+
+#[test]
+fn values(rt: HostRuntime) -> Result<()> {
+    for (text, want) in VALUES.iter() {
+        let value = Value::from_str(rt.alloc(), text)?;
+        check(&rt, want, written(rt.alloc(), &value), want);
+    }
+    Ok(())
+}
+
+#[test]
+fn runs(rt: HostRuntime) -> Result<()> {
+    for len in LENGTHS.iter() {
+        for (run, byte, escape) in [
+            ("a", "\n", "\\n"),
+            ("é", "\"", "\\\""),
+            ("€", "\\\t", "\\\\\\t"),
+            ("😀", "\u{1f}", "\\u001f"),
+        ]
+        .iter()
+        {
+            let text = two_runs(rt.alloc(), run, *len, byte, "")?;
+            let want = two_runs(rt.alloc(), run, *len, escape, "\"")?;
+            let answer = written(rt.alloc(), &Value::String(text));
+            check(&rt, want.as_str(), answer, want.as_str());
+        }
+    }
+    Ok(())
+}
