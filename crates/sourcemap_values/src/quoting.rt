@@ -1,11 +1,20 @@
 //! Texts in quotes: runs of plain bytes, and an escape for each byte that ends one.
-ghost use Rattle.std.specs.Prelude.{◌≡◌, ◌<◌, ◌++◌, true, OnOk};
+ghost use Rattle.std.specs.Prelude.{◌≡◌, ◌<◌, ◌≤◌, ◌+◌, [], ◌∷◌, ◌++◌, true, length, take, IfOk, OnOk};
+ghost use Rattle.json.specs.Filled.{Placed};
 ghost use Rattle.json.specs.Print.{escape_byte, escape_letter, quoted};
 ghost use Rattle.std.specs.Char.{digit_char};
+ghost use Rattle.sourcemap_values.specs.Quoting.{IsPutUpTo};
 ghost use Rattle.sourcemap_values.specs.Runs.{is_stop};
 
-use crate::runs::copy_run;
+use crate::runs::{copy_run, stops};
 use std::alloc::AllocError;
+use std::simd::prelude::*;
+
+// A text that is longer has room made ready for it.
+const LONG: usize = 1024;
+
+// As much room is made ready at once.
+static ROOM: [u8; 4096] = [0; 4096];
 
 // The letters of the short escapes of control bytes, and 0 where one has none.
 const LETTERS: [u8; 32] = [
@@ -19,8 +28,12 @@ pub(crate) fn put_quoted(out: &mut Vec<u8>, text: &[u8]) -> Result<(), AllocErro
 {
     out.push(b'"')?;
     let mut at = 0;
+    let mut is_wanted = true;
     loop {
-        let end = copy_run(out, text, at)?;
+        let from = put_blocks(out, text, at, is_wanted)?;
+        // room is made ready no more where bytes that are escaped by their code stand close
+        is_wanted = from - at > LONG;
+        let end = copy_run(out, text, from)?;
         if end == text.len() {
             break;
         }
@@ -29,6 +42,93 @@ pub(crate) fn put_quoted(out: &mut Vec<u8>, text: &[u8]) -> Result<(), AllocErro
     }
     out.push(b'"')?;
     Ok(())
+}
+
+// Puts what stands for a long text from a place on, into room that is made ready for many bytes at
+// once. The answer is how far it came, which may be no further.
+#[inline(always)]
+fn put_blocks(
+    out: &mut Vec<u8>,
+    text: &[u8],
+    from: usize,
+    is_wanted: bool,
+) -> Result<usize, AllocError>
+    requires { from ≤ length text.now }
+    ensures within { IfOk result (λ at. at ≤ length text.now) }
+    ensures forward { IfOk result (λ at. from ≤ at) }
+    ensures put { IfOk result (λ at. IsPutUpTo out.old.items text.now from out.new.items at) }
+{
+    if !is_wanted | (text.len() - from <= LONG) {
+        return Ok(from);
+    }
+    let start = out.len();
+    out.extend_from_slice(&ROOM)?;
+    let (to, at) = fill(out.as_mut_slice(), start, text, from);
+    out.truncate(to);
+    Ok(at)
+}
+
+// Fills the room behind `start` with what stands for a text from a place on, as long as there is
+// room and no byte stands that is escaped by its code. The answer is how far each came.
+fn fill(room: &mut [u8], start: usize, text: &[u8], from: usize) -> (usize, usize)
+    requires { (start ≤ length room.old) × (from ≤ length text.now) }
+    ensures to_within { result.0 ≤ length room.new }
+    ensures within { result.1 ≤ length text.now }
+    ensures forward { from ≤ result.1 }
+    ensures put { IsPutUpTo (take start room.old) text.now from (take result.0 room.new) result.1 }
+{
+    let mut to = start;
+    let mut at = from;
+    while text.len() - at > 32 {
+        if room.len() - to < 34 {
+            return (to, at);
+        }
+        let stops = stops(u8x32::from_slice(&text[at..]));
+        place_block(room, to, &text[at..]);
+        if stops == 0 {
+            to += 32;
+            at += 32;
+            continue;
+        }
+        let plain = stops.trailing_zeros() as usize;
+        to += plain;
+        at += plain;
+        let letter = letter(text[at]);
+        if letter == 0 {
+            return (to, at);
+        }
+        place_pair(room, to, letter);
+        to += 2;
+        at += 1;
+    }
+    (to, at)
+}
+
+// The first 32 bytes are one load and one store.
+#[inline(always)]
+fn place_block(room: &mut [u8], to: usize, text: &[u8])
+    requires { (32 ≤ length text.now) × (to + 32 ≤ length room.old) }
+    ensures { Placed room.old room.new to (take 32 text.now) (to + 32) }
+{
+    u8x32::from_slice(text).copy_to_slice(&mut room[to..]);
+}
+
+// A backslash and a letter.
+#[inline(always)]
+fn place_pair(room: &mut [u8], to: usize, letter: u8)
+    requires { to + 2 ≤ length room.old }
+    ensures { Placed room.old room.new to (92 ∷ letter ∷ []) (to + 2) }
+{
+    place_byte(room, to, b'\\');
+    place_byte(room, to + 1, letter);
+}
+
+#[inline(always)]
+fn place_byte(room: &mut [u8], to: usize, byte: u8)
+    requires { to < length room.old }
+    ensures { Placed room.old room.new to (byte ∷ []) (to + 1) }
+{
+    room[to] = byte;
 }
 
 // Puts what stands for a byte that does not stand for itself.

@@ -53,7 +53,7 @@ pub(crate) fn copy_run(said: &mut Vec<u8>, text: &[u8], from: usize) -> Result<u
 
 /// Which of these bytes end a run: a bit for each, the lowest for the first.
 #[inline(always)]
-fn stops(bytes: u8x32) -> u64
+pub(crate) fn stops(bytes: u8x32) -> u64
     ensures { result ≡ mask_l (map is_stop bytes) }
 {
     let quotes = bytes.simd_eq(u8x32::splat(b'"'));

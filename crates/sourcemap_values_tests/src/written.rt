@@ -63,7 +63,7 @@ const VALUES: [(&str, &str); 20] = [
 ];
 
 // Lengths of runs about those of the blocks that are copied.
-const LENGTHS: [usize; 9] = [0, 1, 15, 31, 32, 33, 63, 64, 65];
+const LENGTHS: [usize; 11] = [0, 1, 15, 31, 32, 33, 63, 64, 65, 1100, 5000];
 
 fn written(alloc: Global, value: &Value) -> Result<String> {
     let bytes = value_to_vec(alloc, value)?;
