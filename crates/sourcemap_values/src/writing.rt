@@ -12,6 +12,12 @@ use itoa::Buffer;
 use serde_json::{Map, Number, Value};
 use std::alloc::{AllocError, Global};
 
+// A text that is longer gains as much as it is long, a shorter one loses as much as so many bytes
+// of a longer one gain.
+const LONG: usize = 1024;
+
+const LOSS: i64 = -128;
+
 /// The compact JSON text of a value, as the kit's `to_vec` answers it, and faster where texts have
 /// escapes. Only want of memory refuses.
 pub fn value_to_vec(alloc: Global, value: &Value) -> Result<Vec<u8>, AllocError>
@@ -21,12 +27,54 @@ pub fn value_to_vec(alloc: Global, value: &Value) -> Result<Vec<u8>, AllocError>
     ensures reads_back { IfOk result (λ b. depth (view value.now) ≤ max_depth
         → read b.items ≡ Some (view value.now)) }
 {
+    if gain_of(value) <= 0 {
+        return value.to_vec(alloc);
+    }
     let Some(room) = room_for(value) else {
         return value.to_vec(alloc);
     };
     let mut out = Vec::with_capacity(alloc, room)?;
     put_value(&mut out, value)?;
     Ok(out)
+}
+
+/// What the walk below gains on the kit's writer, which is slower where long texts have escapes, and
+/// faster at short texts.
+#[cycle(gain)]
+fn gain_of(value: &Value) -> i64 {
+    match value {
+        Value::Null | Value::Bool(_) | Value::Number(_) => 0,
+        Value::String(text) => gain_of_text(text),
+        Value::Array(items) => gain_of_items(items),
+        Value::Object(members) => gain_of_members(members),
+    }
+}
+
+#[cycle(gain)]
+fn gain_of_items(items: &Vec<Value>) -> i64 {
+    let mut gain: i64 = 0;
+    for item in items {
+        gain = gain.saturating_add(gain_of(item));
+    }
+    gain
+}
+
+#[cycle(gain)]
+fn gain_of_members(members: &Map<String, Value>) -> i64 {
+    let mut gain: i64 = 0;
+    for (key, member) in members.iter() {
+        gain = gain.saturating_add(gain_of_text(key));
+        gain = gain.saturating_add(gain_of(member));
+    }
+    gain
+}
+
+fn gain_of_text(text: &String) -> i64 {
+    let len = text.len();
+    if len > LONG {
+        return i64::try_from(len).unwrap_or(i64::MAX);
+    }
+    LOSS
 }
 
 /// About as many bytes as the text of a value takes; none where the value holds a fraction.
