@@ -2,7 +2,9 @@
 use crate::answers::check;
 use serde_json::{Result, Value};
 use sourcemap_values::writing::value_to_vec;
-use std::alloc::Global;
+use std::alloc::{AllocError, Global};
+use std::process::Abort;
+use std::result::Result as StdResult;
 use std::str::from_utf8;
 
 // A text, and how it stands in JSON.
@@ -73,6 +75,29 @@ fn written(alloc: Global, value: &Value) -> Result<String> {
     }
 }
 
+fn pair(alloc: Global, first: Value, second: Value) -> StdResult<Value, AllocError> {
+    let mut items = Vec::new(alloc);
+    items.push(first)?;
+    items.push(second)?;
+    Ok(Value::Array(items))
+}
+
+// Checks how a value is written: alone, which the kit's writer may answer, and beside a long text.
+fn check_written(rt: &impl Abort, alloc: Global, value: Value, want: &str) -> Result<()> {
+    check(rt, want, written(alloc, &value), want);
+    let mut long = String::new(alloc);
+    for _ in 0..4096 {
+        long.push('x')?;
+    }
+    let mut wanted = String::from_str(alloc, "[")?;
+    for part in [want, ",\"", long.as_str(), "\"]"].iter() {
+        wanted.push_str(part)?;
+    }
+    let answer = written(alloc, &pair(alloc, value, Value::String(long))?);
+    check(rt, want, answer, wanted.as_str());
+    Ok(())
+}
+
 // So many of this text, then `between`, then as many again, with `around` at both ends.
 fn two_runs(alloc: Global, run: &str, len: usize, between: &str, around: &str) -> Result<String> {
     let mut text = String::from_str(alloc, around)?;
@@ -90,7 +115,7 @@ fn two_runs(alloc: Global, run: &str, len: usize, between: &str, around: &str) -
 fn texts(rt: HostRuntime) -> Result<()> {
     for (text, want) in TEXTS.iter() {
         let value = Value::String(String::from_str(rt.alloc(), text)?);
-        check(&rt, want, written(rt.alloc(), &value), want);
+        check_written(&rt, rt.alloc(), value, want)?;
     }
     Ok(())
 }
@@ -99,7 +124,7 @@ fn texts(rt: HostRuntime) -> Result<()> {
 fn values(rt: HostRuntime) -> Result<()> {
     for (text, want) in VALUES.iter() {
         let value = Value::from_str(rt.alloc(), text)?;
-        check(&rt, want, written(rt.alloc(), &value), want);
+        check_written(&rt, rt.alloc(), value, want)?;
     }
     Ok(())
 }
@@ -117,8 +142,7 @@ fn runs(rt: HostRuntime) -> Result<()> {
         {
             let text = two_runs(rt.alloc(), run, *len, byte, "")?;
             let want = two_runs(rt.alloc(), run, *len, escape, "\"")?;
-            let answer = written(rt.alloc(), &Value::String(text));
-            check(&rt, want.as_str(), answer, want.as_str());
+            check_written(&rt, rt.alloc(), Value::String(text), want.as_str())?;
         }
     }
     Ok(())
