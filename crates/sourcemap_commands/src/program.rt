@@ -19,6 +19,7 @@ use crate::hermes::rewritten_hermes;
 use crate::regular::{adjusted, flattened, rewritten};
 use sourcemap::decoder::decode_vec;
 use sourcemap::{DecodedMap, Error, Result, SourceMap, SourceMapHermes, SourceMapIndex, Token};
+use sourcemap_printing::writing::value_to_string;
 use sourcemap_records::bytes::read_all;
 use std::alloc::Global;
 use std::fs;
@@ -224,7 +225,7 @@ fn json_line(alloc: Global, map: DecodedMap) -> Result<String>
         (λ e. e ≡ OutOfMemory) }
 {
     let value = map.into_value()?;
-    let mut text = value.to_string(alloc)?;
+    let mut text = value_to_string(alloc, &value)?;
     text.push('\n')?;
     Ok(text)
 }

@@ -14,7 +14,7 @@ use crate::encode::Encodable;
 use crate::map::SourceMap;
 use sourcemap_errors::errors::Result;
 use sourcemap_headers::data_url::data_url;
-use sourcemap_values::writing::value_to_vec;
+use sourcemap_printing::writing::value_to_vec;
 use std::alloc::Global;
 use std::io::Write;
 

@@ -1,16 +1,16 @@
 -- What the escapes in a text say.
-use Rattle.std.proofs.Common.{◌≡◌, ◌≢◌, ℕ, zero, suc, ◌+◌, ◌*◌, ◌<◌, Bool, true, false, ◌&&◌, cond, List, [], ◌∷◌, ◌++◌, length, drop, get_or, Option, Some, None, option_and_then, refl, sym, ap, ap₂, ◌∙◌, subst, arith, lit<, lt_of_not-le}
+use Rattle.std.proofs.Common.{◌≡◌, ◌≢◌, ℕ, ◌+◌, ◌*◌, ◌<◌, Bool, true, false, ◌&&◌, cond, List, [], ◌∷◌, length, drop, get_or, Option, Some, None, option_and_then, refl, sym, ap, ap₂, ◌∙◌, subst, arith, lt_of_not-le}
 use Rattle.std.proofs.lemmas.List.{drop_more, get_or_past, get_or_default}
 use Rattle.std.proofs.lemmas.Bool.{and_parts, ne_eqb, lt-ltb, false≢true}
 use Rattle.std.proofs.lemmas.Bool.Decides.{nat_tests}
 use Rattle.std.proofs.lemmas.Option.{none-some}
-use Rattle.std.proofs.lemmas.Str.{IsCharBoundary-after_ascii, IsUtf8-from_ascii}
+use Rattle.std.proofs.lemmas.Str.{IsCharBoundary-after_ascii}
 use Rattle.std.specs.Char.{digit_value, is_digit, encode_utf8, InScalarRange}
-use Rattle.std.specs.Str.{IsAscii, IsUtf8, IsCharBoundary}
+use Rattle.std.specs.Str.{IsUtf8, IsCharBoundary}
 use Rattle.json.specs.Text.{code_unit, short_escape, is_high_surrogate, is_low_surrogate, surrogate_pair, content, plain, after_u, after_high, prepend}
 use Rattle.json.specs.Lex.{in_string, lex}
 use Rattle.sourcemap_values.specs.Runs.{is_plain}
-use Rattle.sourcemap_values.specs.Texts.{Adds, Says, SpellsUnit}
+use Rattle.sourcemap_values.specs.Texts.{Says, SpellsUnit}
 use Rattle.sourcemap_values.proofs.TextLemmas.{Says-plain}
 
 -- ---- two bytes
@@ -32,33 +32,17 @@ pub escape_within : (text : List ℕ) (at c : ℕ) → short_escape (get_or text
 unfolding short_escape
 escape_within text at c is = lt_of_not-le (λ past. refuses (get_or text (at + 1) 32) 32 c refl is (get_or_past text (at + 1) 32 past))
 
-drop_next : (text : List ℕ) (at next : ℕ) → next ≡ at + 1 → at < length text → drop at text ≡ get_or text at 32 ∷ drop next text
+pub drop_next : (text : List ℕ) (at next : ℕ) → next ≡ at + 1 → at < length text → drop at text ≡ get_or text at 32 ∷ drop next text
 drop_next text at next is within = drop_more text at 32 within ∙ ap (λ k. get_or text at 32 ∷ drop k text) (sym is)
+
+pub escape_there : (text : List ℕ) (at c : ℕ) → get_or text at 32 ≡ 92 → short_escape (get_or text (at + 1) 32) ≡ Some c → drop at text ≡ 92 ∷ get_or text (at + 1) 32 ∷ drop (at + 2) text
+escape_there text at c slash is =
+    let within = escape_within text at c is in
+    drop_next text at (at + 1) refl (omega arith) ∙ ap₂ (λ x xs. x ∷ xs) slash (drop_next text (at + 1) (at + 2) (omega arith) within)
 
 pub Says-escape : (text : List ℕ) (at c : ℕ) → get_or text at 32 ≡ 92 → short_escape (get_or text (at + 1) 32) ≡ Some c → Says (drop at text) (c ∷ []) (drop (at + 2) text)
 Says-escape text at c slash is =
-    let within = escape_within text at c is in
-    let both : drop at text ≡ 92 ∷ get_or text (at + 1) 32 ∷ drop (at + 2) text =
-    drop_next text at (at + 1) refl (omega arith) ∙ ap₂ (λ x xs. x ∷ xs) slash (drop_next text (at + 1) (at + 2) (omega arith) within) in
-    subst (λ before. Says before (c ∷ []) (drop (at + 2) text)) (sym both) (escape_bytes (get_or text (at + 1) 32) c (drop (at + 2) text) is)
-
-one_ascii : (c : ℕ) → c < 128 → IsAscii (c ∷ [])
-one_ascii c small zero = small
-one_ascii c small (suc i) = lit< tt
-
-pub short_adds : (text before after : List ℕ) (at c : ℕ) → IsUtf8 text → get_or text at 32 ≡ 92 → short_escape (get_or text (at + 1) 32) ≡ Some c → c < 128 → get_or text (at + 1) 32 < 128
-    → after ≡ before ++ c ∷ [] → Adds text at before after (at + 2)
-short_adds text before after at c utf8 slash is small low appended =
-    let within = escape_within text at c is in
-    let next : at + 1 + 1 ≡ at + 2 = omega arith in
-    record {
-      added = c ∷ [];
-      appended = appended;
-      utf8 = IsUtf8-from_ascii (c ∷ []) (one_ascii c small);
-      says = Says-escape text at c slash is;
-      boundary = subst (IsCharBoundary text) next (IsCharBoundary-after_ascii text (at + 1) utf8 within (omega (arith, get_or_default text (at + 1) 0 32 within)));
-      forward = omega arith;
-    }
+    subst (λ before. Says before (c ∷ []) (drop (at + 2) text)) (sym (escape_there text at c slash is)) (escape_bytes (get_or text (at + 1) 32) c (drop (at + 2) text) is)
 
 -- ---- four digits
 

@@ -3,8 +3,7 @@ mod Lexemes
 mod Numerals
 mod Tokens
 mod EscapeLemmas
+mod ReadLemmas
 mod RunLemmas
 mod TextLemmas
 mod Turns
-mod QuoteLemmas
-mod WritingLemmas

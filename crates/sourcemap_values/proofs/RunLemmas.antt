@@ -1,7 +1,7 @@
 -- Runs of plain bytes, found a vector at a time by the mask of the bytes that end them.
-use Rattle.std.proofs.Common.{◌≡◌, ℕ, suc, ◌+◌, ◌*◌, ◌%◌, ◌^◌, ◌<◌, ◌≤◌, Bool, true, false, not, ◌||◌, cond, eqb, ltb, List, [], ◌∷◌, ◌++◌, ◌-◌, map, replicate, length, take, drop, refl, sym, ap, ◌∙◌, arith, take-add}
+use Rattle.std.proofs.Common.{◌≡◌, ℕ, zero, suc, ◌+◌, ◌*◌, ◌/◌, ◌%◌, ◌^◌, ◌<◌, ◌≤◌, Bool, true, false, not, ◌||◌, cond, eqb, ltb, List, [], ◌∷◌, ◌++◌, ◌-◌, map, replicate, length, take, drop, refl, sym, ap, ◌∙◌, arith, take-add}
 use Rattle.std.proofs.lemmas.Simd.{chunk-drop, length-chunk, leading_from_mask_l, trailing_mask_l, zip2_splat, zip2_of_maps, map-map, mask_l-mod}
-use Rattle.std.proofs.lemmas.List.{append_assoc, drop-drop, length-drop, length-map, take-take}
+use Rattle.std.proofs.lemmas.List.{append_assoc, drop-drop, drop-map, length-drop, length-map, take-take}
 use Rattle.std.proofs.lemmas.List.Folds.{prefix_len-append}
 use Rattle.std.proofs.lemmas.List.Sums.{prefix_len-le-length}
 use Rattle.std.proofs.lemmas.Bool.{eq-eqb, ne_eqb}
@@ -11,6 +11,7 @@ use lib.Bits.{bit_or}
 use lib.Lanes.{chunk, mask_l, top, zip2}
 use lib.Count.{count_trailing_zeros}
 use lib.Seq.{take-append-add}
+use native.Mathlib.Nat.{pow-suc, mul_comm, zero-div, div-one, div-div-eq-div-mul}
 
 -- ---- the mask
 
@@ -37,6 +38,34 @@ mask_of_stops n v long few =
     let three = zip2_of_maps bit_or (λ x. bit_or (equals x 34) (equals x 92)) (λ x. below x 32) v two (zip2_splat below v n 32 long) in
     ap (λ lanes. mask_l (map (top 7) lanes) % 2 ^ 64) three ∙ ap (λ lanes. mask_l lanes % 2 ^ 64) (map-map (top 7) _ v ∙ (λ i. map (λ x. either_top (eqb x 34) (eqb x 92) (ltb x 32) i) v))
     ∙ mask_l-mod (map is_stop v) 64 (omega (arith, length-map v is_stop))
+
+-- ---- the mask of what follows
+
+half : (b : Bool) (n : ℕ) → (cond b 1 0 + 2 * n) / 2 ≡ n
+half true n = omega arith
+half false n = omega arith
+
+mask_shifted : (ms : List Bool) (k : ℕ) → mask_l ms / 2 ^ k ≡ mask_l (drop k ms)
+mask_shifted [] zero = refl
+mask_shifted [] (suc k) = zero-div (2 ^ suc k)
+mask_shifted (m ∷ ms) zero = div-one (mask_l (m ∷ ms))
+mask_shifted (m ∷ ms) (suc k) =
+    ap (λ n. mask_l (m ∷ ms) / n) (pow-suc 2 k ∙ mul_comm (2 ^ k) 2) ∙ sym (div-div-eq-div-mul (mask_l (m ∷ ms)) 2 (2 ^ k)) ∙ ap (λ n. n / 2 ^ k) (half m (mask_l ms)) ∙ mask_shifted ms k
+
+take-nil : (n : ℕ) → take {A = ℕ} n [] ≡ []
+take-nil zero = refl
+take-nil (suc n) = refl
+
+drop_of_take : (k n : ℕ) (xs : List ℕ) → drop k (take n xs) ≡ take (n - k) (drop k xs)
+drop_of_take zero n xs = let same : n ≡ n - 0 = omega arith in ap (λ m. take m xs) same
+drop_of_take (suc k) zero xs = let none : 0 ≡ 0 - suc k = omega arith in ap (λ m. take m (drop (suc k) xs)) none
+drop_of_take (suc k) (suc n) [] = sym (take-nil (suc n - suc k))
+drop_of_take (suc k) (suc n) (x ∷ xs) = let same : suc n - suc k ≡ n - k = omega arith in drop_of_take k n xs ∙ ap (λ m. take m (drop k xs)) (sym same)
+
+pub stops_behind : (text : List ℕ) (at n k : ℕ) → mask_l (map is_stop (chunk at n text)) / 2 ^ k ≡ mask_l (map is_stop (chunk (at + k) (n - k) text))
+stops_behind text at n k =
+    mask_shifted (map is_stop (chunk at n text)) k ∙ ap mask_l (drop-map is_stop k (chunk at n text))
+    ∙ ap (λ xs. mask_l (map is_stop xs)) (drop_of_take k n (drop at text) ∙ ap (take (n - k)) (drop-drop k at text))
 
 -- ---- what it says of a run
 
@@ -69,11 +98,14 @@ module _ (text : List ℕ) (at n : ℕ) (room : at + n ≤ length text) where
       split ∙ ap (λ whole. cond whole (length part + rest) (prefix_len is_plain part)) (ne_eqb _ _ (λ (e : prefix_len is_plain part ≡ length part). omega arith))
       ∙ sym (trailing_mask_l is_stop 64 part (omega (arith, length-chunk at n text room)) some)
 
-  pub stop_within : n ≤ 64 → 0 < mask_l (map is_stop (chunk at n text)) → count_trailing_zeros 64 (mask_l (map is_stop (chunk at n text))) ≤ n
-  stop_within few some =
+  pub stop_inside : n ≤ 64 → 0 < mask_l (map is_stop (chunk at n text)) → count_trailing_zeros 64 (mask_l (map is_stop (chunk at n text))) < n
+  stop_inside few some =
       let part = chunk at n text in
       let long = length-chunk at n text room in
       omega (arith, long, run_ends_within part some, trailing_mask_l is_stop 64 part (omega (arith, long)) some)
+
+  pub stop_within : n ≤ 64 → 0 < mask_l (map is_stop (chunk at n text)) → count_trailing_zeros 64 (mask_l (map is_stop (chunk at n text))) ≤ n
+  stop_within few some = omega (arith, stop_inside few some)
 
 pub run_within : (text : List ℕ) (at : ℕ) → at ≤ length text → at + prefix_len is_plain (drop at text) ≤ length text
 run_within text at h = omega (arith, prefix_len-le-length is_plain (drop at text), length-drop at text)

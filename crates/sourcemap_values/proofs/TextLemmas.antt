@@ -1,23 +1,23 @@
 -- What parts of a text say, and where the lexer stands behind them.
-use Rattle.std.proofs.Common.{◌≡◌, ℕ, suc, ◌+◌, ◌-◌, ◌<◌, ◌≤◌, Bool, true, false, ◌||◌, cond, ◌==◌, nat_lt, List, [], ◌∷◌, ◌++◌, length, take, drop, get_or, Option, Some, None, refl, sym, ap, ◌∙◌, subst, arith, lt_of_not-le}
+use Rattle.std.proofs.Common.{◌≡◌, ℕ, zero, suc, ◌+◌, ◌-◌, ◌<◌, ◌≤◌, Bool, true, false, ◌||◌, cond, ◌==◌, nat_lt, List, [], ◌∷◌, ◌++◌, length, take, drop, get_or, Option, Some, None, refl, sym, ap, ◌∙◌, subst, arith, lt_of_not-le}
 use Rattle.std.proofs.lemmas.List.{append_assoc, append-nil, drop_more, drop-drop, get_or_past, get_or_default, get_or-drop, length-drop}
 use Rattle.std.proofs.lemmas.Bool.{or_parts, not-true}
 use Rattle.std.proofs.lemmas.Bool.Decides.{nat_tests}
 use Rattle.std.proofs.lemmas.List.Sums.{prefix_len_stops}
-use Rattle.std.proofs.lemmas.Str.{IsCharBoundary-after_ascii, IsUtf8-append, IsUtf8-between}
+use Rattle.std.proofs.lemmas.Str.{IsCharBoundary-after_ascii}
 use Rattle.std.specs.List.{prefix_len}
 use Rattle.std.specs.Str.{IsUtf8, IsCharBoundary}
 use Rattle.json.specs.Text.{content, plain, after_backslash, prepend}
 use Rattle.json.specs.Word.{is_operator, is_space}
 use Rattle.json.specs.Lex.{Lexeme, quote, backslash, operator, space, other, Mode, between, in_string, lex_byte, lex}
 use Rattle.sourcemap_values.specs.Runs.{is_plain}
-use Rattle.sourcemap_values.specs.Texts.{Adds, Says}
+use Rattle.sourcemap_values.specs.Texts.{Says}
 
-prepend-append : (a b : List ℕ) (rest : Option (List ℕ)) → prepend a (prepend b rest) ≡ prepend (a ++ b) rest
+pub prepend-append : (a b : List ℕ) (rest : Option (List ℕ)) → prepend a (prepend b rest) ≡ prepend (a ++ b) rest
 prepend-append a b None = refl
 prepend-append a b (Some s) = ap Some (sym (append_assoc a b s))
 
-prepend-nil : (rest : Option (List ℕ)) → prepend [] rest ≡ rest
+pub prepend-nil : (rest : Option (List ℕ)) → prepend [] rest ≡ rest
 prepend-nil None = refl
 prepend-nil (Some s) = refl
 
@@ -46,16 +46,16 @@ Says-plain x xs plain_byte =
           ∙ passes (is_operator x) (is_space x) x xs (λ next. lex next xs);
     }
 
-run_byte : (p : Bool) (x n : ℕ) (xs : List ℕ) → is_plain x ≡ p → Says xs (take n xs) (drop n xs) → Says (x ∷ xs) (take (cond p (1 + n) 0) (x ∷ xs)) (drop (cond p (1 + n) 0) (x ∷ xs))
-run_byte false x n xs e rest = Says-nothing (x ∷ xs)
-run_byte true x n xs e rest =
-    let next : suc n ≡ 1 + n = omega arith in
-    subst (λ k. Says (x ∷ xs) (take k (x ∷ xs)) (drop k (x ∷ xs))) next (Says-then (x ∷ xs) xs (drop n xs) (x ∷ []) (take n xs) (Says-plain x xs e) rest)
+first_byte : (p : Bool) (x n : ℕ) (xs : List ℕ) → is_plain x ≡ p → suc n ≤ cond p (1 + prefix_len is_plain xs) 0 → (n ≤ prefix_len is_plain xs → Says xs (take n xs) (drop n xs))
+    → Says (x ∷ xs) (x ∷ take n xs) (drop n xs)
+first_byte false x n xs e few rest = absurd (omega arith)
+first_byte true x n xs e few rest = Says-then (x ∷ xs) xs (drop n xs) (x ∷ []) (take n xs) (Says-plain x xs e) (rest (omega arith))
 
 -- plain bytes say themselves
-pub Says-run : (xs : List ℕ) → Says xs (take (prefix_len is_plain xs) xs) (drop (prefix_len is_plain xs) xs)
-Says-run [] = Says-nothing []
-Says-run (x ∷ xs) = run_byte (is_plain x) x (prefix_len is_plain xs) xs refl (Says-run xs)
+pub Says-run : (n : ℕ) (xs : List ℕ) → n ≤ prefix_len is_plain xs → Says xs (take n xs) (drop n xs)
+Says-run zero xs few = Says-nothing xs
+Says-run (suc n) [] few = absurd (omega arith)
+Says-run (suc n) (x ∷ xs) few = first_byte (is_plain x) x n xs refl few (Says-run n xs)
 
 -- ---- at places of a text
 
@@ -63,7 +63,7 @@ pub run_at : (text : List ℕ) (from end : ℕ) → end ≡ from + prefix_len is
 run_at text from end is =
     let long : prefix_len is_plain (drop from text) ≡ end - from = omega arith in
     let behind : drop (prefix_len is_plain (drop from text)) (drop from text) ≡ drop end text = drop-drop (prefix_len is_plain (drop from text)) from text ∙ ap (λ k. drop k text) (sym is) in
-    subst (λ n. Says (drop from text) (take n (drop from text)) (drop end text)) long (subst (Says (drop from text) (take (prefix_len is_plain (drop from text)) (drop from text))) behind (Says-run (drop from text)))
+    subst (λ n. Says (drop from text) (take n (drop from text)) (drop end text)) long (subst (Says (drop from text) (take (prefix_len is_plain (drop from text)) (drop from text))) behind (Says-run (prefix_len is_plain (drop from text)) (drop from text) (omega arith)))
 
 ascii_stop : (x : ℕ) → is_plain x ≡ false → x < 128
 ascii_stop x stop = grind (arith, nat_tests)
@@ -86,23 +86,3 @@ quote_ends text said from at utf8 says quoted =
       says.goes_on ∙ ap (lex in_string) first,
       IsCharBoundary-after_ascii text at utf8 within (omega (arith, get_or_default text at 0 32 within)),
     )
-
--- what a text says up to a place is UTF-8, and so it is with the run of plain bytes from there on
-pub run_says : (text said all : List ℕ) (from at end : ℕ) → IsUtf8 text → IsCharBoundary text at → end ≡ at + prefix_len is_plain (drop at text) → end ≤ length text
-    → all ≡ said ++ take (end - at) (drop at text) → Says (drop from text) said (drop at text) → IsUtf8 said
-    → Says (drop from text) all (drop end text) × IsUtf8 all × IsCharBoundary text end
-run_says text said all from at end utf8 begins is within copied says said_utf8 =
-    let run = take (end - at) (drop at text) in
-    let ends = run_boundary text at end is within in (
-      subst (λ bytes. Says (drop from text) bytes (drop end text)) (sym copied) (Says-then (drop from text) (drop at text) (drop end text) said run says (run_at text at end is)),
-      subst IsUtf8 (sym copied) (IsUtf8-append said run said_utf8 (IsUtf8-between text at end utf8 (omega arith) begins ends)),
-      ends,
-    )
-
--- and with what an escape adds
-pub escape_says : (text said all : List ℕ) (from at next : ℕ) → Says (drop from text) said (drop at text) → IsUtf8 said → Adds text at said all next
-    → Says (drop from text) all (drop next text) × IsUtf8 all
-escape_says text said all from at next says said_utf8 adds = (
-  subst (λ bytes. Says (drop from text) bytes (drop next text)) (sym adds.appended) (Says-then (drop from text) (drop at text) (drop next text) said adds.added says adds.says),
-  subst IsUtf8 (sym adds.appended) (IsUtf8-append said adds.added said_utf8 adds.utf8),
-)

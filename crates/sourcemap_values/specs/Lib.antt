@@ -2,6 +2,4 @@ pub mod Words
 pub mod Cursor
 pub mod Runs
 pub mod Texts
-pub mod Quoting
 pub mod Values
-pub mod Writing

@@ -1,7 +1,7 @@
 -- Parts of a text of JSON, and what they say.
 use Rattle.std.specs.Prelude.{◌≡◌, ℕ, ◌+◌, ◌<◌, List, ◌++◌, drop, get_or, Some}
-use Rattle.std.specs.Str.{IsUtf8, IsCharBoundary}
-use Rattle.json.specs.Text.{code_unit, content, plain, prepend}
+use Rattle.std.specs.Str.{IsUtf8}
+use Rattle.json.specs.Text.{code_unit, content, plain, prepend, short_escape}
 use Rattle.json.specs.Lex.{lex, in_string}
 
 -- Inside of a text, what stands in `before` and no more in `behind` says the bytes `said`, and the text goes on there.
@@ -9,14 +9,18 @@ pub record Says (before said behind : List ℕ) : Type 0 where
   pub bytes : content plain before ≡ prepend said (content plain behind)
   pub goes_on : lex in_string before ≡ lex in_string behind
 
--- What stands in a text from a place to the next is put behind the bytes `before`, which gives the bytes `after`.
-pub record Adds (text : List ℕ) (at : ℕ) (before after : List ℕ) (next : ℕ) : Type 0 where
-  pub added : List ℕ
-  pub appended : after ≡ before ++ added
-  pub utf8 : IsUtf8 added
-  pub says : Says (drop at text) added (drop next text)
-  pub boundary : IsCharBoundary text next
-  pub forward : at < next
+-- What stands in a text from a place up to another was put behind the bytes `old`, which gives the bytes `new`. Where
+-- `old` may end within a character, it is one with what follows, and so it is with `new`.
+pub record IsReadUpTo (old text : List ℕ) (from : ℕ) (new : List ℕ) (at : ℕ) : Type 0 where
+  pub bytes : prepend new (content plain (drop at text)) ≡ prepend old (content plain (drop from text))
+  pub goes_on : lex in_string (drop at text) ≡ lex in_string (drop from text)
+  pub utf8 : IsUtf8 (old ++ drop from text) → IsUtf8 (new ++ drop at text)
+
+-- At a place stand a backslash and the byte that makes it an escape, which stand for the byte.
+pub record SpellsByte (text : List ℕ) (at byte : ℕ) : Type 0 where
+  pub backslash : get_or text at 0 ≡ 92
+  pub letter : short_escape (get_or text (at + 1) 0) ≡ Some byte
+  pub ascii : (byte < 128) × (get_or text (at + 1) 0 < 128)
 
 -- At a place stand `\u` and four digits, which spell a code unit.
 pub record SpellsUnit (text : List ℕ) (at unit : ℕ) : Type 0 where

@@ -1,27 +1,49 @@
 //! The escapes in the texts of JSON.
-ghost use Rattle.std.specs.Prelude.{◌≡◌, ◌+◌, ◌<◌, ◌≤◌, true, length, drop, get_or, Some, IfSome, IfOk};
+ghost use Rattle.std.specs.Prelude.{◌≡◌, ◌+◌, ◌*◌, ◌<◌, ◌≤◌, true, length, take, drop, get_or, Some, IfSome};
 ghost use Rattle.std.specs.Char.{digit_value, encode_utf8};
 ghost use Rattle.std.specs.Str.{IsCharBoundary};
 ghost use Rattle.json.specs.Text.{is_high_surrogate, is_low_surrogate, short_escape, surrogate_pair};
-ghost use Rattle.sourcemap_values.specs.Texts.{Adds, Says, SpellsUnit};
+ghost use Rattle.json.specs.Filled.{Placed};
+ghost use Rattle.sourcemap_values.specs.Texts.{IsReadUpTo, Says, SpellsByte, SpellsUnit};
 
 use crate::bytes::byte_at;
-use crate::stop::Stop;
+use crate::filling::place_byte;
 
-/// Puts the character that the escape at a place stands for behind `said`; the answer is the place
-/// behind the escape.
+/// Puts the character that the escape at a place stands for into the room behind `to`. The answer is
+/// how far each came.
 #[inline(always)]
-pub(crate) fn push_escape(said: &mut Vec<u8>, text: &str, at: usize) -> Result<usize, Stop>
-    requires inside { at ≤ length text.now }
+pub(crate) fn place_escape(
+    room: &mut [u8],
+    to: usize,
+    text: &str,
+    at: usize,
+) -> Option<(usize, usize)>
+    requires space { (to + 4 ≤ length room.old) × (at + 2 ≤ length text.now) }
     requires backslash { get_or text.now at 32 ≡ 92 }
-    ensures { IfOk result (λ next. Adds text.now at said.old.items said.new.items next) }
+    ensures len { length room.new ≡ length room.old }
+    ensures to_within { IfSome result (λ found. found.0 ≤ length room.new) }
+    ensures within { IfSome result (λ found. (at < found.1) × (found.1 ≤ length text.now)) }
+    ensures read { IfSome result (λ found. IsReadUpTo (take to room.old) text.now at
+        (take found.0 room.new) found.1) }
 {
-    let byte = short_escape(byte_at(text, at + 1));
+    let byte = short_escape_at(text.as_bytes(), at);
     if byte == 0 {
-        return push_unicode(said, text, at);
+        return place_unicode(room, to, text, at);
     }
-    said.push(byte)?;
-    Ok(at + 2)
+    place_byte(room, to, byte);
+    Some((to + 1, at + 2))
+}
+
+/// What the escape of two bytes at a place stands for, and 0 where none stands there.
+#[inline(always)]
+pub(crate) fn short_escape_at(text: &[u8], at: usize) -> u8
+    requires { at + 2 ≤ length text.now }
+    ensures { 0 < result → SpellsByte text.now at result }
+{
+    if text[at] != b'\\' {
+        return 0;
+    }
+    short_escape(text[at + 1])
 }
 
 // What a backslash and each byte stand for, and 0 where they are no escape of two bytes. A look into
@@ -55,17 +77,30 @@ fn short_escape(byte: u8) -> u8
     SHORT[usize::from(byte)]
 }
 
-/// The same of `\u`, which is rare.
+/// Puts what `\u` at a place stands for, which is rare.
 #[inline(never)]
-fn push_unicode(said: &mut Vec<u8>, text: &str, at: usize) -> Result<usize, Stop>
-    requires { at ≤ length text.now }
-    ensures { IfOk result (λ next. Adds text.now at said.old.items said.new.items next) }
+fn place_unicode(room: &mut [u8], to: usize, text: &str, at: usize) -> Option<(usize, usize)>
+    requires space { (to + 4 ≤ length room.old) × (at + 2 ≤ length text.now) }
+    requires backslash { get_or text.now at 32 ≡ 92 }
+    ensures len { length room.new ≡ length room.old }
+    ensures to_within { IfSome result (λ found. found.0 ≤ length room.new) }
+    ensures within { IfSome result (λ found. (at < found.1) × (found.1 ≤ length text.now)) }
+    ensures read { IfSome result (λ found. IsReadUpTo (take to room.old) text.now at
+        (take found.0 room.new) found.1) }
 {
-    let (character, next) = unicode_escape(text, at).ok_or(Stop::Unknown)?;
-    let mut room = [0; 4];
-    let encoded = character.encode_utf8(&mut room);
-    said.extend_from_slice(encoded.as_bytes())?;
-    Ok(next)
+    let (character, next) = unicode_escape(text, at)?;
+    let mut four = [0; 4];
+    let encoded = character.encode_utf8(&mut four);
+    place_bytes(room, to, encoded.as_bytes());
+    Some((to + encoded.len(), next))
+}
+
+#[inline(always)]
+fn place_bytes(room: &mut [u8], to: usize, bytes: &[u8])
+    requires { to + length bytes.now ≤ length room.old }
+    ensures { Placed room.old room.new to bytes.now (to + length bytes.now) }
+{
+    room[to..to + bytes.len()].copy_from_slice(bytes);
 }
 
 /// The character that `\u` with four digits stands for, or two of them that are a pair of

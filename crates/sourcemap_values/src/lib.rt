@@ -4,10 +4,9 @@
 mod bytes;
 mod cursor;
 mod escapes;
-mod quoting;
-mod runs;
+mod filling;
+pub mod runs;
 mod stop;
 mod texts;
 pub mod values;
 mod words;
-pub mod writing;

@@ -27,7 +27,7 @@ pub(crate) fn run_end(text: &[u8], from: usize) -> usize
 
 /// Puts the run of plain bytes that begins at `from` behind `said`; the answer is where it ends.
 #[inline(always)]
-pub(crate) fn copy_run(said: &mut Vec<u8>, text: &[u8], from: usize) -> Result<usize, AllocError>
+pub fn copy_run(said: &mut Vec<u8>, text: &[u8], from: usize) -> Result<usize, AllocError>
     requires { from ≤ length text.now }
     ensures value { IfOk result (λ end. end ≡ from + prefix_len is_plain (drop from text.now)) }
     ensures within { IfOk result (λ end. end ≤ length text.now) }
@@ -53,7 +53,7 @@ pub(crate) fn copy_run(said: &mut Vec<u8>, text: &[u8], from: usize) -> Result<u
 
 /// Which of these bytes end a run: a bit for each, the lowest for the first.
 #[inline(always)]
-pub(crate) fn stops(bytes: u8x32) -> u64
+pub fn stops(bytes: u8x32) -> u64
     ensures { result ≡ mask_l (map is_stop bytes) }
 {
     let quotes = bytes.simd_eq(u8x32::splat(b'"'));
@@ -62,7 +62,18 @@ pub(crate) fn stops(bytes: u8x32) -> u64
     (quotes | backslashes | controls).to_bitmask()
 }
 
-/// The same byte by byte, for the last few of the text.
+/// The same of twice as many.
+#[inline(always)]
+pub(crate) fn block_stops(bytes: u8x64) -> u64
+    ensures { result ≡ mask_l (map is_stop bytes) }
+{
+    let quotes = bytes.simd_eq(u8x64::splat(b'"'));
+    let backslashes = bytes.simd_eq(u8x64::splat(b'\\'));
+    let controls = bytes.simd_lt(u8x64::splat(b' '));
+    (quotes | backslashes | controls).to_bitmask()
+}
+
+/// Where a run ends, byte by byte, for the last few of the text.
 #[inline(never)]
 fn run_end_by_bytes(text: &[u8], from: usize) -> usize
     requires { from ≤ length text.now }
@@ -78,7 +89,7 @@ fn run_end_by_bytes(text: &[u8], from: usize) -> usize
 
 /// Whether a byte stands for itself.
 #[inline(always)]
-fn is_plain(byte: u8) -> bool
+pub(crate) fn is_plain(byte: u8) -> bool
     ensures { result ≡ is_plain byte }
 {
     byte != b'"' && byte != b'\\' && byte >= b' '

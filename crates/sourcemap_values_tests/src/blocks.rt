@@ -53,7 +53,7 @@ fn check_row(rt: &impl Abort, alloc: Global, text: &str, want: &str) {
 }
 
 #[test]
-fn escapes(rt: HostRuntime) -> Result<()> {
+fn escapes_among_plain_runs_are_read(rt: HostRuntime) -> Result<()> {
     for (spelled, written) in ESCAPES.iter() {
         for before in LENGTHS.iter() {
             for behind in LENGTHS.iter() {
@@ -67,7 +67,7 @@ fn escapes(rt: HostRuntime) -> Result<()> {
 }
 
 #[test]
-fn wide(rt: HostRuntime) -> Result<()> {
+fn wide_characters_between_escapes_are_read(rt: HostRuntime) -> Result<()> {
     for (spelled, written) in WIDE.iter() {
         for before in 0..40 {
             let text = around(rt.alloc(), before, spelled, 3)?;
@@ -84,7 +84,7 @@ fn unended(alloc: Global, before: usize, inner: &str) -> Result<String> {
 }
 
 #[test]
-fn faults(rt: HostRuntime) -> Result<()> {
+fn faulty_escapes_behind_plain_runs_are_refused(rt: HostRuntime) -> Result<()> {
     for fault in FAULTS.iter() {
         for before in 0..70 {
             let text = unended(rt.alloc(), before, fault)?;

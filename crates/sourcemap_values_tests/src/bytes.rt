@@ -17,7 +17,7 @@ const BYTES: [(&[u8], &str); 12] = [
 ];
 
 #[test]
-fn bytes(rt: HostRuntime) {
+fn only_bytes_of_utf8_are_read(rt: HostRuntime) {
     for (bytes, want) in BYTES.iter() {
         check(&rt, want, answer(rt.alloc(), bytes), want);
         check(&rt, want, kit_answer(rt.alloc(), bytes), want);

@@ -34,7 +34,7 @@ fn changed(alloc: Global, text: &str, mut number: u64) -> Result<Vec<u8>> {
 }
 
 #[test]
-fn changes(rt: HostRuntime) -> Result<()> {
+fn changed_texts_are_read_as_the_kit_reads_them(rt: HostRuntime) -> Result<()> {
     for text in TEXTS.iter() {
         for number in 0..1000 {
             let bytes = changed(rt.alloc(), text, number)?;

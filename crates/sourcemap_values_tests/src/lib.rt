@@ -11,6 +11,8 @@ mod bytes;
 #[cfg(test)]
 mod changes;
 #[cfg(test)]
+mod filled;
+#[cfg(test)]
 mod nesting;
 #[cfg(test)]
 mod structures;

@@ -8,18 +8,18 @@ const LEVELS: [(&str, &str, usize, &str); 7] = [
     ("[", "]", 1, "7"),
     ("[", "]", 127, ""),
     ("[", "]", 127, "7"),
-    ("{\"a\":", "}", 127, "7"),
-    ("[{\"a\":", "}]", 63, "[]"),
+    (r#"{"a":"#, "}", 127, "7"),
+    (r#"[{"a":"#, "}]", 63, "[]"),
     ("[", "]", 126, "{}"),
-    ("{\"a\":[", "]}", 63, ""),
+    (r#"{"a":["#, "]}", 63, ""),
 ];
 
 const TOO_MANY: [(&str, &str, usize, &str); 5] = [
     ("[", "]", 128, ""),
     ("[", "]", 127, "[]"),
     ("[", "]", 127, "{}"),
-    ("{\"a\":", "}", 128, "7"),
-    ("[{\"a\":", "}]", 64, "7"),
+    (r#"{"a":"#, "}", 128, "7"),
+    (r#"[{"a":"#, "}]", 64, "7"),
 ];
 
 fn nested(alloc: Global, row: &(&str, &str, usize, &str)) -> Result<String> {
@@ -30,7 +30,7 @@ fn nested(alloc: Global, row: &(&str, &str, usize, &str)) -> Result<String> {
 }
 
 #[test]
-fn levels(rt: HostRuntime) -> Result<()> {
+fn values_are_read_up_to_127_levels_deep(rt: HostRuntime) -> Result<()> {
     for row in LEVELS.iter() {
         let text = nested(rt.alloc(), row)?;
         check(
@@ -59,7 +59,7 @@ fn levels(rt: HostRuntime) -> Result<()> {
 }
 
 // Between the quotes of a text, behind a run of plain bytes.
-const ENDS: [&str; 4] = ["", "\\n", "\\\"é", "😀\\\\ab"];
+const ENDS: [&str; 4] = ["", r"\n", r#"\"é"#, r"😀\\ab"];
 
 fn padded(alloc: Global, length: usize, end: &str) -> Result<String> {
     let plain = "a".repeat(alloc, length)?;
@@ -67,7 +67,7 @@ fn padded(alloc: Global, length: usize, end: &str) -> Result<String> {
 }
 
 #[test]
-fn lengths(rt: HostRuntime) -> Result<()> {
+fn texts_of_each_length_are_read(rt: HostRuntime) -> Result<()> {
     for end in ENDS.iter() {
         for length in 0..100 {
             let text = padded(rt.alloc(), length, end)?;

@@ -94,7 +94,7 @@ const AROUND: [(&str, &str); 22] = [
 ];
 
 #[test]
-fn arrays(rt: HostRuntime) {
+fn arrays_are_read_and_faulty_ones_refused(rt: HostRuntime) {
     for (text, want) in ARRAYS.iter() {
         check(&rt, text, answer(rt.alloc(), text.as_bytes()), want);
         check(&rt, text, kit_answer(rt.alloc(), text.as_bytes()), want);
@@ -102,7 +102,7 @@ fn arrays(rt: HostRuntime) {
 }
 
 #[test]
-fn objects(rt: HostRuntime) {
+fn objects_are_read_and_faulty_ones_refused(rt: HostRuntime) {
     for (text, want) in OBJECTS.iter() {
         check(&rt, text, answer(rt.alloc(), text.as_bytes()), want);
         check(&rt, text, kit_answer(rt.alloc(), text.as_bytes()), want);
@@ -110,7 +110,7 @@ fn objects(rt: HostRuntime) {
 }
 
 #[test]
-fn around(rt: HostRuntime) {
+fn only_white_space_may_stand_around_a_value(rt: HostRuntime) {
     for (text, want) in AROUND.iter() {
         check(&rt, text, answer(rt.alloc(), text.as_bytes()), want);
         check(&rt, text, kit_answer(rt.alloc(), text.as_bytes()), want);

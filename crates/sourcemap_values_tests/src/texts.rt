@@ -109,7 +109,7 @@ const LITERALS: [(&str, &str); 13] = [
 ];
 
 #[test]
-fn strings(rt: HostRuntime) {
+fn strings_are_read_and_faulty_ones_refused(rt: HostRuntime) {
     for (text, want) in STRINGS.iter() {
         check(&rt, text, answer(rt.alloc(), text.as_bytes()), want);
         check(&rt, text, kit_answer(rt.alloc(), text.as_bytes()), want);
@@ -117,7 +117,7 @@ fn strings(rt: HostRuntime) {
 }
 
 #[test]
-fn numbers(rt: HostRuntime) {
+fn numbers_are_read_and_faulty_ones_refused(rt: HostRuntime) {
     for (text, want) in NUMBERS.iter() {
         check(&rt, text, answer(rt.alloc(), text.as_bytes()), want);
         check(&rt, text, kit_answer(rt.alloc(), text.as_bytes()), want);
@@ -125,7 +125,7 @@ fn numbers(rt: HostRuntime) {
 }
 
 #[test]
-fn far_numbers(rt: HostRuntime) -> Result<()> {
+fn numbers_past_64_bits_are_read_as_the_kit_reads_them(rt: HostRuntime) -> Result<()> {
     for text in FAR_NUMBERS.iter() {
         let want = kit_answer(rt.alloc(), text.as_bytes())?;
         check(
@@ -139,7 +139,7 @@ fn far_numbers(rt: HostRuntime) -> Result<()> {
 }
 
 #[test]
-fn literals(rt: HostRuntime) {
+fn only_null_true_and_false_are_literals(rt: HostRuntime) {
     for (text, want) in LITERALS.iter() {
         check(&rt, text, answer(rt.alloc(), text.as_bytes()), want);
         check(&rt, text, kit_answer(rt.alloc(), text.as_bytes()), want);

@@ -1,7 +1,7 @@
 // The texts that values are written to.
 use crate::answers::check;
 use serde_json::{Result, Value};
-use sourcemap_values::writing::value_to_vec;
+use sourcemap_printing::writing::value_to_vec;
 use std::alloc::{AllocError, Global};
 use std::process::Abort;
 use std::result::Result as StdResult;
@@ -82,7 +82,7 @@ fn pair(alloc: Global, first: Value, second: Value) -> StdResult<Value, AllocErr
     Ok(Value::Array(items))
 }
 
-// Checks how a value is written: alone, which the kit's writer may answer, and beside a long text.
+// Checks how a value is written: alone, and beside a long text.
 fn check_written(rt: &impl Abort, alloc: Global, value: Value, want: &str) -> Result<()> {
     check(rt, want, written(alloc, &value), want);
     let mut long = String::new(alloc);
@@ -111,8 +111,25 @@ fn two_runs(alloc: Global, run: &str, len: usize, between: &str, around: &str) -
     Ok(text)
 }
 
+// So many letters, in turn, but for one that needs an escape at this place, if it is within.
+fn letters(alloc: Global, len: u8, place: u8) -> Result<String> {
+    let mut text = String::new(alloc);
+    for at in 0..len {
+        if at != place {
+            text.push(char::from(b'a' + at % 26))?;
+        } else if at % 3 == 0 {
+            text.push('"')?;
+        } else if at % 3 == 1 {
+            text.push('\\')?;
+        } else {
+            text.push('\u{1f}')?;
+        }
+    }
+    Ok(text)
+}
+
 #[test]
-fn texts(rt: HostRuntime) -> Result<()> {
+fn strings_are_written_with_their_escapes(rt: HostRuntime) -> Result<()> {
     for (text, want) in TEXTS.iter() {
         let value = Value::String(String::from_str(rt.alloc(), text)?);
         check_written(&rt, rt.alloc(), value, want)?;
@@ -121,7 +138,7 @@ fn texts(rt: HostRuntime) -> Result<()> {
 }
 
 #[test]
-fn values(rt: HostRuntime) -> Result<()> {
+fn values_are_written_compactly(rt: HostRuntime) -> Result<()> {
     for (text, want) in VALUES.iter() {
         let value = Value::from_str(rt.alloc(), text)?;
         check_written(&rt, rt.alloc(), value, want)?;
@@ -130,7 +147,7 @@ fn values(rt: HostRuntime) -> Result<()> {
 }
 
 #[test]
-fn runs(rt: HostRuntime) -> Result<()> {
+fn escapes_between_runs_of_each_length_are_written(rt: HostRuntime) -> Result<()> {
     for len in LENGTHS.iter() {
         for (run, byte, escape) in [
             ("a", "\n", "\\n"),
@@ -143,6 +160,24 @@ fn runs(rt: HostRuntime) -> Result<()> {
             let text = two_runs(rt.alloc(), run, *len, byte, "")?;
             let want = two_runs(rt.alloc(), run, *len, escape, "\"")?;
             check_written(&rt, rt.alloc(), Value::String(text), want.as_str())?;
+        }
+    }
+    Ok(())
+}
+
+// Short texts are tested and put by blocks that overlap, so each length and place counts.
+#[test]
+fn an_escape_at_each_place_of_a_short_text_is_written(rt: HostRuntime) -> Result<()> {
+    for len in 0..71u8 {
+        for place in 0..72u8 {
+            let value = Value::String(letters(rt.alloc(), len, place)?);
+            let want = value.to_string(rt.alloc())?;
+            check(
+                &rt,
+                want.as_str(),
+                written(rt.alloc(), &value),
+                want.as_str(),
+            );
         }
     }
     Ok(())

@@ -1,11 +1,9 @@
-use Rattle.std.proofs.Common.{◌-◌, length, drop}
-use Rattle.std.specs.Str.{IsCharBoundary, IsUtf8}
-use Rattle.sourcemap_values.specs.Texts.{Says}
+use Rattle.std.proofs.Common.{◌-◌, ◌≤◌, [], length, take}
+use Rattle.sourcemap_values.specs.Texts.{IsReadUpTo}
 use Rattle.sourcemap_values.proofs.texts.unescape.Given as goal
 
-abbrev pub invariant-loop-stop : goal.invariant-loop-stop
-invariant-loop-stop l =
-    Says (drop l.start l.text) l.said.items (drop l.at l.text) × IsUtf8 l.said.items × IsCharBoundary l.text l.at
+abbrev pub invariant-loop-room : goal.invariant-loop-room
+invariant-loop-room l = (l.to ≤ length l.room.items) × (l.at ≤ length l.text) × IsReadUpTo [] l.text l.start (take l.to l.room.items) l.at
 
-abbrev pub decreases-loop-stop : goal.decreases-loop-stop
-decreases-loop-stop l = length l.text - l.at
+abbrev pub decreases-loop-room : goal.decreases-loop-room
+decreases-loop-room l = length l.text - l.at

@@ -1,0 +1,4 @@
+mod BlockLemmas
+mod PlaceLemmas
+mod QuoteLemmas
+mod WritingLemmas
