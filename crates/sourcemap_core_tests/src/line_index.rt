@@ -112,6 +112,67 @@ fn finds_between_lines(rt: HostRuntime) {
     }
 }
 
+// So many tokens a line on each second line, 70,000 in all, known by their numbers from 0. Columns
+// are 0, 10, 10, 20, 30 and so on.
+fn tokens_on_many_lines(alloc: Global, a_line: u32) -> Result<TokenList> {
+    let mut tokens = Vec::new(alloc);
+    for at in 0..70_000u32 {
+        let number = at.checked_rem(a_line).unwrap_or(0);
+        let row = at.checked_div(a_line).unwrap_or(0);
+        let col = 10 * (number - u32::from(number > 1));
+        tokens.push(token((row * 2, col), at))?;
+    }
+    Ok(TokenList::sorted(tokens)?)
+}
+
+// How many tokens stand on a line, a place, and the number of the token that stands closest.
+const ON_MANY_LINES: [(u32, (u32, u32), &str); 21] = [
+    (5, (0, 0), "Some(0) true"),
+    (5, (0, 10), "Some(1) true"),
+    (5, (0, 15), "Some(2) true"),
+    (5, (1, 5), "Some(4) true"),
+    (5, (14000, 20), "Some(35003) true"),
+    (5, (14000, 99), "Some(35004) true"),
+    (5, (27998, 10), "Some(69996) true"),
+    (5, (27999, 0), "Some(69999) true"),
+    (16, (8, 10), "Some(65) true"),
+    (16, (8, 15), "Some(66) true"),
+    (16, (8, 139), "Some(78) true"),
+    (16, (8, 140), "Some(79) true"),
+    (16, (9, 0), "Some(79) true"),
+    (17, (8, 10), "Some(69) true"),
+    (17, (8, 149), "Some(83) true"),
+    (17, (8, 150), "Some(84) true"),
+    (1000, (4, 10), "Some(2001) true"),
+    (1000, (4, 5005), "Some(2501) true"),
+    (1000, (5, 0), "Some(2999) true"),
+    (9999, (14, 25), "Some(69996) true"),
+    (9999, (14, 99), "Some(69999) true"),
+];
+
+fn on_many_lines(alloc: Global, a_line: u32, place: (u32, u32)) -> Result<String> {
+    let list = tokens_on_many_lines(alloc, a_line)?;
+    found(alloc, &list, place, 1, 36)
+}
+
+// The same by the list itself, which knows samples of long lines.
+fn in_list_of_many_lines(alloc: Global, a_line: u32, place: (u32, u32)) -> Result<String> {
+    let list = tokens_on_many_lines(alloc, a_line)?;
+    let (found, steps) = list.closest_steps(place.0, place.1);
+    let is_counted = 1 <= steps && steps <= 36;
+    let col = found.map(|found| found.1.src_col);
+    Ok(format!(in alloc; "{col:?} {is_counted}")?)
+}
+
+#[test]
+fn finds_on_many_lines_by_few_comparisons(rt: HostRuntime) {
+    for (a_line, place, want) in ON_MANY_LINES.iter() {
+        check(&rt, want, on_many_lines(rt.alloc(), *a_line, *place), want);
+        let by_list = in_list_of_many_lines(rt.alloc(), *a_line, *place);
+        check(&rt, want, by_list, want);
+    }
+}
+
 // The lines that hold tokens, and the place of the first token of each.
 const ROWS: [(u32, usize); 3] = [(0, 0), (2, 1), (4, 4)];
 

@@ -1,9 +1,10 @@
 -- The closest token, from the place among the tokens of its line where a search ends.
-use Rattle.std.proofs.Common.{◌≡◌, refl, sym, ap, subst, ◌∙◌, ℕ, zero, suc, ◌<◌, ◌≤◌, ◌+◌, ◌-◌, ◌*◌, ◌/◌, ◌^◌, arith, inl, inr, eq-eqb, min, true, false, List, get_or, Some, None, Option, option_map}
+use Rattle.std.proofs.Common.{◌≡◌, refl, sym, ap, subst, ◌∙◌, ℕ, zero, suc, ◌<◌, ◌≤◌, ◌+◌, ◌-◌, ◌*◌, ◌/◌, ◌^◌, arith, inl, inr, eq-eqb, min, Bool, not, ◌&&◌, nat_lt, true, false, List, length, get_or, Some, None, Option, option_map}
 use Rattle.std.proofs.Math.Nat.{pow-succ'}
 use Rattle.std.specs.Option.{IfSome, SomeIff}
 use Rattle.std.specs.Ordering.{is_eq, is_lt, nat_cmp}
-use Rattle.std.proofs.lemmas.Bool.{cases_eq, ne_eqb}
+use Rattle.std.proofs.lemmas.Bool.{cases_eq, le-ltb, lt-ltb, ne_eqb}
+use mir.Val.{bool_byte}
 use Rattle.std.proofs.lemmas.Bool.Decides.{nat_tests}
 use Rattle.std.proofs.lemmas.List.{get_or_default}
 use Rattle.std.proofs.lemmas.Option.{slice_get_cases}
@@ -34,6 +35,16 @@ apart_by_col (a, b) (c, d) e = grind (arith, nat_tests)
 same_by_both : (q p : ℕ × ℕ) → q.0 ≡ p.0 → is_eq (nat_cmp p.1 q.1) ≡ true → is_eq (position_cmp q p) ≡ true
 same_by_both (a, b) (c, d) e f = grind (arith, nat_tests)
 
+no_step : (place : ℕ) (a : Option ℕ) → SomeIff a (0 ≤ place) (place - 0) → a ≡ Some place
+no_step place None none = absurd (none (omega arith))
+no_step place (Some k) some = let is = some.1 in ap Some (omega arith)
+
+-- none is closest in a list of none
+pub closest-in-none : (tokens : List RawToken) (p : ℕ × ℕ) → AreInOrder tokens → length tokens ≡ 0 → None ≡ option_map (λ found. found.0) (closest_token tokens p)
+closest-in-none tokens p up none =
+    let bracket : IsBracket destination position_cmp tokens p 0 0 = record { below = λ d some. absurd (omega arith); above = λ d some. absurd (omega (arith, none)) } in
+    ap (option_map (λ found. found.0)) (closest-none position_cmp_total destination tokens p 0 up bracket refl (λ d some. absurd (omega (arith, none))))
+
 -- the search among the tokens of the line of p, from low up to high, for the column of q, which is p, ended at a place
 module _ (tokens : List RawToken) (p : ℕ × ℕ) (low high place : ℕ) (up : AreInOrder tokens) (span : IsSpan tokens p.0 low high) (at_least : low ≤ place) (at_most : place ≤ high) (q : ℕ × ℕ) (kept : q ≡ p) (before : (d : RawToken) → low < place → (get_or tokens (place - 1) d).dst_col < q.1) (from : (d : RawToken) → place < high → q.1 ≤ (get_or tokens place d).dst_col) where
   col : q.1 ≡ p.1
@@ -55,7 +66,7 @@ module _ (tokens : List RawToken) (p : ℕ × ℕ) (low high place : ℕ) (up : 
   }
 
   -- a token there stands at p
-  pub place-hit : (e : RawToken) (r : ℕ × ℕ) → r ≡ q → place < high → is_eq (nat_cmp r.1 (get_or tokens place e).dst_col) ≡ true → Some place ≡ option_map (λ found. found.0) (closest_token tokens p)
+  place-hit : (e : RawToken) (r : ℕ × ℕ) → r ≡ q → place < high → is_eq (nat_cmp r.1 (get_or tokens place e).dst_col) ≡ true → Some place ≡ option_map (λ found. found.0) (closest_token tokens p)
   place-hit e r still l same =
       let inside = span.inside in
       let is = closest-hit position_cmp_total destination tokens p place up bracket (get_or tokens place e) (omega arith)
@@ -64,15 +75,15 @@ module _ (tokens : List RawToken) (p : ℕ × ℕ) (low high place : ℕ) (up : 
       ap (option_map (λ found. found.0)) is
 
   -- the token there, if any, does not
-  pub place-apart : (e : RawToken) (r : ℕ × ℕ) → r ≡ q → place < high → is_eq (nat_cmp r.1 (get_or tokens place e).dst_col) ≡ false → IsApart destination position_cmp tokens p place
+  place-apart : (e : RawToken) (r : ℕ × ℕ) → r ≡ q → place < high → is_eq (nat_cmp r.1 (get_or tokens place e).dst_col) ≡ false → IsApart destination position_cmp tokens p place
   place-apart e r still l other d inside = apart_by_col (destination (get_or tokens place d)) p (subst (λ k. is_eq (nat_cmp k.1 (get_or tokens place d).dst_col) ≡ false) (still ∙ kept) (subst (λ t. is_eq (nat_cmp r.1 t.dst_col) ≡ false) (get_or_default tokens place e d inside) other))
 
-  pub place-past : high ≤ place → IsApart destination position_cmp tokens p place
+  place-past : high ≤ place → IsApart destination position_cmp tokens p place
   place-past past d inside =
       let last : high ≡ place = omega arith in
       apart_by_line (destination (get_or tokens place d)) p (subst (λ k. p.0 < (get_or tokens k d).dst_line) last (span.behind d (omega arith)))
 
-  pub place-miss : IsApart destination position_cmp tokens p place → (r : Option ℕ) → SomeIff r (1 ≤ place) (place - 1) → r ≡ option_map (λ found. found.0) (closest_token tokens p)
+  place-miss : IsApart destination position_cmp tokens p place → (r : Option ℕ) → SomeIff r (1 ≤ place) (place - 1) → r ≡ option_map (λ found. found.0) (closest_token tokens p)
   place-miss apart None none =
       let front : place ≡ 0 = elim (cases_eq place 0) [ inl e ↦ e | inr other ↦ absurd (none (omega arith)) ] in
       ap (option_map (λ found. found.0)) (closest-none position_cmp_total destination tokens p place up bracket front apart)
@@ -84,6 +95,25 @@ module _ (tokens : List RawToken) (p : ℕ × ℕ) (low high place : ℕ) (up : 
             let is = closest-miss position_cmp_total destination tokens p place up bracket here.0 some.0 (omega arith) (sym here.3) apart in
             ap Some some.1 ∙ ap (option_map (λ found. found.0)) is
         | inr gone ↦ let past = gone.0 in let least = some.0 in absurd (omega arith)
+      ]
+
+  place-told-within : (e : RawToken) (r : ℕ × ℕ) → r ≡ q → place < high → (b : Bool) → b ≡ is_eq (nat_cmp r.1 (get_or tokens place e).dst_col) → (back : ℕ) → back ≡ bool_byte (not (true && b))
+      → (a : Option ℕ) → SomeIff a (back ≤ place) (place - back) → a ≡ option_map (λ found. found.0) (closest_token tokens p)
+  place-told-within e r still l true same back told a found = no_step place a (subst (λ k. SomeIff a (k ≤ place) (place - k)) told found) ∙ place-hit e r still l (sym same)
+  place-told-within e r still l false same back told a found = place-miss (place-apart e r still l (sym same)) a (subst (λ k. SomeIff a (k ≤ place) (place - k)) told found)
+
+  -- no step back where the token there stands at p, else one
+  pub place-told : (e : RawToken) (n : ℕ) (r : ℕ × ℕ) → r ≡ q → (place < high → n ≡ place) → (b : Bool) → b ≡ is_eq (nat_cmp r.1 (get_or tokens n e).dst_col) → (back : ℕ) → back ≡ bool_byte (not (nat_lt place high && b))
+      → (a : Option ℕ) → SomeIff a (back ≤ place) (place - back) → a ≡ option_map (λ found. found.0) (closest_token tokens p)
+  place-told e n r still here b same back told a found =
+      elim (cases_eq place high) [
+        | inl last ↦
+            let one : back ≡ 1 = told ∙ ap (λ t. bool_byte (not (t && b))) (le-ltb place high (omega arith)) in
+            place-miss (place-past (omega arith)) a (subst (λ k. SomeIff a (k ≤ place) (place - k)) one found)
+        | inr other ↦
+            let l : place < high = omega arith in
+            let at : b ≡ is_eq (nat_cmp r.1 (get_or tokens place e).dst_col) = same ∙ ap (λ k. is_eq (nat_cmp r.1 (get_or tokens k e).dst_col)) (here l) in
+            place-told-within e r still l b at back (told ∙ ap (λ t. bool_byte (not (t && b))) (lt-ltb place high l)) a found
       ]
 
 -- the place before a place of the list, if any, is inside of the list
@@ -164,6 +194,3 @@ count_before_last count lines samples start found left d small few filled sample
 -- and at the end one with the column, if a token is left
 pub count_in_all : (start left end d : ℕ) → left ≤ start + (2 * d + 1) → end ≡ min (left + 1) 4294967295 → end ≤ start + 2 * (d + 1)
 count_in_all start left end d l e = omega arith
-
-pub count_without_last : (start left d : ℕ) → left ≤ start + (2 * d + 1) → left ≤ start + 2 * (d + 1)
-count_without_last start left d l = omega arith

@@ -47,6 +47,9 @@ impl LineIndex {
                 firsts.push(place)?;
             }
         }
+        // tokens of few lines may stand far down
+        lines.shrink_to_fit();
+        firsts.shrink_to_fit();
         Ok(LineIndex { lines, firsts })
     }
 
@@ -118,12 +121,15 @@ impl LineIndex {
         ensures asked { 0 < length tokens.now
             → min (P.comparisons probe.old + 1) 4294967295 ≤ P.comparisons probe.new }
     {
+        if tokens.is_empty() {
+            return None;
+        }
         let (first, end) = self.span_of(tokens, probe);
         let place = first_by_samples(tokens, samples, first, end, probe);
-        if place < end && probe.column(tokens[place].dst_col).is_eq() {
-            return Some(place);
-        }
-        place.checked_sub(1)
+        // a number and no branch, which would be foreseen wrongly at every third position
+        let nearest = place.min(tokens.len() - 1);
+        let is_hit = (place < end) & probe.column(tokens[nearest].dst_col).is_eq();
+        place.checked_sub(usize::from(!is_hit))
     }
 
     // Where the tokens of the probe's line stand: from the first up to, not including, the second.

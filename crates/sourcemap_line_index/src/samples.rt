@@ -12,8 +12,15 @@ use std::marker::Model;
 // How many tokens lead from one sample to the next.
 const SPACING: usize = 8;
 
-// Fewer tokens than these stay in the processor's cache.
+// Fewer tokens than these stay in the cache that is nearest to the processor.
 const MANY: usize = 1024;
+
+// As many tokens are more than the larger cache of a core holds, and their search may make more
+// comparisons than a line of few tokens takes in turn.
+const LARGE: usize = 1 << 16;
+
+// As few tokens of a line are looked at in turn.
+const FEW: usize = 16;
 
 // So many tokens a line make long lines. With fewer a search could make too many comparisons.
 const LONG: usize = 32;
@@ -98,7 +105,7 @@ pub(crate) fn first_by_samples<P: Probe>(
     ensures raised { min (P.comparisons probe.old) 4294967295 ≤ P.comparisons probe.new }
 {
     if samples.is_empty() || end - first < SPACING {
-        return first_at_column(tokens, first, end, probe);
+        return first_without_samples(tokens, first, end, probe);
     }
     let low = first.div_ceil(SPACING);
     let high = end.div_ceil(SPACING);
@@ -133,6 +140,34 @@ fn first_sample<P: Probe>(samples: &[u32], first: usize, end: usize, probe: &mut
         left = half;
     }
     sample
+}
+
+// The same without samples: token by token if there are few of them on the line and many in the
+// list, which are not in the processor's cache then.
+fn first_without_samples<P: Probe>(
+    tokens: &[RawToken],
+    first: usize,
+    end: usize,
+    probe: &mut P,
+) -> usize
+    requires ordered { first ≤ end }
+    requires within { end ≤ length tokens.now }
+    requires rises { (d : RawToken) → Rises (col_at tokens.now d) first end }
+    ensures at_least { first ≤ result }
+    ensures at_most { result ≤ end }
+    ensures before { (d : RawToken) → first < result
+        → col_at tokens.now d (result - 1) < (P.position probe.old).1 }
+    ensures from { (d : RawToken) → result < end
+        → (P.position probe.old).1 ≤ col_at tokens.now d result }
+    ensures kept { P.position probe.new ≡ P.position probe.old }
+    ensures counted { (d : ℕ) → length tokens.now < 2 ^ d
+        → P.comparisons probe.new ≤ P.comparisons probe.old + d }
+    ensures raised { min (P.comparisons probe.old) 4294967295 ≤ P.comparisons probe.new }
+{
+    if tokens.len() >= LARGE && end - first <= FEW {
+        return first_in_turn(tokens, first, end, probe);
+    }
+    first_at_column(tokens, first, end, probe)
 }
 
 // The place of the first of the tokens from `first` up to `end` that is not left of the probe's
