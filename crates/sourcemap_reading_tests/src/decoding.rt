@@ -13,7 +13,7 @@ const README: &str =
 // A text, and how many tokens its regular map has, or its fault.
 const REGULAR: [(&str, &str); 7] = [
     (README, "9"),
-    (")]}'junk\r\n{\"mappings\":\"A\"}", "1"),
+    (concat!(")]}'junk\r\n", r#"{"mappings":"A"}"#), "1"),
     (
         r#"{"sections":[],"mappings":"!"}"#,
         "encountered incompatible sourcemap format",
@@ -76,7 +76,7 @@ fn regular_maps_are_read_alone(rt: HostRuntime) {
 const ANY_KIND: [(&str, &str); 5] = [
     (README, "coolstuff.js:0:0"),
     (
-        ")]}'\n{\"mappings\":\"A\"}",
+        concat!(")]}'\n", r#"{"mappings":"A"}"#),
         "<unknown>:4294967295:4294967295",
     ),
     (")]}'\r{}", "invalid data"),

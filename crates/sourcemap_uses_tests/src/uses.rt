@@ -31,7 +31,7 @@ fn shown(alloc: Global, place: Option<String>) -> String {
 }
 
 #[test]
-fn places(rt: HostRuntime) -> std::result::Result<(), Fail> {
+fn positions_and_frames_lead_to_a_place(rt: HostRuntime) -> std::result::Result<(), Fail> {
     let alloc = rt.alloc();
     let place = place_text(alloc, MAP.as_bytes(), 0, 5)?;
     assert_eq!(rt; shown(alloc, place).as_str(), "coolstuff.js:0:4 name=x");
@@ -41,7 +41,7 @@ fn places(rt: HostRuntime) -> std::result::Result<(), Fail> {
 }
 
 #[test]
-fn functions(rt: HostRuntime) -> std::result::Result<(), Fail> {
+fn a_column_of_bytecode_leads_to_its_function(rt: HostRuntime) -> std::result::Result<(), Fail> {
     let text =
         r#"{"sources":["a.js"],"mappings":"AAAA,KACK","x_facebook_sources":[[{"names":["<global>","foo"],"mappings":"AAA,KCC"}]]}"#;
     let name = function_at(rt.alloc(), text.as_bytes(), 7)?;

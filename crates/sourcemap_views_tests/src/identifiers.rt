@@ -52,7 +52,7 @@ fn told(alloc: Global, text: &str) -> Result<String> {
 }
 
 #[test]
-fn identifiers(rt: HostRuntime) {
+fn identifiers_are_told_from_other_texts(rt: HostRuntime) {
     for (text, want) in TEXTS.iter() {
         check(&rt, text, told(rt.alloc(), text), want);
     }

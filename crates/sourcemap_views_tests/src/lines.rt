@@ -37,7 +37,7 @@ fn push_range(answer: &mut String, range: Option<(usize, usize)>) -> Result<()> 
 }
 
 #[test]
-fn tables(rt: HostRuntime) {
+fn tables_hold_where_lines_begin_and_end(rt: HostRuntime) {
     for (text, want) in TEXTS.iter() {
         check(&rt, text, told(rt.alloc(), text), want);
     }
@@ -125,7 +125,7 @@ fn check_ends(rt: &impl Abort, alloc: Global, text: &str) -> Result<()> {
 }
 
 #[test]
-fn edges(rt: HostRuntime) -> Result<()> {
+fn line_ends_at_the_edges_of_blocks_are_found(rt: HostRuntime) -> Result<()> {
     for (ends, place, length) in ENDS.iter() {
         let text = with_ends(rt.alloc(), ends, *place, *length)?;
         check_ends(&rt, rt.alloc(), text.as_str())?;
@@ -157,7 +157,7 @@ fn placed(alloc: Global, line: &str, col: u64) -> Result<String> {
 }
 
 #[test]
-fn columns(rt: HostRuntime) {
+fn utf16_columns_lead_to_places_in_bytes(rt: HostRuntime) {
     for (line, col, want) in COLUMNS.iter() {
         check(&rt, line, placed(rt.alloc(), line, *col), want);
     }

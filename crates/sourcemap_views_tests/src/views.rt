@@ -67,7 +67,7 @@ fn sliced(alloc: Global, text: &str, place: (u32, u32, u32)) -> Result<String> {
 }
 
 #[test]
-fn slices(rt: HostRuntime) {
+fn lines_are_sliced_by_utf16_columns(rt: HostRuntime) {
     for (text, place, want) in SLICES.iter() {
         check(&rt, text, sliced(rt.alloc(), text, *place), want);
     }
@@ -144,7 +144,7 @@ fn copied(alloc: Global, text: &str, other: &str) -> Result<String> {
 }
 
 #[test]
-fn copies(rt: HostRuntime) {
+fn copies_are_equal_and_print_their_text(rt: HostRuntime) {
     let want = "true false a\nb SourceView { source: \"a\\nb\" }";
     check(&rt, "copy", copied(rt.alloc(), "a\nb", "a\r\nb"), want);
 }

@@ -115,7 +115,7 @@ fn push_shown(answer: &mut String, identifier: Option<&str>) -> Result<()> {
 }
 
 #[test]
-fn walks(rt: HostRuntime) {
+fn walks_find_the_identifier_at_each_place(rt: HostRuntime) {
     for (text, places, want) in WALKS.iter() {
         check(&rt, text, walked(rt.alloc(), text, places), want);
     }
@@ -170,7 +170,7 @@ fn guessed(alloc: Global, spots: &[Spot], name: &str) -> Result<String> {
 }
 
 #[test]
-fn names(rt: HostRuntime) {
+fn walks_guess_the_name_behind_the_word_function(rt: HostRuntime) {
     for (name, count, columns, want) in NAMES.iter() {
         let answer = named(rt.alloc(), name, *count, columns);
         check(&rt, name, answer, want);
