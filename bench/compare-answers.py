@@ -22,7 +22,8 @@ then the status is 1. A reason is given only where what was printed bears it out
   one of these two reasons
 - scopes: of maps with function maps that are rewritten, see `reason_of_rewritten_hermes` there
 - bundle lists: of records written of an index, see `reason_of_index` in comparing.py
-- past the end: this program refuses to flatten, and by the rules a token would pass the last line or column
+- past the end: this program refuses to flatten, and by the rules a token would pass the last line or column, and
+  no section without a map comes before that
 - digits: this program refuses a byte, named as a character, or a number that mappings have, where the byte is
   no digit or the number has more than 63 bits; the reference takes them, or refuses what comes later
 - fault: both refuse the text as JSON, with another of its faults
@@ -35,10 +36,11 @@ from comparing import (TOOL, answer, build_missing, compare_all, is_reordered, n
                        reason_of_index, reason_of_record, reason_of_rewritten_hermes, reference_program, tokens_of,
                        without_mark)
 from hermes_maps import KEY
-from index_maps import LAST, bytes_of, flat_tokens, innermost, is_index, offset_of, pieces, record_of
+from index_maps import (LAST, PAST_THE_END, bytes_of, fault_of_flattening, flat_tokens, innermost, is_index, offset_of,
+                        pieces, record_of)
 
 WORDS = [['tokens'], ['rewrite'], ['flatten'], ['shift', '7'], ['shift', str(LAST)]]
-PAST_THE_END = (1, b'cannot flatten the indexed sourcemap: a position passes 4294967295\n')
+REFUSED_PAST_THE_END = (1, b'cannot flatten the indexed sourcemap: a position passes 4294967295\n')
 JSON_FAULT = b'bad json: '
 OVERFLOW = b'vlq decode caused an overflow\n'
 FOREIGN = re.compile(r'invalid base64 character: (.)\n', re.DOTALL)
@@ -63,19 +65,14 @@ def are_json_faults(*answers):
     return all(status == 1 and text.startswith(JSON_FAULT) for status, text in answers)
 
 
-def passes_the_end(data):
-    """Whether a token of an index stands where no position is."""
-    return any(max(place) > LAST for place, _ in flat_tokens(record_of(data), placed_tokens))
-
-
 def reason(word, data, here, there):
     """Why the two programs differ, None if nothing bears a reason out."""
     if here[0] == 2:
         return 'not there'
     if is_refused_digit(data, here):
         return 'digits'
-    if here == PAST_THE_END:
-        return 'past the end' if passes_the_end(data) else None
+    if here == REFUSED_PAST_THE_END:
+        return PAST_THE_END if fault_of_flattening(record_of(data), placed_tokens) == PAST_THE_END else None
     if here[0] == 1 and there[0] == 1:
         return 'fault' if are_json_faults(here, there) else None
     if word == 'tokens':

@@ -72,8 +72,8 @@ class Pair:
 
     def is_reordered(self, told):
         """Whether tokens without range tokens are what the rules say for another order of the adjustment's."""
-        adjustment = with_others_last(self.original, self.adjustment, told)
-        return set(told) == set(composed(self.original, adjustment))
+        due = composed(self.original, with_others_last(self.original, self.adjustment, told))
+        return due is not None and set(told) == set(due)
 
 
 def compare_pair(reference, path, name, data):

@@ -11,9 +11,8 @@ MAPS         a folder with NAME.map, at any depth. Where NAME stands beside it, 
              by columns of line 0
 --questions  of each kind and map (20)
 
-Neither program of this repository has words for this. So a small one that calls the library is written to a folder
-of its own and built by `rt try`, which proves nothing; all questions go to one run of it. Each difference is printed
-with its reason, or as UNEXPLAINED, and then the status is 1:
+Neither program of this repository has words for this, so a small one is built that has (asking.py); nothing of it
+is proved. Each difference is printed with its reason, or as UNEXPLAINED, and then the status is 1:
 
 - panic: the reference panicked
 - line wraps: by the rules a token leads to line 4294967295 of its source, which the reference counts as before all
@@ -22,140 +21,15 @@ with its reason, or as UNEXPLAINED, and then the status is 1:
 - pairs: the text has characters of two UTF-16 units, where the reference counts on from the middle of one
 - no order: functions of a source stand in no order, so that any name of one of them, or none, is right
 """
-import argparse, collections, json, pathlib, random, re, shutil, subprocess, sys, tempfile
-from comparing import CRATES, answer, noted, reference_program, report
+import argparse, collections, json, pathlib, random, re, sys
+from asking import Case, asked_here, asked_there
+from comparing import noted, reference_program, report
 from composing import tokens_of_record
 from hermes_maps import KEY, closest, function_name, is_in_order
 from index_maps import LAST, is_index, record_of
 from walks import guessed_name
 
 WORD = re.compile(r'[A-Za-z_$][A-Za-z0-9_$]*')
-PROGRAM = '''//! Answers questions about texts and maps: a line of JSON for each.
-#![tactic(auto)]
-
-use serde_json::Value;
-use sourcemap::{DecodedMap, Result, SourceView, decode_slice};
-use std::alloc::Global;
-use std::io::{self, Read};
-
-fn number(question: &Value, at: usize) -> u32 {
-    match question.get(at).and_then(Value::as_u64) {
-        Some(found) if found <= 4294967295 => found as u32,
-        _ => 0,
-    }
-}
-
-fn print<W: io::Write>(alloc: Global, told: Option<&str>, output: &mut W) -> Result<()> {
-    match told {
-        None => output.write_all("null".as_bytes())?,
-        Some(text) => {
-            let text = Value::String(String::from_str(alloc, text)?).to_string(alloc)?;
-            output.write_all(text.as_str().as_bytes())?
-        }
-    }
-    Ok(output.write_all("\\n".as_bytes())?)
-}
-
-fn print_sum<W: io::Write>(line: Option<&str>, output: &mut W) -> Result<()> {
-    match line {
-        None => Ok(output.write_all("null\\n".as_bytes())?),
-        Some(line) => {
-            let mut sum: u32 = 0;
-            for byte in line.as_bytes() {
-                sum = sum.wrapping_mul(31).wrapping_add(u32::from(*byte));
-            }
-            Ok(writeln!(output, "[{},{sum}]", line.len())?)
-        }
-    }
-}
-
-fn tell_names<W: io::Write>(alloc: Global, map: &DecodedMap, view: Option<&SourceView>, questions: &[Value], output: &mut W) -> Result<()> {
-    for question in questions {
-        let name = question.get(2).and_then(Value::as_str);
-        print(alloc, map.get_original_function_name(number(question, 0), number(question, 1), name, view), output)?;
-    }
-    Ok(())
-}
-
-fn tell_slices<W: io::Write>(alloc: Global, view: &SourceView, questions: &[Value], output: &mut W) -> Result<()> {
-    for question in questions {
-        let (line, column) = (number(question, 0), number(question, 1));
-        match question.get(1) {
-            None => print_sum(view.get_line(line), output)?,
-            Some(_) => print(alloc, view.get_line_slice(line, column, number(question, 2)), output)?,
-        }
-    }
-    Ok(())
-}
-
-fn tell<W: io::Write>(alloc: Global, case: &Value, output: &mut W) -> Result<()> {
-    let view = match case.get("text").and_then(Value::as_str) {
-        Some(text) => Some(SourceView::new(alloc, text)?),
-        None => None,
-    };
-    let Some(questions) = case.get("questions").and_then(Value::as_array) else {
-        return Ok(());
-    };
-    match (case.get("map").and_then(Value::as_str), &view) {
-        (Some(map), view) => {
-            let map = decode_slice(alloc, map.as_bytes())?;
-            tell_names(alloc, &map, view.as_ref(), questions.as_slice(), output)
-        }
-        (None, Some(view)) => {
-            tell_slices(alloc, view, questions.as_slice(), output)?;
-            writeln!(output, "{}", view.line_count())?;
-            Ok(())
-        }
-        (None, None) => Ok(()),
-    }
-}
-
-fn main(rt: HostRuntime) -> Result<()> {
-    let alloc = rt.alloc();
-    let mut input = Vec::new(alloc);
-    rt.reader().read_to_end(&mut input)?;
-    let cases = Value::from_slice(alloc, input.as_slice())?;
-    if let Some(cases) = cases.as_array() {
-        for case in cases.as_slice() {
-            tell(alloc, case, &mut io::writer(&rt))?;
-        }
-    }
-    Ok(())
-}
-'''
-
-# a map or a text, with questions and how many lines answer them
-Case = collections.namedtuple('Case', 'name record text questions lines')
-
-
-def asked_here(cases):
-    """The lines that this library answers to each case, by a program that is built for it."""
-    with tempfile.TemporaryDirectory() as room:
-        for path in CRATES.iterdir():
-            shutil.copytree(path, pathlib.Path(room, 'crates', path.name), ignore=shutil.ignore_patterns('out', 'must-fail'))
-        folder = pathlib.Path(room, 'crates/asking/src')
-        folder.mkdir(parents=True)
-        (folder / 'main.rt').write_text(PROGRAM)
-        below = (CRATES.parent / 'crates.txt').read_text()
-        pathlib.Path(room, 'crates.txt').write_text(below + '\nasking: sourcemap sourcemap_index serde_json\n')
-        data = json.dumps([{'map': case.record and json.dumps(case.record), 'text': case.text,
-                            'questions': case.questions} for case in cases]).encode()
-        told = subprocess.run(['rt', 'try', '--seconds', '3000', '--steps', '100000000000'], cwd=folder.parent, input=data, stdout=subprocess.PIPE)
-        if told.returncode:
-            sys.exit(told.stdout[-3000:].decode())
-        lines = iter(told.stdout.decode().splitlines())
-        return [[next(lines) for _ in range(case.lines)] for case in cases]
-
-
-def asked_there(reference, case):
-    with tempfile.TemporaryDirectory() as room:
-        questions, text = pathlib.Path(room, 'questions'), pathlib.Path(room, 'text')
-        questions.write_text(json.dumps(case.questions))
-        text.write_bytes((case.text or '').encode())
-        texts = [str(text)] if case.text is not None else []
-        word = 'names' if case.record else 'slices'
-        status, told = answer([reference, word, str(questions), *texts], json.dumps(case.record).encode())
-        return told.decode().splitlines()
 
 
 def named_positions(record, text, draws, count):
@@ -192,13 +66,13 @@ def cases_of(folder, count):
             columns = [token.column for token in tokens_of_record(record) if token.line == 0] + [0]
             columns = [draws.choice(columns) + draws.randrange(-1, 3) for _ in range(count - 1)]
             questions = [[0, max(0, column), None] for column in columns] + [[1, 0, None]]
-            yield Case(name, record, None, questions, count)
+            yield Case(name, 'names', record, None, questions, count)
         elif (beside := path.with_suffix('')).is_file():
             text = beside.read_bytes().decode()
             slices = list(slices_of(text, draws, count))
-            yield Case(f'{name}, slices', None, text, slices, len(slices) + 1)
+            yield Case(f'{name}, slices', 'slices', None, text, slices, len(slices) + 1)
             questions = list(named_positions(record, text, draws, count))
-            yield Case(f'{name}, names', record, text, questions, len(questions))
+            yield Case(f'{name}, names', 'names', record, text, questions, len(questions))
 
 
 def is_walked_twice(case, question, here, there):

@@ -5,7 +5,8 @@
 #   bench/fail-each-allocation.sh --test CRATE TEST ALLOCATIONS
 #
 # The first form runs a lookup. It has to give the answer (the refused allocation was never asked
-# for), or `out of memory` with status 1, on standard error where the run had not begun.
+# for), or `out of memory` with status 1: on standard output alone, or on standard error alone where
+# the run had not begun.
 # The second form runs one test of a crate, whose tests must be built. It has to pass, since what it
 # calls goes on as before or is called again, or to end with the error that memory ran out, as its
 # result or in the words of the assertion that stops it.
@@ -44,23 +45,28 @@ C
 cc -shared -fPIC -O1 -o "$work/failing.so" "$work/failing.c" -ldl
 
 if [ "$1" = --test ]; then
-    run() { "$crates/$crate/out/${crate}_tests" "$test" 2>&1; }
+    run() { "$crates/$crate/out/${crate}_tests" "$test" > "$work/output" 2>&1; }
     crate=$2 test=$3
 else
-    run() { "$crates/sourcemap_tool/out/sourcemap_tool" lookup "$line" "$column" < "$map" 2>&1; }
+    run() { "$crates/sourcemap_tool/out/sourcemap_tool" lookup "$line" "$column" < "$map" > "$work/output" 2> "$work/error"; }
     map=$1 line=$2 column=$3
 fi
-answer=$(run)
-answered=0 refused=0 faults=0
+: > "$work/error"
+run
+answer=$(cat "$work/output")
+answered=0 refused=0 before=0 faults=0
 for ((n = 1; n <= most; n++)); do
     status=0
-    text=$(export FAIL_AT=$n LD_PRELOAD=$work/failing.so; run) || status=$?
-    case "$status $text" in
-        "0 $answer") answered=$((answered + 1)) ;;
-        "1 out of memory" | "101 error: OutOfMemory"* | "101 error: AllocError"*) refused=$((refused + 1)) ;;
-        "134 "*OutOfMemory* | "134 "*"out of memory"*) refused=$((refused + 1)) ;;
-        *) faults=$((faults + 1)); echo "allocation $n: status $status, $text" ;;
+    (export FAIL_AT=$n LD_PRELOAD=$work/failing.so; run) || status=$?
+    output=$(cat "$work/output") error=$(cat "$work/error")
+    case "$status, '$output', '$error'" in
+        "0, '$answer', ''") answered=$((answered + 1)) ;;
+        "1, 'out of memory', ''") refused=$((refused + 1)) ;;
+        "1, '', 'out of memory'") before=$((before + 1)) ;;
+        "101, 'error: OutOfMemory"* | "101, 'error: AllocError"*) refused=$((refused + 1)) ;;
+        "134, "*OutOfMemory* | "134, "*"out of memory"*) refused=$((refused + 1)) ;;
+        *) faults=$((faults + 1)); echo "allocation $n: status $status, output '$output', error '$error'" ;;
     esac
 done
-echo "$answered answered, $refused out of memory, $faults faults"
+echo "$answered answered, $((refused + before)) out of memory ($before before the run began), $faults faults"
 [ "$faults" = 0 ]

@@ -5,6 +5,7 @@ import json
 
 LAST = 2**32 - 1
 LISTS = ('x_facebook_offsets', 'x_metro_module_paths')
+NO_MAP, PAST_THE_END = 'no map', 'past the end'
 
 
 def record_of(data):
@@ -80,3 +81,21 @@ def flat_tokens(record, tokens_of):
     tokens = [(raised(offset_of(section), place), text) for section in resolved(record)
               for place, text in flat_tokens(section['map'], tokens_of)]
     return sorted(tokens, key=lambda token: token[0])
+
+
+def fault_of_section(section, tokens_of):
+    """Why a section can't be a part of a flat map, None if it can: its map is made flat first, and then its tokens
+    are moved."""
+    if section.get('map') is None:
+        return NO_MAP
+    fault = fault_of_flattening(section['map'], tokens_of)
+    if fault is not None:
+        return fault
+    places = (raised(offset_of(section), place) for place, _ in flat_tokens(section['map'], tokens_of))
+    return PAST_THE_END if any(max(place) > LAST for place in places) else None
+
+
+def fault_of_flattening(record, tokens_of):
+    """Why a map can't be made flat, None if it can: the fault of the first section, in order, that has one."""
+    sections = in_order(record['sections']) if is_index(record) else []
+    return next(filter(None, (fault_of_section(section, tokens_of) for section in sections)), None)

@@ -4,22 +4,27 @@
     bench/try-differences.py REFERENCE
 
 REFERENCE    bench/reference, which is then built, or a program over the Rust crate that knows the words
-             `lookup`, `tokens`, `rewrite` and `stream rewrite`, `flatten`, `compose`, `shift`, and
-             `roundtrip`, which writes a map as it is
+             `lookup`, `tokens`, `rewrite` and `stream rewrite`, `flatten`, `compose`, `shift`,
+             `roundtrip`, which writes a map as it is, and those that asking.py tells of
 
 The programs of this repository are built where they are missing; SOURCEMAP_TOOL and SOURCEMAP_BENCH in the
-environment name others in their place. A row of the document whose last column names a word has a trial
-below, under the text of its first column; `none` there says that the row has no trial. A row that is not as
-it is told, a row without its trial and a trial without its row are printed, and then the status is 1.
+environment name others in their place. For words that neither of them has, asking.py builds a third one. A
+row of the document whose last column names a word has a trial below, under the text of its first column;
+`none` there says that the row has no trial. A row that is not as it is told, a row without its trial and a
+trial without its row are printed, and then the status is 1.
 """
 import argparse, collections, json, os, pty, subprocess, sys, tempfile, tty
+from asking import Case, asked_here, asked_there
 from comparing import BENCH, CRATES, TOOL, build_missing, is_reordered, reference_program
+from composing import tokens_of_record
 
 DOCUMENT = CRATES.parent / 'docs/DIFFERENCES.md'
 
 # What is asked with which input, and of each answer its status and a text that is in it; the text of a second
 # file, if the word takes one.
 Trial = collections.namedtuple('Trial', 'word data here there file', defaults=[None])
+# What is asked of the library, and the first line of each answer.
+Asked = collections.namedtuple('Asked', 'case here there')
 
 
 def record(mappings, **more):
@@ -43,6 +48,13 @@ def has_the_same_steps(here, there):
     return steps(here) == steps(there)
 
 
+def is_covered_by_others(here, there):
+    """Whether two written maps have a token each for the same places of a source, at some other column."""
+    here, there = (sorted((token.source_column, token.column) for token in tokens_of_record(json.loads(text)))
+                   for text in (here, there))
+    return here != there and [place for place, _ in here] == [place for place, _ in there]
+
+
 def fails_behind(data):
     """A reader that gives these bytes and then fails: a terminal that was hung up."""
     ours, theirs = pty.openpty()
@@ -52,8 +64,18 @@ def fails_behind(data):
     return ours
 
 
+def asked(word, record=None, text=None, question=None):
+    """One question to the library; behind slices there is a line with the count of lines."""
+    return Case(word, word, record, text, [question], 2 if word == 'slices' else 1)
+
+
+def named(mappings, **more):
+    return {'version': 3, 'sources': ['a.js'], 'names': ['foo'], 'mappings': mappings, **more}
+
+
 PAST_THE_END = 'cannot flatten the indexed sourcemap: a position passes 4294967295'
 PARTLY_READ = 'a JSON text of which a failing reader gave a part, as `{"version":3`'
+COVERED = 'originals `AAAA,CAAC`, an adjustment of 33 tokens in a line, `AAAC`, then `CAAA` 31 times and `CAAD`'
 SORTED = 'a line of more than 32 segments, out of order, some at one column, as `CAAA` and then `DAAC,CAAC` 16 times'
 TRIALS = {
     'segment `A!`': Trial(
@@ -118,9 +140,34 @@ TRIALS = {
     'a range token at (0,0) from column 7 of its source, an adjustment at (5,0) that comes from (0,10)': Trial(
         'compose', record('AAAO', rangeMappings='B'), (0, '"mappings":";;;;;AAAiB"'), (0, '"mappings":";;;;;AAAO"'),
         record(';;;;;AAAU')),
+    COVERED: Trial(
+        'compose', record('AAAA,CAAC'), (0, '"mappings":"+BAAC,CAAD"'), (0, is_covered_by_others),
+        record('AAAC' + ',CAAA' * 31 + ',CAAD')),
     'JSON keys': Trial(
         'rewrite', record('AAAA'), (0, '{"mappings":"AAAA","names":[],"sources":["a.js"],"version":3}\n'),
         (0, '{"version":3,"sources":["a.js"],"names":[],"mappings":"AAAA"}\n')),
+}
+
+FAULTY_SECTION = {'sections': [{'offset': {'line': 0, 'column': 0}, 'map': {'mappings': 'A!'}}]}
+TWO_TEXTS = 'a data URL of `e30=IA==` (two texts in base64, put end to end)'
+ASKED = {
+    'the function at 0 of `{"mappings":"AADA","sources":["a.js"],"x_facebook_sources":[[{"mappings":"AAA","names":["f"]}]]}`': Asked(
+        asked('names', {'mappings': 'AADA', 'sources': ['a.js'], 'x_facebook_sources': [[{'mappings': 'AAA', 'names': ['f']}]]},
+              question=[0, 0, None]), '"f"', 'null'),
+    'text `function`, mappings `AAAAA`, name `foo`: the name of `function` at (0,1)': Asked(
+        asked('names', named('AAAAA'), 'function', [0, 1, 'function']), 'null', '"foo"'),
+    'text `function b👌;`, mappings `AAAA,SAAAA,EAAA`, name `foo`: the name of `b` at (0,11)': Asked(
+        asked('names', named('AAAA,SAAAA,EAAA'), 'function b👌;', [0, 11, 'b']), '"foo"', 'null'),
+    'text `function x` with U+037A for `x`, mappings `AAAA,SAAAA`, name `foo`: the name of that letter at (0,9)': Asked(
+        asked('names', named('AAAA,SAAAA'), 'function \u037a', [0, 9, '\u037a']), 'null', '"foo"'),
+    'view `abc`, slice (0,1,4294967295)': Asked(
+        asked('slices', None, 'abc', [0, 1, 2**32 - 1]), 'null', '""'),
+    '`SourceMap::from_slice` of `{"sections":[{"offset":{"line":0,"column":0},"map":{"mappings":"A!"}}]}`': Asked(
+        asked('regular', FAULTY_SECTION), 'encountered incompatible sourcemap format', 'leftover cur/shift in vlq decode'),
+    TWO_TEXTS: Asked(
+        asked('url', None, 'data:application/json;base64,e30=IA=='), 'the provided data URL is invalid', 'none'),
+    'sources `a.js`, `a.js`, mappings `AAAA,ACAA`, the two tokens compared by `==`': Asked(
+        asked('equal', named('AAAA,ACAA', sources=['a.js', 'a.js'])), 'true', 'false'),
 }
 
 
@@ -177,6 +224,15 @@ def wrong(title, trial, reference):
     return f'{title}\n    here  {here}\n    there {there}'
 
 
+def wrong_answers(reference):
+    """Of what the library is asked, all that is not as its row tells."""
+    told_here = asked_here([row.case for row in ASKED.values()])
+    for (title, row), here in zip(ASKED.items(), told_here):
+        there = asked_there(reference, row.case)
+        if here[0] != row.here or there[:1] != [row.there]:
+            yield f'{title}\n    here  {here}\n    there {there}'
+
+
 def main():
     words = argparse.ArgumentParser(usage=__doc__)
     words.add_argument('reference')
@@ -184,13 +240,16 @@ def main():
     build_missing()
     reference = reference_program(given.reference)
     told = dict(rows())
+    tried = {title: trial.word.split()[0] for title, trial in TRIALS.items()}
+    tried.update((title, row.case.word) for title, row in ASKED.items())
     faults = [f'no trial by {word}: {title}' for title, word in told.items()
-              if word != 'none' and (title not in TRIALS or TRIALS[title].word.split()[0] != word)]
-    faults += [f'no row: {title}' for title in TRIALS if told.get(title, 'none') == 'none']
+              if word != 'none' and tried.get(title) != word]
+    faults += [f'no row: {title}' for title in tried if told.get(title, 'none') == 'none']
     faults += filter(None, (wrong(title, trial, reference) for title, trial in TRIALS.items()))
+    faults += wrong_answers(reference)
     for fault in faults:
         print(fault)
-    print(f'{len(told)} rows, {len(TRIALS)} tried, {len(faults)} faults')
+    print(f'{len(told)} rows, {len(tried)} tried, {len(faults)} faults')
     sys.exit(1 if faults else 0)
 
 

@@ -1,18 +1,20 @@
 #!/usr/bin/env python3
 """Tries how the program meets its surroundings: words that are no text, a reader of its output that goes
-away, outputs and inputs that fail, and the wrapper `sourcemap` through a link and from another folder.
+away, outputs and inputs that fail, want of memory before it has read its words, and the wrapper `sourcemap`:
+through a link, from another folder, and asked for its words where nothing is built.
 
     bench/try-program.py
 
 The program is built where it is missing; SOURCEMAP_TOOL in the environment names another in its place,
 which the wrapper does not know. Each trial that does not end as it should is printed, and then the status is 1.
 """
-import os, pathlib, subprocess, sys, tempfile
+import os, pathlib, resource, shutil, subprocess, sys, tempfile
 from comparing import CRATES, TOOL, build_missing
 
 HOME = CRATES.parent
 MAP = HOME / 'examples/readme.map'
 USAGE = b'usage: lookup LINE COL | tokens | rewrite | flatten | compose FILE | shift ROWS\n'
+WRAPPER_USAGE = b'usage: sourcemap WORDS < MAP'
 ANSWER = b'coolstuff.js:0:4 name=x\n'
 LOOKUP = [b'lookup', b'0', b'5']
 MISSING = b'No such file or directory (os error 2)\n'
@@ -57,6 +59,35 @@ def through_link(words):
         return ended(['bash', '-c', 'exec ../link "$@" < ../here.map', 'bash', *words], cwd=f'{folder}/inner')
 
 
+def unbuilt(words):
+    """A run of the wrapper where nothing is built, in a copy of the files that git knows: its status, the first
+    line that it printed, and what it told. Where it builds it tells so."""
+    listed = subprocess.run(['git', 'ls-files', '-z'], cwd=HOME, check=True, stdout=subprocess.PIPE).stdout
+    with tempfile.TemporaryDirectory() as folder:
+        for name in filter(None, os.fsdecode(listed).split('\0')):
+            copy = pathlib.Path(folder, name)
+            copy.parent.mkdir(parents=True, exist_ok=True)
+            shutil.copy(HOME / name, copy)
+        status, printed, told = ended([f'{folder}/sourcemap', *words])
+    return status, printed.split(b'\n')[0], told
+
+
+def within(kilobytes):
+    """A run with no more memory than this, None if it cannot be started."""
+    limit = kilobytes << 10
+    try:
+        return ended([TOOL, *LOOKUP], preexec_fn=lambda: resource.setrlimit(resource.RLIMIT_AS, (limit, limit)))
+    except (OSError, subprocess.SubprocessError):
+        return None
+
+
+def short_of_memory():
+    """The first run that is the program's own to end, of those with more and more memory: with less, the system or
+    the loader ends it. It gets no memory at all for itself."""
+    runs = map(within, range(512, 1 << 20, 16))
+    return next(run for run in runs if run and run[0] in (0, 1))
+
+
 # What is tried, how, and how it should end.
 TRIALS = [
     ('an answer', lambda: ended([TOOL, *LOOKUP]), (0, ANSWER, b'')),
@@ -75,6 +106,9 @@ TRIALS = [
     ('a second map that is missing', lambda: ended([TOOL, b'compose', b'no.map']), (1, MISSING, b'')),
     ('a folder as a second map', lambda: ended([TOOL, b'compose', b'/']), (1, b'Is a directory (os error 21)\n', b'')),
     ('a word that is not UTF-8 through it', lambda: through_link([b'lookup', b'0', b'\xff']), (2, USAGE, b'')),
+    ('--help where nothing is built', lambda: unbuilt(['--help']), (0, WRAPPER_USAGE, b'')),
+    ('no words where nothing is built', lambda: unbuilt([]), (2, WRAPPER_USAGE, b'')),
+    ('want of memory before the run begins', short_of_memory, (1, b'', b'out of memory\n')),
 ]
 
 

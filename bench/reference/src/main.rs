@@ -8,8 +8,8 @@ use draws::Draws;
 use repeat::Operation;
 use serde_json::Value;
 use sourcemap::{
-    decode, decode_slice, DecodedMap, Error, Result, RewriteOptions, SourceMap, SourceMapHermes,
-    SourceMapIndex, SourceView, Token,
+    decode, decode_data_url, decode_slice, DecodedMap, Error, Result, RewriteOptions, SourceMap,
+    SourceMapHermes, SourceMapIndex, SourceView, Token,
 };
 use std::fs::{self, File};
 use std::io::{self, BufWriter, Read, Write};
@@ -20,8 +20,8 @@ use std::process::ExitCode;
 const USAGE: &str = "usage, with a map on standard input:
     [slice | stream] (lookup LINE COL | tokens | rewrite | flatten | compose FILE | shift ROWS)
     | roundtrip | stat | batch FILE | dst FILE | positions N SEED [wild] | bench OPERATION N
-    | names QUESTIONS [TEXT]
-or, with nothing there: slices QUESTIONS TEXT
+    | names QUESTIONS [TEXT] | regular | equal
+or, with nothing there: slices QUESTIONS TEXT | url URL
 OPERATION: decode | decode-reader | lookup | tokens | encode | rewrite | flatten
     | compose, of two maps on standard input, each on a line
 ";
@@ -188,6 +188,14 @@ fn write_stat(map: DecodedMap, output: &mut Output) -> io::Result<()> {
     writeln!(output, "{kind}\t{count}")
 }
 
+/// Why a map is refused, or `none`.
+fn write_fault<T>(read: Result<T>, output: &mut Output) -> Result<()> {
+    match read {
+        Ok(_) => Ok(writeln!(output, "none")?),
+        Err(fault) => Ok(writeln!(output, "{fault}")?),
+    }
+}
+
 fn rewritten(map: Single) -> Result<DecodedMap> {
     let options = RewriteOptions::default();
     Ok(match map {
@@ -277,6 +285,13 @@ fn answer(form: Form, words: &[&str], output: &mut Output) -> Option<Result<()>>
         }),
         ["slices", questions, text] => view_of(text).and_then(|view| {
             Ok(views::write_slices(&view, &questions_in(questions)?, output)?)
+        }),
+        ["regular"] => bytes()
+            .map_err(Error::from)
+            .and_then(|bytes| write_fault(SourceMap::from_slice(&bytes), output)),
+        ["url", url] => write_fault(decode_data_url(url), output),
+        ["equal"] => map().and_then(regular).and_then(|map| {
+            Ok(writeln!(output, "{}", map.get_token(0) == map.get_token(1))?)
         }),
         ["bench", operation, rounds] => {
             let (operation, rounds) = (Operation::named(operation)?, rounds.parse().ok()?);

@@ -1,0 +1,168 @@
+"""What the scripts ask of the library where neither program of this repository has a word for it: a small program
+that calls it is written to a folder of its own and built by `rt try`, which proves nothing. All questions go to one
+run of it. The reference program has words for the same:
+
+    names    the name of the function at a line, a column and a minified name, as JSON, for each question; in a text
+             if there is one
+    slices   a slice of a text by a line, a column and a count of units, or a line by its length and a sum, as JSON,
+             for each question; at the end the count of lines
+    regular  why a map is refused where a regular one is wanted, or `none`
+    url      why the map in a data URL is refused, or `none`
+    equal    whether the first two tokens of a map are equal
+"""
+import collections, json, pathlib, shutil, subprocess, sys, tempfile
+from comparing import CRATES, answer
+
+PROGRAM = '''//! Answers questions about texts and maps, each in a line.
+#![tactic(auto)]
+
+use serde_json::Value;
+use sourcemap::{DecodedMap, Result, SourceMap, SourceView, decode_data_url, decode_slice};
+use std::alloc::Global;
+use std::io::{self, Read};
+
+fn number(question: &Value, at: usize) -> u32 {
+    match question.get(at).and_then(Value::as_u64) {
+        Some(found) if found <= 4294967295 => found as u32,
+        _ => 0,
+    }
+}
+
+fn print<W: io::Write>(alloc: Global, told: Option<&str>, output: &mut W) -> Result<()> {
+    match told {
+        None => output.write_all("null".as_bytes())?,
+        Some(text) => {
+            let text = Value::String(String::from_str(alloc, text)?).to_string(alloc)?;
+            output.write_all(text.as_str().as_bytes())?
+        }
+    }
+    Ok(output.write_all("\\n".as_bytes())?)
+}
+
+fn print_sum<W: io::Write>(line: Option<&str>, output: &mut W) -> Result<()> {
+    match line {
+        None => Ok(output.write_all("null\\n".as_bytes())?),
+        Some(line) => {
+            let mut sum: u32 = 0;
+            for byte in line.as_bytes() {
+                sum = sum.wrapping_mul(31).wrapping_add(u32::from(*byte));
+            }
+            Ok(writeln!(output, "[{},{sum}]", line.len())?)
+        }
+    }
+}
+
+fn tell_names<W: io::Write>(alloc: Global, map: &DecodedMap, view: Option<&SourceView>, questions: &[Value], output: &mut W) -> Result<()> {
+    for question in questions {
+        let name = question.get(2).and_then(Value::as_str);
+        print(alloc, map.get_original_function_name(number(question, 0), number(question, 1), name, view), output)?;
+    }
+    Ok(())
+}
+
+fn tell_slices<W: io::Write>(alloc: Global, view: &SourceView, questions: &[Value], output: &mut W) -> Result<()> {
+    for question in questions {
+        let (line, column) = (number(question, 0), number(question, 1));
+        match question.get(1) {
+            None => print_sum(view.get_line(line), output)?,
+            Some(_) => print(alloc, view.get_line_slice(line, column, number(question, 2)), output)?,
+        }
+    }
+    Ok(writeln!(output, "{}", view.line_count())?)
+}
+
+fn tell_fault<T: Drop, W: io::Write>(answer: Result<T>, output: &mut W) -> Result<()> {
+    match answer {
+        Ok(_) => Ok(writeln!(output, "none")?),
+        Err(fault) => Ok(writeln!(output, "{fault}")?),
+    }
+}
+
+fn tell_equal<W: io::Write>(map: &SourceMap, output: &mut W) -> Result<()> {
+    if let (Some(first), Some(second)) = (map.get_token(0), map.get_token(1)) {
+        writeln!(output, "{}", first == second)?;
+    }
+    Ok(())
+}
+
+fn part<'a>(case: &'a Value, key: &str) -> Option<&'a str> {
+    case.get(key).and_then(Value::as_str)
+}
+
+fn tell_answers<W: io::Write>(alloc: Global, case: &Value, map: Option<&str>, text: Option<&str>, output: &mut W) -> Result<()> {
+    let view = match text {
+        Some(text) => Some(SourceView::new(alloc, text)?),
+        None => None,
+    };
+    let Some(questions) = case.get("questions").and_then(Value::as_array) else {
+        return Ok(());
+    };
+    match (map, &view) {
+        (Some(map), view) => {
+            let map = decode_slice(alloc, map.as_bytes())?;
+            tell_names(alloc, &map, view.as_ref(), questions.as_slice(), output)
+        }
+        (None, Some(view)) => tell_slices(alloc, view, questions.as_slice(), output),
+        (None, None) => Ok(()),
+    }
+}
+
+fn tell<W: io::Write>(alloc: Global, case: &Value, output: &mut W) -> Result<()> {
+    let (map, text) = (part(case, "map"), part(case, "text"));
+    let bytes = map.unwrap_or("").as_bytes();
+    match part(case, "word").unwrap_or("") {
+        "regular" => tell_fault(SourceMap::from_slice(alloc, bytes), output),
+        "url" => tell_fault(decode_data_url(alloc, text.unwrap_or("")), output),
+        "equal" => tell_equal(&SourceMap::from_slice(alloc, bytes)?, output),
+        _ => tell_answers(alloc, case, map, text, output),
+    }
+}
+
+fn main(rt: HostRuntime) -> Result<()> {
+    let alloc = rt.alloc();
+    let mut input = Vec::new(alloc);
+    rt.reader().read_to_end(&mut input)?;
+    let cases = Value::from_slice(alloc, input.as_slice())?;
+    if let Some(cases) = cases.as_array() {
+        for case in cases.as_slice() {
+            tell(alloc, case, &mut io::writer(&rt))?;
+        }
+    }
+    Ok(())
+}
+'''
+
+# one of the words above, a map or a text or both, with questions, and how many lines answer them
+Case = collections.namedtuple('Case', 'name word record text questions lines')
+
+
+def asked_here(cases):
+    """The lines that this library answers to each case, by a program that is built for it."""
+    with tempfile.TemporaryDirectory() as room:
+        for path in CRATES.iterdir():
+            shutil.copytree(path, pathlib.Path(room, 'crates', path.name), ignore=shutil.ignore_patterns('out', 'must-fail'))
+        folder = pathlib.Path(room, 'crates/asking/src')
+        folder.mkdir(parents=True)
+        (folder / 'main.rt').write_text(PROGRAM)
+        below = (CRATES.parent / 'crates.txt').read_text()
+        pathlib.Path(room, 'crates.txt').write_text(below + '\nasking: sourcemap sourcemap_index serde_json\n')
+        data = json.dumps([{'word': case.word, 'map': case.record and json.dumps(case.record), 'text': case.text,
+                            'questions': case.questions} for case in cases]).encode()
+        told = subprocess.run(['rt', 'try', '--seconds', '3000', '--steps', '100000000000'], cwd=folder.parent, input=data, stdout=subprocess.PIPE)
+        if told.returncode:
+            sys.exit(told.stdout[-3000:].decode())
+        lines = iter(told.stdout.decode().splitlines())
+        return [[next(lines) for _ in range(case.lines)] for case in cases]
+
+
+def asked_there(reference, case):
+    """The lines that the reference program answers to a case."""
+    with tempfile.TemporaryDirectory() as room:
+        questions, text = pathlib.Path(room, 'questions'), pathlib.Path(room, 'text')
+        questions.write_text(json.dumps(case.questions))
+        text.write_bytes((case.text or '').encode())
+        more = {'regular': [], 'equal': [], 'url': [case.text]}.get(case.word, [str(questions)])
+        if case.word in ('names', 'slices') and case.text is not None:
+            more.append(str(text))
+        status, told = answer([reference, case.word, *more], json.dumps(case.record).encode())
+        return told.decode().splitlines()
