@@ -1,7 +1,6 @@
 pub mod BuildingLemmas
 pub mod DataUrlsLemmas
 pub mod FlatteningLemmas
-pub mod FunctionsLemmas
 pub mod LinkingLemmas
 pub mod MergingLemmas
 pub mod RewritingLemmas

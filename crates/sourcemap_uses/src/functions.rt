@@ -1,20 +1,21 @@
 //! The function that a place in bytecode stands in.
-ghost use Rattle.std.specs.Prelude.{◌≡◌, IfOk, Ok, option_map, string_bytes};
-ghost use Rattle.sourcemap.specs.Hermes.{HermesValue, function_name};
+ghost use Rattle.std.specs.Prelude.{Err, IfOk, IfErr, option_map, string_bytes};
+ghost use Rattle.sourcemap.specs.Answer.{UnlessMemory};
 ghost use Rattle.sourcemap.specs.HermesDecoder.{OnlyHermesDecodes};
-ghost use Rattle.sourcemap.specs.HermesRewrite.{IsInOrderOf};
 ghost use Rattle.sourcemap.specs.Reading.{BytesStandFor};
-ghost use Rattle.sourcemap.specs.Types.{lookup};
+ghost use Rattle.sourcemap_uses.specs.Functions.{IsNameAt};
 
 use sourcemap::{Result, SourceMapHermes};
 use std::alloc::Global;
 
 /// The name of the function that a place in the bytecode stands in, by the Hermes map in these bytes,
 /// where the functions of its source stand in order. Refused as by `SourceMapHermes::from_slice`.
+#[tactic(auto, using(std::proofs::lemmas::Result::err_from_is_err_and))]
 pub fn function_at(alloc: Global, bytes: &[u8], offset: u32) -> Result<Option<String>>
-    ensures { (h : HermesValue) → BytesStandFor OnlyHermesDecodes bytes.now (Ok h)
-        → IsInOrderOf h (lookup h.map (0, offset))
-        → IfOk result (λ name. option_map string_bytes name ≡ function_name h offset) }
+    ensures name { IfOk result
+        (λ name. IsNameAt bytes.now offset (option_map string_bytes name)) }
+    ensures fault { IfErr result
+        (λ e. UnlessMemory e (BytesStandFor OnlyHermesDecodes bytes.now (Err e))) }
 {
     let map = SourceMapHermes::from_slice(alloc, bytes)?;
     match map.get_original_function_name(offset) {

@@ -12,6 +12,7 @@ use std::alloc::Global;
 /// `source:line:column`, and ` name=NAME` if there is a name. `None` if no token stands at the
 /// position or before it. Lines and columns count from 0, columns in UTF-16 units. Bytes that hold
 /// no map are refused as by `decode_slice`.
+#[tactic(auto, using(std::proofs::lemmas::Result::err_from_is_err_and))]
 pub fn place_text(alloc: Global, bytes: &[u8], line: u32, col: u32) -> Result<Option<String>>
     ensures place { IfOk result
         (λ text. IsTextOf bytes.now (line, col) (option_map string_bytes text)) }

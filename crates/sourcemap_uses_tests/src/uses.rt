@@ -15,6 +15,7 @@ use sourcemap_uses::merging::{add_shown, merged_sources};
 use sourcemap_uses::naming::{original_name, source_line};
 use sourcemap_uses::places::{frame_text, place_text};
 use sourcemap_uses::publishing::published;
+use sourcemap_uses::quick::quick_place;
 use sourcemap_uses::shrinking::shrunk;
 use std::alloc::Global;
 use std::process::Abort;
@@ -54,6 +55,25 @@ fn place_in(alloc: Global, map: &SourceMap) -> Result<String> {
         None => Ok(String::new(alloc)),
         Some(token) => Ok(token.to_string(alloc)?),
     }
+}
+
+// What a map says of a place, and whether that took from 1 to 42 comparisons.
+fn quick_told(alloc: Global, map: &SourceMap, line: u32, col: u32) -> Result<String> {
+    let (token, steps) = quick_place(map, line, col);
+    let is_quick = 1 <= steps && steps <= 42;
+    match token {
+        None => Ok(String::new(alloc)),
+        Some(token) => Ok(format!(in alloc; "{token} {is_quick}")?),
+    }
+}
+
+#[test]
+fn a_place_is_found_quickly(rt: HostRuntime) -> std::result::Result<(), Fail> {
+    let alloc = rt.alloc();
+    let map = SourceMap::from_slice(alloc, MAP.as_bytes())?;
+    let told = quick_told(alloc, &map, 0, 5)?;
+    assert_eq!(rt; told.as_str(), "coolstuff.js:0:4 name=x true");
+    Ok(())
 }
 
 #[test]

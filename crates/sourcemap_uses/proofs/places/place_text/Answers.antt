@@ -1,8 +1,0 @@
--- Bytes that hold no map.
-use Rattle.std.proofs.lemmas.Result.{err_from_is_err_and}
-use Rattle.sourcemap_uses.proofs.places.place_text.Goals as goal
-
-pub returns-in_err-map-clause-fault : goal.returns-in_err-map-clause-fault
-returns-in_err-map-clause-fault c =
-    let p = err_from_is_err_and c.from_residual.result c.from_residual.ensures.1 in
-    rw (p.1, p.2) c.in_err-map.ensures.answer

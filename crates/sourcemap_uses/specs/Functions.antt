@@ -1,0 +1,13 @@
+-- The function that a place in bytecode stands in.
+use Rattle.std.specs.Prelude.{◌≡◌, ℕ, List, Option, Ok}
+use Rattle.sourcemap.specs.Hermes.{HermesValue, function_name}
+use Rattle.sourcemap.specs.HermesDecoder.{OnlyHermesDecodes}
+use Rattle.sourcemap.specs.HermesRewrite.{IsInOrderOf}
+use Rattle.sourcemap.specs.Reading.{BytesStandFor}
+use Rattle.sourcemap.specs.Types.{lookup}
+
+-- the name that the Hermes map in these bytes has for a place, where the functions of its source stand in order
+abbrev pub IsNameAt : (bytes : List ℕ) → ℕ → Option (List ℕ) → Type 0
+IsNameAt bytes offset name =
+    (h : HermesValue) × BytesStandFor OnlyHermesDecodes bytes (Ok h)
+    × (IsInOrderOf h (lookup h.map (0, offset)) → name ≡ function_name h offset)
