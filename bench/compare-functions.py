@@ -12,7 +12,8 @@ MAPS         a folder with NAME.map, at any depth. Where NAME stands beside it, 
 --questions  of each kind and map (20)
 
 Neither program of this repository has words for this, so a small one is built that has (asking.py); nothing of it
-is proved. Each difference is printed with its reason, or as UNEXPLAINED, and then the status is 1:
+is proved. Each difference is printed with its reason, but for those of `line wraps` and `no order`, of which there
+may be many and which are only counted; or as UNEXPLAINED, and then the status is 1:
 
 - panic: the reference panicked
 - line wraps: by the rules a token leads to line 4294967295 of its source, which the reference counts as before all

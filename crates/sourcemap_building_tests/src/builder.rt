@@ -189,6 +189,7 @@ fn written(alloc: Global, builder: Result<SourceMapBuilder>) -> Result<String> {
 // What is tried with a builder of the file f.
 #[derive(Clone, Copy)]
 struct Row {
+    about: &'static str,
     steps: &'static [Step<'static>],
     // what the steps answer
     answers: &'static str,
@@ -202,8 +203,8 @@ const OTHER: &str = r#"{"sources":["a.js"],"names":["x"],"mappings":"AAAOA","ran
 const RANGE: &str = r#"{"sources":["a.js"],"names":["n"],"mappings":"KACEA","rangeMappings":"B"}"#;
 
 const ROWS: [Row; 7] = [
-    // A text that was first given keeps its id, whatever is shown.
     Row {
+        about: "a text that was first given keeps its id, whatever is shown",
         steps: &[
             Step::Source("/a/x.js"),
             Step::Show(0, "x.js"),
@@ -218,6 +219,7 @@ const ROWS: [Row; 7] = [
         written: r#"{"file":"f","mappings":"E;EEGIA","names":["n"],"rangeMappings":"B;","sourceRoot":"r","sources":["x.js","x.js","y.js"],"version":3}"#,
     },
     Row {
+        about: "a text that is cut keeps its id",
         steps: &[
             Step::Source("/a/x.js"),
             Step::Strip("/a"),
@@ -229,6 +231,7 @@ const ROWS: [Row; 7] = [
         written: r#"{"file":"f","mappings":"","names":[],"sources":["x.js","x.js"],"version":3}"#,
     },
     Row {
+        about: "sources and names are numbered apart",
         steps: &[
             Step::File("out.js"),
             Step::Root("r"),
@@ -245,8 +248,8 @@ const ROWS: [Row; 7] = [
         told: r#"(Some("out.js"), Some("r")) (Some("a"), None) (false, None)"#,
         written: r#"{"debugId":"00000000-0000-0000-0000-000000000000","file":"out.js","ignoreList":[1],"mappings":"","names":["a","b"],"sourceRoot":"r","sources":["a","b"],"version":3}"#,
     },
-    // Every call.
     Row {
+        about: "every call",
         steps: &[
             Step::DebugId("0123456789abcdef0123456789abcdef"),
             Step::File("out.js"),
@@ -266,8 +269,8 @@ const ROWS: [Row; 7] = [
         told: r#"(Some("out.js"), Some("r")) (Some("c.js"), None) (true, Some("text"))"#,
         written: r#"{"debugId":"01234567-89ab-cdef-0123-456789abcdef","file":"out.js","ignoreList":[1],"mappings":"AAAYC,AAAL;ECGH,GAAA","names":["n","x"],"rangeMappings":"D;","sourceRoot":"r","sources":["c.js","b.js"],"sourcesContent":["text",null],"version":3}"#,
     },
-    // A token is added as it answers where it was found, and by texts.
     Row {
+        about: "a token is added as it answers where it was found, and by texts",
         steps: &[
             Step::Source("b.js"),
             Step::Found(RANGE, 7, false),
@@ -277,8 +280,8 @@ const ROWS: [Row; 7] = [
         told: r#"(Some("f"), None) (Some("b.js"), None) (false, None)"#,
         written: r#"{"file":"f","mappings":"KCCI,AAAAA","names":["n"],"rangeMappings":"D","sources":["b.js","a.js"],"version":3}"#,
     },
-    // Contents are taken back.
     Row {
+        about: "contents are taken back",
         steps: &[
             Step::Source("a"),
             Step::Contents(0, Some("text")),
@@ -289,6 +292,7 @@ const ROWS: [Row; 7] = [
         written: r#"{"file":"f","mappings":"","names":[],"sources":["a"],"version":3}"#,
     },
     Row {
+        about: "no call",
         steps: &[],
         answers: "",
         told: r#"(Some("f"), None) (None, None) (false, None)"#,
@@ -312,16 +316,16 @@ fn told(alloc: Global, builder: Result<SourceMapBuilder>) -> Result<String> {
 fn builders_answer_and_are_written(rt: HostRuntime) {
     let alloc = rt.alloc();
     for row in ROWS.iter() {
-        check(&rt, row.written, answers(alloc, row.steps), row.answers);
+        check(&rt, row.about, answers(alloc, row.steps), row.answers);
         check(
             &rt,
-            row.written,
+            row.about,
             told(alloc, built(alloc, row.steps)),
             row.told,
         );
         check(
             &rt,
-            row.written,
+            row.about,
             written(alloc, built(alloc, row.steps)),
             row.written,
         );
@@ -345,17 +349,27 @@ fn sources_are_shown_behind_the_root(rt: HostRuntime) {
     );
 }
 
-// Prefixes, a source, and what is left of it.
-const PREFIXES: [(&[&str], &str, &str); 9] = [
-    (&["/a/"], "/a/x.js", "x.js"),
-    (&["/a"], "/ab/x.js", "/ab/x.js"),
-    (&["/a"], "/a", "/a"),
-    (&["/a"], "/a/a/x.js", "a/x.js"),
-    (&["/b", "/a", "/a/b"], "/a/b/x.js", "b/x.js"),
-    (&["/b", "/a/b", "/a"], "/a/b/x.js", "x.js"),
-    (&["~"], "~/x.js", "x.js"),
-    (&[""], "/x.js", "x.js"),
-    (&[], "/x.js", "/x.js"),
+// What a row is about, prefixes, a source, and what is left of it.
+const PREFIXES: [(&str, &[&str], &str, &str); 9] = [
+    ("with its slash", &["/a/"], "/a/x.js", "x.js"),
+    ("no whole part", &["/a"], "/ab/x.js", "/ab/x.js"),
+    ("all of the source, without a slash", &["/a"], "/a", "/a"),
+    ("cut once", &["/a"], "/a/a/x.js", "a/x.js"),
+    (
+        "the first that fits, the shorter one",
+        &["/b", "/a", "/a/b"],
+        "/a/b/x.js",
+        "b/x.js",
+    ),
+    (
+        "the first that fits, the longer one",
+        &["/b", "/a/b", "/a"],
+        "/a/b/x.js",
+        "x.js",
+    ),
+    ("a tilde as any other text", &["~"], "~/x.js", "x.js"),
+    ("an empty prefix is a slash", &[""], "/x.js", "x.js"),
+    ("no prefix", &[], "/x.js", "/x.js"),
 ];
 
 fn cut<'a>(
@@ -376,7 +390,7 @@ fn left(alloc: Global, prefixes: &[&str], source: &str) -> Result<String> {
 
 #[test]
 fn prefixes_are_cut(rt: HostRuntime) {
-    for (prefixes, source, want) in PREFIXES.iter() {
-        check(&rt, source, left(rt.alloc(), prefixes, source), want);
+    for (about, prefixes, source, want) in PREFIXES.iter() {
+        check(&rt, about, left(rt.alloc(), prefixes, source), want);
     }
 }

@@ -31,24 +31,25 @@ fn record_written(alloc: Global, record: Result<RawSourceMap>) -> Result<String>
 const TWO_SOURCES: &str =
     r#"{"mappings":"ACAA","sources":["a.js","b.js"],"sourcesContent":["x","y"]}"#;
 
-// A map, and what it is written as when it is rewritten by default.
-const DEFAULT: [(&str, &str); 4] = [
+// What a row is about, a map, and what it is written as when it is rewritten by default.
+const DEFAULT: [(&str, &str, &str); 4] = [
     (
+        "a source that no token uses",
         TWO_SOURCES,
         r#"{"mappings":"AAAA","names":[],"sources":["b.js"],"sourcesContent":["y"],"version":3}"#,
     ),
     (
+        "a root, behind which sources are shown then",
         r#"{"mappings":"AAAA,GAAIA,GAAI,EACR,IAAIA,GAAK,EAAG,CACVC,MAAM","names":["x","alert"],"sourceRoot":"r","sources":["coolstuff.js"]}"#,
         r#"{"mappings":"AAAA,GAAIA,GAAI,EACR,IAAIA,GAAK,EAAG,CACVC,MAAM","names":["x","alert"],"sources":["r/coolstuff.js"],"version":3}"#,
     ),
-    // Tokens of the sources 1, 2 and 1 and of the names 1, 1 and 0, where sources 1 and 2 have one
-    // text.
     (
+        "two sources of one text, and names in the order of use",
         r#"{"ignoreList":[1],"mappings":"ACAAC,CCAAA,CDAAD","names":["m","n"],"sources":["a.js","b.js","b.js"],"sourcesContent":["x",null,"y"]}"#,
         r#"{"mappings":"AAAAA,CAAAA,CAAAC","names":["n","m"],"sources":["b.js"],"sourcesContent":["y"],"version":3}"#,
     ),
-    // A range token, and a token without a source.
     (
+        "a range token, and a token without a source",
         r#"{"file":"out.js","mappings":"AAAO,E","rangeMappings":"B","sources":["a.js"]}"#,
         r#"{"file":"out.js","mappings":"AAAO,E","names":[],"rangeMappings":"B","sources":["a.js"],"version":3}"#,
     ),
@@ -57,8 +58,9 @@ const DEFAULT: [(&str, &str); 4] = [
 #[test]
 fn what_is_used_is_kept(rt: HostRuntime) {
     let options = RewriteOptions::default();
-    for (text, want) in DEFAULT.iter() {
-        check(&rt, text, rewritten(&rt, rt.alloc(), text, &options), want);
+    for (about, text, want) in DEFAULT.iter() {
+        let answer = rewritten(&rt, rt.alloc(), text, &options);
+        check(&rt, about, answer, want);
     }
 }
 
@@ -66,37 +68,40 @@ const PATHS: &str = r#"{"mappings":"AAAA,CCAA","sources":["/a/b/x.js","/a/b/y.js
 
 const UNDER_ROOT: &str = r#"{"mappings":"AAAA","sourceRoot":"/r","sources":["x.js"]}"#;
 
-// A map, the prefixes to be cut, and what it is written as.
-const CUT: [(&str, &[&str], &str); 6] = [
+// What a row is about, a map, the prefixes to be cut, and what it is written as.
+const CUT: [(&str, &str, &[&str], &str); 6] = [
     (
+        "what the paths have in common",
         PATHS,
         &["~"],
         r#"{"mappings":"AAAA,CCAA","names":[],"sources":["x.js","y.js"],"version":3}"#,
     ),
     (
+        "prefixes in turn, before what the paths have in common",
         PATHS,
         &["~", "/b", "/a"],
         r#"{"mappings":"AAAA,CCAA","names":[],"sources":["b/x.js","b/y.js"],"version":3}"#,
     ),
-    // A source that no token uses counts for what the paths have in common.
     (
+        "a source that no token uses counts for what the paths have in common",
         r#"{"mappings":"AAAA","sources":["/a/b/x.js","/a/c/y.js"]}"#,
         &["~"],
         r#"{"mappings":"AAAA","names":[],"sources":["b/x.js"],"version":3}"#,
     ),
-    // Paths have something in common as they stand without the root.
     (
+        "paths have something in common as they stand without the root",
         UNDER_ROOT,
         &["~"],
         r#"{"mappings":"AAAA","names":[],"sources":["/r/x.js"],"version":3}"#,
     ),
     (
+        "prefixes are cut from sources as they are shown",
         UNDER_ROOT,
         &["/r"],
         r#"{"mappings":"AAAA","names":[],"sources":["x.js"],"version":3}"#,
     ),
-    // A tilde asks for what the paths have in common, and is no prefix itself.
     (
+        "a tilde is no prefix itself",
         r#"{"mappings":"AAAA","sources":["~/x.js"]}"#,
         &["~"],
         r#"{"mappings":"AAAA","names":[],"sources":["~/x.js"],"version":3}"#,
@@ -105,36 +110,41 @@ const CUT: [(&str, &[&str], &str); 6] = [
 
 #[test]
 fn prefixes_are_cut(rt: HostRuntime) {
-    for (text, prefixes, want) in CUT.iter() {
+    for (about, text, prefixes, want) in CUT.iter() {
         let options = RewriteOptions {
             strip_prefixes: prefixes,
             ..RewriteOptions::default()
         };
-        check(&rt, text, rewritten(&rt, rt.alloc(), text, &options), want);
+        let answer = rewritten(&rt, rt.alloc(), text, &options);
+        check(&rt, about, answer, want);
     }
 }
 
 const TWO_NAMES: &str =
     r#"{"debug_id":"11111111-1111-1111-1111-111111111111","mappings":"ACAAA,CDAAC","names":["m","n"],"sources":["a.js","b.js"],"sourcesContent":["x","y"]}"#;
 
-// A map, whether names and contents are kept, and what it is written as.
-const LESS: [(&str, (bool, bool), &str); 4] = [
+// What a row is about, a map, whether names and contents are kept, and what it is written as.
+const LESS: [(&str, &str, (bool, bool), &str); 4] = [
     (
+        "names go, and the debug id stays",
         r#"{"debugId":"00000000-0000-0000-0000-000000000000","mappings":"AAAA,GAAIA,GAAI,EACR,IAAIA,GAAK,EAAG,CACVC,MAAM","names":["x","alert"],"sources":["coolstuff.js"]}"#,
         (false, false),
         r#"{"debugId":"00000000-0000-0000-0000-000000000000","mappings":"AAAA,GAAI,GAAI,EACR,IAAI,GAAK,EAAG,CACV,MAAM","names":[],"sources":["coolstuff.js"],"version":3}"#,
     ),
     (
+        "contents go",
         TWO_SOURCES,
         (false, false),
         r#"{"mappings":"AAAA","names":[],"sources":["b.js"],"version":3}"#,
     ),
     (
+        "names alone go",
         TWO_NAMES,
         (false, true),
         r#"{"debugId":"11111111-1111-1111-1111-111111111111","mappings":"AAAA,CCAA","names":[],"sources":["b.js","a.js"],"sourcesContent":["y","x"],"version":3}"#,
     ),
     (
+        "contents alone go",
         TWO_NAMES,
         (true, false),
         r#"{"debugId":"11111111-1111-1111-1111-111111111111","mappings":"AAAAA,CCAAC","names":["m","n"],"sources":["b.js","a.js"],"version":3}"#,
@@ -143,13 +153,14 @@ const LESS: [(&str, (bool, bool), &str); 4] = [
 
 #[test]
 fn names_and_contents_are_left_out(rt: HostRuntime) {
-    for (text, (with_names, with_source_contents), want) in LESS.iter() {
+    for (about, text, (with_names, with_source_contents), want) in LESS.iter() {
         let options = RewriteOptions {
             with_names: *with_names,
             with_source_contents: *with_source_contents,
             ..RewriteOptions::default()
         };
-        check(&rt, text, rewritten(&rt, rt.alloc(), text, &options), want);
+        let answer = rewritten(&rt, rt.alloc(), text, &options);
+        check(&rt, about, answer, want);
     }
 }
 
@@ -163,16 +174,20 @@ fn files_are_not_read(rt: HostRuntime) {
     check(&rt, want, rewritten(&rt, rt.alloc(), PATHS, &options), want);
 }
 
-// A map, and the ids that the sources of the map rewritten by default had in it. Of equal texts it is
-// the one that a token uses first.
-const OLD_IDS: [(&str, &str); 4] = [
-    (TWO_SOURCES, "[1]"),
-    (TWO_NAMES, "[1, 0]"),
+// What a row is about, a map, and the ids that the sources of the map rewritten by default had in it.
+const OLD_IDS: [(&str, &str, &str); 4] = [
+    ("the second source alone is used", TWO_SOURCES, "[1]"),
+    ("the second source is used first", TWO_NAMES, "[1, 0]"),
     (
+        "of equal texts the one that a token uses first",
         r#"{"mappings":"AEAA,CDAA,CDAA","sources":["a.js","b.js","b.js"]}"#,
         "[2, 0]",
     ),
-    (r#"{"mappings":"A","sources":["a.js"]}"#, "[]"),
+    (
+        "no source is used",
+        r#"{"mappings":"A","sources":["a.js"]}"#,
+        "[]",
+    ),
 ];
 
 fn ids_told(alloc: Global, answer: Result<(SourceMap, Vec<u32>)>) -> Result<String> {
@@ -193,7 +208,7 @@ fn old_ids<F: Files>(
 #[test]
 fn sources_are_known_by_their_old_ids(rt: HostRuntime) {
     let options = RewriteOptions::default();
-    for (text, want) in OLD_IDS.iter() {
-        check(&rt, text, old_ids(&rt, rt.alloc(), text, &options), want);
+    for (about, text, want) in OLD_IDS.iter() {
+        check(&rt, about, old_ids(&rt, rt.alloc(), text, &options), want);
     }
 }

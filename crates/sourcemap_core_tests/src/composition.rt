@@ -129,25 +129,31 @@ const COMPOSED: [(&str, &[Way], &[Way], &str); 21] = [
     ("none at all", &[], &[], ""),
 ];
 
-// An original, and the token that comes of it where columns from 10 on move to line 5.
-const CUT: [(Row, Row); 5] = [
+// What a row is about, an original, and the token that comes of it where columns from 10 on move to
+// line 5.
+const CUT: [(&str, Row, Row); 5] = [
     (
+        "ten columns of a range token fall away",
         ((0, 0), (3, 0, 7), NO_ID, true),
         ((5, 0), (3, 0, 17), NO_ID, true),
     ),
     (
+        "ten columns of a token that is no range",
         ((0, 0), (3, 0, 7), NO_ID, false),
         ((5, 0), (3, 0, 7), NO_ID, false),
     ),
     (
+        "six columns, of a range token from column 4 on",
         ((0, 4), (3, 0, 7), NO_ID, true),
         ((5, 0), (3, 0, 13), NO_ID, true),
     ),
     (
+        "a column in the source that stops at the last",
         ((0, 0), (3, 0, 4294967290), NO_ID, true),
         ((5, 0), (3, 0, 4294967295), NO_ID, true),
     ),
     (
+        "a range token without a source",
         ((0, 0), (NO_ID, 4294967295, 4294967295), NO_ID, true),
         ((5, 0), (NO_ID, 4294967295, 4294967295), NO_ID, true),
     ),
@@ -202,10 +208,10 @@ fn cut(alloc: Global, row: Row) -> Result<Vec<RawToken>> {
 
 #[test]
 fn cuts_range_tokens(rt: HostRuntime) {
-    for (row, want) in CUT.iter() {
+    for (about, row, want) in CUT.iter() {
         let tokens = cut(rt.alloc(), *row);
         let want = [token(*want)];
         let is_wanted = matches!(&tokens, Ok(tokens) if tokens.as_slice() == &want[..]);
-        assert!(rt; is_wanted, "{row:?}: {tokens:?}");
+        assert!(rt; is_wanted, "{about}: {tokens:?}");
     }
 }

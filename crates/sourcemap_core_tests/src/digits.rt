@@ -5,20 +5,44 @@ use sourcemap_core::errors::Result;
 use sourcemap_core::vlq::{generate_vlq_segment, parse_vlq_segment};
 use std::alloc::Global;
 
-// A segment, and its numbers or its fault.
-const READ: [(&str, &str); 12] = [
-    ("AAAA", "[0, 0, 0, 0]"),
-    ("GAAIA", "[3, 0, 0, 4, 0]"),
-    ("B", "[0]"),
-    ("", "vlq decode did not produce any values"),
-    ("g", "leftover cur/shift in vlq decode"),
-    ("A!", "invalid base64 character: !"),
-    ("Aé", "invalid base64 character: Ã"),
-    ("ggggggggggggH", "[4035225266123964416]"),
-    ("ggggggggggggI", "vlq decode caused an overflow"),
-    ("gggggggggggggA", "vlq decode caused an overflow"),
-    ("00000000000000", "vlq decode caused an overflow"),
-    ("ggggggggggggg", "leftover cur/shift in vlq decode"),
+// What a row is about, a segment, and its numbers or its fault.
+const READ: [(&str, &str, &str); 12] = [
+    ("four numbers", "AAAA", "[0, 0, 0, 0]"),
+    ("five numbers", "GAAIA", "[3, 0, 0, 4, 0]"),
+    ("a zero with a sign", "B", "[0]"),
+    ("no digit", "", "vlq decode did not produce any values"),
+    (
+        "an end inside of a number",
+        "g",
+        "leftover cur/shift in vlq decode",
+    ),
+    ("a foreign byte", "A!", "invalid base64 character: !"),
+    ("a byte past ASCII", "Aé", "invalid base64 character: Ã"),
+    (
+        "thirteen digits, below 2^63",
+        "ggggggggggggH",
+        "[4035225266123964416]",
+    ),
+    (
+        "thirteen digits, of 2^63",
+        "ggggggggggggI",
+        "vlq decode caused an overflow",
+    ),
+    (
+        "fourteen digits, the last of no bits",
+        "gggggggggggggA",
+        "vlq decode caused an overflow",
+    ),
+    (
+        "a digit too great before the fourteenth",
+        "00000000000000",
+        "vlq decode caused an overflow",
+    ),
+    (
+        "an end behind thirteen digits that go on",
+        "ggggggggggggg",
+        "leftover cur/shift in vlq decode",
+    ),
 ];
 
 fn read(alloc: Global, segment: &str) -> Result<String> {
@@ -30,18 +54,26 @@ fn read(alloc: Global, segment: &str) -> Result<String> {
 
 #[test]
 fn reads_segments(rt: HostRuntime) {
-    for (segment, want) in READ.iter() {
-        check(&rt, segment, read(rt.alloc(), segment), want);
+    for (about, segment, want) in READ.iter() {
+        check(&rt, about, read(rt.alloc(), segment), want);
     }
 }
 
-// Numbers, and their segment or their fault.
-const WRITTEN: [(&[i64], &str); 5] = [
-    (&[0, 0, 0, 0], "AAAA"),
-    (&[3, 0, 0, 4, 0], "GAAIA"),
-    (&[], ""),
-    (&[4611686018427387903], "+///////////H"),
-    (&[4611686018427387904], "vlq decode caused an overflow"),
+// What a row is about, numbers, and their segment or their fault.
+const WRITTEN: [(&str, &[i64], &str); 5] = [
+    ("four numbers", &[0, 0, 0, 0], "AAAA"),
+    ("five numbers", &[3, 0, 0, 4, 0], "GAAIA"),
+    ("no number", &[], ""),
+    (
+        "the greatest number",
+        &[4611686018427387903],
+        "+///////////H",
+    ),
+    (
+        "one more than the greatest",
+        &[4611686018427387904],
+        "vlq decode caused an overflow",
+    ),
 ];
 
 fn written(alloc: Global, numbers: &[i64]) -> Result<String> {
@@ -53,8 +85,8 @@ fn written(alloc: Global, numbers: &[i64]) -> Result<String> {
 
 #[test]
 fn writes_segments(rt: HostRuntime) {
-    for (numbers, want) in WRITTEN.iter() {
-        check(&rt, want, written(rt.alloc(), numbers), want);
+    for (about, numbers, want) in WRITTEN.iter() {
+        check(&rt, about, written(rt.alloc(), numbers), want);
     }
 }
 
@@ -106,14 +138,19 @@ fn writes_bits_behind_a_text(rt: HostRuntime) {
     }
 }
 
-// A text, and how many bits it has and the places of the true ones, or its fault.
-const TEXTS: [(&str, &str); 6] = [
-    ("AAB", "18: 12"),
-    ("g", "6: 5"),
-    ("Bg", "12: 0 11"),
-    ("", "0:"),
-    ("é", "invalid base64 character: Ã"),
-    ("AB=A", "invalid base64 character: ="),
+// What a row is about, a text, and how many bits it has and the places of the true ones, or its
+// fault.
+const TEXTS: [(&str, &str, &str); 6] = [
+    ("the lowest bit of the third digit", "AAB", "18: 12"),
+    ("the highest bit of a digit", "g", "6: 5"),
+    ("the lowest bit and the highest", "Bg", "12: 0 11"),
+    ("no digit", "", "0:"),
+    ("a byte past ASCII", "é", "invalid base64 character: Ã"),
+    (
+        "the padding of another base64",
+        "AB=A",
+        "invalid base64 character: =",
+    ),
 ];
 
 fn places(alloc: Global, bits: &[bool]) -> Result<String> {
@@ -135,7 +172,7 @@ fn bits_read(alloc: Global, text: &str) -> Result<String> {
 
 #[test]
 fn reads_bits(rt: HostRuntime) {
-    for (text, want) in TEXTS.iter() {
-        check(&rt, text, bits_read(rt.alloc(), text), want);
+    for (about, text, want) in TEXTS.iter() {
+        check(&rt, about, bits_read(rt.alloc(), text), want);
     }
 }

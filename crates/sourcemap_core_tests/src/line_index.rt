@@ -87,17 +87,17 @@ fn tokens_on_lines(alloc: Global) -> Result<TokenList> {
     Ok(TokenList::sorted(tokens)?)
 }
 
-// A place, and the number of the token that stands closest.
-const BETWEEN_LINES: [((u32, u32), &str); 9] = [
-    ((0, 2), "None true"),
-    ((0, 3), "Some(0) true"),
-    ((1, 0), "Some(0) true"),
-    ((2, 4), "Some(0) true"),
-    ((2, 5), "Some(1) true"),
-    ((2, 8), "Some(2) true"),
-    ((3, 7), "Some(3) true"),
-    ((4, 0), "Some(4) true"),
-    ((NO_ID, NO_ID), "Some(4) true"),
+// What a row is about, a place, and the number of the token that stands closest.
+const BETWEEN_LINES: [(&str, (u32, u32), &str); 9] = [
+    ("before all tokens", (0, 2), "None true"),
+    ("at a token", (0, 3), "Some(0) true"),
+    ("on a line without tokens", (1, 0), "Some(0) true"),
+    ("before the tokens of its line", (2, 4), "Some(0) true"),
+    ("at the first of two tokens", (2, 5), "Some(1) true"),
+    ("behind the second of them", (2, 8), "Some(2) true"),
+    ("on a line between two others", (3, 7), "Some(3) true"),
+    ("at the last token", (4, 0), "Some(4) true"),
+    ("behind all tokens", (NO_ID, NO_ID), "Some(4) true"),
 ];
 
 fn between_lines(alloc: Global, place: (u32, u32)) -> Result<String> {
@@ -107,8 +107,8 @@ fn between_lines(alloc: Global, place: (u32, u32)) -> Result<String> {
 
 #[test]
 fn finds_between_lines(rt: HostRuntime) {
-    for (place, want) in BETWEEN_LINES.iter() {
-        check(&rt, want, between_lines(rt.alloc(), *place), want);
+    for (about, place, want) in BETWEEN_LINES.iter() {
+        check(&rt, about, between_lines(rt.alloc(), *place), want);
     }
 }
 
@@ -127,6 +127,7 @@ fn tokens_on_many_lines(alloc: Global, a_line: u32) -> Result<TokenList> {
 
 // How many tokens stand on a line, a place, and the number of the token that stands closest.
 const ON_MANY_LINES: [(u32, (u32, u32), &str); 21] = [
+    // Lines so short that their tokens are compared in turn; the odd lines hold none.
     (5, (0, 0), "Some(0) true"),
     (5, (0, 10), "Some(1) true"),
     (5, (0, 15), "Some(2) true"),
@@ -140,9 +141,11 @@ const ON_MANY_LINES: [(u32, (u32, u32), &str); 21] = [
     (16, (8, 139), "Some(78) true"),
     (16, (8, 140), "Some(79) true"),
     (16, (9, 0), "Some(79) true"),
+    // One token more, so that lines are searched by halves.
     (17, (8, 10), "Some(69) true"),
     (17, (8, 149), "Some(83) true"),
     (17, (8, 150), "Some(84) true"),
+    // Long lines, of which the list keeps samples.
     (1000, (4, 10), "Some(2001) true"),
     (1000, (4, 5005), "Some(2501) true"),
     (1000, (5, 0), "Some(2999) true"),

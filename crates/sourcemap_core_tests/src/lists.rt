@@ -30,13 +30,13 @@ fn list(alloc: Global) -> Result<TokenList> {
     Ok(TokenList::sorted(tokens(alloc)?)?)
 }
 
-// A line, a column, and the closest token and its index.
-const CLOSEST: [(u32, u32, &str); 5] = [
-    (2, 4, "3 at 1"),
-    (1, 0, "3 at 1"),
-    (0, 2, "none"),
-    (0, 3, "1 at 0"),
-    (2, 5, "0 at 2"),
+// What a row is about, a line, a column, and the closest token and its index.
+const CLOSEST: [(&str, u32, u32, &str); 5] = [
+    ("before the tokens of its line", 2, 4, "3 at 1"),
+    ("on a line without tokens", 1, 0, "3 at 1"),
+    ("before all tokens", 0, 2, "none"),
+    ("at the first of two tokens", 0, 3, "1 at 0"),
+    ("at the first of the last two", 2, 5, "0 at 2"),
 ];
 
 fn closest(alloc: Global, line: u32, col: u32) -> Result<String> {
@@ -48,8 +48,8 @@ fn closest(alloc: Global, line: u32, col: u32) -> Result<String> {
 
 #[test]
 fn finds_the_closest_token(rt: HostRuntime) {
-    for (line, col, want) in CLOSEST.iter() {
-        check(&rt, want, closest(rt.alloc(), *line, *col), want);
+    for (about, line, col, want) in CLOSEST.iter() {
+        check(&rt, about, closest(rt.alloc(), *line, *col), want);
     }
 }
 

@@ -7,38 +7,111 @@ use sourcemap_core::mappings::{
 use sourcemap_core::tokens::{NO_ID, RawToken};
 use std::alloc::Global;
 
-// Mappings and range mappings, the counts of sources and names, and the tokens or the fault.
-const READ: [(&str, &str, (u32, u32), &str); 20] = [
+// A text of mappings and one of range bits, and the counts of sources and names.
+type Texts = (&'static str, &'static str, (u32, u32));
+
+// What a row is about, its texts and counts, and the tokens or the fault.
+const READ: [(&str, Texts, &str); 20] = [
     (
-        "AAAA,GAAIA,GAAI,EACR,IAAIA,GAAK,EAAG,CACVC,MAAM",
-        "",
-        (1, 2),
+        "a line of nine tokens, three of them with names",
+        (
+            "AAAA,GAAIA,GAAI,EACR,IAAIA,GAAK,EAAG,CACVC,MAAM",
+            "",
+            (1, 2),
+        ),
         " 0:0=0:0:0 0:3=0:0:4#0 0:6=0:0:8 0:8=0:1:0 0:12=0:1:4#0 0:15=0:1:9 0:17=0:1:12 0:18=0:2:2#1 0:24=0:2:8",
     ),
-    ("A;A", ";B", (0, 0), " 0:0 1:0+"),
-    ("A,,C", "E", (0, 0), " 0:0 0:1+"),
-    ("AAAO", "B", (1, 0), " 0:0=0:0:7+"),
-    ("AADA", "", (1, 0), " 0:0=0:4294967295:0"),
-    ("D,C", "B", (0, 0), " 0:0 0:4294967295+"),
-    ("ggggggggggggH", "", (0, 0), " 0:0"),
-    (";,;,", "", (0, 0), ""),
-    ("", "!;!", (0, 0), ""),
-    (";A", "!", (0, 0), " 1:0"),
-    ("A", "!", (0, 0), "invalid base64 character: !"),
-    ("A", "é", (0, 0), "invalid base64 character: Ã"),
-    ("Aé", "", (0, 0), "invalid base64 character: Ã"),
-    ("ggggggggggggI", "", (0, 0), "vlq decode caused an overflow"),
     (
-        "gggggggggggggA",
+        "a range bit on the second line",
+        ("A;A", ";B", (0, 0)),
+        " 0:0 1:0+",
+    ),
+    (
+        "an empty part counts for bits",
+        ("A,,C", "E", (0, 0)),
+        " 0:0 0:1+",
+    ),
+    (
+        "a range token with a source",
+        ("AAAO", "B", (1, 0)),
+        " 0:0=0:0:7+",
+    ),
+    (
+        "a source line below 0 wraps",
+        ("AADA", "", (1, 0)),
+        " 0:0=0:4294967295:0",
+    ),
+    (
+        "a column below 0 wraps, and sorts",
+        ("D,C", "B", (0, 0)),
+        " 0:0 0:4294967295+",
+    ),
+    (
+        "a column far past 2^32 wraps",
+        ("ggggggggggggH", "", (0, 0)),
+        " 0:0",
+    ),
+    ("empty lines and parts alone", (";,;,", "", (0, 0)), ""),
+    (
+        "bits of lines without tokens are not read",
+        ("", "!;!", (0, 0)),
         "",
-        (0, 0),
+    ),
+    (
+        "nor are those of a line before one with tokens",
+        (";A", "!", (0, 0)),
+        " 1:0",
+    ),
+    (
+        "a foreign byte in bits",
+        ("A", "!", (0, 0)),
+        "invalid base64 character: !",
+    ),
+    (
+        "a byte past ASCII in bits",
+        ("A", "é", (0, 0)),
+        "invalid base64 character: Ã",
+    ),
+    (
+        "a byte past ASCII in mappings",
+        ("Aé", "", (0, 0)),
+        "invalid base64 character: Ã",
+    ),
+    (
+        "thirteen digits, of 2^63",
+        ("ggggggggggggI", "", (0, 0)),
         "vlq decode caused an overflow",
     ),
-    ("Ag,A", "", (0, 0), "leftover cur/shift in vlq decode"),
-    ("AAAAAA", "", (1, 0), "got 6 segments, expected 4 or 5"),
-    ("AAAA", "", (0, 0), "bad reference to source #0"),
-    ("ADAA", "", (1, 0), "bad reference to source #4294967295"),
-    ("AAAAA", "", (1, 0), "bad reference to name #0"),
+    (
+        "fourteen digits",
+        ("gggggggggggggA", "", (0, 0)),
+        "vlq decode caused an overflow",
+    ),
+    (
+        "an end inside of a number",
+        ("Ag,A", "", (0, 0)),
+        "leftover cur/shift in vlq decode",
+    ),
+    (
+        "six numbers in a segment",
+        ("AAAAAA", "", (1, 0)),
+        "got 6 segments, expected 4 or 5",
+    ),
+    (
+        "a source where there is none",
+        ("AAAA", "", (0, 0)),
+        "bad reference to source #0",
+    ),
+    (
+        "a source below the first",
+        ("ADAA", "", (1, 0)),
+        "bad reference to source #4294967295",
+    ),
+    (
+        "a name where there is none",
+        ("AAAAA", "", (1, 0)),
+        "bad reference to name #0",
+    ),
 ];
 
 // A token as its places, as `0:18=0:2:2#1+`: destination, source, name, and `+` for a range.
@@ -69,7 +142,8 @@ pub fn tokens_told(alloc: Global, tokens: &[RawToken]) -> Result<String> {
     Ok(told)
 }
 
-fn read(alloc: Global, mappings: &str, ranges: &str, counts: (u32, u32)) -> Result<String> {
+fn read(alloc: Global, texts: Texts) -> Result<String> {
+    let (mappings, ranges, counts) = texts;
     match parse_mappings(alloc, mappings, ranges, counts.0, counts.1) {
         Ok(tokens) => tokens_told(alloc, tokens.as_slice()),
         Err(fault) => Ok(format!(in alloc; "{fault}")?),
@@ -78,13 +152,8 @@ fn read(alloc: Global, mappings: &str, ranges: &str, counts: (u32, u32)) -> Resu
 
 #[test]
 fn reads_mappings(rt: HostRuntime) {
-    for (mappings, ranges, counts, want) in READ.iter() {
-        check(
-            &rt,
-            mappings,
-            read(rt.alloc(), mappings, ranges, *counts),
-            want,
-        );
+    for (about, texts, want) in READ.iter() {
+        check(&rt, about, read(rt.alloc(), *texts), want);
     }
 }
 
@@ -94,15 +163,18 @@ pub type Row = ((u32, u32), (u32, u32, u32), u32, bool);
 /// No source, and no place in one.
 pub const BARE: (u32, u32, u32) = (NO_ID, NO_ID, NO_ID);
 
-// Tokens, their mappings, and their range mappings if there are any. There are two names.
-const WRITTEN: [(&[Row], &str, Option<&str>); 8] = [
-    (&[], "", None),
+// What a row is about, tokens, their mappings, and their range mappings if there are any. There are
+// two names.
+const WRITTEN: [(&str, &[Row], &str, Option<&str>); 8] = [
+    ("no token", &[], "", None),
     (
+        "a range token on the second line",
         &[((0, 0), BARE, NO_ID, false), ((1, 0), BARE, NO_ID, true)],
         "A;A",
         Some(";B"),
     ),
     (
+        "a repeat is left out, and has no place among the bits",
         &[
             ((0, 0), (0, 0, 0), NO_ID, false),
             ((0, 0), (0, 0, 0), NO_ID, false),
@@ -112,17 +184,25 @@ const WRITTEN: [(&[Row], &str, Option<&str>); 8] = [
         Some("C"),
     ),
     (
+        "a range token behind another on its line",
         &[((0, 0), BARE, NO_ID, false), ((0, 1), BARE, NO_ID, true)],
         "A,C",
         Some("C"),
     ),
     (
+        "a range token that differs by the flag alone is no repeat",
         &[((0, 0), BARE, NO_ID, false), ((0, 0), BARE, NO_ID, true)],
         "A,A",
         Some("C"),
     ),
-    (&[((0, 0), (0, NO_ID, 0), NO_ID, false)], "AA+/////HA", None),
     (
+        "the last line of a source, a plain difference",
+        &[((0, 0), (0, NO_ID, 0), NO_ID, false)],
+        "AA+/////HA",
+        None,
+    ),
+    (
+        "the last column",
         &[
             ((0, 0), BARE, NO_ID, false),
             ((0, NO_ID), BARE, NO_ID, true),
@@ -131,6 +211,7 @@ const WRITTEN: [(&[Row], &str, Option<&str>); 8] = [
         Some("C"),
     ),
     (
+        "a name that is not there is left out",
         &[((0, 0), (0, 0, 0), 7, false), ((0, 4), (0, 0, 4), 1, false)],
         "AAAA,IAAIC",
         None,
@@ -180,9 +261,9 @@ fn ranges_written(alloc: Global, rows: &[Row]) -> Result<String> {
 
 #[test]
 fn writes_tokens(rt: HostRuntime) {
-    for (rows, mappings, ranges) in WRITTEN.iter() {
-        check(&rt, mappings, written(rt.alloc(), rows), mappings);
+    for (about, rows, mappings, ranges) in WRITTEN.iter() {
+        check(&rt, about, written(rt.alloc(), rows), mappings);
         let ranges = ranges.unwrap_or("none");
-        check(&rt, mappings, ranges_written(rt.alloc(), rows), ranges);
+        check(&rt, about, ranges_written(rt.alloc(), rows), ranges);
     }
 }

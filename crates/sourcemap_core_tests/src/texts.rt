@@ -4,25 +4,51 @@ use sourcemap_core::errors::Result;
 use sourcemap_core::utils::find_common_prefix;
 use std::alloc::Global;
 
-// Paths, and what they have in common.
-const PREFIXES: [(&[&str], &str); 11] = [
-    (&["/a/b", "C:/a/b", "/a/b/c"], "none"),
-    (&["/foo/bar/baz", "/foo/bar/baz/blah"], "/foo/bar/baz"),
-    (&["/foo/bar/baz", "/foo/bar/baz/blah", "/meh"], "none"),
-    (&["/foo/bar/baz", "/foo/bar/baz/blah", "/foo"], "/foo"),
+// What a row is about, paths, and what they have in common.
+const PREFIXES: [(&str, &[&str], &str); 11] = [
     (
+        "a folder and a drive",
+        &["/a/b", "C:/a/b", "/a/b/c"],
+        "none",
+    ),
+    (
+        "one path before another",
+        &["/foo/bar/baz", "/foo/bar/baz/blah"],
+        "/foo/bar/baz",
+    ),
+    (
+        "a path of another first part",
+        &["/foo/bar/baz", "/foo/bar/baz/blah", "/meh"],
+        "none",
+    ),
+    (
+        "the shortest path last",
+        &["/foo/bar/baz", "/foo/bar/baz/blah", "/foo"],
+        "/foo",
+    ),
+    (
+        "a relative path does not count",
         &["/foo/bar/baz", "/foo/bar/baz/blah", "foo"],
         "/foo/bar/baz",
     ),
     (
+        "a path of another first part beside a relative one",
         &["/foo/bar/baz", "/foo/bar/baz/blah", "/blah", "foo"],
         "none",
     ),
-    (&["/foo/bar", "/foo/baz"], "/foo"),
-    (&["C:\\é\\a", "x", "C:\\é/b"], "C:\\é"),
-    (&["C:/", "C:"], "none"),
-    (&["//a", "//b"], "none"),
-    (&[], "none"),
+    (
+        "parts are whole: not what bar and baz begin with",
+        &["/foo/bar", "/foo/baz"],
+        "/foo",
+    ),
+    (
+        "a drive, with both separators",
+        &["C:\\é\\a", "x", "C:\\é/b"],
+        "C:\\é",
+    ),
+    ("a drive alone is no path", &["C:/", "C:"], "none"),
+    ("a slash alone says nothing", &["//a", "//b"], "none"),
+    ("no path", &[], "none"),
 ];
 
 fn common(alloc: Global, texts: &[&str]) -> Result<String> {
@@ -34,7 +60,7 @@ fn common(alloc: Global, texts: &[&str]) -> Result<String> {
 
 #[test]
 fn common_prefixes(rt: HostRuntime) {
-    for (texts, want) in PREFIXES.iter() {
-        check(&rt, want, common(rt.alloc(), texts), want);
+    for (about, texts, want) in PREFIXES.iter() {
+        check(&rt, about, common(rt.alloc(), texts), want);
     }
 }

@@ -7,41 +7,49 @@ use std::str;
 
 const TEXT: &str = r#"{"mappings":"A"}"#;
 
-// A data URL, and the text that it holds or its fault.
-const READ: [(&str, &str); 9] = [
+// What a row is about, a data URL, and the text that it holds or its fault.
+const READ: [(&str, &str, &str); 9] = [
     (
+        "no charset",
         "data:application/json;base64,eyJtYXBwaW5ncyI6IkEifQ==",
         TEXT,
     ),
     (
+        "a charset, as it is written",
         "data:application/json;charset=utf-8;base64,eyJtYXBwaW5ncyI6IkEifQ==",
         TEXT,
     ),
     (
+        "the same charset without its hyphen",
         "data:application/json;charset=utf8;base64,eyJtYXBwaW5ncyI6IkEifQ==",
         TEXT,
     ),
     (
+        "another charset",
         "data:application/json;charset=latin1;base64,eyJtYXBwaW5ncyI6IkEifQ==",
         "the provided data URL is invalid",
     ),
     (
+        "no padding",
         "data:application/json;base64,eyJtYXBwaW5ncyI6IkEifQ",
         "the provided data URL is invalid",
     ),
     (
+        "more behind the padding",
         "data:application/json;base64,eyJtYXBwaW5ncyI6IkEifQ==eyJt",
         "the provided data URL is invalid",
     ),
     (
+        "no word base64",
         "data:application/json,eyJt",
         "the provided data URL is invalid",
     ),
     (
+        "another type",
         "data:text/plain;base64,eyJt",
         "the provided data URL is invalid",
     ),
-    ("", "the provided data URL is invalid"),
+    ("no text", "", "the provided data URL is invalid"),
 ];
 
 fn read(alloc: Global, url: &str) -> Result<String> {
@@ -53,9 +61,9 @@ fn read(alloc: Global, url: &str) -> Result<String> {
 
 #[test]
 fn reads_and_writes(rt: HostRuntime) {
-    for (url, want) in READ.iter() {
-        check(&rt, url, read(rt.alloc(), url), want);
+    for (about, url, want) in READ.iter() {
+        check(&rt, about, read(rt.alloc(), url), want);
     }
-    let (url, text) = READ[1];
-    check(&rt, text, data_url(rt.alloc(), text.as_bytes()), url);
+    let (about, url, text) = READ[1];
+    check(&rt, about, data_url(rt.alloc(), text.as_bytes()), url);
 }

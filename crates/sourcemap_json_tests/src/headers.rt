@@ -27,14 +27,22 @@ impl Read for OneByOne<'_> {
     }
 }
 
-// Bytes, and what stands behind their header, or the fault.
-const READ: [(&[u8], &str); 6] = [
-    (b")]}garbage\r\n[1, 2, 3]", "[1, 2, 3]"),
-    (b")]}", ""),
-    (b")]}'\n", ""),
-    (b"'\r\n\n{}", "\n{}"),
-    (b"{}\r[", "{}\r["),
-    (b")]}'\r[1, 2, 3]", "invalid data"),
+// What a row is about, bytes, and what stands behind their header, or the fault.
+const READ: [(&str, &[u8], &str); 6] = [
+    (
+        "a header up to the end of its line",
+        b")]}garbage\r\n[1, 2, 3]",
+        "[1, 2, 3]",
+    ),
+    ("a header without end", b")]}", ""),
+    ("a header and nothing behind it", b")]}'\n", ""),
+    ("only one line end goes with it", b"'\r\n\n{}", "\n{}"),
+    ("no header", b"{}\r[", "{}\r["),
+    (
+        "a return without a line end behind it",
+        b")]}'\r[1, 2, 3]",
+        "invalid data",
+    ),
 ];
 
 fn text_or_fault(alloc: Global, bytes: &[u8], outcome: io::Result<usize>) -> Result<String> {
@@ -52,16 +60,24 @@ fn read(alloc: Global, text: &[u8]) -> Result<String> {
 
 #[test]
 fn drops_the_header(rt: HostRuntime) {
-    for (text, want) in READ.iter() {
-        check(&rt, want, read(rt.alloc(), text), want);
+    for (about, text, want) in READ.iter() {
+        check(&rt, about, read(rt.alloc(), text), want);
     }
 }
 
-// Bytes, and what a slice keeps of them: of a line end of two bytes the second stays.
-const STRIPPED: [(&[u8], &str); 3] = [
-    (b")]}", ""),
-    (b")]}garbage\r\n[1, 2, 3]", "\n[1, 2, 3]"),
-    (b")]}'\r[1, 2, 3]", "invalid data"),
+// What a row is about, bytes, and what a slice keeps of them, or the fault.
+const STRIPPED: [(&str, &[u8], &str); 3] = [
+    ("a header without end", b")]}", ""),
+    (
+        "of a line end of two bytes the second stays",
+        b")]}garbage\r\n[1, 2, 3]",
+        "\n[1, 2, 3]",
+    ),
+    (
+        "a return without a line end behind it",
+        b")]}'\r[1, 2, 3]",
+        "invalid data",
+    ),
 ];
 
 fn stripped(alloc: Global, text: &[u8]) -> Result<String> {
@@ -73,16 +89,26 @@ fn stripped(alloc: Global, text: &[u8]) -> Result<String> {
 
 #[test]
 fn strips_the_header(rt: HostRuntime) {
-    for (text, want) in STRIPPED.iter() {
-        check(&rt, want, stripped(rt.alloc(), text), want);
+    for (about, text, want) in STRIPPED.iter() {
+        check(&rt, about, stripped(rt.alloc(), text), want);
     }
 }
 
-// Bytes, how much room each read has, and the byte that it gives: `.` for none, `?` for invalid
-// data, `~` for the fault of the inner reader.
-const FAULTY: [(&[u8], [usize; 4], &str); 2] = [
-    (b")]}'\r[1, 2, 3]", [0, 4, 0, 4], ".???"),
-    (b")]}!x\nab", [4, 4, 4, 4], "~ab."),
+// What a row is about, bytes, how much room each read has, and the byte that it gives: `.` for none,
+// `?` for invalid data, `~` for the fault of the inner reader.
+const FAULTY: [(&str, &[u8], [usize; 4], &str); 2] = [
+    (
+        "no room, then the same fault at each read",
+        b")]}'\r[1, 2, 3]",
+        [0, 4, 0, 4],
+        ".???",
+    ),
+    (
+        "a fault inside of the header, which goes on behind it",
+        b")]}!x\nab",
+        [4, 4, 4, 4],
+        "~ab.",
+    ),
 ];
 
 fn next(reader: &mut StripHeaderReader<OneByOne<'_>>, room: usize) -> char {
@@ -109,7 +135,7 @@ fn reads(alloc: Global, text: &[u8], rooms: [usize; 4]) -> Result<String> {
 
 #[test]
 fn faults_come_where_they_stand(rt: HostRuntime) {
-    for (text, rooms, want) in FAULTY.iter() {
-        check(&rt, want, reads(rt.alloc(), text, *rooms), want);
+    for (about, text, rooms, want) in FAULTY.iter() {
+        check(&rt, about, reads(rt.alloc(), text, *rooms), want);
     }
 }

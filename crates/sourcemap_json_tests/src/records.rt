@@ -9,6 +9,7 @@ fn read(alloc: Global, text: &str) -> Result<RawSourceMap> {
     RawSourceMap::from_owned(alloc, Value::from_str(alloc, text)?)
 }
 
+// Each has one value of the wrong type, or a number or a debug id that is none.
 const WRONG: [&str; 15] = [
     r#"[]"#,
     r#"null"#,
@@ -40,22 +41,26 @@ fn wrong_shapes(rt: HostRuntime) {
 
 const NOTHING: &str = r#"{"sources":null,"version":null}"#;
 
-// A record, and what it is written as.
-const WRITTEN: [(&str, &str); 5] = [
-    ("{}", NOTHING),
+// What a row is about, a record, and what it is written as.
+const WRITTEN: [(&str, &str, &str); 5] = [
+    ("no keys", "{}", NOTHING),
     (
+        "nulls, and a key that is not known",
         r#"{"version":null,"file":null,"sections":null,"names":null,"debug_id":null,"unknown":1}"#,
         NOTHING,
     ),
     (
+        "an index of no sections",
         r#"{"version":3,"file":"test.js","sections":[]}"#,
         r#"{"file":"test.js","sections":[],"sources":null,"version":3}"#,
     ),
     (
+        "an index in an index",
         r#"{"version":3,"sections":[{"offset":{"line":2,"column":3},"map":{"version":3,"sections":[{"offset":{"line":1,"column":0},"url":"u"}]}}]}"#,
         r#"{"sections":[{"map":{"sections":[{"map":null,"offset":{"column":0,"line":1},"url":"u"}],"sources":null,"version":3},"offset":{"column":3,"line":2},"url":null}],"sources":null,"version":3}"#,
     ),
     (
+        "all keys of a map without sections",
         r#"{"version":3,"file":7,"debug_id":"00000000000000000000000000000000","ignoreList":[1,3],"mappings":"A","names":[true,7,"a"],"rangeMappings":"B","sourceRoot":"r","sources":["a.js",null],"sourcesContent":[null,"x"],"x_facebook_offsets":[5,null],"x_facebook_sources":[null,[{"names":["<global>"],"mappings":"AAA"}]],"x_metro_module_paths":["p"]}"#,
         r#"{"debugId":"00000000-0000-0000-0000-000000000000","file":7,"ignoreList":[1,3],"mappings":"A","names":[true,7,"a"],"rangeMappings":"B","sourceRoot":"r","sources":["a.js",null],"sourcesContent":[null,"x"],"version":3,"x_facebook_offsets":[5,null],"x_facebook_sources":[null,[{"mappings":"AAA","names":["<global>"]}]],"x_metro_module_paths":["p"]}"#,
     ),
@@ -87,30 +92,37 @@ fn are_equal(alloc: Global, one: &str, other: &str) -> Result<bool> {
 #[test]
 fn written_texts(rt: HostRuntime) {
     let alloc = rt.alloc();
-    for (text, want) in WRITTEN.iter() {
+    for (about, text, want) in WRITTEN.iter() {
         for text in [*text, *want] {
-            check(&rt, text, told(alloc, by_reference(alloc, text)), want);
-            check(&rt, text, told(alloc, by_moving(alloc, text)), want);
-            assert!(rt; matches!(are_equal(alloc, text, want), Ok(true)), "{text}");
+            check(&rt, about, told(alloc, by_reference(alloc, text)), want);
+            check(&rt, about, told(alloc, by_moving(alloc, text)), want);
+            assert!(rt; matches!(are_equal(alloc, text, want), Ok(true)), "{about}");
         }
     }
 }
 
-// A text, and the debug id that it stands for.
-const IDS: [(&str, &str); 4] = [
+// What a row is about, a text, and the debug id that it stands for.
+const IDS: [(&str, &str, &str); 4] = [
     (
+        "with hyphens",
         "00000000-0000-0000-0000-000000000000",
         "00000000-0000-0000-0000-000000000000",
     ),
     (
+        "digits alone",
         "00000000000000000000000000000000",
         "00000000-0000-0000-0000-000000000000",
     ),
     (
+        "capital letters",
         "ABCDEFABCDEFABCDEFABCDEFABCDEFAB",
         "abcdefab-cdef-abcd-efab-cdefabcdefab",
     ),
-    ("{00000000-0000-0000-0000-000000000000}", "none"),
+    (
+        "in braces",
+        "{00000000-0000-0000-0000-000000000000}",
+        "none",
+    ),
 ];
 
 fn id_told(alloc: Global, id: Option<DebugId>) -> Result<String> {
@@ -126,8 +138,8 @@ fn id_in(alloc: Global, text: &str) -> Result<String> {
 
 #[test]
 fn debug_ids(rt: HostRuntime) {
-    for (text, want) in IDS.iter() {
-        check(&rt, text, id_told(rt.alloc(), DebugId::parse(text)), want);
+    for (about, text, want) in IDS.iter() {
+        check(&rt, about, id_told(rt.alloc(), DebugId::parse(text)), want);
     }
     // of the two keys the newer one wins
     let text =

@@ -25,13 +25,14 @@ fn tokens_are_ordered_by_their_answers(rt: HostRuntime) {
     check(&rt, "order", answer, "Some((true, false, true))");
 }
 
-// A place, whether seeking it finds a token, and the place and source of the token behind that.
-const SOUGHT: [(u32, u32, &str); 5] = [
-    (0, 1, "false (0, 2) 0"),
-    (0, 2, "true (0, 2) 4"),
-    (0, 4, "true (0, 5) 0"),
-    (1, 3, "true (1, 4) 4294967295"),
-    (9, 9, "true none"),
+// What a row is about, a place, whether seeking it finds a token, and the place and source of the
+// token behind that.
+const SOUGHT: [(&str, u32, u32, &str); 5] = [
+    ("before all tokens", 0, 1, "false (0, 2) 0"),
+    ("at the first of two tokens", 0, 2, "true (0, 2) 4"),
+    ("behind both of them", 0, 4, "true (0, 5) 0"),
+    ("on the next line", 1, 3, "true (1, 4) 4294967295"),
+    ("behind all tokens", 9, 9, "true none"),
 ];
 
 fn next_told(alloc: Global, found: bool, mut left: TokenIter<'_>) -> Result<String> {
@@ -54,10 +55,10 @@ fn sought(alloc: Global, map: Result<SourceMap>, line: u32, col: u32) -> Result<
 
 #[test]
 fn seeking_goes_on_behind_the_closest_token(rt: HostRuntime) {
-    for (line, col, want) in SOUGHT.iter() {
+    for (about, line, col, want) in SOUGHT.iter() {
         check(
             &rt,
-            want,
+            about,
             sought(rt.alloc(), mixed(rt.alloc()), *line, *col),
             want,
         );

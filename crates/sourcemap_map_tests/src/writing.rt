@@ -5,53 +5,64 @@ use sourcemap::decoder::decode_regular;
 use sourcemap::encoder::{Encodable, encode, encode_to};
 use sourcemap::jsontypes::RawSourceMap;
 use sourcemap::{DecodedMap, Error, Result, SourceMap, decode_slice};
+use sourcemap_test_writers::NarrowWriter;
 use std::alloc::Global;
-use std::io::{ErrorKind, Write};
-use std::{io, str};
+use std::str;
 
-// A map, and what it is written as.
-const WRITTEN: [(&str, &str); 11] = [
+// What a row is about, a map, and what it is written as.
+const WRITTEN: [(&str, &str, &str); 11] = [
     (
+        "a token without a source",
         r#"{"mappings":"A"}"#,
         r#"{"mappings":"A","names":[],"sources":[],"version":3}"#,
     ),
     (
+        "a token with a source before one without",
         r#"{"sources":["a.js"],"mappings":"AAAA,C"}"#,
         r#"{"mappings":"AAAA,C","names":[],"sources":["a.js"],"version":3}"#,
     ),
     (
+        "the map of the documentation",
         r#"{"version":3,"sources":["coolstuff.js"],"names":["x","alert"],"mappings":"AAAA,GAAIA,GAAI,EACR,IAAIA,GAAK,EAAG,CACVC,MAAM"}"#,
         r#"{"mappings":"AAAA,GAAIA,GAAI,EACR,IAAIA,GAAK,EAAG,CACVC,MAAM","names":["x","alert"],"sources":["coolstuff.js"],"version":3}"#,
     ),
     (
+        "a file, a root, and contents that are all missing",
         r#"{"version":3,"file":"foo.js","sources":["./bar.js","./baz.js"],"sourceRoot":"webpack:///","sourcesContent":[null,null],"names":[],"mappings":""}"#,
         r#"{"file":"foo.js","mappings":"","names":[],"sourceRoot":"webpack:///","sources":["./bar.js","./baz.js"],"version":3}"#,
     ),
     (
+        "a debug id, under its older key",
         r#"{"debug_id":"EEEEEEEEEEEEEEEEEEEEEEEEEEEEEEEE"}"#,
         r#"{"debugId":"eeeeeeee-eeee-eeee-eeee-eeeeeeeeeeee","mappings":"","names":[],"sources":[],"version":3}"#,
     ),
     (
+        "a missing source, too many contents, and a file that is a number",
         r#"{"sourcesContent":[null,"x","y"],"sources":[null,"a.js"],"file":7}"#,
         r#"{"file":"<invalid>","mappings":"","names":[],"sources":["","a.js"],"sourcesContent":[null,"x"],"version":3}"#,
     ),
     (
+        "a range bit behind an empty part",
         r#"{"mappings":"A,,C","rangeMappings":"E"}"#,
         r#"{"mappings":"A,C","names":[],"rangeMappings":"C","sources":[],"version":3}"#,
     ),
     (
+        "an empty part between two segments",
         r#"{"mappings":"A,,C"}"#,
         r#"{"mappings":"A,C","names":[],"sources":[],"version":3}"#,
     ),
     (
+        "names that are no texts, and an ignore list out of order",
         r#"{"names":[1.5,true,7,"a"],"ignoreList":[3,1,3]}"#,
         r#"{"ignoreList":[1,3],"mappings":"","names":["","","7","a"],"sources":[],"version":3}"#,
     ),
     (
+        "a root and a source behind it",
         r#"{"sourceRoot":"webpack:///","sources":["./bar.js"]}"#,
         r#"{"mappings":"","names":[],"sourceRoot":"webpack:///","sources":["./bar.js"],"version":3}"#,
     ),
     (
+        "a debug id, under its newer key",
         r#"{"debugId":"01234567-89ab-cdef-0123-456789abcdef","mappings":"A","names":[],"sources":[],"version":3}"#,
         r#"{"debugId":"01234567-89ab-cdef-0123-456789abcdef","mappings":"A","names":[],"sources":[],"version":3}"#,
     ),
@@ -98,39 +109,13 @@ fn value_written(alloc: Global, value: Result<Value>) -> Result<String> {
 #[test]
 fn maps_are_written_as_told(rt: HostRuntime) {
     let alloc = rt.alloc();
-    for (text, want) in WRITTEN.iter() {
+    for (about, text, want) in WRITTEN.iter() {
         for text in [*text, *want] {
-            check(&rt, text, by_record(alloc, text), want);
-            check(&rt, text, by_moved_record(alloc, text), want);
-            check(&rt, text, by_value(alloc, text), want);
-            check(&rt, text, by_moved_value(alloc, text), want);
+            check(&rt, about, by_record(alloc, text), want);
+            check(&rt, about, by_moved_record(alloc, text), want);
+            check(&rt, about, by_value(alloc, text), want);
+            check(&rt, about, by_moved_value(alloc, text), want);
         }
-    }
-}
-
-// Takes a byte a write, and fails in place of the write after so many.
-#[derive(Drop)]
-struct NarrowWriter {
-    held: Vec<u8>,
-    most: usize,
-}
-
-impl Write for NarrowWriter {
-    fn write(&mut self, buf: &[u8]) -> io::Result<usize> {
-        if self.held.len() >= self.most {
-            return Err(io::Error::from(ErrorKind::BrokenPipe));
-        }
-        match buf.first() {
-            Some(byte) => {
-                self.held.push(*byte)?;
-                Ok(1)
-            }
-            None => Ok(0),
-        }
-    }
-
-    fn flush(&mut self) -> io::Result<()> {
-        Ok(())
     }
 }
 
@@ -200,10 +185,10 @@ fn put(alloc: Global, text: &str, call: Call, writer: &mut NarrowWriter) -> Resu
 }
 
 // What a writer holds that takes so many bytes, and the fault that the call answers, if any.
-fn held_told(alloc: Global, text: &str, call: Call, most: usize) -> Result<String> {
+fn held_told(alloc: Global, text: &str, call: Call, left: Option<usize>) -> Result<String> {
     let mut writer = NarrowWriter {
         held: Vec::new(alloc),
-        most,
+        left,
     };
     let outcome = put(alloc, text, call, &mut writer);
     outcome_told(alloc, writer.held.as_slice(), outcome)
@@ -220,14 +205,9 @@ fn outcome_told(alloc: Global, held: &[u8], outcome: Result<()>) -> Result<Strin
 
 #[test]
 fn bytes_are_written_one_by_one(rt: HostRuntime) {
-    for (text, want) in WRITTEN.iter() {
+    for (about, text, want) in WRITTEN.iter() {
         for call in CALLS.iter() {
-            check(
-                &rt,
-                text,
-                held_told(rt.alloc(), text, *call, usize::MAX),
-                want,
-            );
+            check(&rt, about, held_told(rt.alloc(), text, *call, None), want);
         }
     }
 }
@@ -245,11 +225,12 @@ fn cut(alloc: Global, text: &str, most: usize) -> Result<String> {
 #[test]
 fn each_write_may_fail(rt: HostRuntime) {
     let alloc = rt.alloc();
-    let (text, want) = WRITTEN[0];
-    for most in 0..want.len() {
-        let due = cut(alloc, want, most).expect(&rt, "memory");
+    let (about, text, want) = WRITTEN[0];
+    for taken in 0..want.len() {
+        let due = cut(alloc, want, taken).expect(&rt, "memory");
         for call in CALLS.iter() {
-            check(&rt, text, held_told(alloc, text, *call, most), due.as_str());
+            let held = held_told(alloc, text, *call, Some(taken));
+            check(&rt, about, held, due.as_str());
         }
     }
 }

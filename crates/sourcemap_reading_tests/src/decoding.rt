@@ -10,21 +10,39 @@ use std::alloc::Global;
 const README: &str =
     r#"{"version":3,"sources":["coolstuff.js"],"names":["x","alert"],"mappings":"AAAA,GAAIA,GAAI,EACR,IAAIA,GAAK,EAAG,CACVC,MAAM"}"#;
 
-// A text, and how many tokens its regular map has, or its fault.
-const REGULAR: [(&str, &str); 7] = [
-    (README, "9"),
-    (concat!(")]}'junk\r\n", r#"{"mappings":"A"}"#), "1"),
+// What a row is about, a text, and how many tokens its regular map has, or its fault.
+const REGULAR: [(&str, &str, &str); 7] = [
+    ("the map of the documentation", README, "9"),
     (
+        "a map behind a junk header",
+        concat!(")]}'junk\r\n", r#"{"mappings":"A"}"#),
+        "1",
+    ),
+    (
+        "sections, before mappings are looked at",
         r#"{"sections":[],"mappings":"!"}"#,
         "encountered incompatible sourcemap format",
     ),
     (
+        "scopes, before mappings are looked at",
         r#"{"x_facebook_sources":[],"mappings":"!"}"#,
         "encountered incompatible sourcemap format",
     ),
-    (r#"{"mappings":"!"}"#, "invalid base64 character: !"),
-    ("{", "bad json: the text is not JSON"),
-    ("[]", "bad json: a field has the wrong type"),
+    (
+        "faulty mappings",
+        r#"{"mappings":"!"}"#,
+        "invalid base64 character: !",
+    ),
+    (
+        "an object without end",
+        "{",
+        "bad json: the text is not JSON",
+    ),
+    (
+        "JSON that is no object",
+        "[]",
+        "bad json: a field has the wrong type",
+    ),
 ];
 
 fn fault_told<T: Drop>(alloc: Global, answer: Result<T>) -> Result<String> {
@@ -54,17 +72,17 @@ fn are_read_alike(alloc: Global, text: &str) -> Result<bool> {
 
 #[test]
 fn regular_maps_are_read_alone(rt: HostRuntime) {
-    for (text, want) in REGULAR.iter() {
+    for (about, text, want) in REGULAR.iter() {
         let bytes = text.as_bytes();
         check(
             &rt,
-            text,
+            about,
             count(rt.alloc(), SourceMap::from_slice(rt.alloc(), bytes)),
             want,
         );
         check(
             &rt,
-            text,
+            about,
             count(rt.alloc(), SourceMap::from_reader(rt.alloc(), bytes)),
             want,
         );
@@ -72,16 +90,21 @@ fn regular_maps_are_read_alone(rt: HostRuntime) {
     assert!(rt; matches!(are_read_alike(rt.alloc(), README), Ok(true)));
 }
 
-// A text, and what its map prints for the place 0:0, or its fault.
-const ANY_KIND: [(&str, &str); 5] = [
-    (README, "coolstuff.js:0:0"),
+// What a row is about, a text, and what its map prints for the place 0:0, or its fault.
+const ANY_KIND: [(&str, &str, &str); 5] = [
+    ("the map of the documentation", README, "coolstuff.js:0:0"),
     (
+        "a map behind a junk header, whose token has no source",
         concat!(")]}'\n", r#"{"mappings":"A"}"#),
         "<unknown>:4294967295:4294967295",
     ),
-    (")]}'\r{}", "invalid data"),
-    ("", "bad json: the text is not JSON"),
-    ("[]", "bad json: a field has the wrong type"),
+    ("a faulty header", ")]}'\r{}", "invalid data"),
+    ("no text", "", "bad json: the text is not JSON"),
+    (
+        "JSON that is no object",
+        "[]",
+        "bad json: a field has the wrong type",
+    ),
 ];
 
 fn token_told(alloc: Global, token: Option<Token<'_>>) -> Result<String> {
@@ -100,17 +123,17 @@ fn looked_up(alloc: Global, answer: Result<DecodedMap>) -> Result<String> {
 
 #[test]
 fn maps_of_any_kind_are_read(rt: HostRuntime) {
-    for (text, want) in ANY_KIND.iter() {
+    for (about, text, want) in ANY_KIND.iter() {
         let bytes = text.as_bytes();
         check(
             &rt,
-            text,
+            about,
             looked_up(rt.alloc(), decode_slice(rt.alloc(), bytes)),
             want,
         );
         check(
             &rt,
-            text,
+            about,
             looked_up(rt.alloc(), decode(rt.alloc(), bytes)),
             want,
         );
@@ -152,14 +175,16 @@ fn maps_of_any_kind_are_copied(rt: HostRuntime) {
     assert!(rt; matches!(copies(rt.alloc(), text), Ok((true, true))));
 }
 
-// A text, and the debug id of its map.
-const DEBUG_IDS: [(&str, &str); 3] = [
-    (r#"{"mappings":""}"#, "none"),
+// What a row is about, a text, and the debug id of its map.
+const DEBUG_IDS: [(&str, &str, &str); 3] = [
+    ("no key", r#"{"mappings":""}"#, "none"),
     (
+        "the older key",
         r#"{"debug_id":"11111111-1111-1111-1111-111111111111"}"#,
         "11111111-1111-1111-1111-111111111111",
     ),
     (
+        "both keys",
         r#"{"debug_id":"11111111-1111-1111-1111-111111111111","debugId":"00000000-0000-0000-0000-000000000000","mappings":""}"#,
         "00000000-0000-0000-0000-000000000000",
     ),
@@ -179,24 +204,27 @@ fn debug_id(alloc: Global, text: &str) -> Result<String> {
 
 #[test]
 fn of_two_debug_ids_the_newer_key_wins(rt: HostRuntime) {
-    for (text, want) in DEBUG_IDS.iter() {
-        check(&rt, text, debug_id(rt.alloc(), text), want);
+    for (about, text, want) in DEBUG_IDS.iter() {
+        check(&rt, about, debug_id(rt.alloc(), text), want);
     }
 }
 
 const WRITTEN: &str = r#"{"mappings":"A","names":[],"sources":[],"version":3}"#;
 
-// A data URL, and what its map is written as, or its fault.
-const URLS: [(&str, &str); 3] = [
+// What a row is about, a data URL, and what its map is written as, or its fault.
+const URLS: [(&str, &str, &str); 3] = [
     (
+        "no charset",
         "data:application/json;base64,eyJtYXBwaW5ncyI6IkEifQ==",
         WRITTEN,
     ),
     (
+        "a charset, as it is written",
         "data:application/json;charset=utf-8;base64,eyJtYXBwaW5ncyI6IkEiLCJuYW1lcyI6W10sInNvdXJjZXMiOltdLCJ2ZXJzaW9uIjozfQ==",
         WRITTEN,
     ),
     (
+        "another charset",
         "data:application/json;charset=latin1;base64,e30=",
         "the provided data URL is invalid",
     ),
@@ -215,14 +243,14 @@ fn url_of(alloc: Global, text: &str) -> Result<String> {
 
 #[test]
 fn data_urls_are_read_and_written(rt: HostRuntime) {
-    for (url, want) in URLS.iter() {
+    for (about, url, want) in URLS.iter() {
         check(
             &rt,
-            url,
+            about,
             written(rt.alloc(), decode_data_url(rt.alloc(), url)),
             want,
         );
     }
-    let (url, text) = URLS[1];
-    check(&rt, text, url_of(rt.alloc(), text), url);
+    let (about, url, text) = URLS[1];
+    check(&rt, about, url_of(rt.alloc(), text), url);
 }

@@ -162,29 +162,34 @@ fn picked_written(alloc: Global, text: &str, ids: &[u32]) -> Result<String> {
     written(alloc, picked.into_entries())
 }
 
-// Lists, the ids that are picked, and what is written then.
-const PICKED: [(&str, &[u32], &str); 5] = [
+// What a row is about, lists, the ids that are picked, and what is written then.
+const PICKED: [(&str, &str, &[u32], &str); 5] = [
     (
+        "one of two",
         SECOND,
         &[1],
         r#"{"sources":null,"version":null,"x_facebook_sources":[[{"mappings":"AAA","names":["f"]}]]}"#,
     ),
     (
+        "an id past the end has no scopes",
         EMPTY,
         &[1],
         r#"{"sources":null,"version":null,"x_facebook_sources":[null]}"#,
     ),
     (
+        "ids turned, and one that names nothing",
         SECOND,
         &[4294967295, 1, 0],
         r#"{"sources":null,"version":null,"x_facebook_sources":[null,[{"mappings":"AAA","names":["f"]}],null]}"#,
     ),
     (
+        "all, with texts that cannot be read",
         LISTS,
         &[0, 1, 2, 3],
         r#"{"sources":null,"version":null,"x_facebook_sources":[[],[{"mappings":"!","names":["f"]},{"mappings":"AAA","names":["g"]}],[{"mappings":"AAA","names":["h"]},{"mappings":"!","names":["i"]}],null]}"#,
     ),
     (
+        "none",
         LISTS,
         &[],
         r#"{"sources":null,"version":null,"x_facebook_sources":[]}"#,
@@ -193,8 +198,8 @@ const PICKED: [(&str, &[u32], &str); 5] = [
 
 #[test]
 fn picked_scopes_are_written(rt: HostRuntime) {
-    for (text, ids, want) in PICKED.iter() {
-        check(&rt, text, picked_written(rt.alloc(), text, ids), want);
+    for (about, text, ids, want) in PICKED.iter() {
+        check(&rt, about, picked_written(rt.alloc(), text, ids), want);
     }
 }
 
@@ -203,21 +208,28 @@ fn asked_when_picked(alloc: Global, text: &str, ids: &[u32], source: u32) -> Res
     name_told(alloc, picked.scope(source, 0, 0))
 }
 
-// Lists, the ids that are picked, a source by its new id, and the name at its beginning.
-const MOVED: [(&str, &[u32], u32, &str); 5] = [
-    (SECOND, &[1], 0, "f"),
-    (SECOND, &[1, 0], 0, "f"),
-    (SECOND, &[1, 0], 1, "none"),
-    (LISTS, &[3, 2, 7], 1, "h"),
-    (LISTS, &[3, 2, 7], 2, "none"),
+// What a row is about, lists, the ids that are picked, a source by its new id, and the name at its
+// beginning.
+const MOVED: [(&str, &str, &[u32], u32, &str); 5] = [
+    ("the one that is picked", SECOND, &[1], 0, "f"),
+    ("the first of two that are turned", SECOND, &[1, 0], 0, "f"),
+    (
+        "the second of them, without scopes",
+        SECOND,
+        &[1, 0],
+        1,
+        "none",
+    ),
+    ("one between two without scopes", LISTS, &[3, 2, 7], 1, "h"),
+    ("an id past the end", LISTS, &[3, 2, 7], 2, "none"),
 ];
 
 #[test]
 fn picked_scopes_are_asked(rt: HostRuntime) {
-    for (text, ids, source, want) in MOVED.iter() {
+    for (about, text, ids, source, want) in MOVED.iter() {
         check(
             &rt,
-            text,
+            about,
             asked_when_picked(rt.alloc(), text, ids, *source),
             want,
         );

@@ -3,8 +3,9 @@ use crate::runs::{MAP, USAGE, words_of};
 use sourcemap::{Error, decode};
 use sourcemap_commands::program::run;
 use sourcemap_commands::system::tell;
+use sourcemap_test_writers::NarrowWriter;
 use std::io;
-use std::io::{ErrorKind, Read, Write};
+use std::io::{ErrorKind, Read};
 use std::test::Fail;
 
 // Gives a byte a read, and fails once so many have been given.
@@ -28,40 +29,6 @@ impl Read for SlowReader<'_> {
             }
             _ => Ok(0),
         }
-    }
-}
-
-// Takes a byte a write, and fails once so many were taken; flushing counts as a byte.
-#[derive(Drop)]
-struct NarrowWriter {
-    held: Vec<u8>,
-    left: Option<usize>,
-}
-
-impl NarrowWriter {
-    fn spend(&mut self) -> io::Result<()> {
-        if self.left == Some(0) {
-            return Err(io::Error::from(io::ErrorKind::BrokenPipe));
-        }
-        self.left = self.left.map(|left| left.saturating_sub(1));
-        Ok(())
-    }
-}
-
-impl Write for NarrowWriter {
-    fn write(&mut self, buf: &[u8]) -> io::Result<usize> {
-        self.spend()?;
-        match buf.first() {
-            Some(byte) => {
-                self.held.push(*byte)?;
-                Ok(1)
-            }
-            None => Ok(0),
-        }
-    }
-
-    fn flush(&mut self) -> io::Result<()> {
-        self.spend()
     }
 }
 

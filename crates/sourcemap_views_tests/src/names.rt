@@ -21,18 +21,24 @@ const HERMES: &str =
 // A map, a line, a column, what a function is called in the text, and its name in the source.
 const NAMES: [(&str, (u32, u32), &str, &str); 17] = [
     (MAP, (0, 9), "b", "foo"),
+    // Behind the token, and on a later line.
     (MAP, (0, 13), "b", "foo"),
     (MAP, (1, 0), "b", "foo"),
+    // Another name, and two that are no identifiers.
     (MAP, (0, 9), "c", "none"),
     (MAP, (0, 9), "b.c", "none"),
     (MAP, (0, 9), "", "none"),
+    // Before the token: the word `function` is the closest.
     (MAP, (0, 0), "b", "none"),
     (MAP, (0, 8), "b", "none"),
+    // Places of the text are looked for as the section's own map has them.
     (INDEX, (2, 12), "b", "foo"),
     (INDEX, (3, 0), "b", "foo"),
     (INDEX, (2, 12), "c", "none"),
     (INDEX, (2, 9), "b", "none"),
+    // Before the section.
     (INDEX, (0, 9), "b", "none"),
+    // By columns of bytecode, whatever the name; other lines have none.
     (HERMES, (0, 0), "b", "<global>"),
     (HERMES, (0, 1), "b", "<global>"),
     (HERMES, (0, 7), "b", "f"),

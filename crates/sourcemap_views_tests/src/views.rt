@@ -10,6 +10,7 @@ const MIXED: &str = "\r\n\né👌👌x\r\n\r";
 
 // A text, and the part of a line from a column on, so many units long.
 const SLICES: [(&str, (u32, u32, u32), &str); 49] = [
+    // A slice that ends inside of a pair has all of it.
     (SMILES, (0, 0, 3), "[abc]"),
     (SMILES, (0, 3, 1), "[👌]"),
     (SMILES, (0, 3, 2), "[👌]"),
@@ -17,23 +18,28 @@ const SLICES: [(&str, (u32, u32, u32), &str); 49] = [
     (SMILES, (0, 0, 4), "[abc👌]"),
     (SMILES, (0, 0, 5), "[abc👌]"),
     (SMILES, (0, 0, 6), "[abc👌d]"),
+    // From the middle of a pair on: from behind it.
     (SMILES, (0, 4, 0), "[]"),
     (SMILES, (0, 4, 1), "[]"),
     (SMILES, (0, 4, 2), "[d]"),
     (SMILES, (0, 5, 0), "[]"),
+    // At the end of the line, and behind it.
     (SMILES, (0, 8, 0), "[]"),
     (SMILES, (0, 9, 0), "none"),
     (SMILES, (0, 5, 3), "[def]"),
     (SMILES, (0, 5, 4), "none"),
+    // The last line, and the one behind it.
     (SMILES, (1, 0, 4), "[blah]"),
     (SMILES, (1, 0, 5), "none"),
     (SMILES, (1, 0, 12), "none"),
     (SMILES, (1, 4, 0), "[]"),
     (SMILES, (2, 0, 0), "none"),
+    // Empty lines.
     (MIXED, (0, 0, 0), "[]"),
     (MIXED, (0, 0, 1), "none"),
     (MIXED, (1, 0, 0), "[]"),
     (MIXED, (1, 1, 0), "none"),
+    // A character of two bytes and one unit, and pairs side by side.
     (MIXED, (2, 0, 6), "[é👌👌x]"),
     (MIXED, (2, 0, 7), "none"),
     (MIXED, (2, 1, 1), "[👌]"),
@@ -43,19 +49,23 @@ const SLICES: [(&str, (u32, u32, u32), &str); 49] = [
     (MIXED, (2, 2, 2), "[👌]"),
     (MIXED, (2, 4, 1), "[]"),
     (MIXED, (2, 4, 2), "[x]"),
+    // Behind the last end of a line there is an empty line.
     (MIXED, (3, 0, 0), "[]"),
     (MIXED, (4, 0, 0), "[]"),
     (MIXED, (4, 0, 1), "none"),
     (MIXED, (5, 0, 0), "none"),
+    // A pair alone.
     ("👌", (0, 0, 1), "[👌]"),
     ("👌", (0, 1, 0), "[]"),
     ("👌", (0, 2, 0), "[]"),
     ("👌", (0, 3, 0), "none"),
     ("👌", (0, 4294967295, 4294967295), "none"),
+    // Sums past 32 bits do not wrap.
     ("abc", (0, 4294967295, 4294967295), "none"),
     ("abc", (0, 1, 4294967295), "none"),
     ("abc", (0, 1, 1), "[b]"),
     ("abc", (4294967295, 0, 0), "none"),
+    // An empty text, and an end of a line at the end.
     ("", (0, 0, 0), "[]"),
     ("", (0, 1, 0), "none"),
     ("x\r", (1, 0, 0), "[]"),

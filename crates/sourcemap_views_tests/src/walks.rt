@@ -121,22 +121,61 @@ fn walks_find_the_identifier_at_each_place(rt: HostRuntime) {
     }
 }
 
-// A name in the text `function b(){}`, how many tokens stand behind that text, the columns and the
-// names of those in it from the last one on, and the name that is guessed.
-const NAMES: [(&str, u32, &[(u32, &'static str)], &str); 10] = [
-    ("b", 0, &[(9, "foo"), (0, "bar")], "[foo]"),
-    ("c", 0, &[(9, "foo"), (0, "bar")], "none"),
-    ("b.c", 0, &[(9, "foo"), (0, "bar")], "none"),
-    ("", 0, &[(9, "foo"), (0, "bar")], "none"),
-    ("function", 0, &[(9, "foo"), (0, "bar")], "none"),
-    ("b", 126, &[(9, "foo"), (0, "bar")], "[foo]"),
-    ("b", 127, &[(9, "foo"), (0, "bar")], "none"),
-    ("b", 0, &[(9, "foo")], "none"),
-    ("b", 0, &[(9, "foo"), (12, "mid"), (0, "bar")], "none"),
-    ("b", 0, &[(9, "last"), (9, "foo"), (0, "bar")], "[foo]"),
+// A walk in the text `function b(){}`: how many tokens stand behind that text, and the columns and
+// the names of those in it, from the last one on.
+type Walk = (u32, &'static [(u32, &'static str)]);
+
+// What a row is about, a name in that text, a walk, and the name that is guessed.
+const NAMES: [(&str, &str, Walk, &str); 10] = [
+    (
+        "the name behind the word",
+        "b",
+        (0, &[(9, "foo"), (0, "bar")]),
+        "[foo]",
+    ),
+    ("another name", "c", (0, &[(9, "foo"), (0, "bar")]), "none"),
+    (
+        "no identifier",
+        "b.c",
+        (0, &[(9, "foo"), (0, "bar")]),
+        "none",
+    ),
+    ("no name", "", (0, &[(9, "foo"), (0, "bar")]), "none"),
+    (
+        "the word itself",
+        "function",
+        (0, &[(9, "foo"), (0, "bar")]),
+        "none",
+    ),
+    (
+        "the word is the last token that counts",
+        "b",
+        (126, &[(9, "foo"), (0, "bar")]),
+        "[foo]",
+    ),
+    (
+        "the word is one token too far",
+        "b",
+        (127, &[(9, "foo"), (0, "bar")]),
+        "none",
+    ),
+    ("no token at the word", "b", (0, &[(9, "foo")]), "none"),
+    (
+        "a token between the name and the word",
+        "b",
+        (0, &[(9, "foo"), (12, "mid"), (0, "bar")]),
+        "none",
+    ),
+    (
+        "two tokens at the name",
+        "b",
+        (0, &[(9, "last"), (9, "foo"), (0, "bar")]),
+        "[foo]",
+    ),
 ];
 
-fn named(alloc: Global, name: &str, count: u32, columns: &[(u32, &'static str)]) -> Result<String> {
+fn named(alloc: Global, name: &str, walk: Walk) -> Result<String> {
+    let (count, columns) = walk;
     let mut spots = Vec::new(alloc);
     for behind in 0..count {
         spots.push(Spot {
@@ -171,8 +210,7 @@ fn guessed(alloc: Global, spots: &[Spot], name: &str) -> Result<String> {
 
 #[test]
 fn walks_guess_the_name_behind_the_word_function(rt: HostRuntime) {
-    for (name, count, columns, want) in NAMES.iter() {
-        let answer = named(rt.alloc(), name, *count, columns);
-        check(&rt, name, answer, want);
+    for (about, name, walk, want) in NAMES.iter() {
+        check(&rt, about, named(rt.alloc(), name, *walk), want);
     }
 }
