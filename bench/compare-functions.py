@@ -1,131 +1,216 @@
 #!/usr/bin/env python3
-"""Compares names of functions, lines and slices of texts with those of a reference program, and names in maps with
-function maps with the rules as hermes_maps.py states them.
+"""Compares names of functions, lines and slices of texts with those of a reference program, and with the rules as
+walks.py and hermes_maps.py state them.
 
     bench/compare-functions.py REFERENCE MAPS [--questions N]
 
 REFERENCE    bench/reference, which is then built, or a program over the Rust crate that knows `names QUESTIONS
              [TEXT]` and `slices QUESTIONS TEXT` (an answer, as JSON, for each list in a file of questions)
-MAPS         a folder with NAME.map, at any depth. Where NAME stands beside it, it is the generated text: its lines
-             and slices are asked for, and names of functions in it. In a map with function maps names are asked for
-             by columns of line 0
---questions  of each kind and map (20)
+MAPS         a folder with maps, at any depth. Where a.js stands beside a.js.map, or beside a.map, it is the generated
+             text: its lines and slices are asked for, and names of functions in it, of the map and, unless that is an
+             index already or has more than 1 MB, of an index in which it stands twice. In a map with function maps
+             names are asked for by columns of line 0
+--questions  of each kind and map (120)
 
 Neither program of this repository has words for this, so a small one is built that has (asking.py); nothing of it
-is proved. Each difference is printed with its reason, but for those of `line wraps` and `no order`, of which there
-may be many and which are only counted; or as UNEXPLAINED, and then the status is 1:
+is proved. Each answer but a whole line is held to the rules, where they leave none open, and each is compared with
+the reference's. A difference is printed with its reason, but for those of `line wraps` and `no order`, of which there
+may be many and which are only counted; or as UNEXPLAINED, and then the status is 1; so it is where
+no map has a text or functions. No reason excuses an answer that is not that of the rules:
 
 - panic: the reference panicked
 - line wraps: by the rules a token leads to line 4294967295 of its source, which the reference counts as before all
-- token twice: by the rules this program is right, and the reference's walk comes to its first token twice, since
-  that token's index is one too high where it stands before the position
+- token twice: the reference's walk comes to its first token twice, since that token's index is one too high where it
+  stands before the position
 - pairs: the text has characters of two UTF-16 units, where the reference counts on from the middle of one
 - no order: functions of a source stand in no order, so that any name of one of them, or none, is right
 """
 import argparse, collections, json, pathlib, random, re, sys
 from asking import Case, asked_here, asked_there
-from comparing import noted, reference_program, report
+from comparing import noted, reference_program, report, text_beside
 from composing import tokens_of_record
 from hermes_maps import KEY, closest, function_name, is_in_order
-from index_maps import LAST, is_index, record_of
-from walks import guessed_name
+from index_maps import LAST, is_index, offset_of, raised, record_of, resolved
+from walks import Guesses, identifier_at, lines_of, slice_of
 
 WORD = re.compile(r'[A-Za-z_$][A-Za-z0-9_$]*')
+PAIR = re.compile('[\U00010000-\U0010ffff]')
+MOST = 1 << 20
+COUNT = ['count']
+# what is due where the rules leave it open
+OPEN = object()
+
+
+def names_to_ask(lines, tokens, words, draws):
+    """The name to ask for at the last of these tokens: most often one that stands at a token of the walk, and then
+    half of the time one behind `function`, where there is one."""
+    behind = [token for last, token in zip(tokens, tokens[1:]) if identifier_at(lines, last) == 'function']
+    stands = identifier_at(lines, draws.choice(behind if behind and draws.randrange(2) else tokens))
+    return stands if stands and draws.randrange(8) else draws.choice(words)
 
 
 def named_positions(record, text, draws, count):
-    """Positions at tokens and beside them, each with an identifier that stands at a token or elsewhere in the text."""
-    lines = re.split('\r\n|\r|\n', text)
-    tokens = [token for token in tokens_of_record(record) if token.line < len(lines)] or [None]
+    """Positions at tokens of a regular map and beside them, each with an identifier."""
+    lines = lines_of(text)
+    tokens = [token for token in tokens_of_record(record) if token.line < len(lines)]
     words = WORD.findall(text[:1 << 16]) or ['x']
-    for _ in range(count):
-        token = draws.choice(tokens)
-        if token is None:
-            return
-        before = tokens[max(0, tokens.index(token) - draws.randrange(140))] if draws.randrange(2) else token
-        units = lines[before.line].encode('utf-16-le')[2 * before.column:].decode('utf-16-le', 'ignore')
-        stands = WORD.match(units)
-        name = stands[0] if stands and draws.randrange(8) else draws.choice(words)
-        yield [token.line, min(LAST, token.column + draws.randrange(3)), name]
+    for _ in range(count if tokens else 0):
+        at = draws.randrange(len(tokens))
+        name = names_to_ask(lines, tokens[max(0, at - 140):at + 1], words, draws)
+        yield [tokens[at].line, min(LAST, tokens[at].column + draws.randrange(3)), name]
+
+
+def positions_of(record, text, draws, count):
+    """The same for a map of any kind: for an index those of its sections' maps, where these stand in the whole."""
+    if not is_index(record):
+        yield from named_positions(record, text, draws, count)
+        return
+    sections = resolved(record)
+    for section in sections:
+        for *place, name in positions_of(section['map'], text, draws, -(-count // len(sections))):
+            yield [*(min(LAST, part) for part in raised(offset_of(section), place)), name]
 
 
 def slices_of(text, draws, count):
-    lines = len(re.split('\r\n|\r|\n', text))
+    lines = len(lines_of(text))
     for _ in range(count):
         line = draws.randrange(lines + 1)
         yield [line]
         yield [line, draws.randrange(1 << draws.randrange(18)), draws.randrange(1 << draws.randrange(10))]
 
 
+def in_an_index(record):
+    """An index in which a map stands from the start on, and once more from its middle token on."""
+    tokens = tokens_of_record(record)
+    line, column = tokens[len(tokens) // 2][:2] if tokens else (1, 0)
+    return {'version': 3, 'sections': [{'offset': {'line': 0, 'column': 0}, 'map': record},
+                                       {'offset': {'line': line, 'column': column}, 'map': record}]}
+
+
+def text_cases(name, record, text, is_small, draws, count):
+    slices = list(slices_of(text, draws, count))
+    yield Case(f'{name}, slices', 'slices', None, text, slices, len(slices) + 1)
+    records = {'names': record, 'names by an index': in_an_index(record) if is_small and not is_index(record) else None}
+    for what, each in records.items():
+        questions = list(positions_of(each, text, draws, count)) if each else []
+        if questions:
+            yield Case(f'{name}, {what}', 'names', each, text, questions, len(questions))
+
+
+def function_case(name, record, draws, count):
+    columns = [token.column for token in tokens_of_record(record) if token.line == 0] + [0]
+    columns = [draws.choice(columns) + draws.randrange(-1, 3) for _ in range(count - 1)]
+    questions = [[0, max(0, column), None] for column in columns] + [[1, 0, None]]
+    return Case(name, 'names', record, None, questions, count)
+
+
 def cases_of(folder, count):
     for path in sorted(pathlib.Path(folder).rglob('*.map')):
-        record, name = record_of(path.read_bytes()), str(path.relative_to(folder))
-        draws = random.Random(name)
-        if is_index(record):
-            continue
-        if KEY in record:
-            columns = [token.column for token in tokens_of_record(record) if token.line == 0] + [0]
-            columns = [draws.choice(columns) + draws.randrange(-1, 3) for _ in range(count - 1)]
-            questions = [[0, max(0, column), None] for column in columns] + [[1, 0, None]]
-            yield Case(name, 'names', record, None, questions, count)
-        elif (beside := path.with_suffix('')).is_file():
-            text = beside.read_bytes().decode()
-            slices = list(slices_of(text, draws, count))
-            yield Case(f'{name}, slices', 'slices', None, text, slices, len(slices) + 1)
-            questions = list(named_positions(record, text, draws, count))
-            yield Case(f'{name}, names', 'names', record, text, questions, len(questions))
+        data, name = path.read_bytes(), str(path.relative_to(folder))
+        record, draws, beside = record_of(data), random.Random(name), text_beside(path)
+        if not is_index(record) and KEY in record:
+            yield function_case(name, record, draws, count)
+        elif beside:
+            yield from text_cases(name, record, beside.read_bytes().decode(), len(data) <= MOST, draws, count)
 
 
-def is_walked_twice(case, question, here, there):
-    """Whether two guesses are those of the rules, for a walk that comes to its first token once, and twice."""
-    asked = case.record, case.text, tuple(question[:2]), question[2]
-    return [json.loads(here), json.loads(there)] == [guessed_name(*asked), guessed_name(*asked, is_doubled=True)]
+class SliceRules:
+    """Slices of a text and the count of its lines; whole lines are left open, since they may be long."""
+
+    def __init__(self, case):
+        self.text = case.text
+
+    def due(self, question):
+        if question == COUNT:
+            return len(lines_of(self.text))
+        return slice_of(self.text, *question) if len(question) == 3 else OPEN
+
+    def reason(self, question, there):
+        return None
 
 
-def reason(case, question, here, there):
-    if there == 'panic':
-        return 'panic'
-    if case.text is not None:
-        if case.record and is_walked_twice(case, question, here, there):
+class NameRules:
+    """Names that are guessed by a text."""
+
+    def __init__(self, case):
+        self.guesses, self.has_pairs = Guesses(case.record, case.text), bool(PAIR.search(case.text))
+
+    def due(self, question, is_doubled=False):
+        line, column, name = question
+        return self.guesses.name((line, column), name, is_doubled)
+
+    def reason(self, question, there):
+        if json.loads(there) == self.due(question, is_doubled=True):
             return 'token twice'
-        return 'pairs' if case.record and any(ord(letter) > 0xffff for letter in case.text) else None
-    token = closest(tokens_of_record(case.record), lambda token: token[:2], (0, question[1]))
-    if token and token.source_line == LAST:
-        return 'line wraps'
-    return None if is_in_order(case.record) else 'no order'
+        return 'pairs' if self.has_pairs else None
+
+
+class FunctionRules:
+    """Names of functions that a map knows; left open where a source's functions are in no order."""
+
+    def __init__(self, case):
+        self.record, self.tokens = case.record, tokens_of_record(case.record)
+        self.is_open = not is_in_order(case.record)
+
+    def due(self, question):
+        if self.is_open:
+            return OPEN
+        return function_name(self.record, question[1], self.tokens) if question[0] == 0 else None
+
+    def reason(self, question, there):
+        token = closest(self.tokens, lambda token: token[:2], (0, question[1]))
+        if token and token.source_line == LAST:
+            return 'line wraps'
+        return 'no order' if self.is_open else None
+
+
+def rules_of(case):
+    if case.word == 'slices':
+        return SliceRules(case)
+    return FunctionRules(case) if case.text is None else NameRules(case)
 
 
 def notes_of(case, here, there):
-    """Each answer beside the reference's, and beside that of the rules where a map has function maps in order."""
-    tokens = tokens_of_record(case.record) if case.text is None and case.record else None
-    for question, own, other in zip([*case.questions, ['count']], here, there):
-        what = f'{case.name}, {question}'
-        yield noted(what, (0, own.encode()), (0, other.encode()), lambda: reason(case, question, own, other))
-        if case.text is None and is_in_order(case.record):
-            due = function_name(case.record, question[1], tokens) if question[0] == 0 else None
-            yield noted(f'{what}, by the rules', (0, own.encode()), (0, json.dumps(due, ensure_ascii=False).encode()), lambda: None)
+    """Each answer beside what is due by the rules, and beside the reference's."""
+    rules = rules_of(case)
+    for question, own, other in zip([*case.questions, COUNT], here, there):
+        what, due = f'{case.name}, {question}', rules.due(question)
+        told = own if due is OPEN else json.dumps(due, ensure_ascii=False)
+
+        def reason():
+            if own != told:
+                return None
+            return 'panic' if other == 'panic' and due is not OPEN else rules.reason(question, other)
+
+        if due is not OPEN:
+            yield noted(f'{what}, by the rules', (0, own.encode()), (0, told.encode()), lambda: None)
+        yield noted(what, (0, own.encode()), (0, other.encode()), reason)
 
 
 def main():
     words = argparse.ArgumentParser(usage=__doc__)
     words.add_argument('reference')
     words.add_argument('maps')
-    words.add_argument('--questions', type=int, default=20)
+    words.add_argument('--questions', type=int, default=120)
     given = words.parse_args()
     reference = reference_program(given.reference)
     cases = list(cases_of(given.maps, given.questions))
-    counts = collections.Counter()
+    if not cases:
+        sys.exit(f'{given.maps}: no map has its text beside it, or functions')
+    counts, asked = collections.Counter(), collections.Counter()
     for case, here in zip(cases, asked_here(cases)):
         there = asked_there(reference, case)
         if len(there) != case.lines:
             sys.exit(f'{case.name}: the reference answers {there[:3]}')
+        asked['slices' if case.word == 'slices' else 'names of functions' if case.text is None else 'names in texts'] += case.lines
         for note in notes_of(case, here, there):
             counts[note.why] += 1
             if note.why not in ('no order', 'line wraps'):
                 report(note)
     same, unexplained = counts.pop('same', 0), counts.pop('UNEXPLAINED', 0)
     meant = ', '.join(f'{n} {why}' for why, n in sorted(counts.items())) or 'none meant to differ'
-    print(f'{len(cases)} cases: {same} answers the same, {meant}, {unexplained} unexplained')
+    kinds = ', '.join(f'{n} {what}' for what, n in sorted(asked.items()))
+    print(f'{len(cases)} cases, {kinds}: {same} answers the same, {meant}, {unexplained} unexplained')
     sys.exit(1 if unexplained else 0)
 
 

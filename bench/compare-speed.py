@@ -1,8 +1,8 @@
 #!/usr/bin/env python3
 """Times this library and a reference program side by side, and writes the ratios as Markdown.
 
-    bench/compare-speed.py REFERENCE [MAP..] [--pairs FOLDER] [--rounds N] [--no-made] [--lookups N..] [--growth N..]
-                           [--instructions]
+    bench/compare-speed.py REFERENCE [MAP..] [--pairs FOLDER] [--views] [--rounds N] [--no-made] [--lookups N..]
+                           [--growth N..] [--instructions]
 
 REFERENCE       bench/reference, which is then built, from the public registry if it needs one; or a program
                 over the Rust crate that knows its words `bench OPERATION N`, `stat`, and `slice` and
@@ -11,6 +11,9 @@ MAP             maps to take, as files, index maps too; without any, those that 
                 small and odd ones and indexes that bench/make-map.py makes
 --pairs         a folder with pairs NAME.original.map and NAME.adjustment.map, at any depth, each of which is
                 composed, again and again and in a whole run
+--views         views of texts, made and walked along line by line, and walks back along tokens that guess names: in
+                a made line, and in each regular map of those above that has its generated text beside it, as a.js
+                beside a.js.map or a.map
 --rounds        rounds of each figure, of which the least counts (7)
 --no-made       no small and odd maps, and no indexes
 --lookups       tokens of made maps, in lines of ten and in one line, of which only lookups are timed
@@ -33,14 +36,17 @@ that the two programs do not share is told on standard error, and the status is 
 as they come; a cell has the ratio and, in brackets, the figure here.
 """
 import argparse, json, os, pathlib, shutil, subprocess, sys, tempfile
-from comparing import BENCH, CRATES, TOOL, build_missing, reference_program
+from comparing import BENCH, CRATES, TOOL, build_missing, reference_program, text_beside
+from composing import Token, written
+from index_maps import LAST, is_index, record_of
+from walks import TOKENS
 
 SCRIPTS = CRATES.parent / 'bench'
 OPERATIONS = ['decode', 'decode-reader', 'lookup', 'tokens', 'encode', 'rewrite']
 INDEX_OPERATIONS = ['decode', 'decode-reader', 'lookup', 'encode', 'flatten']
 TITLES = {'decode': 'decode a slice', 'decode-reader': 'decode a reader', 'lookup': '1,000,000 lookups',
           'tokens': 'all tokens', 'encode': 'encode', 'rewrite': 'copy and rewrite', 'flatten': 'flatten',
-          'compose': 'copy and compose'}
+          'compose': 'copy and compose', 'lines': 'a view and all its lines', 'names': 'walks over all tokens'}
 COUNTED = ['decode', 'decode-reader', 'encode']
 RUNS = (['lookup', '3', '100'], ['rewrite'])
 INDEX_RUNS = (['lookup', '3', '100'], ['flatten'])
@@ -49,6 +55,10 @@ MADE = {'300-tokens': ['300'], '1000-tokens': ['1000'], '5000-tokens': ['5000'],
         'functions': ['300000', '--line', '300000', '--functions', '400'],
         '500-sections': ['400000', '--sections', '500'], '100000-sections': ['400000', '--sections', '100000'],
         'within-40-indexes': ['20000', '--within', '40']}
+# texts of 5 MB
+LINE = 'const value = "text of a line" + other(name, 17);'
+TEXTS = {'100000-lines.js': (LINE + '\n') * 100_000, '100000-wide-lines.js': (LINE.replace('text', 'täxt👌') + '\n') * 100_000,
+         'one-line.js': LINE * 100_000}
 
 
 def run(command, path):
@@ -91,6 +101,8 @@ def repetitions(path, operation):
         return 2
     if operation == 'tokens':
         return max(100, 300_000_000 // size)
+    if operation in ('lines', 'names'):
+        return 100
     return max(3, 30_000_000 // size)
 
 
@@ -149,8 +161,7 @@ class Pair:
 
 def gathered_maps(folder):
     subprocess.run([SCRIPTS / 'get-maps.sh', folder], check=True)
-    maps = os.path.join(folder, 'maps')
-    return sorted((os.path.join(maps, name) for name in os.listdir(maps)), key=os.path.getsize)
+    return sorted(map(str, pathlib.Path(folder, 'maps').glob('*.map')), key=os.path.getsize)
 
 
 def made_map(words, folder, name):
@@ -250,6 +261,36 @@ def pair_table(programs, paths, rounds):
     table.show('Pairs, of which one is adjusted by the other')
 
 
+def map_of_last_tokens(text):
+    """The record of a map of tokens at the end of a text of one line, as many as a walk goes over."""
+    columns = range(len(text) - 8 * TOKENS, len(text), 8)
+    tokens = [Token(0, column, 0, column, 0, LAST, False) for column in columns]
+    return {'version': 3, 'sources': ['a.js'], 'names': [], 'mappings': written(tokens)[0]}
+
+
+def walked_texts(paths):
+    """Names of texts, each with the record of a map and the text that it is of."""
+    yield f'{TOKENS} tokens at the end of `one-line.js`', map_of_last_tokens(TEXTS['one-line.js']), TEXTS['one-line.js']
+    for path in paths:
+        record, text = record_of(pathlib.Path(path).read_bytes()), text_beside(path)
+        if text and not is_index(record):
+            yield f'`{os.path.basename(path)}`', record, text.read_bytes().decode()
+
+
+def view_table(programs, paths, rounds):
+    """Views of texts, and walks along tokens; the size is that of the text."""
+    table = Table(['Text', 'Size', 'What is done', 'Time'])
+    inputs = [(f'`{name}`', text, 'lines', text) for name, text in TEXTS.items()]
+    inputs += [(name, text, 'names', json.dumps(record, separators=(',', ':')) + '\n' + text)
+               for name, record, text in walked_texts(paths)]
+    with tempfile.NamedTemporaryFile() as file:
+        for name, text, operation, data in inputs:
+            pathlib.Path(file.name).write_bytes(data.encode())
+            size = f'{len(text.encode()) / 1e6:.1f} MB'
+            table.add([name, size, TITLES[operation], cell(programs.times(file.name, operation, rounds), 'ms', 1e3)])
+    table.show('Views')
+
+
 def lookup_table(programs, counts, rounds):
     table = Table(['Tokens', 'in lines of ten', 'in one line'])
     with tempfile.TemporaryDirectory() as folder:
@@ -289,6 +330,7 @@ def main():
     words.add_argument('reference')
     words.add_argument('maps', nargs='*')
     words.add_argument('--pairs', type=pathlib.Path)
+    words.add_argument('--views', action='store_true')
     words.add_argument('--rounds', type=int, default=7)
     words.add_argument('--no-made', action='store_true')
     words.add_argument('--lookups', type=int, nargs='+', default=[300, 1000, 5000, 20000, 100000, 2300000])
@@ -302,6 +344,8 @@ def main():
         if not given.no_made:
             paths += [made_map(made, folder, name) for name, made in MADE.items()]
         map_tables(programs, paths, given.rounds, given.instructions)
+        if given.views:
+            view_table(programs, paths, given.rounds)
     if given.pairs:
         pair_table(programs, sorted(given.pairs.rglob('*.original.map')), given.rounds)
     lookup_table(programs, filter(None, given.lookups), given.rounds)

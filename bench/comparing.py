@@ -16,6 +16,12 @@ PANICKED = 101
 Note = collections.namedtuple('Note', 'what why here there')
 
 
+def text_beside(path):
+    """The path of the generated text beside that of a map, None if there is none: a.js of a.js.map or of a.map."""
+    beside = pathlib.Path(path).with_suffix('')
+    return next((each for each in (beside, beside.with_name(f'{beside.name}.js')) if each.is_file()), None)
+
+
 def answer(command, data):
     """The status of a program that is given these bytes, and what it prints."""
     told = subprocess.run(command, input=data, stdout=subprocess.PIPE, stderr=subprocess.DEVNULL)

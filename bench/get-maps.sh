@@ -4,7 +4,8 @@
 #   bench/get-maps.sh FOLDER
 #
 # It downloads Debian's packages with apt-get and unpacks them in the folder; nothing is installed.
-# Two maps are in packages, two are made with esbuild of scripts that are. FOLDER/maps holds the four.
+# Two maps are in packages, two are made with esbuild of scripts that are. FOLDER/maps holds the four, and beside
+# the first the text that it is of.
 set -eu
 mkdir -p "$1/packages" "$1/maps"
 cd "$1"
@@ -15,7 +16,7 @@ for package in libjs-jquery libjs-pdf esbuild node-typescript node-babel7-standa
 done
 scripts=$PWD/root/usr/share/javascript
 modules=$PWD/root/usr/share/nodejs
-cp "$(readlink -f "$scripts/jquery/jquery.min.map")" maps/
+cp "$(readlink -f "$scripts/jquery/jquery.min.map")" "$(readlink -f "$scripts/jquery/jquery.min.js")" maps/
 cp "$scripts/pdf/build/pdf.worker.js.map" maps/
 cat > bundle.js <<END
 export const a = require("$modules/typescript/lib/typescript.js");

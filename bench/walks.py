@@ -1,11 +1,45 @@
-"""What the scripts know of walks back along the tokens of a map, which guess the name of a function. Each is stated
-here anew, by the rules of the format, and takes nothing from the programs that are compared."""
-import re
-from hermes_maps import closest
+"""What the scripts know of lines, of columns, and of walks back along the tokens of a map, which guess the name of a
+function. Each is stated here anew, by the rules of the format, and takes nothing from the programs that are
+compared."""
+import array, bisect, functools, itertools, re
 from composing import tokens_of_record
+from index_maps import innermost
 
 END = re.compile('\r\n|\r|\n')
+SPACE = re.compile('[\t-\r \x85\xa0\u1680\u2000-\u200a\u2028\u2029\u202f\u205f\u3000]*')
 TOKENS = 128
+
+
+@functools.lru_cache(maxsize=4)
+def lines_of(text):
+    """The lines of a text, without what ends them."""
+    return END.split(text)
+
+
+def units_of(letter):
+    return 2 if ord(letter) > 0xffff else 1
+
+
+@functools.lru_cache(maxsize=4)
+def units_before(line):
+    """How many UTF-16 units stand before each character of a line, and at its end."""
+    return array.array('L', itertools.accumulate(map(units_of, line), initial=0))
+
+
+def place_of(line, column):
+    """How many characters the shortest prefix of a line has that is so many units long or longer, None if none is."""
+    units = range(len(line) + 1) if line.isascii() else units_before(line)
+    at = bisect.bisect_left(units, column)
+    return at if at < len(units) else None
+
+
+def slice_of(text, line, column, span):
+    """The slice of a text at a line and a column, so many units long, None where the text has no such line or column."""
+    lines = lines_of(text)
+    if line >= len(lines):
+        return None
+    start, end = place_of(lines[line], column), place_of(lines[line], column + span)
+    return None if end is None else lines[line][start:end]
 
 
 def starts(letter):
@@ -16,37 +50,61 @@ def continues(letter):
     return starts(letter) or letter in '\u200c\u200d' or f'a{letter}'.isidentifier()
 
 
-def identifier(text):
-    """The longest identifier that the first word of a text starts with, None if there is none."""
-    word = (text.split() or [''])[0]
-    if not word or not starts(word[0]):
+def identifier(text, at=0):
+    """The longest identifier that the first word of a text from a place on starts with, None if there is none."""
+    start = SPACE.match(text, at).end()
+    if start == len(text) or not starts(text[start]):
         return None
-    return word[:next((at for at, letter in enumerate(word) if not continues(letter)), len(word))]
+    return text[start:next((end for end in range(start + 1, len(text)) if not continues(text[end])), len(text))]
 
 
 def identifier_at(lines, token):
     """The identifier at a token's place, the columns in UTF-16 units."""
     if token.line >= len(lines):
         return None
-    units = 0
-    for at, letter in enumerate(lines[token.line]):
-        if units >= token.column:
-            return identifier(lines[token.line][at:])
-        units += 2 if ord(letter) > 0xffff else 1
-    return None
+    at = place_of(lines[token.line], token.column)
+    return None if at is None else identifier(lines[token.line], at)
 
 
-def guessed_name(record, text, position, minified, is_doubled=False):
-    """The name of the function with a minified name at a position, None if there is none. With `is_doubled` the walk
-    comes to a closest token that stands before the position twice."""
-    tokens, lines = tokens_of_record(record), END.split(text)
-    found = closest(list(enumerate(tokens)), lambda item: item[1][:2], position)
-    if found is None or minified and identifier(minified) != minified:
+class Walks:
+    """The walks along the tokens of a regular map, by the lines of a text."""
+
+    def __init__(self, record, text):
+        self.tokens, self.names, self.lines = tokens_of_record(record), record.get('names') or [], lines_of(text)
+        self.places = [token[:2] for token in self.tokens]
+
+    def walk(self, position, is_doubled):
+        """The closest token to a position and those before it. With `is_doubled` the walk comes to a closest token
+        that stands before the position twice."""
+        at = bisect.bisect_right(self.places, position)
+        first = bisect.bisect_left(self.places, position)
+        end = min(at, first + 1)
+        tokens = self.tokens[max(0, end - TOKENS):end][::-1]
+        return (tokens[:1] * (is_doubled and at == first) + tokens)[:TOKENS]
+
+    def guessed_name(self, position, minified, is_doubled=False):
+        """The name of the function with a minified name at a position, None if there is none."""
+        if minified and identifier(minified) != minified:
+            return None
+        walk = self.walk(position, is_doubled)
+        words = [identifier_at(self.lines, token) for token in walk]
+        for token, word, follower in zip(walk, words, words[1:]):
+            if word == minified and follower == 'function':
+                return self.names[token.name] if token.name < len(self.names) else None
         return None
-    index, token = found
-    walk = [token] * (is_doubled and token[:2] != position) + tokens[index::-1]
-    words = [identifier_at(lines, token) for token in walk[:TOKENS]]
-    for token, word, follower in zip(walk, words, words[1:]):
-        if word == minified and follower == 'function':
-            return record['names'][token.name] if token.name < len(record['names']) else None
-    return None
+
+
+class Guesses:
+    """The names that a map guesses by a text: an index by the map of the section that a position leads to."""
+
+    def __init__(self, record, text):
+        self.record, self.text, self.walks = record, text, {}
+
+    def name(self, position, minified, is_doubled=False):
+        found = innermost(self.record, position)
+        if found is None:
+            return None
+        record, place = found
+        if id(record) not in self.walks:
+            self.walks[id(record)] = Walks(record, self.text)
+        return self.walks[id(record)].guessed_name(place, minified, is_doubled)

@@ -24,6 +24,8 @@ const USAGE: &str = "usage, with a map on standard input:
 or, with nothing there: slices QUESTIONS TEXT | url URL
 OPERATION: decode | decode-reader | lookup | tokens | encode | rewrite | flatten
     | compose, of two maps on standard input, each on a line
+    | lines, of a text there
+    | names, of a map on the first line there and behind it the text that it is of
 ";
 
 /// How the map is read, and how JSON text is printed.

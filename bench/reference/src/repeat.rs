@@ -2,9 +2,17 @@
 
 use crate::draws::Draws;
 use crate::{flat, index, regular};
-use sourcemap::{decode, decode_slice, DecodedMap, Result, RewriteOptions, SourceMap, Token};
+use sourcemap::{
+    decode, decode_slice, DecodedMap, Error, Result, RewriteOptions, SourceMap, SourceView, Token,
+};
+use std::str;
+use std::sync::Arc;
 
 const POSITIONS: usize = 1_000_000;
+/// How many tokens a walk goes over.
+const WALKED: usize = 128;
+/// A name that no function has in the texts that are timed, so that no walk ends early.
+const ABSENT_NAME: &str = "nameOfNoFunction";
 
 #[derive(Clone, Copy)]
 pub enum Operation {
@@ -16,6 +24,8 @@ pub enum Operation {
     Rewrite,
     Flatten,
     Compose,
+    Lines,
+    Names,
 }
 
 fn mixed(sum: u32, number: u32) -> u32 {
@@ -42,8 +52,9 @@ fn count(map: &DecodedMap) -> u32 {
     }
 }
 
-fn length(text: &[u8]) -> u32 {
-    u32::try_from(text.len()).unwrap_or(u32::MAX)
+/// A length as 32 bits.
+fn short(length: usize) -> u32 {
+    u32::try_from(length).unwrap_or(u32::MAX)
 }
 
 fn drawn_positions(map: &SourceMap) -> Vec<(u32, u32)> {
@@ -51,9 +62,23 @@ fn drawn_positions(map: &SourceMap) -> Vec<(u32, u32)> {
     (0..POSITIONS).map(|_| draws.beside_token(map)).collect()
 }
 
+/// Where every 128th token stands, from the last one down.
+fn walk_starts(map: &SourceMap) -> Vec<(u32, u32)> {
+    (0..map.get_token_count() as usize)
+        .rev()
+        .step_by(WALKED)
+        .filter_map(|index| map.get_token(index))
+        .map(|token| token.get_dst())
+        .collect()
+}
+
 /// The sum of so many rounds, each of which takes the sum so far.
 fn rounds(count: u32, mut round: impl FnMut(u32) -> Result<u32>) -> Result<u32> {
     (0..count).try_fold(0, |sum, _| round(sum))
+}
+
+fn text_of(bytes: &[u8]) -> Result<&str> {
+    str::from_utf8(bytes).map_err(Error::from)
 }
 
 impl Operation {
@@ -67,11 +92,13 @@ impl Operation {
             "rewrite" => Operation::Rewrite,
             "flatten" => Operation::Flatten,
             "compose" => Operation::Compose,
+            "lines" => Operation::Lines,
+            "names" => Operation::Names,
             _ => return None,
         })
     }
 
-    /// The checksum of so many rounds on the map in these bytes.
+    /// The checksum of so many rounds on the map or the text in these bytes.
     pub fn repeated(self, bytes: &[u8], times: u32) -> Result<u32> {
         let map = || decode_slice(bytes);
         let regular_map = || map().and_then(regular);
@@ -104,7 +131,7 @@ impl Operation {
                 rounds(times, |sum| {
                     let mut text = Vec::new();
                     map.to_writer(&mut text)?;
-                    Ok(mixed(sum, length(&text)))
+                    Ok(mixed(sum, short(text.len())))
                 })
             }
             Operation::Rewrite => {
@@ -128,6 +155,27 @@ impl Operation {
                 let map = map().and_then(index)?;
                 rounds(times, |sum| {
                     Ok(mixed(sum, map.flatten()?.get_token_count()))
+                })
+            }
+            Operation::Lines => {
+                // Views share it: none of them takes a copy.
+                let text: Arc<str> = text_of(bytes)?.into();
+                rounds(times, |sum| {
+                    let view = SourceView::new(Arc::clone(&text));
+                    Ok(view.lines().map(|line| short(line.len())).fold(sum, mixed))
+                })
+            }
+            Operation::Names => {
+                let (line, text) = text_of(bytes)?.split_once('\n').unwrap_or_default();
+                let map = decode_slice(line.as_bytes()).and_then(regular)?;
+                let (view, starts) = (SourceView::new(text.into()), walk_starts(&map));
+                rounds(times, |sum| {
+                    let names = starts.iter().map(|&(line, column)| {
+                        map.get_original_function_name(line, column, ABSENT_NAME, &view)
+                    });
+                    Ok(names
+                        .map(|name| name.map_or(0, |name| short(name.len() + 1)))
+                        .fold(sum, mixed))
                 })
             }
         }

@@ -1,13 +1,17 @@
 // Index maps that answer by their parts.
 use crate::checks::check;
+use crate::debug_ids::id_told;
 use sourcemap::decoder::decode_slice;
 use sourcemap::errors::{Error, Result};
-use sourcemap::jsontypes::DebugId;
 use sourcemap::types::{DecodedMap, SourceMapIndex};
 use std::alloc::Global;
 
 const FULL: &str =
     r#"{"version":3,"file":"out.js","debugId":"0123456789abcdef0123456789abcdef","x_facebook_offsets":[5,null],"x_metro_module_paths":["a.js"],"sections":[{"offset":{"line":2,"column":0},"map":{"mappings":""}},{"offset":{"line":1,"column":4},"url":"u"}]}"#;
+
+// Sections that do not stand in the order of their offsets.
+const UNSORTED: &str =
+    r#"{"sections":[{"offset":{"line":10,"column":4},"map":{"sources":["b.js"],"mappings":"AAAA"}},{"offset":{"line":0,"column":0},"url":"u"}]}"#;
 
 // What is asked of the map.
 #[derive(Clone, Copy)]
@@ -44,13 +48,6 @@ fn section_told(alloc: Global, index: &SourceMapIndex, id: u32) -> Result<String
     )?)
 }
 
-fn id_told(alloc: Global, map: &DecodedMap) -> Result<String> {
-    match map.debug_id() {
-        None => Ok(String::from_str(alloc, "none")?),
-        Some(id) => Ok(format!(in alloc; "{id}")?),
-    }
-}
-
 fn told(alloc: Global, map: &DecodedMap, question: Question) -> Result<String> {
     let DecodedMap::Index(index) = map else {
         return Err(Error::IncompatibleSourceMap);
@@ -69,7 +66,7 @@ fn answer(alloc: Global, text: &str, question: Question) -> Result<String> {
 }
 
 // An index, a question, and the answer.
-const ANSWERS: [(&str, Question, &str); 11] = [
+const ANSWERS: [(&str, Question, &str); 13] = [
     (FULL, Question::Parts, r#"Some("out.js") (2, 2)"#),
     (
         FULL,
@@ -84,6 +81,13 @@ const ANSWERS: [(&str, Question, &str); 11] = [
     (FULL, Question::Section(0), r#"1 4 (1, 4) Some("u") false"#),
     (FULL, Question::Section(1), "2 0 (2, 0) None true"),
     (FULL, Question::Section(2), "none"),
+    // Sections are numbered in the order of their offsets, and not of the text.
+    (
+        UNSORTED,
+        Question::Section(0),
+        r#"0 0 (0, 0) Some("u") false"#,
+    ),
+    (UNSORTED, Question::Section(1), "10 4 (10, 4) None true"),
     (r#"{"sections":[]}"#, Question::Parts, "None (0, 0)"),
     (r#"{"sections":[]}"#, Question::Lists, "None None false"),
     (r#"{"sections":[]}"#, Question::DebugId, "none"),
@@ -104,22 +108,4 @@ fn indexes_answer_by_their_parts(rt: HostRuntime) {
     for (text, question, want) in ANSWERS.iter() {
         check(&rt, want, answer(rt.alloc(), text, *question), want);
     }
-}
-
-// Whether the debug id of the index is the one of this text.
-fn has_id(map: &DecodedMap, id: &str) -> bool {
-    map.debug_id().is_some() && map.debug_id() == DebugId::parse(id)
-}
-
-fn id_compared(alloc: Global, text: &str, id: &str) -> Result<String> {
-    let is_same = has_id(&decode_slice(alloc, text.as_bytes())?, id);
-    Ok(format!(in alloc; "{is_same}")?)
-}
-
-#[test]
-fn debug_ids_of_indexes_are_those_of_their_texts(rt: HostRuntime) {
-    let id = "0123456789abcdef0123456789abcdef";
-    check(&rt, id, id_compared(rt.alloc(), FULL, id), "true");
-    let other = "1123456789abcdef0123456789abcdef";
-    check(&rt, other, id_compared(rt.alloc(), FULL, other), "false");
 }

@@ -236,20 +236,3 @@ fn indexes_of_no_section_are_written_and_read_back(rt: HostRuntime) {
         want,
     );
 }
-
-// The debug id of an index is taken away.
-fn id_taken_from(alloc: Global, map: &mut DecodedMap) -> Result<String> {
-    let before = map.debug_id().is_some();
-    map.set_debug_id(None);
-    Ok(format!(in alloc; "{before} {}", map.debug_id().is_some())?)
-}
-
-fn id_taken(alloc: Global) -> Result<String> {
-    let text = r#"{"sections":[],"debug_id":"00000000-0000-0000-0000-000000000000"}"#;
-    id_taken_from(alloc, &mut decode_slice(alloc, text.as_bytes())?)
-}
-
-#[test]
-fn debug_ids_of_indexes_are_set(rt: HostRuntime) {
-    check(&rt, "an index", id_taken(rt.alloc()), "true false");
-}

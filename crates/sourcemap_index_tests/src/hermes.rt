@@ -1,5 +1,6 @@
 // Hermes maps among maps of any kind, on their own and in sections.
 use crate::checks::{check, fault_told};
+use crate::debug_ids::id_told;
 use serde_json::Value;
 use sourcemap::decoder::decode_slice;
 use sourcemap::errors::Result;
@@ -90,13 +91,6 @@ fn written_again(alloc: Global, text: &str) -> Result<String> {
 fn scopes_are_written_as_they_were_read(rt: HostRuntime) {
     for text in [SECOND_SOURCE, SHORT, BROKEN].iter() {
         check(&rt, text, written_again(rt.alloc(), text), text);
-    }
-}
-
-fn id_told(alloc: Global, map: &DecodedMap) -> Result<String> {
-    match map.debug_id() {
-        None => Ok(String::from_str(alloc, "none")?),
-        Some(id) => Ok(format!(in alloc; "{id}")?),
     }
 }
 

@@ -9,6 +9,8 @@ mod changes;
 #[cfg(test)]
 mod checks;
 #[cfg(test)]
+mod debug_ids;
+#[cfg(test)]
 mod decoding;
 #[cfg(test)]
 mod hermes;

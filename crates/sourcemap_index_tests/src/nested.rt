@@ -46,8 +46,8 @@ fn read(alloc: Global, depth: usize) -> Result<String> {
     looked_up(alloc, decode_slice(alloc, text.as_bytes()))
 }
 
-// How many indexes there are in one another, and what their text is read as. Each is three levels of
-// the text, and the innermost map two.
+// How many indexes there are in one another, and what a text of them is read as. Each is three levels
+// of the text, and the innermost map two.
 const TEXTS: [(usize, &str); 4] = [
     (20, "a.js:0:0"),
     (41, "a.js:0:0"),
@@ -84,28 +84,75 @@ fn flattened(alloc: Global, depth: usize) -> Result<String> {
     flat_looked_up(alloc, nested(alloc, depth)?)
 }
 
+// What a map made of another one prints at the place 0:0, and whether it is the same map.
+fn told_beside(alloc: Global, map: &DecodedMap, made: &DecodedMap) -> Result<String> {
+    let token = token_told(alloc, made.lookup_token(0, 0))?;
+    Ok(format!(in alloc; "{token} {}", *made == *map)?)
+}
+
 fn value_read(alloc: Global, value: &Value) -> Result<DecodedMap> {
     DecodedMap::from_value(alloc, value)
 }
 
-// The value of a map read back: what it prints at the place 0:0, and whether it is the same map.
 fn read_back_told(alloc: Global, map: &DecodedMap) -> Result<String> {
     let value = map.to_value()?;
     told_beside(alloc, map, &value_read(alloc, &value)?)
-}
-
-fn told_beside(alloc: Global, map: &DecodedMap, back: &DecodedMap) -> Result<String> {
-    let token = token_told(alloc, back.lookup_token(0, 0))?;
-    Ok(format!(in alloc; "{token} {}", *back == *map)?)
 }
 
 fn read_back(alloc: Global, depth: usize) -> Result<String> {
     read_back_told(alloc, &nested(alloc, depth)?)
 }
 
+fn copy_told(alloc: Global, map: &DecodedMap) -> Result<String> {
+    told_beside(alloc, map, &map.clone()?)
+}
+
+fn copied(alloc: Global, depth: usize) -> Result<String> {
+    copy_told(alloc, &nested(alloc, depth)?)
+}
+
 #[test]
-fn a_hundred_indexes_in_one_another_are_made_flat_and_read_back(rt: HostRuntime) {
+fn a_hundred_indexes_in_one_another_are_made_flat_copied_and_read_back(rt: HostRuntime) {
     let alloc = rt.alloc();
     check(&rt, "flat", flattened(alloc, 100), "a.js:0:0");
+    check(&rt, "copied", copied(alloc, 100), "a.js:0:0 true");
     check(&rt, "by values", read_back(alloc, 100), "a.js:0:0 true");
+}
+
+fn told_of_bytes(alloc: Global, map: &DecodedMap, bytes: &[u8]) -> Result<String> {
+    match decode_slice(alloc, bytes) {
+        Ok(back) => told_beside(alloc, map, &back),
+        fault => fault_told(alloc, fault),
+    }
+}
+
+fn bytes_of(alloc: Global, map: &DecodedMap) -> Result<Vec<u8>> {
+    let mut bytes = Vec::new(alloc);
+    map.to_writer(&mut bytes)?;
+    Ok(bytes)
+}
+
+fn written_told(alloc: Global, map: &DecodedMap) -> Result<String> {
+    let bytes = bytes_of(alloc, map)?;
+    told_of_bytes(alloc, map, bytes.as_slice())
+}
+
+fn written(alloc: Global, depth: usize) -> Result<String> {
+    written_told(alloc, &nested(alloc, depth)?)
+}
+
+// How many indexes there are in one another, and what is read of the text that they are written as:
+// what is written at any depth is no text for a reader past 127 levels.
+const WRITTEN: [(usize, &str); 4] = [
+    (20, "a.js:0:0 true"),
+    (41, "a.js:0:0 true"),
+    (42, "bad json: the text is not JSON"),
+    (100, "bad json: the text is not JSON"),
+];
+
+#[test]
+fn indexes_in_one_another_are_written_at_any_depth(rt: HostRuntime) {
+    for (depth, want) in WRITTEN.iter() {
+        check(&rt, want, written(rt.alloc(), *depth), want);
+    }
 }

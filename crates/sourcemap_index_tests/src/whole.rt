@@ -67,7 +67,7 @@ fn flat(alloc: Global, text: &str) -> Result<String> {
 }
 
 // An index, and its flat map or the fault.
-const FLAT: [(&str, &str); 10] = [
+const FLAT: [(&str, &str); 13] = [
     (
         TWO,
         r#"{"mappings":"AAAA;;;;;;;;;;ICAA","names":[],"sources":["a.js","b.js"],"version":3}"#,
@@ -99,6 +99,21 @@ const FLAT: [(&str, &str); 10] = [
     (
         NESTED,
         r#"{"file":"f","ignoreList":[0],"mappings":";;IAAAA;AAAA","names":["n"],"sources":["r/a.js"],"sourcesContent":["x"],"version":3}"#,
+    ),
+    // What stands on a later line of a nested index keeps its column.
+    (
+        r#"{"sections":[{"offset":{"line":2,"column":3},"map":{"sections":[{"offset":{"line":1,"column":0},"map":{"sources":["a.js"],"mappings":"AAAA"}}]}}]}"#,
+        r#"{"mappings":";;;AAAA","names":[],"sources":["a.js"],"version":3}"#,
+    ),
+    // Of two faults the first one, which stands deeper.
+    (
+        r#"{"sections":[{"offset":{"line":0,"column":0},"map":{"sections":[{"offset":{"line":0,"column":0},"url":"inner"}]}},{"offset":{"line":1,"column":0},"url":"outer"}]}"#,
+        "cannot flatten the indexed sourcemap: Section has an unresolved sourcemap: inner",
+    ),
+    // The last line of a nested index, moved down by one more.
+    (
+        r#"{"sections":[{"offset":{"line":1,"column":0},"map":{"sections":[{"offset":{"line":4294967295,"column":0},"map":{"sources":["a.js"],"mappings":"AAAA"}}]}}]}"#,
+        "cannot flatten the indexed sourcemap: a position passes 4294967295",
     ),
     (
         BUNDLE,
@@ -251,6 +266,45 @@ fn sections_move_down_all_or_none(rt: HostRuntime) {
     }
 }
 
+// An index of a file, at whose second row another index stands.
+const FILED: &str =
+    r#"{"file":"test.js","debugId":"0123456789abcdef0123456789abcdef","sections":[{"offset":{"line":0,"column":7},"url":"u"},{"offset":{"line":1,"column":3},"map":{"sections":[{"offset":{"line":0,"column":1},"map":{"sources":["a.js"],"mappings":"AAAA"}}]}}]}"#;
+
+const FILED_LOWER: &str =
+    r#"{"file":"test.js","debugId":"0123456789abcdef0123456789abcdef","sections":[{"offset":{"line":4294967294,"column":7},"url":"u"},{"offset":{"line":4294967295,"column":3},"map":{"sections":[{"offset":{"line":0,"column":1},"map":{"sources":["a.js"],"mappings":"AAAA"}}]}}]}"#;
+
+fn moved_beside(
+    alloc: Global,
+    index: &mut SourceMapIndex,
+    rows: u32,
+    after: &SourceMapIndex,
+) -> Result<String> {
+    let fits = index.adjust_sections_offset_rows(rows);
+    Ok(format!(in alloc; "{fits} {}", *index == *after)?)
+}
+
+fn moved_to(alloc: Global, text: &str, rows: u32, after: &str) -> Result<String> {
+    let after = index_of(alloc, after)?;
+    moved_beside(alloc, &mut index_of(alloc, text)?, rows, &after)
+}
+
+// An index, how many rows it moves down, the index that it is then in all its parts, and whether it
+// can.
+const MOVED_WHOLE: [(&str, u32, &str, &str); 4] = [
+    (FILED, 0, FILED, "true true"),
+    (FILED, 4294967294, FILED_LOWER, "true true"),
+    (FILED, 4294967295, FILED, "false true"),
+    (FILED_LOWER, 1, FILED_LOWER, "false true"),
+];
+
+#[test]
+fn all_but_rows_stays_where_sections_move(rt: HostRuntime) {
+    let alloc = rt.alloc();
+    for (text, rows, after, want) in MOVED_WHOLE.iter() {
+        check(&rt, text, moved_to(alloc, text, *rows, after), want);
+    }
+}
+
 fn written(alloc: Global, text: &str) -> Result<String> {
     value_told(alloc, decode_slice(alloc, text.as_bytes())?.to_value())
 }
@@ -293,7 +347,7 @@ fn index_written_to(alloc: Global, text: &str) -> Result<String> {
 }
 
 // An index, and the text that it is written as.
-const WRITTEN: [(&str, &str); 6] = [
+const WRITTEN: [(&str, &str); 9] = [
     (
         r#"{"sections":[],"debugId":"0123456789abcdef0123456789abcdef"}"#,
         r#"{"debugId":"01234567-89ab-cdef-0123-456789abcdef","sections":[],"sources":null,"version":3}"#,
@@ -301,6 +355,20 @@ const WRITTEN: [(&str, &str); 6] = [
     (
         BUNDLE,
         r#"{"sections":[],"sources":null,"version":3,"x_facebook_offsets":[5,null],"x_metro_module_paths":["a.js"]}"#,
+    ),
+    // Each of the two lists of a bundle is written, if it is there, in a section, too.
+    (
+        r#"{"sections":[],"x_facebook_offsets":[]}"#,
+        r#"{"sections":[],"sources":null,"version":3,"x_facebook_offsets":[]}"#,
+    ),
+    (
+        r#"{"sections":[{"offset":{"line":0,"column":0},"map":{"sections":[],"x_facebook_offsets":[5,null],"x_metro_module_paths":["a.js"]}}],"x_metro_module_paths":["b.js"]}"#,
+        r#"{"sections":[{"map":{"sections":[],"sources":null,"version":3,"x_facebook_offsets":[5,null],"x_metro_module_paths":["a.js"]},"offset":{"column":0,"line":0},"url":null}],"sources":null,"version":3,"x_metro_module_paths":["b.js"]}"#,
+    ),
+    // A regular map and a Hermes map write neither.
+    (
+        r#"{"sections":[{"offset":{"line":0,"column":0},"map":{"mappings":"A","x_facebook_offsets":[5],"x_metro_module_paths":["a.js"]}},{"offset":{"line":1,"column":0},"map":{"mappings":"A","x_facebook_offsets":[5],"x_metro_module_paths":["a.js"],"x_facebook_sources":[]}}]}"#,
+        r#"{"sections":[{"map":{"mappings":"A","names":[],"sources":[],"version":3},"offset":{"column":0,"line":0},"url":null},{"map":{"mappings":"A","names":[],"sources":[],"version":3,"x_facebook_sources":[]},"offset":{"column":0,"line":1},"url":null}],"sources":null,"version":3}"#,
     ),
     (
         LINKED,

@@ -3,7 +3,7 @@ use crate::checks::check;
 use crate::lookups::token_told;
 use crate::samples::{NONE, Row, made, written};
 use sourcemap::errors::{Error, Result};
-use sourcemap::types::SourceMap;
+use sourcemap::types::{RawToken, SourceMap, Token};
 use std::alloc::Global;
 
 // A token that starts before the place that is moved, and one that starts behind it.
@@ -24,8 +24,19 @@ const BEFORE: [Row; 1] = [((0, 0), (0, 1, 1), NONE, false)];
 
 const THERE: [Row; 1] = [((0, 5), (0, 1, 1), NONE, false)];
 
-// A range token, and a place behind its start.
+// Two originals at one place.
+const EQUAL: [Row; 2] = [
+    ((0, 5), (0, 1, 1), NONE, false),
+    ((0, 5), (0, 2, 2), NONE, false),
+];
+
+// A range token, and an adjustment of what is behind its start.
 const RANGE: [Row; 1] = [((0, 0), (0, 0, 7), NONE, true)];
+
+// One whose source ends a few columns behind its start, and one without a source.
+const FAR_RANGE: [Row; 1] = [((0, 0), (0, 0, 4294967290), NONE, true)];
+
+const BARE_RANGE: [Row; 1] = [((0, 0), (NONE, NONE, NONE), NONE, true)];
 
 const BEHIND: [Row; 1] = [((5, 0), (0, 0, 10), NONE, false)];
 
@@ -48,6 +59,23 @@ const TOGETHER: [Row; 2] = [
     ((0, 0), (0, 0, 5), NONE, false),
 ];
 
+// A text of three lines that was edited within each of them: five columns were put at column 4 of
+// the first line, those from 2 up to 5 of the second were cut out, and the first three of the last.
+const EDITED: [Row; 5] = [
+    ((0, 0), (0, 0, 0), NONE, false),
+    ((0, 9), (0, 0, 4), NONE, false),
+    ((1, 0), (0, 1, 0), NONE, false),
+    ((1, 2), (0, 1, 5), 1, false),
+    ((2, 0), (0, 2, 3), NONE, false),
+];
+
+// Three lines behind a new one.
+const A_LINE_DOWN: [Row; 3] = [
+    ((1, 0), (0, 0, 0), NONE, false),
+    ((2, 0), (0, 1, 0), NONE, false),
+    ((3, 0), (0, 2, 0), NONE, false),
+];
+
 // The tokens of both maps, a place, and what is printed there.
 const ADJUSTED: [(&[Row], &[Row], (u32, u32), &str); 13] = [
     (&APART, &TOGETHER, (0, 0), "o.js:1:1"),
@@ -65,8 +93,13 @@ const ADJUSTED: [(&[Row], &[Row], (u32, u32), &str); 13] = [
     (&BEFORE, &LAST, (0, NONE), "o.js:1:1"),
 ];
 
+// A map of one source and two names, which those of the adjustment are not to take the place of.
+fn original(alloc: Global, rows: &[Row]) -> Result<SourceMap> {
+    made(alloc, rows, &["k", "m"], &["o.js"])
+}
+
 fn adjusted(alloc: Global, originals: &[Row], adjustments: &[Row]) -> Result<SourceMap> {
-    let mut map = made(alloc, originals, &[], &["o.js"])?;
+    let mut map = original(alloc, originals)?;
     let adjustment = made(alloc, adjustments, &["n"], &["t.js"])?;
     map.adjust_mappings(&adjustment)?;
     Ok(map)
@@ -86,13 +119,315 @@ fn adjusted_maps_are_looked_up(rt: HostRuntime) {
     }
 }
 
-// The tokens of `AAAA,KAAK`, and of `EAAA`; then those of `AAAO` with ranges `B`, and of `EAAU`; then
-// two that are taken to one place, in the order in which they stood.
+// What a row is about, the tokens of both maps, and all those of the adjusted map, as in
+// `1:2=0:1:5#1+`: the place, the number of the source, the line and the column there, the number of
+// the name if there is one, and `+` for a range token.
+const LISTS: [(&str, &[Row], &[Row], &str); 23] = [
+    (
+        "a token that is cut and one that is not, but none of the next line",
+        &[
+            ((8, 28), (0, 102, 35), NONE, false),
+            ((8, 40), (0, 102, 50), NONE, false),
+            ((9, 10), (0, 103, 12), NONE, false),
+        ],
+        &MOVED,
+        " 17:23=0:102:35 17:33=0:102:50",
+    ),
+    (
+        "two adjustments of one place, behind the start of an original",
+        &BEFORE,
+        &TWICE,
+        " 3:0=0:1:1 4:0=0:1:1",
+    ),
+    (
+        "two adjustments of one place, at the start of an original",
+        &THERE,
+        &TWICE,
+        " 4:0=0:1:1",
+    ),
+    (
+        "the last column, but none behind it",
+        &BEFORE,
+        &LAST,
+        " 0:4294967295=0:1:1",
+    ),
+    (
+        "an adjustment without a source",
+        &BEFORE,
+        &[((0, 0), (NONE, NONE, NONE), NONE, false)],
+        "",
+    ),
+    (
+        "two originals at one place, behind the start of an adjustment",
+        &EQUAL,
+        &[((0, 0), (0, 0, 0), NONE, false)],
+        " 0:5=0:1:1 0:5=0:2:2",
+    ),
+    (
+        "two originals at one place, at the start of an adjustment",
+        &EQUAL,
+        &[((0, 0), (0, 0, 5), NONE, false)],
+        " 0:0=0:2:2",
+    ),
+    (
+        "two stretches that come to one place",
+        &APART,
+        &TOGETHER,
+        " 0:0=0:1:1 0:0=0:2:2",
+    ),
+    (
+        "two stretches that come to one place, the later one given first",
+        &APART,
+        &[
+            ((0, 0), (0, 0, 5), NONE, false),
+            ((0, 0), (0, 0, 0), NONE, false),
+        ],
+        " 0:0=0:1:1 0:0=0:2:2",
+    ),
+    (
+        "two stretches that change places",
+        &APART,
+        &[
+            ((0, 0), (0, 0, 5), NONE, false),
+            ((0, 9), (0, 0, 0), NONE, false),
+        ],
+        " 0:0=0:2:2 0:9=0:1:1",
+    ),
+    ("a range token that is cut", &RANGE, &BEHIND, " 5:0=0:0:17+"),
+    (
+        "another token that is cut at the same place",
+        &[((0, 0), (0, 0, 7), NONE, false)],
+        &BEHIND,
+        " 5:0=0:0:7",
+    ),
+    (
+        "a range token that is cut, near the last column of its source",
+        &FAR_RANGE,
+        &BEHIND,
+        " 5:0=0:0:4294967295+",
+    ),
+    (
+        "a range token that is cut, without a source",
+        &BARE_RANGE,
+        &BEHIND,
+        " 5:0=4294967295:4294967295:4294967295+",
+    ),
+    (
+        "a line put before all, and text behind all",
+        &EDITED,
+        &A_LINE_DOWN,
+        " 1:0=0:0:0 1:9=0:0:4 2:0=0:1:0 2:2=0:1:5#1 3:0=0:2:3",
+    ),
+    (
+        "a line put behind the first",
+        &EDITED,
+        &[
+            ((0, 0), (0, 0, 0), NONE, false),
+            ((2, 0), (0, 1, 0), NONE, false),
+            ((3, 0), (0, 2, 0), NONE, false),
+        ],
+        " 0:0=0:0:0 0:9=0:0:4 2:0=0:1:0 2:2=0:1:5#1 3:0=0:2:3",
+    ),
+    (
+        "a line taken away",
+        &EDITED,
+        &[
+            ((0, 0), (0, 0, 0), NONE, false),
+            ((1, 0), (0, 2, 0), NONE, false),
+        ],
+        " 0:0=0:0:0 0:9=0:0:4 1:0=0:2:3",
+    ),
+    (
+        "a line taken away, and one put before each other",
+        &EDITED,
+        &[
+            ((1, 0), (0, 1, 0), NONE, false),
+            ((3, 0), (0, 2, 0), NONE, false),
+        ],
+        " 1:0=0:1:0 1:2=0:1:5#1 3:0=0:2:3",
+    ),
+    (
+        "columns put before the first line",
+        &EDITED,
+        &[
+            ((0, 12), (0, 0, 0), NONE, false),
+            ((1, 0), (0, 1, 0), NONE, false),
+            ((2, 0), (0, 2, 0), NONE, false),
+        ],
+        " 0:12=0:0:0 0:21=0:0:4 1:0=0:1:0 1:2=0:1:5#1 2:0=0:2:3",
+    ),
+    (
+        "columns put inside of a token",
+        &EDITED,
+        &[
+            ((0, 0), (0, 0, 0), NONE, false),
+            ((0, 14), (0, 0, 4), NONE, false),
+        ],
+        " 0:0=0:0:0 0:14=0:0:0 0:19=0:0:4",
+    ),
+    (
+        "columns taken away",
+        &EDITED,
+        &[((0, 0), (0, 0, 4), NONE, false)],
+        " 0:0=0:0:0 0:5=0:0:4",
+    ),
+    (
+        "nothing put and nothing taken away",
+        &EDITED,
+        &[
+            ((0, 0), (0, 0, 0), NONE, false),
+            ((1, 0), (0, 1, 0), NONE, false),
+            ((2, 0), (0, 2, 0), NONE, false),
+        ],
+        " 0:0=0:0:0 0:9=0:0:4 1:0=0:1:0 1:2=0:1:5#1 2:0=0:2:3",
+    ),
+    ("all lines taken away", &EDITED, &[], ""),
+];
+
+fn push_token(told: &mut String, token: &RawToken) -> Result<()> {
+    write!(
+        told,
+        " {}:{}={}:{}:{}",
+        token.dst_line, token.dst_col, token.src_id, token.src_line, token.src_col
+    )?;
+    if token.name_id != NONE {
+        write!(told, "#{}", token.name_id)?;
+    }
+    if token.is_range {
+        told.push('+')?;
+    }
+    Ok(())
+}
+
+fn push_tokens(told: &mut String, map: &SourceMap) -> Result<()> {
+    for token in map.tokens() {
+        push_token(told, &token.get_raw_token())?;
+    }
+    Ok(())
+}
+
+fn tokens_told(alloc: Global, map: Result<SourceMap>) -> Result<String> {
+    let map = map?;
+    let mut told = String::new(alloc);
+    push_tokens(&mut told, &map)?;
+    Ok(told)
+}
+
+#[test]
+fn adjusted_maps_have_these_tokens_and_no_others(rt: HostRuntime) {
+    let alloc = rt.alloc();
+    for (about, originals, adjustments, want) in LISTS.iter() {
+        let map = adjusted(alloc, originals, adjustments);
+        check(&rt, about, tokens_told(alloc, map), want);
+    }
+}
+
+// What a row is about, the tokens of both maps, a place of the later text, the one that is moved
+// there, and what the adjusted map says of the first and the map before it of the second, with `+`
+// where a range token says so.
+const ALIKE: [(&str, [&[Row]; 2], [(u32, u32); 2], &str); 9] = [
+    (
+        "where a token was cut",
+        [&CUT, &MOVED],
+        [(17, 23), (8, 30)],
+        "o.js:102:35",
+    ),
+    (
+        "behind that",
+        [&CUT, &MOVED],
+        [(17, 30), (8, 37)],
+        "o.js:102:35",
+    ),
+    (
+        "at a token that is whole",
+        [&CUT, &MOVED],
+        [(17, 33), (8, 40)],
+        "o.js:102:50",
+    ),
+    (
+        "where a range token was cut",
+        [&RANGE, &BEHIND],
+        [(5, 0), (0, 10)],
+        "o.js:0:17+",
+    ),
+    (
+        "behind that",
+        [&RANGE, &BEHIND],
+        [(5, 3), (0, 13)],
+        "o.js:0:20+",
+    ),
+    (
+        "the last column of a source",
+        [&FAR_RANGE, &BEHIND],
+        [(5, 3), (0, 13)],
+        "o.js:0:4294967295+",
+    ),
+    (
+        "a range token without a source",
+        [&BARE_RANGE, &BEHIND],
+        [(5, 3), (0, 13)],
+        "<unknown>:4294967295:4294967295+",
+    ),
+    (
+        "a line further down, in a token that has a name",
+        [&EDITED, &A_LINE_DOWN],
+        [(2, 6), (1, 6)],
+        "o.js:1:5 name=m",
+    ),
+    (
+        "the last line",
+        [&EDITED, &A_LINE_DOWN],
+        [(3, 1), (2, 1)],
+        "o.js:2:3",
+    ),
+];
+
+fn meaning_told(alloc: Global, token: Option<Token<'_>>) -> Result<String> {
+    let mark = match &token {
+        Some(token) if token.is_range() => "+",
+        _ => "",
+    };
+    let text = token_told(alloc, token)?;
+    Ok(format!(in alloc; "{text}{mark}")?)
+}
+
+// What both maps say, each of its place, if they say the same.
+fn told_alike(
+    alloc: Global,
+    maps: (&SourceMap, &SourceMap),
+    places: [(u32, u32); 2],
+) -> Result<String> {
+    let [(line, col), (old_line, old_col)] = places;
+    let text = meaning_told(alloc, maps.0.lookup_token(line, col))?;
+    let old_text = meaning_told(alloc, maps.1.lookup_token(old_line, old_col))?;
+    if text.as_str() == old_text.as_str() {
+        Ok(text)
+    } else {
+        Ok(format!(in alloc; "{old_text} has become {text}")?)
+    }
+}
+
+fn alike(alloc: Global, tokens: [&[Row]; 2], places: [(u32, u32); 2]) -> Result<String> {
+    let [originals, adjustments] = tokens;
+    let map = adjusted(alloc, originals, adjustments)?;
+    let before = original(alloc, originals)?;
+    told_alike(alloc, (&map, &before), places)
+}
+
+#[test]
+fn places_that_are_moved_mean_what_they_meant(rt: HostRuntime) {
+    for (about, tokens, places, want) in ALIKE.iter() {
+        check(&rt, about, alike(rt.alloc(), *tokens, *places), want);
+    }
+}
+
+// Two tokens that are taken to one place, in the order in which they stood; then the tokens of
+// `AAAA,KAAK`, and of `EAAA`; then those of `AAAO` with ranges `B`, and of `EAAU`.
 const WRITTEN: [(&[Row], &[Row], &str); 3] = [
     (
         &APART,
         &TOGETHER,
-        r#"{"file":"f","mappings":"AACC,AACC","names":[],"sources":["o.js"],"version":3}"#,
+        r#"{"file":"f","mappings":"AACC,AACC","names":["k","m"],"sources":["o.js"],"version":3}"#,
     ),
     (
         &[
@@ -100,12 +435,12 @@ const WRITTEN: [(&[Row], &[Row], &str); 3] = [
             ((0, 5), (0, 0, 5), NONE, false),
         ],
         &[((0, 2), (0, 0, 0), NONE, false)],
-        r#"{"file":"f","mappings":"EAAA,KAAK","names":[],"sources":["o.js"],"version":3}"#,
+        r#"{"file":"f","mappings":"EAAA,KAAK","names":["k","m"],"sources":["o.js"],"version":3}"#,
     ),
     (
         &RANGE,
         &[((0, 2), (0, 0, 10), NONE, false)],
-        r#"{"file":"f","mappings":"EAAiB","names":[],"rangeMappings":"B","sources":["o.js"],"version":3}"#,
+        r#"{"file":"f","mappings":"EAAiB","names":["k","m"],"rangeMappings":"B","sources":["o.js"],"version":3}"#,
     ),
 ];
 
@@ -131,7 +466,7 @@ fn refused_beside(map: &mut SourceMap, before: &SourceMap, by: &SourceMap) -> Re
 }
 
 fn refused(alloc: Global) -> Result<String> {
-    let mut map = made(alloc, &NEIGHBOURS, &[], &["o.js"])?;
+    let mut map = original(alloc, &NEIGHBOURS)?;
     let before = map.clone()?;
     let adjustment = made(alloc, &LAST, &["n"], &["t.js"])?;
     let is_as_before = refused_beside(&mut map, &before, &adjustment)?;

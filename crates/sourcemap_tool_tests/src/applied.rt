@@ -88,3 +88,69 @@ fn flattening_is_applied(rt: HostRuntime) -> Result<(), Fail> {
     }
     Ok(())
 }
+
+// A map, the one that adjusts it, and what `compose` says of both.
+const COMPOSED: [(&str, &str, &str); 3] = [
+    (
+        r#"{"sources":["o.js"],"mappings":"AAAA,KAAK"}"#,
+        r#"{"sources":["t.js"],"mappings":"EAAA"}"#,
+        r#"{"mappings":"EAAA,KAAK","names":[],"sources":["o.js"],"version":3}
+"#,
+    ),
+    (
+        r#"{"sources":["a.js"],"mappings":"AAAO","rangeMappings":"B"}"#,
+        r#"{"sources":["t.js"],"mappings":"EAAU"}"#,
+        r#"{"mappings":"EAAiB","names":[],"rangeMappings":"B","sources":["a.js"],"version":3}
+"#,
+    ),
+    (
+        r#"{"sources":["a.js"],"mappings":"AAAO"}"#,
+        r#"{"sources":["t.js"],"mappings":"EAAU"}"#,
+        r#"{"mappings":"EAAO","names":[],"sources":["a.js"],"version":3}
+"#,
+    ),
+];
+
+const REGULAR: &str = r#"{"sources":["a.js"],"mappings":"AAAA"}"#;
+
+const HERMES: &str = r#"{"sources":["a.js"],"mappings":"AAAA","x_facebook_sources":[]}"#;
+
+// Maps of which one or both are not regular.
+const NOT_REGULAR: [(&str, &str); 5] = [
+    (TWO, REGULAR),
+    (REGULAR, TWO),
+    (TWO, TWO),
+    (HERMES, REGULAR),
+    (REGULAR, HERMES),
+];
+
+// The last column comes from the first, so nothing that stands behind that has a place.
+const PAST_THE_LAST_COLUMN: (&str, &str) = (
+    r#"{"sources":["o.js"],"mappings":"AAAA,CAAC"}"#,
+    r#"{"sources":["t.js"],"mappings":"+/////HAAA"}"#,
+);
+
+// The path is not looked at: the second map is at hand.
+fn composed(rt: &HostRuntime, text: &str, by: &str) -> Result<String, Error> {
+    let command = Command::Compose(String::from_str(rt.alloc(), "any")?);
+    let map = decode_slice(rt.alloc(), text.as_bytes())?;
+    let adjustment = decode_slice(rt.alloc(), by.as_bytes())?;
+    apply(rt, rt.alloc(), &command, map, Some(adjustment))
+}
+
+fn is_incompatible(answer: Result<String, Error>) -> bool {
+    matches!(answer, Err(Error::IncompatibleSourceMap))
+}
+
+#[test]
+fn composing_is_applied(rt: HostRuntime) -> Result<(), Fail> {
+    for (text, by, want) in COMPOSED.iter() {
+        assert!(rt; is_text(composed(&rt, text, by), want)?, "{text} {by}");
+    }
+    for (text, by) in NOT_REGULAR.iter() {
+        assert!(rt; is_incompatible(composed(&rt, text, by)), "{text} {by}");
+    }
+    let (text, by) = PAST_THE_LAST_COLUMN;
+    assert!(rt; is_incompatible(composed(&rt, text, by)));
+    Ok(())
+}

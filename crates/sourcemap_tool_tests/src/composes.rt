@@ -1,9 +1,7 @@
 // Runs of `compose FILE`: what is asked of a map and of the one in a file, printed and refused.
 use crate::runs::words_of;
 use crate::shelves::Shelf;
-use sourcemap::decode_slice;
-use sourcemap_commands::command::Command;
-use sourcemap_commands::program::{apply, reply_to, run};
+use sourcemap_commands::program::{reply_to, run};
 use std::cell::Cell;
 use std::io;
 use std::io::ErrorKind;
@@ -110,28 +108,10 @@ fn maps_are_composed(rt: HostRuntime) -> Result<(), Fail> {
     Ok(())
 }
 
-// What `apply` says of a map and another one.
+// A map, and the one in the file.
 const MAP: &str = r#"{"sources":["o.js"],"mappings":"AAAA,KAAK"}"#;
 
 const ADJUSTMENT: &str = r#"{"sources":["t.js"],"mappings":"EAAA"}"#;
-
-const COMPOSED: &str = r#"{"mappings":"EAAA,KAAK","names":[],"sources":["o.js"],"version":3}"#;
-
-#[test]
-fn a_second_map_is_applied(rt: HostRuntime) -> Result<(), Fail> {
-    let path = String::from_str(rt.alloc(), "any")?;
-    let map = decode_slice(rt.alloc(), MAP.as_bytes())?;
-    let adjustment = decode_slice(rt.alloc(), ADJUSTMENT.as_bytes())?;
-    let text = apply(
-        &rt,
-        rt.alloc(),
-        &Command::Compose(path),
-        map,
-        Some(adjustment),
-    )?;
-    assert!(rt; is_line(text.as_bytes(), COMPOSED));
-    Ok(())
-}
 
 // Whether a run whose file fails after so many bytes prints that it did, with status 1.
 fn is_refused(rt: &HostRuntime, words: &[String], left: usize) -> Result<bool, Fail> {

@@ -1,6 +1,7 @@
 pub mod Building
 pub mod DataUrls
 pub mod Faults
+pub mod Flattening
 pub mod Functions
 pub mod Naming
 pub mod Places

@@ -166,15 +166,30 @@ fn refusals_have_advice(rt: HostRuntime) -> std::result::Result<(), Fail> {
     Ok(())
 }
 
-// Two sections, the second from the middle of a line on; and two of which the first reaches into the
-// second.
+// Two sections, the second from the middle of a line on.
 const APART: &str = r#"{"sections":[
 {"offset":{"line":0,"column":0},"map":{"sources":["a.js"],"mappings":"AAAA"}},
 {"offset":{"line":10,"column":4},"map":{"sources":["b.js"],"mappings":"AAAA"}}]}"#;
 
+// The first section reaches into the second one.
 const MIXED: &str = r#"{"sections":[
 {"offset":{"line":0,"column":0},"map":{"sources":["a.js"],"mappings":"AAAA,SAAA"}},
 {"offset":{"line":0,"column":5},"map":{"sources":["b.js"],"mappings":"AAAA"}}]}"#;
+
+// So it is, and what both say of a position differs in the column of one source alone.
+const ONE_SOURCE: &str = r#"{"sections":[
+{"offset":{"line":0,"column":0},"map":{"sources":["a.js"],"mappings":"AAAA,SAAE"}},
+{"offset":{"line":0,"column":5},"map":{"sources":["a.js"],"mappings":"AAAA"}}]}"#;
+
+// In the name alone.
+const ONE_NAMED: &str = r#"{"sections":[
+{"offset":{"line":0,"column":0},"map":{"sources":["a.js"],"names":["n"],"mappings":"AAAA,SAAAA"}},
+{"offset":{"line":0,"column":5},"map":{"sources":["a.js"],"mappings":"AAAA"}}]}"#;
+
+// The second section has no token before its second line.
+const LATE: &str = r#"{"sections":[
+{"offset":{"line":1,"column":0},"map":{"sources":["a.js"],"mappings":"AAAA"}},
+{"offset":{"line":3,"column":0},"map":{"sources":["b.js"],"mappings":";AAAA"}}]}"#;
 
 fn index_of(alloc: Global, text: &str) -> Result<SourceMapIndex> {
     match decode_slice(alloc, text.as_bytes())? {
@@ -183,19 +198,41 @@ fn index_of(alloc: Global, text: &str) -> Result<SourceMapIndex> {
     }
 }
 
-// Whether the index in a text and the map that it is made flat to lead a position to one place.
+// Whether the flat map of the index in a text says of a position what the index says.
 fn is_kept(alloc: Global, text: &str, line: u32, col: u32) -> Result<bool> {
     let index = index_of(alloc, text)?;
     is_kept_flat(&index, line, col)
 }
 
+// An index, a line and a column, and whether the flat map says the same there.
+const KEPT: [(&str, u32, u32, bool); 9] = [
+    (APART, 10, 9, true),
+    (APART, 10, 3, true),
+    (MIXED, 0, 4, true),
+    // by the index in b.js, by the flat map in a.js
+    (MIXED, 0, 9, false),
+    (ONE_SOURCE, 0, 9, false),
+    (ONE_NAMED, 0, 9, false),
+    // the index says nothing, before the first section and in the second one, whose line the flat
+    // map has for the first
+    (LATE, 0, 9, true),
+    (LATE, 3, 7, true),
+    (LATE, 4, 0, true),
+];
+
 #[test]
 fn indexes_are_compared_with_their_flat_maps(rt: HostRuntime) -> std::result::Result<(), Fail> {
     let alloc = rt.alloc();
-    assert!(rt; is_kept(alloc, APART, 10, 9)?);
-    assert!(rt; is_kept(alloc, APART, 10, 3)?);
-    assert!(rt; is_kept(alloc, MIXED, 0, 4)?);
-    assert!(rt; !is_kept(alloc, MIXED, 0, 9)?);
+    for (text, line, col, want) in KEPT.iter() {
+        assert!(rt;
+            is_kept(alloc, text, *line, *col)? == *want,
+            "{text} {line} {col}"
+        );
+    }
+    // refused as by flattening, also where the index says nothing
+    let linked = r#"{"sections":[{"offset":{"line":1,"column":0},"url":"u"}]}"#;
+    let is_refused = matches!(&is_kept(alloc, linked, 0, 0), Err(Error::CannotFlatten(_)));
+    assert!(rt; is_refused);
     Ok(())
 }
 

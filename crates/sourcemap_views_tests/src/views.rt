@@ -119,13 +119,25 @@ fn lines_in_turn(rt: HostRuntime) {
 }
 
 // Lines of a view that are asked out of turn, and past its end.
-const ASKED: [(&str, u32, &str); 9] = [
+const ASKED: [(&str, u32, &str); 21] = [
+    ("a\nb\nc", 0, "[a]"),
+    ("a\nb\nc", 0, "[a]"),
+    ("a\nb\nc", 2, "[c]"),
+    ("a\nb\nc", 1, "[b]"),
+    ("a\nb\nc", 3, "none"),
+    ("a\r\nb\r\nc", 0, "[a]"),
+    ("a\r\nb\r\nc", 0, "[a]"),
+    ("a\r\nb\r\nc", 2, "[c]"),
+    ("a\r\nb\r\nc", 1, "[b]"),
+    ("a\r\nb\r\nc", 3, "none"),
     ("a\r\nb\nc", 0, "[a]"),
     ("a\r\nb\nc", 0, "[a]"),
     ("a\r\nb\nc", 2, "[c]"),
     ("a\r\nb\nc", 1, "[b]"),
     ("a\r\nb\nc", 3, "none"),
     ("a\r\nb\nc", 4294967295, "none"),
+    ("a\nb\nc\n", 0, "[a]"),
+    ("a\nb\nc\n", 1, "[b]"),
     // Behind the last line end there is an empty line.
     ("a\nb\nc\n", 2, "[c]"),
     ("a\nb\nc\n", 3, "[]"),

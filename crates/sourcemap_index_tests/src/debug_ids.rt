@@ -1,0 +1,151 @@
+// Debug ids of index maps: read under either key, set, taken away and written.
+use crate::checks::{check, fault_told};
+use sourcemap::decoder::decode_slice;
+use sourcemap::errors::Result;
+use sourcemap::jsontypes::DebugId;
+use sourcemap::types::{DecodedMap, SourceMapIndex};
+use std::alloc::Global;
+
+const ID: &str = "0123456789abcdef0123456789abcdef";
+
+/// The debug id of a map.
+pub fn id_told(alloc: Global, map: &DecodedMap) -> Result<String> {
+    match map.debug_id() {
+        None => Ok(String::from_str(alloc, "none")?),
+        Some(id) => Ok(format!(in alloc; "{id}")?),
+    }
+}
+
+// The debug id of a map, and the text that it is written as.
+fn id_and_text(alloc: Global, map: &DecodedMap) -> Result<String> {
+    let id = id_told(alloc, map)?;
+    let text = map.to_value()?.to_string(alloc)?;
+    Ok(format!(in alloc; "{id} {text}")?)
+}
+
+fn read(alloc: Global, text: &str) -> Result<String> {
+    match decode_slice(alloc, text.as_bytes()) {
+        Ok(map) => id_and_text(alloc, &map),
+        fault => fault_told(alloc, fault),
+    }
+}
+
+const BOTH: &str =
+    r#"{"sections":[],"debug_id":"11111111-1111-1111-1111-111111111111","debugId":"00000000-0000-0000-0000-000000000000"}"#;
+
+// The text of an index, and its debug id beside the text that it is written as, or the fault.
+const READ: [(&str, &str); 8] = [
+    (
+        r#"{"sections":[]}"#,
+        r#"none {"sections":[],"sources":null,"version":3}"#,
+    ),
+    // Under the newer key or the older one it is written with hyphens, under the newer one.
+    (
+        r#"{"sections":[],"debugId":"0123456789abcdef0123456789abcdef"}"#,
+        r#"01234567-89ab-cdef-0123-456789abcdef {"debugId":"01234567-89ab-cdef-0123-456789abcdef","sections":[],"sources":null,"version":3}"#,
+    ),
+    (
+        r#"{"sections":[],"debug_id":"0123456789abcdef0123456789abcdef"}"#,
+        r#"01234567-89ab-cdef-0123-456789abcdef {"debugId":"01234567-89ab-cdef-0123-456789abcdef","sections":[],"sources":null,"version":3}"#,
+    ),
+    // Of both keys the newer one counts, wherever it stands.
+    (
+        BOTH,
+        r#"00000000-0000-0000-0000-000000000000 {"debugId":"00000000-0000-0000-0000-000000000000","sections":[],"sources":null,"version":3}"#,
+    ),
+    (
+        r#"{"debugId":"00000000-0000-0000-0000-000000000000","debug_id":"11111111-1111-1111-1111-111111111111","sections":[]}"#,
+        r#"00000000-0000-0000-0000-000000000000 {"debugId":"00000000-0000-0000-0000-000000000000","sections":[],"sources":null,"version":3}"#,
+    ),
+    // A key with null is as none.
+    (
+        r#"{"sections":[],"debug_id":"11111111-1111-1111-1111-111111111111","debugId":null}"#,
+        r#"11111111-1111-1111-1111-111111111111 {"debugId":"11111111-1111-1111-1111-111111111111","sections":[],"sources":null,"version":3}"#,
+    ),
+    // Both keys are read, so what is no id is a fault under either.
+    (
+        r#"{"sections":[],"debugId":"0123456789abcdef"}"#,
+        "bad json: a field has the wrong type",
+    ),
+    (
+        r#"{"sections":[],"debug_id":"x","debugId":"00000000-0000-0000-0000-000000000000"}"#,
+        "bad json: a field has the wrong type",
+    ),
+];
+
+#[test]
+fn debug_ids_of_indexes_are_read(rt: HostRuntime) {
+    for (text, want) in READ.iter() {
+        check(&rt, text, read(rt.alloc(), text), want);
+    }
+}
+
+fn told_with(alloc: Global, map: &mut DecodedMap, id: Option<&str>) -> Result<String> {
+    map.set_debug_id(id.and_then(|id| DebugId::parse(id)));
+    id_and_text(alloc, map)
+}
+
+fn set(alloc: Global, text: &str, id: Option<&str>) -> Result<String> {
+    told_with(alloc, &mut decode_slice(alloc, text.as_bytes())?, id)
+}
+
+// The text of an index, the debug id that it gets, and its debug id then beside the text that it is
+// written as. Neither key of the text counts any more.
+const SET: [(&str, Option<&str>, &str); 4] = [
+    (
+        r#"{"sections":[],"file":"test.js"}"#,
+        Some(ID),
+        r#"01234567-89ab-cdef-0123-456789abcdef {"debugId":"01234567-89ab-cdef-0123-456789abcdef","file":"test.js","sections":[],"sources":null,"version":3}"#,
+    ),
+    (
+        BOTH,
+        Some(ID),
+        r#"01234567-89ab-cdef-0123-456789abcdef {"debugId":"01234567-89ab-cdef-0123-456789abcdef","sections":[],"sources":null,"version":3}"#,
+    ),
+    (
+        BOTH,
+        None,
+        r#"none {"sections":[],"sources":null,"version":3}"#,
+    ),
+    // The debug id of a section's map is its own.
+    (
+        r#"{"debugId":"00000000-0000-0000-0000-000000000000","sections":[{"offset":{"line":0,"column":0},"map":{"sections":[],"debugId":"11111111-1111-1111-1111-111111111111"}}]}"#,
+        None,
+        r#"none {"sections":[{"map":{"debugId":"11111111-1111-1111-1111-111111111111","sections":[],"sources":null,"version":3},"offset":{"column":0,"line":0},"url":null}],"sources":null,"version":3}"#,
+    ),
+];
+
+#[test]
+fn debug_ids_of_indexes_are_set(rt: HostRuntime) {
+    for (text, id, want) in SET.iter() {
+        check(&rt, text, set(rt.alloc(), text, *id), want);
+    }
+}
+
+// An index of no sections.
+fn made(alloc: Global) -> Result<DecodedMap> {
+    let file = String::from_str(alloc, "test.js")?;
+    let index = SourceMapIndex::new(alloc, Some(file), Vec::new(alloc));
+    Ok(DecodedMap::Index(index))
+}
+
+// An index that was made gets a debug id: whether it had none before, and whether it is then the map
+// of a text with that id, and has it.
+fn made_told(alloc: Global, map: &mut DecodedMap) -> Result<String> {
+    let had_none = map.debug_id().is_none();
+    map.set_debug_id(DebugId::parse(ID));
+    let text =
+        br#"{"version":3,"file":"test.js","sections":[],"debugId":"0123456789abcdef0123456789abcdef"}"#;
+    let is_read = *map == decode_slice(alloc, text)?;
+    let has_it = map.debug_id() == DebugId::parse(ID);
+    Ok(format!(in alloc; "{had_none} {is_read} {has_it}")?)
+}
+
+fn made_with_id(alloc: Global) -> Result<String> {
+    made_told(alloc, &mut made(alloc)?)
+}
+
+#[test]
+fn indexes_that_are_made_get_debug_ids(rt: HostRuntime) {
+    check(&rt, "made", made_with_id(rt.alloc()), "true true true");
+}
