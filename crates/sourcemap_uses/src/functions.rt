@@ -10,14 +10,17 @@ use std::alloc::Global;
 
 /// The name of the function that a place in the bytecode stands in, by the Hermes map in these bytes,
 /// where the functions of its source stand in order. Refused as by `SourceMapHermes::from_slice`.
-#[tactic(auto, using(std::proofs::lemmas::Result::err_from_is_err_and))]
 pub fn function_at(alloc: Global, bytes: &[u8], offset: u32) -> Result<Option<String>>
     ensures name { IfOk result
         (λ name. IsNameAt bytes.now offset (option_map string_bytes name)) }
     ensures fault { IfErr result
         (λ e. UnlessMemory e (BytesStandFor OnlyHermesDecodes bytes.now (Err e))) }
 {
-    let map = SourceMapHermes::from_slice(alloc, bytes)?;
+    // no `?` for the prover: which fault is passed on is known of a match
+    let map = match SourceMapHermes::from_slice(alloc, bytes) {
+        Ok(map) => map,
+        Err(fault) => return Err(fault),
+    };
     match map.get_original_function_name(offset) {
         None => Ok(None),
         Some(name) => Ok(Some(String::from_str(alloc, name)?)),

@@ -12,14 +12,17 @@ use std::alloc::Global;
 /// `source:line:column`, and ` name=NAME` if there is a name. `None` if no token stands at the
 /// position or before it. Lines and columns count from 0, columns in UTF-16 units. Bytes that hold
 /// no map are refused as by `decode_slice`.
-#[tactic(auto, using(std::proofs::lemmas::Result::err_from_is_err_and))]
 pub fn place_text(alloc: Global, bytes: &[u8], line: u32, col: u32) -> Result<Option<String>>
     ensures place { IfOk result
         (λ text. IsTextOf bytes.now (line, col) (option_map string_bytes text)) }
     ensures fault { IfErr result (λ e. UnlessMemory e (BytesDecode bytes.now (Err e))) }
 {
     well_formed_maps_are_in_order();
-    let map = decode_slice(alloc, bytes)?;
+    // no `?` for the prover: which fault is passed on is known of a match
+    let map = match decode_slice(alloc, bytes) {
+        Ok(map) => map,
+        Err(fault) => return Err(fault),
+    };
     match map.lookup_token(line, col) {
         None => Ok(None),
         Some(token) => Ok(Some(token.to_string(alloc)?)),
