@@ -64,7 +64,8 @@ def unbuilt(words):
     line that it printed, and what it told. Where it builds it tells so."""
     listed = subprocess.run(['git', 'ls-files', '-z'], cwd=HOME, check=True, stdout=subprocess.PIPE).stdout
     with tempfile.TemporaryDirectory() as folder:
-        for name in filter(None, os.fsdecode(listed).split('\0')):
+        # a checkout may lack files that git knows
+        for name in filter(lambda name: (HOME / name).is_file(), os.fsdecode(listed).split('\0')):
             copy = pathlib.Path(folder, name)
             copy.parent.mkdir(parents=True, exist_ok=True)
             shutil.copy(HOME / name, copy)
