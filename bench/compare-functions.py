@@ -105,7 +105,7 @@ def function_case(name, record, draws, count):
 
 
 def cases_of(folder, count):
-    for path in sorted(pathlib.Path(folder).rglob('*.map')):
+    for path in sorted(filter(pathlib.Path.is_file, pathlib.Path(folder).rglob('*.map'))):
         data, name = path.read_bytes(), str(path.relative_to(folder))
         record, draws, beside = record_of(data), random.Random(name), text_beside(path)
         if not is_index(record) and KEY in record:

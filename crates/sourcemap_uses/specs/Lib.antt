@@ -1,3 +1,4 @@
+pub mod Adjusting
 pub mod Building
 pub mod DataUrls
 pub mod Faults

@@ -1,28 +1,66 @@
 //! A map that is adjusted by the map of a later step.
-ghost use Rattle.std.specs.Prelude.{◌≡◌, ℕ, IfOk, option_map};
+ghost use Rattle.std.specs.Option.{option_copied};
+ghost use Rattle.std.specs.Prelude.{◌≡◌, ℕ, IfOk, option_map, string_bytes};
 ghost use Rattle.sourcemap.specs.Composition.{moved};
 ghost use Rattle.sourcemap.specs.Moved.{IsMovedAlone};
+ghost use Rattle.sourcemap.specs.Token.{answers};
 ghost use Rattle.sourcemap.specs.Types.{IsWellFormed, meaning};
 ghost use Rattle.sourcemap.specs.declared.compose.Stretch.{Stretch};
+ghost use Rattle.sourcemap_uses.specs.Adjusting.{told};
 
-use sourcemap::{Result, SourceMap};
+use sourcemap::{Result, SourceMap, Token};
+use std::alloc::Global;
 
-/// The line of the source behind a place of the later text, to which `adjustment` leads from the
-/// text of `map`. It is the line that the map tells of the place that was moved there, if nothing
-/// else came to that place.
-pub fn line_behind(
+/// All that a map says of a position, with texts of its own.
+#[derive(Debug, Drop)]
+pub struct Place {
+    pub source: Option<String>,
+    pub line: u32,
+    pub column: u32,
+    pub name: Option<String>,
+    /// whether a range token says so
+    pub is_range: bool,
+}
+
+/// What is behind a position of the later text, to which `adjustment` leads from the text of `map`.
+/// It is all that `map` said of the position that was moved there, if nothing else came to that
+/// place. `None` if no token stands at the position or before it.
+pub fn place_behind(
+    alloc: Global,
     mut map: SourceMap,
     adjustment: &SourceMap,
     line: u32,
     col: u32,
-) -> Result<Option<u32>>
+) -> Result<Option<Place>>
     ensures { (a : Stretch) (q : ℕ × ℕ) → IsWellFormed map
         → IsMovedAlone map.tokens adjustment.now.tokens a q → moved a q ≡ (line, col)
-        → IfOk result (λ found. found ≡ option_map (λ m. m.line) (meaning map q)) }
+        → IfOk result (λ found. option_map told found ≡ meaning map q) }
 {
     map.adjust_mappings(adjustment)?;
     match map.lookup_token(line, col) {
         None => Ok(None),
-        Some(token) => Ok(Some(token.get_src_line())),
+        Some(token) => Ok(Some(place_of(alloc, &token)?)),
+    }
+}
+
+// What a token says, copied.
+fn place_of(alloc: Global, token: &Token<'_>) -> Result<Place>
+    ensures { IfOk result (λ place. told place ≡ answers token.now) }
+{
+    Ok(Place {
+        source: owned(alloc, token.get_source())?,
+        line: token.get_src_line(),
+        column: token.get_src_col(),
+        name: owned(alloc, token.get_name())?,
+        is_range: token.is_range(),
+    })
+}
+
+fn owned(alloc: Global, text: Option<&str>) -> Result<Option<String>>
+    ensures { IfOk result (λ copy. option_map string_bytes copy ≡ option_copied text.entry) }
+{
+    match text {
+        None => Ok(None),
+        Some(text) => Ok(Some(String::from_str(alloc, text)?)),
     }
 }

@@ -4,7 +4,7 @@ use sourcemap::types::RawToken;
 use sourcemap::{
     DecodedMap, Error, Result, SourceMap, SourceMapBuilder, SourceMapIndex, decode_slice,
 };
-use sourcemap_uses::adjusting::line_behind;
+use sourcemap_uses::adjusting::place_behind;
 use sourcemap_uses::building::place_once_written;
 use sourcemap_uses::data_urls::inline_map;
 use sourcemap_uses::faults::{Advice, advise};
@@ -101,13 +101,50 @@ fn a_map_is_shrunk(rt: HostRuntime) -> std::result::Result<(), Fail> {
 // Leads from line 3 of a later text to column 18 of the text of the map above.
 const LATER: &str = r#"{"version":3,"sources":["mid.js"],"mappings":";;;AAAkB"}"#;
 
+// One range token, and what leads from column 2 of a later text to column 10 behind its start.
+const RANGED: &str = r#"{"sources":["a.js"],"mappings":"AAAO","rangeMappings":"B"}"#;
+
+const BEHIND: &str = r#"{"sources":["t.js"],"mappings":"EAAU"}"#;
+
+// A map and an adjustment, a place of the later text, and all that is behind it: what the map says of
+// the place that comes there, 0:18 and 0:19, and 0:13 of the range token; nothing before the first
+// place that something comes to.
+const BEHIND_PLACES: [(&str, &str, (u32, u32), &str); 5] = [
+    (
+        MAP,
+        LATER,
+        (3, 0),
+        r#"Some(Place { source: Some("coolstuff.js"), line: 2, column: 2, name: Some("alert"), is_range: false })"#,
+    ),
+    (
+        MAP,
+        LATER,
+        (3, 1),
+        r#"Some(Place { source: Some("coolstuff.js"), line: 2, column: 2, name: Some("alert"), is_range: false })"#,
+    ),
+    (MAP, LATER, (2, 9), "None"),
+    (
+        RANGED,
+        BEHIND,
+        (0, 5),
+        r#"Some(Place { source: Some("a.js"), line: 0, column: 20, name: None, is_range: true })"#,
+    ),
+    (RANGED, BEHIND, (0, 1), "None"),
+];
+
+fn behind(alloc: Global, text: &str, later: &str, place: (u32, u32)) -> Result<String> {
+    let map = SourceMap::from_slice(alloc, text.as_bytes())?;
+    let later = SourceMap::from_slice(alloc, later.as_bytes())?;
+    let found = place_behind(alloc, map, &later, place.0, place.1)?;
+    Ok(format!(in alloc; "{found:?}")?)
+}
+
 #[test]
-fn a_line_is_behind_a_later_place(rt: HostRuntime) -> std::result::Result<(), Fail> {
-    let alloc = rt.alloc();
-    let map = SourceMap::from_slice(alloc, MAP.as_bytes())?;
-    let later = SourceMap::from_slice(alloc, LATER.as_bytes())?;
-    let line = line_behind(map, &later, 3, 1)?;
-    assert_eq!(rt; line.unwrap_or(9), 2);
+fn a_later_place_is_what_it_comes_from(rt: HostRuntime) -> std::result::Result<(), Fail> {
+    for (text, later, place, want) in BEHIND_PLACES.iter() {
+        let told = behind(rt.alloc(), text, later, *place)?;
+        assert_eq!(rt; told.as_str(), *want);
+    }
     Ok(())
 }
 
