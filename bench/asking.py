@@ -134,6 +134,30 @@ fn main(rt: HostRuntime) -> Result<()> {
 
 # one of the words above, a map or a text or both, with questions, and how many lines answer them
 Case = collections.namedtuple('Case', 'name word record text questions lines')
+# how many bytes `rt try` gives a program
+MOST = 64 << 20
+
+
+def data_of(case):
+    return json.dumps({'word': case.word, 'map': case.record and json.dumps(case.record), 'text': case.text,
+                       'questions': case.questions}).encode()
+
+
+def is_too_long(case):
+    """Whether a case cannot be asked here, since the program does not get all of it."""
+    return len(data_of(case)) + 2 > MOST
+
+
+def inputs_of(cases):
+    """The cases as JSON, in so many parts as are needed, each with how many cases it has."""
+    part, size = [], 0
+    for case in cases:
+        data = data_of(case)
+        if part and size + len(data) + 2 > MOST:
+            yield len(part), b'[' + b','.join(part) + b']'
+            part, size = [], 0
+        part, size = [*part, data], size + len(data) + 1
+    yield len(part), b'[' + b','.join(part) + b']'
 
 
 def asked_here(cases):
@@ -146,14 +170,16 @@ def asked_here(cases):
         (folder / 'main.rt').write_text(PROGRAM)
         below = (CRATES.parent / 'crates.txt').read_text()
         pathlib.Path(room, 'crates.txt').write_text(below + '\nasking: sourcemap sourcemap_index serde_json\n')
-        data = json.dumps([{'word': case.word, 'map': case.record and json.dumps(case.record), 'text': case.text,
-                            'questions': case.questions} for case in cases]).encode()
-        told = subprocess.run(['rt', 'try', '--seconds', '3000', '--steps', '100000000000'], cwd=folder.parent, input=data, stdout=subprocess.PIPE)
-        if told.returncode:
-            sys.exit(told.stdout[-3000:].decode())
-        # what JSON leaves as it is may end a line for Python, as U+2028 does
-        lines = iter(told.stdout.decode().split('\n'))
-        return [[next(lines) for _ in range(case.lines)] for case in cases]
+        answers = []
+        for count, data in inputs_of(cases):
+            told = subprocess.run(['rt', 'try', '--seconds', '3000', '--steps', '100000000000'], cwd=folder.parent, input=data,
+                                  stdout=subprocess.PIPE)
+            if told.returncode:
+                sys.exit(told.stdout[-3000:].decode())
+            # what JSON leaves as it is may end a line for Python, as U+2028 does
+            lines = iter(told.stdout.decode().split('\n'))
+            answers += [[next(lines) for _ in range(case.lines)] for case in cases[len(answers):len(answers) + count]]
+        return answers
 
 
 def asked_there(reference, case):

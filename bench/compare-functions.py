@@ -26,7 +26,7 @@ no map has a text or functions. No reason excuses an answer that is not that of 
 - no order: functions of a source stand in no order, so that any name of one of them, or none, is right
 """
 import argparse, collections, json, pathlib, random, re, sys
-from asking import Case, asked_here, asked_there
+from asking import Case, asked_here, asked_there, is_too_long
 from comparing import noted, reference_program, report, text_beside
 from composing import tokens_of_record
 from hermes_maps import KEY, closest, function_name, is_in_order
@@ -195,6 +195,9 @@ def main():
     given = words.parse_args()
     reference = reference_program(given.reference)
     cases = list(cases_of(given.maps, given.questions))
+    for case in filter(is_too_long, cases):
+        print(f'not asked, since it is too long: {case.name}', flush=True)
+    cases = [case for case in cases if not is_too_long(case)]
     if not cases:
         sys.exit(f'{given.maps}: no map has its text beside it, or functions')
     counts, asked = collections.Counter(), collections.Counter()
