@@ -22,8 +22,8 @@ MAP             maps to take, as files, index maps too; without any, those that 
                 a table for each such number (75000 250000), and none for 0
 --instructions  counts instructions with valgrind too, which is slow
 
-The two programs of this repository are built where they are missing. SOURCEMAP_TOOL and SOURCEMAP_BENCH in
-the environment name others in their place.
+The programs of this repository are built where they are missing. SOURCEMAP_TOOL, SOURCEMAP_BENCH and, for views,
+SOURCEMAP_BENCH_VIEWS in the environment name others in their place.
 
 An operation's time is that of a process that repeats it often, less that of one that does it once, by the
 number of repetitions between: so process start, the reading of the map, its first decoding and the drawing
@@ -36,7 +36,7 @@ that the two programs do not share is told on standard error, and the status is 
 as they come; a cell has the ratio and, in brackets, the figure here.
 """
 import argparse, json, os, pathlib, shutil, subprocess, sys, tempfile
-from comparing import BENCH, CRATES, TOOL, build_missing, reference_program, text_beside
+from comparing import BENCH, BENCH_VIEWS, CRATES, TOOL, build_missing, reference_program, text_beside
 from composing import Token, written
 from index_maps import LAST, is_index, record_of
 from walks import TOKENS
@@ -47,6 +47,7 @@ INDEX_OPERATIONS = ['decode', 'decode-reader', 'lookup', 'encode', 'flatten']
 TITLES = {'decode': 'decode a slice', 'decode-reader': 'decode a reader', 'lookup': '1,000,000 lookups',
           'tokens': 'all tokens', 'encode': 'encode', 'rewrite': 'copy and rewrite', 'flatten': 'flatten',
           'compose': 'copy and compose', 'lines': 'a view and all its lines', 'names': 'walks over all tokens'}
+OF_VIEWS = ['lines', 'names']
 COUNTED = ['decode', 'decode-reader', 'encode']
 RUNS = (['lookup', '3', '100'], ['rewrite'])
 INDEX_RUNS = (['lookup', '3', '100'], ['flatten'])
@@ -101,7 +102,7 @@ def repetitions(path, operation):
         return 2
     if operation == 'tokens':
         return max(100, 300_000_000 // size)
-    if operation in ('lines', 'names'):
+    if operation in OF_VIEWS:
         return 100
     return max(3, 30_000_000 // size)
 
@@ -110,7 +111,7 @@ class Pair:
     """Both programs, and whether a checksum differed."""
 
     def __init__(self, reference):
-        self.commands = {'here': lambda op, n: [BENCH, op, str(n)],
+        self.commands = {'here': lambda op, n: [BENCH_VIEWS if op in OF_VIEWS else BENCH, op, str(n)],
                          'reference': lambda op, n: [reference, 'bench', op, str(n)]}
         self.reference = reference
         self.is_different = False
@@ -338,6 +339,8 @@ def main():
     words.add_argument('--instructions', action='store_true')
     given = words.parse_args()
     build_missing()
+    if given.views:
+        build_missing([BENCH_VIEWS])
     programs = Pair(reference_program(given.reference))
     with tempfile.TemporaryDirectory() as folder:
         paths = given.maps or gathered_maps(folder)

@@ -1,0 +1,58 @@
+//! Rounds of an operation, and the checksums that they come to.
+ghost use Rattle.std.specs.Prelude.{◌≡◌, IfOk};
+ghost use Rattle.sourcemap_bench_views.specs.Sums.{line_sum, name_sum, rounds_sum};
+
+use crate::command::Operation;
+use crate::starts::walk_starts;
+use crate::sums::{line_sum, name_sum};
+use sourcemap::{Result, SourceMap, SourceView};
+use std::alloc::Global;
+use std::str;
+
+// The sum behind a view that is made of a text and walked along.
+fn view_sum(alloc: Global, text: &str, sum: u32) -> Result<u32>
+    ensures { IfOk result (λ new. new ≡ line_sum text.now sum) }
+{
+    let view = SourceView::new(alloc, text)?;
+    Ok(line_sum(&view, sum))
+}
+
+// The sum of so many rounds, in each of which a view is made of a text and walked along.
+fn line_rounds(alloc: Global, text: &str, rounds: u32) -> Result<u32>
+    ensures { IfOk result (λ sum. sum ≡ rounds_sum (line_sum text.now) rounds) }
+{
+    let mut sum = 0;
+    for _ in 0..rounds {
+        sum = view_sum(alloc, text, sum)?;
+    }
+    Ok(sum)
+}
+
+// The sum of so many rounds, in each of which names are guessed at all these positions.
+fn name_rounds(map: &SourceMap, view: &SourceView, starts: &[(u32, u32)], rounds: u32) -> u32
+    ensures { result ≡ rounds_sum (name_sum map.now view.now starts.now) rounds }
+{
+    let mut sum = 0;
+    for _ in 0..rounds {
+        sum = name_sum(map, view, starts, sum);
+    }
+    sum
+}
+
+// The same of the map on the first line and of the text behind it.
+fn guessed_rounds(alloc: Global, lines: &str, rounds: u32) -> Result<u32> {
+    let (line, text) = lines.split_once('\n').unwrap_or_default();
+    let map = SourceMap::from_slice(alloc, line.as_bytes())?;
+    let view = SourceView::new(alloc, text)?;
+    let starts = walk_starts(alloc, &map)?;
+    Ok(name_rounds(&map, &view, starts.as_slice(), rounds))
+}
+
+/// The checksum of so many rounds of an operation.
+pub fn checksum(alloc: Global, operation: Operation, rounds: u32, bytes: &[u8]) -> Result<u32> {
+    let text = str::from_utf8(bytes)?;
+    match operation {
+        Operation::Lines => line_rounds(alloc, text, rounds),
+        Operation::Names => guessed_rounds(alloc, text, rounds),
+    }
+}
