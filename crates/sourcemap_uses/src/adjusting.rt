@@ -1,6 +1,8 @@
 //! A map that is adjusted by the map of a later step.
 ghost use Rattle.std.specs.Option.{option_copied};
-ghost use Rattle.std.specs.Prelude.{◌≡◌, ℕ, IfOk, option_map, string_bytes};
+ghost use Rattle.std.specs.Prelude.{◌≡◌, ℕ, Err, IfErr, IfOk, option_map, string_bytes};
+ghost use Rattle.sourcemap.specs.Adjust.{adjusted};
+ghost use Rattle.sourcemap.specs.Answer.{UnlessMemory};
 ghost use Rattle.sourcemap.specs.Composition.{moved};
 ghost use Rattle.sourcemap.specs.Moved.{IsMovedAlone};
 ghost use Rattle.sourcemap.specs.Token.{answers};
@@ -9,7 +11,7 @@ ghost use Rattle.sourcemap.specs.declared.compose.Stretch.{Stretch};
 ghost use Rattle.sourcemap_uses.specs.Adjusting.{told};
 
 use sourcemap::{Result, SourceMap, Token};
-use std::alloc::Global;
+use std::alloc::{AllocError, Global};
 
 /// All that a map says of a position, with texts of its own.
 #[derive(Debug, Drop)]
@@ -24,7 +26,7 @@ pub struct Place {
 
 /// What is behind a position of the later text, to which `adjustment` leads from the text of `map`.
 /// It is all that `map` said of the position that was moved there, if nothing else came to that
-/// place. `None` if no token stands at the position or before it.
+/// place. `None` if no token stands at the position or before it. Refused as by `adjust_mappings`.
 pub fn place_behind(
     alloc: Global,
     mut map: SourceMap,
@@ -32,11 +34,16 @@ pub fn place_behind(
     line: u32,
     col: u32,
 ) -> Result<Option<Place>>
-    ensures { (a : Stretch) (q : ℕ × ℕ) → IsWellFormed map
+    ensures meaning { (a : Stretch) (q : ℕ × ℕ) → IsWellFormed map
         → IsMovedAlone map.tokens adjustment.now.tokens a q → moved a q ≡ (line, col)
         → IfOk result (λ found. option_map told found ≡ meaning map q) }
+    ensures fault { IfErr result (λ e. UnlessMemory e (adjusted map adjustment.now ≡ Err e)) }
 {
-    map.adjust_mappings(adjustment)?;
+    // no `?` for the prover: which fault is passed on is known of a match
+    match map.adjust_mappings(adjustment) {
+        Ok(()) => {}
+        Err(fault) => return Err(fault),
+    }
     match map.lookup_token(line, col) {
         None => Ok(None),
         Some(token) => Ok(Some(place_of(alloc, &token)?)),
@@ -44,7 +51,7 @@ pub fn place_behind(
 }
 
 // What a token says, copied.
-fn place_of(alloc: Global, token: &Token<'_>) -> Result<Place>
+fn place_of(alloc: Global, token: &Token<'_>) -> std::result::Result<Place, AllocError>
     ensures { IfOk result (λ place. told place ≡ answers token.now) }
 {
     Ok(Place {
@@ -56,7 +63,7 @@ fn place_of(alloc: Global, token: &Token<'_>) -> Result<Place>
     })
 }
 
-fn owned(alloc: Global, text: Option<&str>) -> Result<Option<String>>
+fn owned(alloc: Global, text: Option<&str>) -> std::result::Result<Option<String>, AllocError>
     ensures { IfOk result (λ copy. option_map string_bytes copy ≡ option_copied text.entry) }
 {
     match text {
