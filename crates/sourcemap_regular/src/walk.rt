@@ -24,7 +24,7 @@ impl<'a> WalkedToken for Token<'a> {
 
     ghost text_of = { λ name. name.now };
 
-    ghost before = { λ token. tokens_before token.map.now token.index };
+    ghost before = { λ token. tokens_before (token_value token).map_of (token_value token).index };
 
     fn place(&self) -> (u32, u32) {
         self.get_dst()
