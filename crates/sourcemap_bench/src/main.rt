@@ -1,5 +1,5 @@
-//! Repeats one operation on the source map on standard input, so that it can be timed, or writes it.
-//! To compose takes two maps there, each on a line.
+//! Repeats one operation on the source map on standard input, so that it can be timed, or writes
+//! it. To compose takes two maps there, each on a line.
 #![tactic(auto)]
 
 mod command;

@@ -26,8 +26,8 @@ fn walks_over(count: usize) -> usize
     count.div_ceil(WALKED)
 }
 
-/// Where every 128th token of a map stands, from the last one down: so walks of 128 tokens that begin
-/// there go over all of them, and each over others. Only want of memory refuses.
+/// Where every 128th token of a map stands, from the last one down: so walks of 128 tokens that
+/// begin there go over all of them, and each over others. Only want of memory refuses.
 pub fn walk_starts(alloc: Global, map: &SourceMap) -> Result<Vec<(u32, u32)>>
     ensures all { IfOk result (λ starts.
         min (length map.now.tokens) 4294967295 ≤ 128 * vec_len starts) }

@@ -50,9 +50,9 @@ pub struct Reply {
 /// does.
 ///
 /// `IncompatibleSourceMap` for an index in `Tokens` and `Rewrite`, for a map that is no index in
-/// `Flatten` and `Shift`, for one that is not regular as either map of `Compose`, where `Compose` would
-/// put a token past column 4294967295, and where `Shift` would put a section past row 4294967295.
-/// `CannotFlatten` as by `SourceMapIndex::flatten`. Else only want of memory refuses.
+/// `Flatten` and `Shift`, for one that is not regular as either map of `Compose`, where `Compose`
+/// would put a token past column 4294967295, and where `Shift` would put a section past row
+/// 4294967295. `CannotFlatten` as by `SourceMapIndex::flatten`. Else only want of memory refuses.
 pub fn apply<F: Files>(
     rt: &F,
     alloc: Global,
@@ -107,7 +107,8 @@ fn said_of_hermes<F: Files>(
     command: &Command,
     map: SourceMapHermes,
 ) -> Result<String>
-    ensures { IsAnswer string_bytes (Says command.now (leaf (hermes (hermes_value map))) None) result }
+    ensures { IsAnswer string_bytes
+        (Says command.now (leaf (hermes (hermes_value map))) None) result }
 {
     match command {
         Command::Lookup(line, col) => lookup_text(alloc, &DecodedMap::Hermes(map), *line, *col),
@@ -121,7 +122,8 @@ fn said_of_hermes<F: Files>(
 
 // What a command says of an index.
 fn said_of_index(alloc: Global, command: &Command, index: SourceMapIndex) -> Result<String>
-    ensures { IsAnswer string_bytes (Says command.now (index_tree (index_value index)) None) result }
+    ensures { IsAnswer string_bytes
+        (Says command.now (index_tree (index_value index)) None) result }
 {
     match command {
         Command::Lookup(line, col) => lookup_text(alloc, &DecodedMap::Index(index), *line, *col),
@@ -472,10 +474,10 @@ fn report<W: Write>(alloc: Global, made: Result<Reply>, output: &mut W) -> Resul
 
 /// Prints the reply to words, on the map that an input gives, and answers its status: what
 /// `reply_to` makes of the words, of all bytes of the input, which is read only where the words ask
-/// for a command, and for `Compose` of what a reading of its file then gives. That is opened and read
-/// only once the input is decoded. A read's fault, and want of memory, are refused like a faulty map,
-/// with status 1. All text is made before the first byte of it is written. The only error is a
-/// write's fault.
+/// for a command, and for `Compose` of what a reading of its file then gives. That is opened and
+/// read only once the input is decoded. A read's fault, and want of memory, are refused like a
+/// faulty map, with status 1. All text is made before the first byte of it is written. The only
+/// error is a write's fault.
 pub fn run<F: Files, R: Read, W: Write>(
     rt: &F,
     alloc: Global,
@@ -492,8 +494,8 @@ pub fn run<F: Files, R: Read, W: Write>(
     report(alloc, made, output)
 }
 
-/// Words, bytes and what was read of a file have one reply: what replies for one ending that is right
-/// does for each. Only the texts of a header's fault are not known to be one.
+/// Words, bytes and what was read of a file have one reply: what replies for one ending that is
+/// right does for each. Only the texts of a header's fault are not known to be one.
 pub fn replies_are_determined()
     ensures { (words : List (List ℕ)) (bytes : List ℕ) (read : Result (List ℕ) Error) (a b : Ending)
         → Ends words bytes read a → Ends words bytes read b

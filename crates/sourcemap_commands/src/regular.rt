@@ -40,8 +40,8 @@ pub fn flattened(index: SourceMapIndex) -> Result<SourceMap>
     index.flatten()
 }
 
-/// The map adjusted by another one, as by `SourceMap::adjust_mappings`: one of another kind as either
-/// is `IncompatibleSourceMap`.
+/// The map adjusted by another one, as by `SourceMap::adjust_mappings`: one of another kind as
+/// either is `IncompatibleSourceMap`.
 pub fn adjusted(map: DecodedMap, adjustment: DecodedMap) -> Result<SourceMap>
     ensures { Gives (λ m. m) result (adjusted_by (map_tree map) (Some (map_tree adjustment))) }
 {

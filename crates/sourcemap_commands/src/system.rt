@@ -1,5 +1,5 @@
-//! Where the program meets the system: the words that it is started with, and faults that no run can
-//! print on its output.
+//! Where the program meets the system: the words that it is started with, and faults that no run
+//! can print on its output.
 ghost use Rattle.std.specs.Prelude.{◌≡◌, IfErr, OnOk, IsTrue, ◌↔◌};
 ghost use Rattle.sourcemap_commands.specs.Program.{IsWriteFault};
 ghost use Rattle.sourcemap_commands.specs.System.{IsReaderGone, IsTold};
@@ -9,9 +9,9 @@ use std::env::Env;
 use std::io::{ErrorKind, Write};
 use std::{env, io};
 
-/// The words that the program is started with, behind its name. Where one of them is not UTF-8 there
-/// are none, since no command has such a word, and none ask for no command either. Want of memory
-/// is `OutOfMemory`.
+/// The words that the program is started with, behind its name. Where one of them is not UTF-8
+/// there are none, since no command has such a word, and none ask for no command either. Want of
+/// memory is `OutOfMemory`.
 pub fn words<R: Env + AllocGlobal>(rt: &R) -> Result<Vec<String>> {
     match env::args(rt) {
         Ok(all) => Ok(all.skip(1).collect(rt.alloc())?),

@@ -58,9 +58,9 @@ struct RecordParts {
 }
 
 /// The parts of the regular map that a record stands for; sections and function names that it may
-/// have count for nothing. More than 4294967295 sources, names or contents are `IncompatibleSourceMap`,
-/// then comes the first fault of the mappings. Else only want of memory refuses. The texts of the
-/// tokens are let go once the tokens are there.
+/// have count for nothing. More than 4294967295 sources, names or contents are
+/// `IncompatibleSourceMap`, then comes the first fault of the mappings. Else only want of memory
+/// refuses. The texts of the tokens are let go once the tokens are there.
 pub fn parts_of_record(alloc: Global, rsm: RawSourceMap) -> Result<Parts>
     ensures answer { IsAnswer parts_view (PartsAnswer (flat (tree rsm))) result }
     ensures few_names { IfOk result (λ parts. vec_len parts.names ≤ 4294967295) }
@@ -214,8 +214,8 @@ fn all_sources(alloc: Global, sources: Vec<Option<String>>) -> Result<Vec<String
     Ok(texts)
 }
 
-/// The name of the file that a record says: its text, and `<invalid>` for any other value. Only want
-/// of memory refuses.
+/// The name of the file that a record says: its text, and `<invalid>` for any other value. Only
+/// want of memory refuses.
 pub fn file_in(alloc: Global, file: Option<Value>) -> Result<Option<String>>
     ensures { Gives text_view result (Ok (option_map file_read (option_map view file))) }
 {

@@ -40,8 +40,8 @@ fn unresolved_text(alloc: Global, url: Option<&str>) -> Result<String>
     Ok(text)
 }
 
-/// The refusal of a section that has no map, but maybe the URL of one. `OutOfMemory` if there is none
-/// left for its text.
+/// The refusal of a section that has no map, but maybe the URL of one. `OutOfMemory` if there is
+/// none left for its text.
 pub fn unresolved(alloc: Global, url: Option<&str>) -> Error
     ensures { Refuses (unresolved (option_copied url.entry)) result }
 {

@@ -88,11 +88,11 @@ impl<'a> Gathering<'a> {
 
     /// The same of a map that was made of others.
     pub fn add_flat(&mut self, alloc: Global, line: u32, col: u32, map: &FlatMap<'a>) -> Result<()>
-        ensures ok { (before inner : List Piece) (file : Option (List ℕ)) → Gathers before self.old
-            → IsFlat inner map.now
+        ensures ok { (before inner : List Piece) (file : Option (List ℕ))
+            → Gathers before self.old → IsFlat inner map.now
             → OnOk result (GathersMore before ((line, col), merged file inner) self.new) }
-        ensures refused { (before inner : List Piece) (file : Option (List ℕ)) → Gathers before self.old
-            → IsFlat inner map.now
+        ensures refused { (before inner : List Piece) (file : Option (List ℕ))
+            → Gathers before self.old → IsFlat inner map.now
             → IfErr result (RefusesPiece before ((line, col), merged file inner)) }
     {
         let part = Part {
@@ -126,7 +126,8 @@ impl<'a> Gathering<'a> {
     /// The map of what was gathered, its tokens sorted stably by their place. Only want of memory
     /// refuses.
     pub fn finish(self) -> Result<FlatMap<'a>>
-        ensures ok { (pieces : List Piece) → Gathers pieces self.entry → IfOk result (IsFlat pieces) }
+        ensures ok { (pieces : List Piece) → Gathers pieces self.entry
+            → IfOk result (IsFlat pieces) }
         ensures memory { IsOkUnless result OutOfMemory }
     {
         let tokens = TokenList::sorted(self.tokens)?;
@@ -140,8 +141,8 @@ impl<'a> Gathering<'a> {
 }
 
 impl FlatMap<'_> {
-    /// The map with copies of its texts, under the name of its file. It has no root and no debug id.
-    /// Only want of memory refuses.
+    /// The map with copies of its texts, under the name of its file. It has no root and no debug
+    /// id. Only want of memory refuses.
     pub fn into_map(self, alloc: Global, file: Option<&str>) -> Result<SourceMap>
         requires { HasFewTexts self }
         ensures { (pieces : List Piece) → IsFlat pieces self.entry

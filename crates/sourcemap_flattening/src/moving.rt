@@ -100,7 +100,8 @@ pub(crate) fn pass_over(
     sources: &[u32],
 ) -> Result<()>
     ensures ok { OnOk result (all.new.keys
-        ≡ fold (insert_key nat_cmp) all.old.keys (passed_over ignored.now.keys sources.now tokens.now)) }
+        ≡ fold (insert_key nat_cmp) all.old.keys
+        (passed_over ignored.now.keys sources.now tokens.now)) }
     ensures memory { IsOkUnless result OutOfMemory }
 {
     if ignored.is_empty() {

@@ -92,7 +92,8 @@ impl<'a> Table<'a> {
 
 // Whether the text is a new one, and there is no id left for it.
 fn has_no_room(ids: &HashMap<&str, u32>, text: &str) -> bool
-    ensures room { result ≡ false → id_of ids.now text.now ≡ None → hash_map_len ids.now < 4294967295 }
+    ensures room { result ≡ false → id_of ids.now text.now ≡ None
+        → hash_map_len ids.now < 4294967295 }
     ensures full { (texts : List (List ℕ)) → IsIndex texts ids.now → result ≡ true
         → are_too_many (with_text texts text.now) ≡ true }
 {

@@ -88,7 +88,8 @@ pub fn written_maps_read_back()
         → ReadsBack (BytesStandFor OnlyHermesDecodes text) (Restores h) }
 {}
 
-/// A law: a map that restores another has the name of the same function for each place in the bytecode.
+/// A law: a map that restores another has the name of the same function for each place in the
+/// bytecode.
 pub fn restored_maps_name_functions_alike()
     ensures { (h back : HermesValue) (offset : ℕ) → Restores h back
         → function_name back offset ≡ function_name h offset }

@@ -70,7 +70,8 @@ fn copy_sections(alloc: Global, sections: &Vec<SourceMapSection>) -> Result<Vec<
 }
 
 impl SourceMapIndex {
-    /// An index equal to this one, its sections and their maps with it. Only want of memory refuses.
+    /// An index equal to this one, its sections and their maps with it. Only want of memory
+    /// refuses.
     #[cycle(clone)]
     pub fn clone(&self) -> Result<Self>
         ensures { Gives index_value result (Ok (index_value self.now)) }

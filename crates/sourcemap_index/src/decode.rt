@@ -52,11 +52,11 @@ fn decode_owned(alloc: Global, bytes: Vec<u8>) -> Result<DecodedMap>
 
 /// The map that bytes hold, behind a junk header or behind none. A faulty header is `Io` of kind
 /// `InvalidData`, bytes that are not JSON behind it are `BadJson(Parse)`. JSON that is no record is
-/// `BadJson(Shape)`. Then come the faults of the record: without sections those of `decode_hermes` for
-/// a map with scopes of its sources, and those of `decode_regular` for one without. Of a map with
-/// sections more than 4294967295 of them are `IncompatibleSourceMap` before anything in them is looked
-/// at, and then comes the first fault of their maps, in the order of the text; scopes of its own are
-/// passed over.
+/// `BadJson(Shape)`. Then come the faults of the record: without sections those of `decode_hermes`
+/// for a map with scopes of its sources, and those of `decode_regular` for one without. Of a map
+/// with sections more than 4294967295 of them are `IncompatibleSourceMap` before anything in them
+/// is looked at, and then comes the first fault of their maps, in the order of the text; scopes of
+/// its own are passed over.
 pub fn decode_slice(alloc: Global, bytes: &[u8]) -> Result<DecodedMap>
     ensures answer { IsAnswer map_tree (BytesDecode bytes.now) result }
     // No other answer is right.

@@ -92,8 +92,8 @@ impl DecodedMap {
         raw.into_value(alloc)
     }
 
-    /// The map that a JSON value stands for. `BadJson(Shape)` if it is no record, then the faults of
-    /// the record, as by `decode_slice`.
+    /// The map that a JSON value stands for. `BadJson(Shape)` if it is no record, then the faults
+    /// of the record, as by `decode_slice`.
     pub fn from_value(alloc: Global, value: &Value) -> Result<Self>
         ensures answer { IsAnswer map_tree (ValueDecodes (view value.now)) result }
         ensures only { (due : Result MapTree Error) → ValueDecodes (view value.now) due

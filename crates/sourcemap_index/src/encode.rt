@@ -28,9 +28,9 @@ impl Encodable for DecodedMap {
     ghost encodes = { λ m. RecordAnswer (map_tree m) };
 
     /// The record of the map. That of a Hermes map has the scopes of its sources as they were read.
-    /// That of an index has version 3 and its sections, each with its offset,
-    /// its URL and the record of its map; file, debug id and bundle lists if there are such. Only want
-    /// of memory refuses.
+    /// That of an index has version 3 and its sections, each with its offset, its URL and the
+    /// record of its map; file, debug id and bundle lists if there are such. Only want of memory
+    /// refuses.
     fn as_raw_sourcemap(&self) -> Result<RawSourceMap>
         ensures answer { IsAnswer tree (RecordAnswer (map_tree self.now)) result }
         ensures fine { IfOk result (λ r. IsFine (tree r)) }

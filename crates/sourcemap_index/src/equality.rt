@@ -97,7 +97,8 @@ fn are_same_sections(a: &SourceMapSection, b: &SourceMapSection) -> bool
     offset & url & map
 }
 
-/// Sections are equal exactly if they start at the same place and have the same URL and the same map.
+/// Sections are equal exactly if they start at the same place and have the same URL and the same
+/// map.
 impl PartialEq for SourceMapSection {
     ghost eq = { on section_value same_section };
 

@@ -4,8 +4,8 @@ use sourcemap_records::jsontypes::DebugId;
 use sourcemap_regular::map::SourceMap;
 use std::alloc::Global;
 
-/// A section of an index map: where it starts in the generated text, and the map of what stands from
-/// there on, or the URL of one. Lines and columns count from 0, columns in UTF-16 units.
+/// A section of an index map: where it starts in the generated text, and the map of what stands
+/// from there on, or the URL of one. Lines and columns count from 0, columns in UTF-16 units.
 #[derive(Debug, Drop)]
 #[cycle(family)]
 pub struct SourceMapSection {

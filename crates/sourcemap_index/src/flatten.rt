@@ -22,15 +22,14 @@ use std::rt::Files;
 
 impl SourceMapIndex {
     /// The index as one regular map: the tokens of all sections, each where its section stands, in
-    /// order, those of one place section by section. Sources, behind their roots, and names are there
-    /// once each; a source has the contents that were given for it last; a source is passed over if a
-    /// map passes over it that a token of it leads to. Of a Hermes map its regular map counts, without
-    /// scopes. The file is that of the index; root and debug
-    /// id are none.
+    /// order, those of one place section by section. Sources, behind their roots, and names are
+    /// there once each; a source has the contents that were given for it last; a source is passed
+    /// over if a map passes over it that a token of it leads to. Of a Hermes map its regular map
+    /// counts, without scopes. The file is that of the index; root and debug id are none.
     ///
-    /// `CannotFlatten` for the first section, in their order, that has no map, or a map that can't be
-    /// made flat, or brings more than 4294967295 sources or names, or a token that would pass the
-    /// last line or column, 4294967295. Else only `OutOfMemory`.
+    /// `CannotFlatten` for the first section, in their order, that has no map, or a map that can't
+    /// be made flat, or brings more than 4294967295 sources or names, or a token that would pass
+    /// the last line or column, 4294967295. Else only `OutOfMemory`.
     pub fn flatten(&self) -> Result<SourceMap>
         ensures answer { IsAnswer (λ m. m) (FlatAnswer (index_tree (index_value self.now))) result }
         ensures tokens { IfOk result (SaysFlat (index_tree (index_value self.now))) }
@@ -137,7 +136,8 @@ impl DecodedMap {
         col: u32,
     ) -> Result<()>
         ensures ok { (before : List Piece) → Gathers before gathering.old
-            → OnOk result (Gathered (map_added before (line, col) (map_tree self.now)) gathering.new) }
+            → OnOk result
+            (Gathered (map_added before (line, col) (map_tree self.now)) gathering.new) }
         ensures in_order { OnOk result (HasTokensInOrder (map_tree self.now)) }
         ensures refused { (before : List Piece) → Gathers before gathering.old
             → IfErr result (RefusesFor (map_added before (line, col) (map_tree self.now))) }

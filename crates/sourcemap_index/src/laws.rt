@@ -16,8 +16,8 @@ ghost use Rattle.sourcemap_trees.specs.WellFormed.{IsWellFormed};
 ghost use Rattle.sourcemap_index.specs.Decode.{BytesDecode, UrlDecodes, ValueDecodes};
 ghost use Rattle.sourcemap_index.specs.DecodedMap.{IsShallow, IsTextOf, IsValueOf};
 
-/// A law: a JSON value, bytes or a data URL stand for a regular map exactly if they stand for it as a
-/// map of any kind.
+/// A law: a JSON value, bytes or a data URL stand for a regular map exactly if they stand for it as
+/// a map of any kind.
 pub fn regular_maps_are_of_a_kind()
     ensures values { (d : Data) (m : MapValue)
         → ValueStandsFor RegularDecodes d (Ok m) ↔ ValueDecodes d (Ok (leaf (regular m))) }
@@ -38,20 +38,21 @@ pub fn hermes_maps_are_of_a_kind()
         → UrlStandsFor OnlyHermesDecodes url (Ok h) ↔ UrlDecodes url (Ok (leaf (hermes h))) }
 {}
 
-/// A law: a map is written as one text, and no number of its value has a fraction, so that the value
-/// is printed as that text.
+/// A law: a map is written as one text, and no number of its value has a fraction, so that the
+/// value is printed as that text.
 pub fn written_values_have_one_text()
     ensures whole { (t : MapTree) (d : Data) → IsValueOf t d → has_float d ≡ false }
     ensures once { (t : MapTree) (a b : List ℕ) → IsTextOf t a → IsTextOf t b → a ≡ b }
 {}
 
-/// A law: the bytes that a map of any kind is written as are the compact text of its record's value,
-/// for no number in that has a fraction.
+/// A law: the bytes that a map of any kind is written as are the compact text of its record's
+/// value, for no number in that has a fraction.
 pub fn encoded_texts_are_compact()
     ensures { (t : MapTree) (text : List ℕ) → IsEncoded (RecordAnswer t) text → IsTextOf t text }
 {}
 
-/// A law: what a map that is no index is written as has few levels, and a reader of JSON takes them.
+/// A law: what a map that is no index is written as has few levels, and a reader of JSON takes
+/// them.
 pub fn maps_without_sections_are_shallow()
     ensures { (l : LeafMap) → IsShallow (leaf l) }
 {}

@@ -11,8 +11,8 @@ use crate::family::{DecodedMap, SourceMapIndex, SourceMapSection};
 use sourcemap_lists::search::greatest_lower_bound;
 use sourcemap_regular::token::Token;
 
-// A position as a section sees it that starts at this offset. No position stands before the offset of
-// its section; where sections are in no order, the start stands for one that would.
+// A position as a section sees it that starts at this offset. No position stands before the offset
+// of its section; where sections are in no order, the start stands for one that would.
 fn lowered(offset: (u32, u32), line: u32, col: u32) -> (u32, u32)
     ensures { result ≡ lowered offset (line, col) }
 {
@@ -60,11 +60,11 @@ impl SourceMapIndex {
     }
 
     /// The closest token to a line and a column of the generated text: that of the section whose
-    /// offset is closest, at the position less the offset; only on the section's first line does the
-    /// column count from its offset. It is the token of the section's own map, with its place there.
-    /// There is none where no section stands before the position, or the closest one has no map. So
-    /// it is where sections stand in order of their offsets, at every depth; of an index in no order
-    /// the answer is some token or none.
+    /// offset is closest, at the position less the offset; only on the section's first line does
+    /// the column count from its offset. It is the token of the section's own map, with its place
+    /// there. There is none where no section stands before the position, or the closest one has no
+    /// map. So it is where sections stand in order of their offsets, at every depth; of an index in
+    /// no order the answer is some token or none.
     pub fn lookup_token(&self, line: u32, col: u32) -> Option<Token<'_>>
         ensures value { IsInOrder (index_tree (index_value self.now))
             → option_map token_value result
@@ -106,9 +106,9 @@ impl DecodedMap {
     }
 
     /// The closest token to a line and a column of the generated text: of those at that place the
-    /// first, and if there are none, the last one that stands before it, on its line or on an earlier
-    /// one. On its own line a range token adds the columns between to its column in the source, which
-    /// stops at 4294967295. In an index it is the token of the closest section, as by
+    /// first, and if there are none, the last one that stands before it, on its line or on an
+    /// earlier one. On its own line a range token adds the columns between to its column in the
+    /// source, which stops at 4294967295. In an index it is the token of the closest section, as by
     /// `SourceMapIndex::lookup_token`.
     pub fn lookup_token(&self, line: u32, col: u32) -> Option<Token<'_>>
         ensures value { IsInOrder (map_tree self.now)

@@ -25,7 +25,8 @@ impl SourceMapIndex {
         view: &SourceView,
     ) -> Option<&str>
         ensures { IsInOrder (index_tree (index_value self.now)) → option_copied result
-            ≡ guessed_in (index_tree (index_value self.now)) view.now minified_name.now (line, col) }
+            ≡ guessed_in (index_tree (index_value self.now))
+            view.now minified_name.now (line, col) }
     {
         let closest = self.lookup_token(line, col)?;
         view.get_original_function_name(closest, minified_name)

@@ -31,8 +31,8 @@ fn move_down(sections: &mut [SourceMapSection], rows: u32)
 
 impl SourceMapIndex {
     /// Moves each section down by so many rows, and answers true; where a section would come to
-    /// stand on a row beyond 4294967295, answers false, and nothing is changed. Maps of sections and
-    /// the lists of a bundle stay as they are.
+    /// stand on a row beyond 4294967295, answers false, and nothing is changed. Maps of sections
+    /// and the lists of a bundle stay as they are.
     pub fn adjust_sections_offset_rows(&mut self, rows: u32) -> bool
         ensures possible { Decides result (HaveRowsLeft rows (index_value self.old).sections) }
         ensures value { MatchBool result (index_value self.new

@@ -30,8 +30,8 @@ impl SourceMap {
         Ok(())
     }
 
-    /// Sets the root that is put before the sources, with one slash between them. Sources that begin
-    /// with `/`, `http:` or `https:` are shown without it. Only want of memory refuses.
+    /// Sets the root that is put before the sources, with one slash between them. Sources that
+    /// begin with `/`, `http:` or `https:` are shown without it. Only want of memory refuses.
     pub fn set_source_root(&mut self, root: Option<&str>) -> Result<()>
         ensures { Changes result self.old self.new
             (record self.old { root = option_copied root.entry }) }

@@ -38,7 +38,8 @@ impl TokenIter<'_> {
     ghost use Rattle.sourcemap_regular.specs.Iterators.{Seeks};
 
     /// Goes on behind the closest token to a line and a column of the generated text, both from 0,
-    /// as a lookup finds it. Where there is none the answer is false, and the iterator stays as it was.
+    /// as a lookup finds it. Where there is none the answer is false, and the iterator stays as it
+    /// was.
     pub fn seek(&mut self, line: u32, col: u32) -> bool
         ensures { Seeks self.old (line, col) result self.new }
     {

@@ -159,9 +159,9 @@ impl SourceMap {
     }
 
     /// The token closest to a line and a column of the generated text, both from 0, the column in
-    /// UTF-16 units: of the tokens at that place the first, and if there are none, the last one that
-    /// stands before it, on its line or on an earlier one. On its own line a range token adds the
-    /// columns between to its column in the source, which stops at 4294967295.
+    /// UTF-16 units: of the tokens at that place the first, and if there are none, the last one
+    /// that stands before it, on its line or on an earlier one. On its own line a range token adds
+    /// the columns between to its column in the source, which stops at 4294967295.
     pub fn lookup_token(&self, line: u32, col: u32) -> Option<Token<'_>>
         ensures value { option_map token_value result ≡ lookup self.now (line, col) }
         ensures meaning { option_map answers result ≡ meaning self.now (line, col) }
@@ -169,9 +169,9 @@ impl SourceMap {
         self.lookup_token_steps(line, col).0
     }
 
-    /// The same token, and by how many comparisons of that line and that column with a number it was
-    /// found: with d binary digits in the count of tokens at most 2 (d + 1), however many are equal.
-    /// It takes no memory.
+    /// The same token, and by how many comparisons of that line and that column with a number it
+    /// was found: with d binary digits in the count of tokens at most 2 (d + 1), however many are
+    /// equal. It takes no memory.
     pub fn lookup_token_steps(&self, line: u32, col: u32) -> (Option<Token<'_>>, u32)
         ensures value { option_map token_value result.0 ≡ lookup self.now (line, col) }
         ensures meaning { option_map answers result.0 ≡ meaning self.now (line, col) }
@@ -210,7 +210,8 @@ impl SourceMap {
     }
 
     /// The same token as by `lookup_token`, found without the table of lines. It serves where many
-    /// maps are asked in turn, as the sections of an index are, and none is in the processor's cache.
+    /// maps are asked in turn, as the sections of an index are, and none is in the processor's
+    /// cache.
     pub fn lookup_token_among_many(&self, line: u32, col: u32) -> Option<Token<'_>>
         ensures value { option_map token_value result ≡ lookup self.now (line, col) }
         ensures meaning { option_map answers result ≡ meaning self.now (line, col) }

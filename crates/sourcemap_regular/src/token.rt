@@ -164,7 +164,8 @@ impl fmt::Display for Token<'_> {
     ghost output = { λ token. Known (token_text (answers token)) };
 
     /// `source:line:column`, with `<unknown>` for no source, and ` name=NAME` if there is a name.
-    /// The alternate form adds ` (line:column)` of the generated text, and ` (range)` for a range token.
+    /// The alternate form adds ` (line:column)` of the generated text, and ` (range)` for a range
+    /// token.
     fn fmt<W: fmt::Write>(&self, f: &mut fmt::Formatter<W>) -> fmt::Result {
         let source = self.get_source().unwrap_or("<unknown>");
         let line = self.get_src_line();

@@ -1,4 +1,5 @@
-//! Tokens of a map as a walk back along them needs them, and the names of functions that it guesses.
+//! Tokens of a map as a walk back along them needs them, and the names of functions that it
+//! guesses.
 ghost use Rattle.std.specs.Prelude.{◌≡◌};
 ghost use Rattle.std.specs.Option.{option_copied};
 
@@ -44,11 +45,11 @@ impl SourceMap {
     ghost use Rattle.sourcemap_regular.specs.Walk.{function_name};
 
     /// The original name of the function that stands at a line and a column of the generated text,
-    /// both from 0, the column in UTF-16 units: guessed by its minified name in a view of that text.
-    /// Of the token closest to the position and the ones before it, 128 in all, it is the name of
-    /// the first that has the minified name at its place where the one before it in the map has
-    /// `function`. None if no token does, if that one has no name, and for a minified name that is
-    /// no identifier. It takes no memory.
+    /// both from 0, the column in UTF-16 units: guessed by its minified name in a view of that
+    /// text. Of the token closest to the position and the ones before it, 128 in all, it is the
+    /// name of the first that has the minified name at its place where the one before it in the map
+    /// has `function`. None if no token does, if that one has no name, and for a minified name that
+    /// is no identifier. It takes no memory.
     pub fn get_original_function_name(
         &self,
         line: u32,

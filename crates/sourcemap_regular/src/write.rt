@@ -41,9 +41,10 @@ pub fn encode_to<M: Encodable, W: Write>(alloc: Global, map: &M, writer: &mut W)
 }
 
 /// Writes the compact JSON text of the record that the map is written as. The faults are those of
-/// making the record, want of memory, and `Io` for a write's, after which the writer may have got any
-/// part of the text. The clause says that such a text was made. That the writer, which is given away,
-/// gets all of it and nothing else is tested; [`encode_to`] promises it of a writer that is lent.
+/// making the record, want of memory, and `Io` for a write's, after which the writer may have got
+/// any part of the text. The clause says that such a text was made. That the writer, which is given
+/// away, gets all of it and nothing else is tested; [`encode_to`] promises it of a writer that is
+/// lent.
 pub fn encode<M: Encodable, W: Write + Drop>(alloc: Global, map: &M, mut writer: W) -> Result<()>
     ensures encoded { OnOk result ((text : List ℕ) × IsEncoded (M.encodes map.now) text) }
     ensures fault { IfErr result (λ e. UnlessMemory e (M.encodes map.now (Err e) ⊎ IsIo e)) }

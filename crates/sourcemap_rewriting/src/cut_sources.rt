@@ -29,7 +29,8 @@ fn common_of(alloc: Global, texts: &[String]) -> Result<Option<String>>
 // Whether it is asked for.
 fn asks_for_common(prefixes: &[&str]) -> bool
     ensures { result
-        ≡ list_any (λ prefix. bytes_eq prefix (codes "~")) (map (λ prefix. prefix.now) prefixes.now) }
+        ≡ list_any (λ prefix. bytes_eq prefix (codes "~"))
+        (map (λ prefix. prefix.now) prefixes.now) }
 {
     for prefix in prefixes {
         if *prefix == COMMON {

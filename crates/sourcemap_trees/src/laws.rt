@@ -53,7 +53,8 @@ pub fn flat_maps_answer_alike()
 
 /// A law: the flat map of a well-formed map is well-formed.
 pub fn flat_maps_are_well_formed()
-    ensures { (t : MapTree) (m : MapValue) → IsWellFormed t → flat t ≡ Ok m → IsWellFormedRegular m }
+    ensures { (t : MapTree) (m : MapValue) → IsWellFormed t → flat t ≡ Ok m
+        → IsWellFormedRegular m }
 {}
 
 /// A law: a map is written as one record.
@@ -61,9 +62,10 @@ pub fn maps_are_written_once()
     ensures { (t : MapTree) (a b : Tree) → IsRecordOf t a → IsRecordOf t b → a ≡ b }
 {}
 
-/// A law: where each regular map and each Hermes map in it is written as is due, the record of a map
-/// of any kind is as is due: a well-formed map is read back with its meaning and all its parts. Numbers of the record
-/// are below 2^32 and a debug id has 16 bytes, as in every record that there is.
+/// A law: where each regular map and each Hermes map in it is written as is due, the record of a
+/// map of any kind is as is due: a well-formed map is read back with its meaning and all its parts.
+/// Numbers of the record are below 2^32 and a debug id has 16 bytes, as in every record that there
+/// is.
 pub fn written_records_read_back()
     ensures { (t : MapTree) (r : Tree) → IsWrittenBy IsLeafAnswer t r
         → IsInRange r → RecordAnswer t (Ok r) }

@@ -14,7 +14,8 @@ pub fn inline_map(alloc: Global, reference: &str) -> Result<Option<DecodedMap>>
 {
     match decode_data_url(alloc, reference) {
         Ok(map) => Ok(Some(map)),
-        // in two steps for the prover: which errors are left is known of a match on the error itself
+        // in two steps for the prover: which errors are left is known of a match on the error
+        // itself
         Err(error) => match error {
             Error::InvalidDataUrl => Ok(None),
             error => Err(error),

@@ -50,8 +50,8 @@ fn says_as_much(before: Option<Token<'_>>, after: Option<Token<'_>>) -> bool
 
 /// Whether the map that an index is made flat to says of a position all that the index says of it:
 /// the source, the line and the column there, the name, and whether a range token says so. So it is
-/// where the index says nothing, and wherever no section of the index reaches into the next one. The
-/// clause asks for sections in order, as in each index that was read. Refused as by
+/// where the index says nothing, and wherever no section of the index reaches into the next one.
+/// The clause asks for sections in order, as in each index that was read. Refused as by
 /// `SourceMapIndex::flatten`.
 pub fn is_kept_flat(index: &SourceMapIndex, line: u32, col: u32) -> Result<bool>
     ensures tells { IfOk result (λ is_kept. IsInOrder (index_tree (index_value index.now))

@@ -5,8 +5,9 @@ ghost use Rattle.sourcemap_uses.specs.Functions.{IsNameAt};
 use sourcemap::{Result, SourceMapHermes};
 use std::alloc::Global;
 
-/// The name of the function that a place in the bytecode stands in, by the Hermes map in these bytes,
-/// where the functions of its source stand in order. Refused as by `SourceMapHermes::from_slice`.
+/// The name of the function that a place in the bytecode stands in, by the Hermes map in these
+/// bytes, where the functions of its source stand in order. Refused as by
+/// `SourceMapHermes::from_slice`.
 pub fn function_at(alloc: Global, bytes: &[u8], offset: u32) -> Result<Option<String>>
     ensures { IfOk result
         (λ name. IsNameAt bytes.now offset (option_map string_bytes name)) }

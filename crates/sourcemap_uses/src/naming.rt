@@ -7,9 +7,10 @@ ghost use Rattle.sourcemap_uses.specs.Naming.{IsNameOf, line_behind};
 use sourcemap::{Result, SourceMap, SourceView};
 use std::alloc::Global;
 
-/// What the function that is called `minified` in a bundle, whose code stands at a line and a column
-/// of its text, is called in its source: guessed by the bundle's map, which these bytes hold, and by
-/// the text. `None` if there is no guess. Lines and columns count from 0, columns in UTF-16 units.
+/// What the function that is called `minified` in a bundle, whose code stands at a line and a
+/// column of its text, is called in its source: guessed by the bundle's map, which these bytes
+/// hold, and by the text. `None` if there is no guess. Lines and columns count from 0, columns in
+/// UTF-16 units.
 pub fn original_name(
     alloc: Global,
     map: &[u8],
@@ -29,8 +30,8 @@ pub fn original_name(
     }
 }
 
-/// The line of the source that a place in the generated text comes from, if the map has the contents
-/// of that source. It takes no memory.
+/// The line of the source that a place in the generated text comes from, if the map has the
+/// contents of that source. It takes no memory.
 pub fn source_line(map: &SourceMap, line: u32, col: u32) -> Option<&str>
     ensures { option_copied result ≡ option_and_then line_behind (lookup map.now (line, col)) }
 {
