@@ -26,7 +26,7 @@ pub(crate) struct Move<'a> {
     pub(crate) names: &'a [u32],
 }
 
-// The new number of an old one, 4294967295 for one that names nothing.
+// The new number of an old one, `NO_ID` for one that names nothing.
 fn new_number(numbers: &[u32], id: u32) -> u32
     ensures { result ≡ new_number numbers.now id }
 {

@@ -89,7 +89,7 @@ impl SourceMapIndex {
         u32::try_from(self.sections.len()).unwrap_or(u32::MAX)
     }
 
-    /// The section with this number, from 0, in the order of the index.
+    /// The section with this id, from 0 on in the order of the index.
     pub fn get_section(&self, id: u32) -> Option<&SourceMapSection>
         ensures { option_map (λ s. section_value s.now) result
             ≡ slice_get (index_value self.now).sections id }
@@ -97,7 +97,7 @@ impl SourceMapIndex {
         self.sections.get(id as usize)
     }
 
-    /// The section with this number, to be changed in its place.
+    /// The section with this id, to be changed in its place.
     pub fn get_section_mut(&mut self, id: u32) -> Option<&mut SourceMapSection>
         ensures* writes_back { sem 𝓛 (LendsSection self.entry id result) }
         ensures value { option_map (λ s. section_value s.now) result

@@ -50,7 +50,7 @@ impl SourceMap {
         self.names.clear();
     }
 
-    /// Puts a number on the list of the sources that a debugger passes over; one that no source has
+    /// Puts an id on the list of the sources that a debugger passes over; one that no source has
     /// is taken as well. Only want of memory refuses.
     pub fn add_to_ignore_list(&mut self, id: u32) -> Result<()>
         ensures { Changes result self.old self.new
@@ -60,7 +60,7 @@ impl SourceMap {
         Ok(())
     }
 
-    /// Sets the contents of the source of this number, of which there must be one. The list of
+    /// Sets the contents of the source with this id, of which there must be one. The list of
     /// contents is then as long as that of the sources. Only want of memory refuses.
     pub fn set_source_contents(&mut self, id: u32, contents: Option<&str>) -> Result<()>
         requires { id < length self.old.sources }
@@ -74,7 +74,7 @@ impl SourceMap {
         Ok(())
     }
 
-    /// Sets the text of the source of this number, of which there must be one, as it stands without
+    /// Sets the text of the source with this id, of which there must be one, as it stands without
     /// the root. Only want of memory refuses.
     pub fn set_source(&mut self, id: u32, source: &str) -> Result<()>
         requires { id < length self.old.sources }

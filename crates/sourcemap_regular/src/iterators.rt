@@ -53,7 +53,7 @@ impl TokenIter<'_> {
     }
 }
 
-/// The names of a map, in order of their numbers.
+/// The names of a map, in order of their ids.
 #[derive(Drop)]
 pub struct NameIter<'a> {
     pub(crate) names: &'a [String],
@@ -76,7 +76,7 @@ impl<'a> Iterator for NameIter<'a> {
     }
 }
 
-/// The sources of a map, behind its root, in order of their numbers.
+/// The sources of a map, behind its root, in order of their ids.
 #[derive(Drop)]
 pub struct SourceIter<'a> {
     pub(crate) sources: &'a [String],
@@ -128,7 +128,7 @@ impl<'a> Iterator for SourceContentsIter<'a> {
     }
 }
 
-/// The numbers of the sources that a debugger passes over, rising, each once.
+/// The ids of the sources that a debugger passes over, rising, each once.
 #[derive(Drop)]
 pub struct IgnoreListIter<'a> {
     pub(crate) ids: btree_set::Iter<'a, u32>,
@@ -169,7 +169,7 @@ impl SourceMap {
         TokenIter { map: self, next: 0 }
     }
 
-    /// The names, in order of their numbers.
+    /// The names, in order of their ids.
     pub fn names(&self) -> NameIter<'_>
         ensures rest { names_left result ≡ self.now.names }
         ensures bound { length (names_left result) ≤ 4294967295 }
@@ -179,7 +179,7 @@ impl SourceMap {
         }
     }
 
-    /// The sources, behind the root if there is one that is not empty, in order of their numbers.
+    /// The sources, behind the root if there is one that is not empty, in order of their ids.
     pub fn sources(&self) -> SourceIter<'_>
         ensures rest { sources_left result ≡ shown_sources self.now }
         ensures bound { length (sources_left result) ≤ 4294967295 }
@@ -201,7 +201,7 @@ impl SourceMap {
         SourceContentsIter { map: self, next: 0 }
     }
 
-    /// The numbers of the sources that a debugger passes over, rising, each once.
+    /// The ids of the sources that a debugger passes over, rising, each once.
     pub fn ignore_list(&self) -> IgnoreListIter<'_>
         ensures rest { ids_left result ≡ self.now.ignored }
         ensures rising { IsStrictlySortedBy nat_cmp (ids_left result) }

@@ -62,7 +62,7 @@ impl SourceMap {
     /// A map of these parts, its tokens sorted stably by line and column of the generated text.
     /// It has no root, passes over no source and has no debug id. A missing list of contents is the
     /// same as an empty one. Names, sources and contents are to be at most 4294967295 each, so that
-    /// each has a number; a token may name a source or a name that is not there, and has none then.
+    /// each has an id; a token may name a source or a name that is not there, and has none then.
     /// Only want of memory refuses.
     pub fn new(
         alloc: Global,
@@ -227,14 +227,14 @@ impl SourceMap {
         self.sources.len()
     }
 
-    /// The source of this number, behind the root if there is one that is not empty.
+    /// The source with this id, behind the root if there is one that is not empty.
     pub fn get_source(&self, id: u32) -> Option<&str>
         ensures { option_copied result ≡ source_of self.now id }
     {
         self.sources.get(id)
     }
 
-    /// The contents of the source of this number, if the map has them.
+    /// The contents of the source with this id, if the map has them.
     pub fn get_source_contents(&self, id: u32) -> Option<&str>
         ensures { option_copied result ≡ contents_of self.now id }
     {
@@ -244,7 +244,7 @@ impl SourceMap {
         }
     }
 
-    /// A view of the contents of the source of this number, if the map has them. It was made with
+    /// A view of the contents of the source with this id, if the map has them. It was made with
     /// the map, or when the contents were set, so this takes no memory.
     pub fn get_source_view(&self, id: u32) -> Option<&SourceView>
         ensures { option_copied result ≡ contents_of self.now id }
@@ -266,7 +266,7 @@ impl SourceMap {
         !self.names.is_empty()
     }
 
-    /// The name of this number.
+    /// The name with this id.
     pub fn get_name(&self, id: u32) -> Option<&str>
         ensures { option_copied result ≡ name_of self.now id }
     {

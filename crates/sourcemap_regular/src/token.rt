@@ -6,7 +6,7 @@ use sourcemap_lists::tokens::{NO_ID, RawToken};
 use sourcemap_views::sourceview::SourceView;
 use std::fmt;
 
-/// A token of a map, with the map: it answers by texts what the raw token says by numbers.
+/// A token of a map, with the map: it answers by texts what the raw token says by ids.
 /// A token that a lookup found also knows how far behind it the position stands that was asked for.
 #[derive(Clone, Copy)]
 pub struct Token<'a> {
@@ -53,14 +53,14 @@ impl<'a> Token<'a> {
         (self.raw.dst_line, self.raw.dst_col)
     }
 
-    /// The line in the source. A token of a well-formed map has 4294967295 if it has no source.
+    /// The line in the source. A token of a well-formed map has [`NO_ID`] if it has no source.
     pub fn get_src_line(&self) -> u32
         ensures { result ≡ (answers self.now).line }
     {
         self.raw.src_line
     }
 
-    /// The column in the source, in UTF-16 units. A token of a well-formed map has 4294967295 if it
+    /// The column in the source, in UTF-16 units. A token of a well-formed map has [`NO_ID`] if it
     /// has no source. A range token that was looked up on its own line adds the columns between,
     /// up to 4294967295.
     pub fn get_src_col(&self) -> u32
@@ -76,22 +76,22 @@ impl<'a> Token<'a> {
         (self.get_src_line(), self.get_src_col())
     }
 
-    /// The number of the source, 4294967295 for none.
+    /// The id of the source, [`NO_ID`] for none.
     pub fn get_src_id(&self) -> u32
         ensures { result ≡ (token_value self.now).raw.src_id }
     {
         self.raw.src_id
     }
 
-    /// The source, behind the root, if there is one of that number.
+    /// The source with the token's source id, behind the root, if the map has one.
     pub fn get_source(&self) -> Option<&'a str>
         ensures { option_copied result ≡ (answers self.now).source }
     {
         self.map.get_source(self.raw.src_id)
     }
 
-    /// A view of the contents of the source, if there is one of that number and the map has them.
-    /// It takes no memory.
+    /// A view of the contents of the source with the token's source id, if the map has them. It
+    /// takes no memory.
     pub fn get_source_view(&self) -> Option<&'a SourceView>
         ensures { option_copied result
             ≡ contents_of (token_value self.now).map_of (token_value self.now).raw.src_id }
@@ -99,14 +99,14 @@ impl<'a> Token<'a> {
         self.map.get_source_view(self.raw.src_id)
     }
 
-    /// Whether the token names a source by a number other than 4294967295.
+    /// Whether the token names a source, by an id other than [`NO_ID`].
     pub fn has_source(&self) -> bool
         ensures { result ≡ not ((token_value self.now).raw.src_id == 4294967295) }
     {
         self.raw.src_id != NO_ID
     }
 
-    /// The name, if there is one of that number.
+    /// The name with the token's name id, if the map has one.
     pub fn get_name(&self) -> Option<&'a str>
         ensures { option_copied result ≡ (answers self.now).name }
     {
@@ -120,7 +120,7 @@ impl<'a> Token<'a> {
         self.get_name().is_some()
     }
 
-    /// The number of the name, 4294967295 for none.
+    /// The id of the name, [`NO_ID`] for none.
     pub fn get_name_id(&self) -> u32
         ensures { result ≡ (token_value self.now).raw.name_id }
     {
@@ -142,7 +142,7 @@ impl<'a> Token<'a> {
         )
     }
 
-    /// The token by numbers, without the columns that a lookup adds.
+    /// The token with the ids of its source and its name, without the columns that a lookup adds.
     pub fn get_raw_token(&self) -> RawToken
         ensures { result ≡ (token_value self.now).raw }
     {

@@ -41,7 +41,7 @@ fn compare(a: &Token<'_>, b: &Token<'_>) -> Ordering
         .then(a.is_range().cmp(&b.is_range()))
 }
 
-/// Tokens are equal if the order does not tell them apart: not by their numbers.
+/// Tokens are equal if the order does not tell them apart: not by their ids.
 impl PartialEq for Token<'_> {
     ghost eq = { same_token };
 

@@ -46,7 +46,7 @@ impl<'a> Numbering<'a> {
         })
     }
 
-    // The new number of an old one, 4294967295 where that names no text.
+    // The new number of an old one, `NO_ID` where that names no text.
     pub(crate) fn number(&mut self, texts: &'a [String], id: u32) -> Result<u32>
         requires few { length texts.now ≤ 4294967295 }
         requires numbering { IsNumbering (map string_bytes texts.now) self.old }

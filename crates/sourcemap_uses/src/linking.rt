@@ -4,8 +4,7 @@ ghost use Rattle.sourcemap.specs.Decoded.{index_value};
 
 use sourcemap::{Result, SourceMapIndex};
 
-/// Sets the URL of one section, if there is one with this number. Each other section stays as it
-/// is.
+/// Sets the URL of the section with this id, if there is one. Each other section stays as it is.
 pub fn link(index: &mut SourceMapIndex, id: u32, url: &str) -> Result<()>
     ensures { (other : ℕ) → other ≢ id → slice_get (index_value index.new).sections other
         ≡ slice_get (index_value index.old).sections other }
