@@ -1,14 +1,14 @@
 -- Tokens where they stand among those of other maps.
 use Rattle.std.specs.Prelude.{◌≡◌, ℕ, Bool, false, nat_eq, List, ◌++◌, map, filter, slice_get, unwrap_or}
 use Rattle.std.specs.List.{list_any}
-use Rattle.sourcemap_lists.specs.Tokens.{destination}
+use Rattle.sourcemap_lists.specs.Tokens.{destination, no_id}
 use Rattle.sourcemap_lists.specs.declared.tokens.RawToken.{RawToken}
 use Rattle.sourcemap_trees.specs.Flat.{passes_the_end}
 use Rattle.sourcemap_trees.specs.FlatList.{raised}
 use Rattle.sourcemap_flattening.specs.declared.moving.Move.{Move}
 
 abbrev pub new_number : List ℕ → ℕ → ℕ
-new_number numbers id = unwrap_or (slice_get numbers id) 4294967295
+new_number numbers id = unwrap_or (slice_get numbers id) no_id
 
 abbrev pub place_by : Move → RawToken → ℕ × ℕ
 place_by to t = raised (to.line, to.col) (destination t)

@@ -37,6 +37,6 @@ parts_in m = record {
 abbrev pub value_of : Inside → MapValue
 value_of a = map_over a.heading a.tokens (texts_of a.names) a.sources a.contents
 
--- the id 4294967295 names nothing
+-- `no_id` names nothing, so there are no more names than ids below it
 abbrev pub HasFewNames : Inside → Type 0
 HasFewNames a = length (texts_of a.names) ≤ 4294967295

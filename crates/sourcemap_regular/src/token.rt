@@ -21,6 +21,7 @@ pub struct Token<'a> {
 impl<'a> Token<'a> {
     ghost use Rattle.std.specs.Prelude.{◌≢◌, ◌==◌, not, [], IsTrue, IsSome, ◌↔◌, option_map, is_some, unwrap_or};
     ghost use Rattle.std.specs.Option.{option_copied};
+    ghost use Rattle.sourcemap_lists.specs.Tokens.{no_id};
     ghost use Rattle.sourcemap_regular.specs.Map.{contents_of};
     ghost use Rattle.sourcemap_regular.specs.Token.{answers, token_value};
 
@@ -101,7 +102,7 @@ impl<'a> Token<'a> {
 
     /// Whether the token names a source, by an id other than [`NO_ID`].
     pub fn has_source(&self) -> bool
-        ensures { result ≡ not ((token_value self.now).raw.src_id == 4294967295) }
+        ensures { result ≡ not ((token_value self.now).raw.src_id == no_id) }
     {
         self.raw.src_id != NO_ID
     }

@@ -1,6 +1,7 @@
 -- Texts that are kept once each, and their numbers.
 use Rattle.std.specs.Prelude.{ℕ, List, [], ◌∷◌, fold, Option, Some, None, option_and_then, unwrap_or}
 use Rattle.sourcemap_lists.specs.Interner.{place_of, with_text}
+use Rattle.sourcemap_lists.specs.Tokens.{no_id}
 
 -- those that are there
 abbrev pub present : List (Option (List ℕ)) → List (List ℕ)
@@ -12,6 +13,6 @@ present (Some text ∷ texts) = text ∷ present texts
 abbrev pub kept_once : List (List ℕ) → List (List ℕ)
 kept_once texts = fold with_text [] texts
 
--- the number of a text among these, 4294967295 for no text and for one that is not among them
+-- the number of a text among these, `no_id` for no text and for one that is not among them
 abbrev pub number_in : List (List ℕ) → Option (List ℕ) → ℕ
-number_in texts text = unwrap_or (option_and_then (λ text. place_of text texts) text) 4294967295
+number_in texts text = unwrap_or (option_and_then (λ text. place_of text texts) text) no_id
