@@ -159,8 +159,7 @@ impl SourceMapBuilder {
 
     /// Cuts from the text that is shown of each source the first of these prefixes that it starts
     /// with. A prefix that does not end with a slash takes one along, and `~` is one like any
-    /// other.
-    /// The text that was first given for a source still finds its id. Only want of memory
+    /// other. The text that was first given for a source still finds its id. Only want of memory
     /// refuses.
     pub fn strip_prefixes<S: AsStr>(&mut self, prefixes: &[S]) -> Result<()>
         ensures { Changes result self.old self.new (record self.old {
@@ -173,7 +172,7 @@ impl SourceMapBuilder {
         Ok(())
     }
 
-    /// The text that is shown of the source with this id.
+    /// The text that is shown of the source with this id; `None` if no source has it.
     pub fn get_source(&self, id: u32) -> Option<&str>
         ensures { option_copied result ≡ slice_get self.now.sources id }
     {

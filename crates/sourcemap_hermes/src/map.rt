@@ -32,8 +32,9 @@ impl SourceMapHermes {
         self.scopes.scope(token.get_src_id(), line, col)
     }
 
-    /// The name of the function that a place in the bytecode stands in: the scope of the closest
-    /// token to this column, from 0, of line 0 of the generated text.
+    /// The name of the function that a place in the bytecode stands in: what `get_scope_for_token`
+    /// answers for the closest token to this column, from 0, of line 0 of the generated text.
+    /// `None` where that has none, and where there is no such token.
     pub fn get_original_function_name(&self, bytecode_offset: u32) -> Option<&str>
         ensures { IfSome (lookup (hermes_value self.now).map (0, bytecode_offset))
             (λ t. IsInOrderAt (hermes_value self.now).scopes t.raw.src_id)

@@ -89,7 +89,7 @@ impl SourceMapIndex {
         u32::try_from(self.sections.len()).unwrap_or(u32::MAX)
     }
 
-    /// The section with this id, from 0 on in the order of the index.
+    /// The section with this id, from 0 on in the order of the index; `None` if there is none.
     pub fn get_section(&self, id: u32) -> Option<&SourceMapSection>
         ensures { option_map (λ s. section_value s.now) result
             ≡ slice_get (index_value self.now).sections id }
@@ -97,7 +97,7 @@ impl SourceMapIndex {
         self.sections.get(id as usize)
     }
 
-    /// The section with this id, to be changed in its place.
+    /// The section with this id, if there is one, to be changed in its place.
     pub fn get_section_mut(&mut self, id: u32) -> Option<&mut SourceMapSection>
         ensures* writes_back { sem 𝓛 (LendsSection self.entry id result) }
         ensures value { option_map (λ s. section_value s.now) result
@@ -123,8 +123,8 @@ impl SourceMapIndex {
         self.x_facebook_offsets.is_some() & self.x_metro_module_paths.is_some()
     }
 
-    /// The line, from 0, at which each module of a bundle starts; `None` for a number without a
-    /// module.
+    /// The line, from 0, at which each module of a bundle starts, if the index has that list; in it
+    /// `None` stands for a number without a module.
     pub fn x_facebook_offsets(&self) -> Option<&[Option<u32>]>
         ensures { option_map (λ xs. xs.now) result
             ≡ (index_value self.now).parts.x_facebook_offsets }
@@ -132,7 +132,7 @@ impl SourceMapIndex {
         self.x_facebook_offsets.as_deref()
     }
 
-    /// The path of each module of a bundle.
+    /// The path of each module of a bundle, if the index has that list.
     pub fn x_metro_module_paths(&self) -> Option<&[String]>
         ensures { option_map (λ xs. map string_bytes xs.now) result
             ≡ (index_value self.now).parts.x_metro_module_paths }

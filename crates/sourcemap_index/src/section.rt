@@ -59,14 +59,15 @@ impl SourceMapSection {
         self.offset.1
     }
 
-    /// The line and the column at which the section starts.
+    /// The line and the column at which the section starts, both from 0, the column in UTF-16
+    /// units.
     pub fn get_offset(&self) -> (u32, u32)
         ensures { result ≡ section_offset (section_value self.now) }
     {
         self.offset
     }
 
-    /// The URL of the section's map.
+    /// The URL of the section's map, if the section has one.
     pub fn get_url(&self) -> Option<&str>
         ensures { option_copied result ≡ (section_value self.now).place.url }
     {
@@ -82,14 +83,14 @@ impl SourceMapSection {
         Ok(())
     }
 
-    /// The map of the section.
+    /// The map of the section, if it has one.
     pub fn get_sourcemap(&self) -> Option<&DecodedMap>
         ensures { option_map (λ m. map_tree m.now) result ≡ (section_value self.now).map }
     {
         self.map.as_deref()
     }
 
-    /// The map of the section, to be changed in its place.
+    /// The map of the section, if it has one, to be changed in its place.
     pub fn get_sourcemap_mut(&mut self) -> Option<&mut DecodedMap>
         ensures* writes_back { sem 𝓛 (LendsMap self.entry result) }
         ensures value { option_map (λ m. map_tree m.now) result ≡ (section_value self.old).map }

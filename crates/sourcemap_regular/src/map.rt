@@ -136,7 +136,8 @@ impl SourceMap {
         *self.names.allocator()
     }
 
-    /// The token with this index, in order of line and column of the generated text.
+    /// The token with this index, from 0 on in order of line and column of the generated text;
+    /// `None` behind the last one.
     pub fn get_token(&self, index: usize) -> Option<Token<'_>>
         ensures { option_map token_value result ≡ token_at self.now index }
     {
@@ -227,7 +228,8 @@ impl SourceMap {
         self.sources.len()
     }
 
-    /// The source with this id, behind the root if there is one that is not empty.
+    /// The source with this id, from 0 on, behind the root if there is one that is not empty;
+    /// `None` if no source has this id.
     pub fn get_source(&self, id: u32) -> Option<&str>
         ensures { option_copied result ≡ source_of self.now id }
     {
@@ -266,7 +268,7 @@ impl SourceMap {
         !self.names.is_empty()
     }
 
-    /// The name with this id.
+    /// The name with this id, from 0 on; `None` if no name has it.
     pub fn get_name(&self, id: u32) -> Option<&str>
         ensures { option_copied result ≡ name_of self.now id }
     {

@@ -70,7 +70,7 @@ impl<'a> Token<'a> {
         self.raw.src_col.saturating_add(self.behind)
     }
 
-    /// Line and column in the source.
+    /// Line and column in the source, as by `get_src_line` and `get_src_col`.
     pub fn get_src(&self) -> (u32, u32)
         ensures { result ≡ ((answers self.now).line, (answers self.now).column) }
     {
