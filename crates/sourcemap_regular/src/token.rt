@@ -54,14 +54,14 @@ impl<'a> Token<'a> {
         (self.raw.dst_line, self.raw.dst_col)
     }
 
-    /// The line in the source. A token of a well-formed map has [`NO_ID`] if it has no source.
+    /// The line in the source. A token of a well-formed map has 4294967295 if it has no source.
     pub fn get_src_line(&self) -> u32
         ensures { result ≡ (answers self.now).line }
     {
         self.raw.src_line
     }
 
-    /// The column in the source, in UTF-16 units. A token of a well-formed map has [`NO_ID`] if it
+    /// The column in the source, in UTF-16 units. A token of a well-formed map has 4294967295 if it
     /// has no source. A range token that was looked up on its own line adds the columns between,
     /// up to 4294967295.
     pub fn get_src_col(&self) -> u32
@@ -77,7 +77,7 @@ impl<'a> Token<'a> {
         (self.get_src_line(), self.get_src_col())
     }
 
-    /// The id of the source, [`NO_ID`] for none.
+    /// The id of the source, 4294967295 (`NO_ID`) for none.
     pub fn get_src_id(&self) -> u32
         ensures { result ≡ (token_value self.now).raw.src_id }
     {
@@ -100,7 +100,7 @@ impl<'a> Token<'a> {
         self.map.get_source_view(self.raw.src_id)
     }
 
-    /// Whether the token names a source, by an id other than [`NO_ID`].
+    /// Whether the token names a source, by an id other than 4294967295 (`NO_ID`).
     pub fn has_source(&self) -> bool
         ensures { result ≡ not ((token_value self.now).raw.src_id == no_id) }
     {
@@ -121,7 +121,7 @@ impl<'a> Token<'a> {
         self.get_name().is_some()
     }
 
-    /// The id of the name, [`NO_ID`] for none.
+    /// The id of the name, 4294967295 (`NO_ID`) for none.
     pub fn get_name_id(&self) -> u32
         ensures { result ≡ (token_value self.now).raw.name_id }
     {
