@@ -81,6 +81,7 @@ impl DecodedMap {
     ghost use Rattle.sourcemap_index.specs.Family.{map_tree};
 
     // The closest token. A map alone goes by the table of its lines.
+    #[inline(always)]
     fn closest_token(&self, line: u32, col: u32) -> Option<Token<'_>>
         ensures { IsInOrder (map_tree self.now)
             → option_map token_value result ≡ lookup (map_tree self.now) (line, col) }

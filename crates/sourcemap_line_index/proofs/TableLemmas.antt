@@ -335,3 +335,34 @@ module _ (tokens : List RawToken) (table : LineTable) (made : IsMadeFrom tokens 
             let down = lines_rise tokens made.0 place (high - 1) d (omega arith) (omega arith) in
             omega arith;
       }
+
+-- all tokens stand on one line
+module _ (tokens : List RawToken) (table : LineTable) (made : IsMadeFrom tokens table) (one : length table.lines ≡ 1) (p : ℕ) where
+  paired : length table.firsts ≡ 1
+  paired = made.1.paired ∙ one
+
+  some : 0 < length table.lines
+  some = omega (arith, one)
+
+  one_same : p ≡ slice_index table.lines 0 → IsSpan tokens p 0 (length tokens)
+  one_same here =
+      span_of_row tokens table made 0 0 (length tokens) p (λ l. sym made.1.front) (λ l. absurd (omega (arith, paired))) (λ l. refl) some here (λ l. absurd (omega arith))
+
+  one_before : p < slice_index table.lines 0 → IsSpan tokens p 0 0
+  one_before l =
+      span_of_none tokens table made 0 0 p (λ m. sym made.1.front) (λ m. absurd (omega (arith, paired))) (omega arith) (λ m. absurd (omega arith)) (λ m. l)
+
+  one_behind : slice_index table.lines 0 < p → IsSpan tokens p (length tokens) (length tokens)
+  one_behind l =
+      span_of_none tokens table made 1 (length tokens) p (λ m. absurd (omega (arith, paired))) (λ m. refl) (omega (arith, one)) (λ m. l) (λ m. absurd (omega (arith, one)))
+
+  pub span_in_one : (span : ℕ × ℕ) → (p ≡ slice_index table.lines 0 → span ≡ (0, length tokens)) → (p < slice_index table.lines 0 → span ≡ (0, 0))
+      → (slice_index table.lines 0 < p → span ≡ (length tokens, length tokens)) → IsSpan tokens p span.0 span.1
+  span_in_one span same before behind =
+      elim (cases_lt p (slice_index table.lines 0)) [
+        | inl less ↦ subst (λ s. IsSpan tokens p s.0 s.1) (sym (before less)) (one_before less)
+        | inr least ↦ elim (cases_eq p (slice_index table.lines 0)) [
+          | inl here ↦ subst (λ s. IsSpan tokens p s.0 s.1) (sym (same here)) (one_same here)
+          | inr other ↦ let more : slice_index table.lines 0 < p = omega arith in subst (λ s. IsSpan tokens p s.0 s.1) (sym (behind more)) (one_behind more)
+        ]
+      ]

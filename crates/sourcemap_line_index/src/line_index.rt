@@ -12,6 +12,7 @@ use crate::samples::first_by_samples;
 use sourcemap_errors::errors::Result;
 use sourcemap_lists::tokens::RawToken;
 use std::alloc::Global;
+use std::cmp::Ordering;
 use std::marker::Model;
 
 /// The lines that hold tokens, and where the tokens of each begin in the list.
@@ -104,6 +105,7 @@ impl LineIndex {
     }
 
     // The same, by columns of every eighth token if there are any.
+    #[inline(always)]
     pub(crate) fn closest_by_samples<P: Probe>(
         &self,
         tokens: &[RawToken],
@@ -134,6 +136,7 @@ impl LineIndex {
 
     // Where the tokens of the probe's line stand: from the first up to, not including, the second.
     // Both are behind the tokens of earlier lines if it holds none.
+    #[inline(always)]
     fn span_of<P: Probe>(&self, tokens: &[RawToken], probe: &mut P) -> (usize, usize)
         requires { IsMadeFrom tokens.now self.now }
         ensures span { IsSpan tokens.now (P.position probe.old).0 result.0 result.1 }
@@ -144,6 +147,9 @@ impl LineIndex {
             → min (P.comparisons probe.old + 1) 4294967295 ≤ P.comparisons probe.new }
     {
         let lines = self.lines.as_slice();
+        if lines.len() == 1 {
+            return span_of_one(lines[0], tokens.len(), probe);
+        }
         let row = first_at_line(lines, probe);
         let first = self.first_of(row, tokens.len());
         if row < lines.len() && probe.line(lines[row]).is_eq() {
@@ -160,6 +166,7 @@ impl LineIndex {
     }
 
     // The place of the first token of the line in this row, `end` behind the last row.
+    #[inline(always)]
     fn first_of(&self, row: usize, end: usize) -> usize
         ensures within { row < length self.now.firsts → result ≡ slice_index self.now.firsts row }
         ensures past { length self.now.firsts ≤ row → result ≡ end }
@@ -169,6 +176,23 @@ impl LineIndex {
         } else {
             end
         }
+    }
+}
+
+// Where the tokens of the probe's line stand among so many that are all on this line, as most of
+// minified code are. No place is read, so the search among them need not wait for one.
+#[inline(always)]
+fn span_of_one<P: Probe>(line: u32, count: usize, probe: &mut P) -> (usize, usize)
+    ensures same { (P.position probe.old).0 ≡ line → result ≡ (0, count) }
+    ensures before { (P.position probe.old).0 < line → result ≡ (0, 0) }
+    ensures behind { line < (P.position probe.old).0 → result ≡ (count, count) }
+    ensures kept { P.position probe.new ≡ P.position probe.old }
+    ensures counted { P.comparisons probe.new ≡ min (P.comparisons probe.old + 1) 4294967295 }
+{
+    match probe.line(line) {
+        Ordering::Less => (0, 0),
+        Ordering::Equal => (0, count),
+        Ordering::Greater => (count, count),
     }
 }
 
@@ -192,6 +216,7 @@ fn begins_line(tokens: &[RawToken], place: usize) -> bool
 }
 
 // The row of the first line that is not before the probe's, behind all rows if there is none.
+#[inline(always)]
 fn first_at_line<P: Probe>(lines: &[u32], probe: &mut P) -> usize
     requires { Rises (slice_index lines.now) 0 (length lines.now) }
     ensures within { result ≤ length lines.now }

@@ -80,6 +80,7 @@ fn columns_of(alloc: Global, tokens: &[RawToken]) -> Result<Vec<u32>, AllocError
 
 // The place of the first of the tokens from `first` up to `end` that is not left of the probe's
 // column, `end` if there is none: first among the samples between them, if there are any.
+#[inline(always)]
 pub(crate) fn first_by_samples<P: Probe>(
     tokens: &[RawToken],
     samples: &[u32],
@@ -144,6 +145,7 @@ fn first_sample<P: Probe>(samples: &[u32], first: usize, end: usize, probe: &mut
 
 // The same without samples: token by token if there are few of them on the line and many in the
 // list, which are not in the processor's cache then.
+#[inline(always)]
 fn first_without_samples<P: Probe>(
     tokens: &[RawToken],
     first: usize,
@@ -172,6 +174,7 @@ fn first_without_samples<P: Probe>(
 
 // The place of the first of the tokens from `first` up to `end` that is not left of the probe's
 // column, `end` if there is none.
+#[inline(always)]
 fn first_at_column<P: Probe>(tokens: &[RawToken], first: usize, end: usize, probe: &mut P) -> usize
     requires ordered { first ≤ end }
     requires within { end ≤ length tokens.now }

@@ -98,6 +98,7 @@ impl TokenList {
     /// The token closest to a line and a column of the generated text, both from 0, with its place
     /// in the list: of the tokens at that place the first, and if there are none, the last one that
     /// stands before it.
+    #[inline(always)]
     pub fn closest(&self, line: u32, col: u32) -> Option<(usize, RawToken)>
         ensures answer { result ≡ closest_token self.now (line, col) }
         // the place is the token's own
@@ -110,6 +111,7 @@ impl TokenList {
     /// The same token, and by how many comparisons of that line and that column with a number it was
     /// found: with d binary digits in the count of tokens at most 2 (d + 1), however many are equal.
     /// It takes no memory.
+    #[inline(always)]
     pub fn closest_steps(&self, line: u32, col: u32) -> (Option<(usize, RawToken)>, u32)
         ensures answer { result.0 ≡ closest_token self.now (line, col) }
         // the place is the token's own
@@ -163,6 +165,7 @@ impl TokenList {
 }
 
 // A place of a list, if there is one, with the token that stands there.
+#[inline(always)]
 fn with_token(tokens: &[RawToken], place: Option<usize>) -> Option<(usize, RawToken)>
     requires { IfSome place (λ at. at < length tokens.now) }
     ensures kept { option_map (λ found. found.0) result ≡ place }

@@ -163,6 +163,7 @@ impl SourceMap {
     /// UTF-16 units: of the tokens at that place the first, and if there are none, the last one
     /// that stands before it, on its line or on an earlier one. On its own line a range token adds
     /// the columns between to its column in the source, which stops at 4294967295.
+    #[inline(always)]
     pub fn lookup_token(&self, line: u32, col: u32) -> Option<Token<'_>>
         ensures value { option_map token_value result ≡ lookup self.now (line, col) }
         ensures meaning { option_map answers result ≡ meaning self.now (line, col) }
@@ -173,6 +174,7 @@ impl SourceMap {
     /// The same token, and by how many comparisons of that line and that column with a number it
     /// was found: with d binary digits in the count of tokens at most 2 (d + 1), however many are
     /// equal. It takes no memory.
+    #[inline(always)]
     pub fn lookup_token_steps(&self, line: u32, col: u32) -> (Option<Token<'_>>, u32)
         ensures value { option_map token_value result.0 ≡ lookup self.now (line, col) }
         ensures meaning { option_map answers result.0 ≡ meaning self.now (line, col) }
@@ -184,6 +186,7 @@ impl SourceMap {
     }
 
     // The closest token to a line and a column, which was found with its place in the list.
+    #[inline(always)]
     fn found_token(
         &self,
         found: Option<(usize, RawToken)>,

@@ -1,9 +1,19 @@
 use Rattle.std.proofs.Common.{◌≡◌, sym, ap, subst, ◌∙◌, ◌<◌, ◌≤◌, ◌-◌, arith, length, slice_index}
 use Rattle.std.specs.Ordering.{is_eq, nat_cmp}
 use Rattle.sourcemap_line_index.proofs.LineIndexLemmas.{eq_from_is_eq, lt_from_not_eq}
-use Rattle.sourcemap_line_index.proofs.TableLemmas.{span_of_none, span_of_row}
+use Rattle.sourcemap_line_index.proofs.TableLemmas.{span_in_one, span_of_none, span_of_row}
 use Rattle.sourcemap_line_index.proofs.line_index.LineIndex.span_of.Goals as goal
 use Rattle.sourcemap_line_index.proofs.line_index.LineIndex.span_of.Goals.{else-row-lines-via-then-row-lines+else-is_eq, else-row-lines-via-else-row-lines}
+
+pub returns-then-lines-eq1-clause-span : goal.returns-then-lines-eq1-clause-span
+returns-then-lines-eq1-clause-span g c =
+    let same : c.as_slice-lines.result.now ≡ c.args.self.now.lines = c.as_slice-lines.ensures.value ∙ ap (λ t. t.lines) c.self.view_is in
+    let n = length c.args.tokens.now in
+    let p = (g.P.Probe.position c.args.probe.now).0 in
+    span_in_one c.args.tokens.now c.args.self.now c.requires (subst (λ xs. length xs ≡ 1) same c.if-lines-eq1.true) p c.span_of_one.result
+    (subst (λ xs. p ≡ slice_index xs 0 → c.span_of_one.result ≡ (0, n)) same c.span_of_one.ensures.same)
+    (subst (λ xs. p < slice_index xs 0 → c.span_of_one.result ≡ (0, 0)) same c.span_of_one.ensures.before)
+    (subst (λ xs. slice_index xs 0 < p → c.span_of_one.result ≡ (n, n)) same c.span_of_one.ensures.behind)
 
 pub returns-then-is_eq-clause-span : goal.returns-then-is_eq-clause-span
 returns-then-is_eq-clause-span g c =
