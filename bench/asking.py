@@ -9,6 +9,10 @@ run of it. The reference program has words for the same:
     regular  why a map is refused where a regular one is wanted, or `none`
     url      why the map in a data URL is refused, or `none`
     equal    whether the first two tokens of a map are equal
+    sections why a map is refused where an index is wanted, or `none`
+    refused  why a writer that takes nothing does not get the text of a map
+    contents why a map is not rewritten where contents are to be read from files, or `none`
+    built    the columns, and those in the source, of the tokens of a map that is built of such pairs
 """
 import collections, json, pathlib, shutil, subprocess, sys, tempfile
 from comparing import CRATES, answer
@@ -17,9 +21,12 @@ PROGRAM = '''//! Answers questions about texts and maps, each in a line.
 #![tactic(auto)]
 
 use serde_json::Value;
-use sourcemap::{DecodedMap, Result, SourceMap, SourceView, decode_data_url, decode_slice};
+use sourcemap::{
+    DecodedMap, Result, RewriteOptions, SourceMap, SourceMapBuilder, SourceMapIndex, SourceView, decode_data_url, decode_slice,
+};
 use std::alloc::Global;
-use std::io::{self, Read};
+use std::io::{self, ErrorKind, Read, Write};
+use std::rt::Files;
 
 fn number(question: &Value, at: usize) -> u32 {
     match question.get(at).and_then(Value::as_u64) {
@@ -85,6 +92,39 @@ fn tell_equal<W: io::Write>(map: &SourceMap, output: &mut W) -> Result<()> {
     Ok(())
 }
 
+#[derive(Drop)]
+struct Refusing;
+
+impl Write for Refusing {
+    fn write(&mut self, _bytes: &[u8]) -> io::Result<usize> {
+        Err(io::Error::from(ErrorKind::BrokenPipe))
+    }
+
+    fn flush(&mut self) -> io::Result<()> {
+        Ok(())
+    }
+}
+
+fn tell_contents<F: Files, W: io::Write>(rt: &F, map: SourceMap, output: &mut W) -> Result<()> {
+    let mut options = RewriteOptions::default();
+    options.load_local_source_contents = true;
+    tell_fault(map.rewrite(rt, &options), output)
+}
+
+fn tell_built<W: io::Write>(alloc: Global, case: &Value, output: &mut W) -> Result<()> {
+    let mut builder = SourceMapBuilder::new(alloc, None)?;
+    if let Some(pairs) = case.get("questions").and_then(Value::as_array) {
+        for pair in pairs.as_slice() {
+            builder.add(0, number(pair, 0), 0, number(pair, 1), Some("a.js"), None, false)?;
+        }
+    }
+    let map = builder.into_sourcemap()?;
+    for token in map.tokens() {
+        write!(output, "{}:{} ", token.get_dst_col(), token.get_src_col())?;
+    }
+    Ok(output.write_all("\\n".as_bytes())?)
+}
+
 fn part<'a>(case: &'a Value, key: &str) -> Option<&'a str> {
     case.get(key).and_then(Value::as_str)
 }
@@ -107,13 +147,17 @@ fn tell_answers<W: io::Write>(alloc: Global, case: &Value, map: Option<&str>, te
     }
 }
 
-fn tell<W: io::Write>(alloc: Global, case: &Value, output: &mut W) -> Result<()> {
+fn tell<F: Files, W: io::Write>(rt: &F, alloc: Global, case: &Value, output: &mut W) -> Result<()> {
     let (map, text) = (part(case, "map"), part(case, "text"));
     let bytes = map.unwrap_or("").as_bytes();
     match part(case, "word").unwrap_or("") {
         "regular" => tell_fault(SourceMap::from_slice(alloc, bytes), output),
         "url" => tell_fault(decode_data_url(alloc, text.unwrap_or("")), output),
         "equal" => tell_equal(&SourceMap::from_slice(alloc, bytes)?, output),
+        "sections" => tell_fault(SourceMapIndex::from_slice(alloc, bytes), output),
+        "refused" => tell_fault(SourceMap::from_slice(alloc, bytes)?.to_writer(Refusing), output),
+        "contents" => tell_contents(rt, SourceMap::from_slice(alloc, bytes)?, output),
+        "built" => tell_built(alloc, case, output),
         _ => tell_answers(alloc, case, map, text, output),
     }
 }
@@ -125,7 +169,7 @@ fn main(rt: HostRuntime) -> Result<()> {
     let cases = Value::from_slice(alloc, input.as_slice())?;
     if let Some(cases) = cases.as_array() {
         for case in cases.as_slice() {
-            tell(alloc, case, &mut io::writer(&rt))?;
+            tell(&rt, alloc, case, &mut io::writer(&rt))?;
         }
     }
     Ok(())
@@ -188,7 +232,8 @@ def asked_there(reference, case):
         questions, text = pathlib.Path(room, 'questions'), pathlib.Path(room, 'text')
         questions.write_text(json.dumps(case.questions))
         text.write_bytes((case.text or '').encode())
-        more = {'regular': [], 'equal': [], 'url': [case.text]}.get(case.word, [str(questions)])
+        alone = dict.fromkeys(('regular', 'equal', 'sections', 'refused', 'contents'), [])
+        more = {**alone, 'url': [case.text]}.get(case.word, [str(questions)])
         if case.word in ('names', 'slices') and case.text is not None:
             more.append(str(text))
         status, told = answer([reference, case.word, *more], json.dumps(case.record).encode())

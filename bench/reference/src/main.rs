@@ -9,7 +9,7 @@ use repeat::Operation;
 use serde_json::Value;
 use sourcemap::{
     decode, decode_data_url, decode_slice, DecodedMap, Error, Result, RewriteOptions, SourceMap,
-    SourceMapHermes, SourceMapIndex, SourceView, Token,
+    SourceMapBuilder, SourceMapHermes, SourceMapIndex, SourceView, Token,
 };
 use std::fs::{self, File};
 use std::io::{self, BufWriter, Read, Write};
@@ -20,8 +20,8 @@ use std::process::ExitCode;
 const USAGE: &str = "usage, with a map on standard input:
     [slice | stream] (lookup LINE COL | tokens | rewrite | flatten | compose FILE | shift ROWS)
     | roundtrip | stat | batch FILE | dst FILE | positions N SEED [wild] | bench OPERATION N
-    | names QUESTIONS [TEXT] | regular | equal
-or, with nothing there: slices QUESTIONS TEXT | url URL
+    | names QUESTIONS [TEXT] | regular | equal | sections | refused | contents
+or, with nothing there: slices QUESTIONS TEXT | url URL | built PAIRS
 OPERATION: decode | decode-reader | lookup | tokens | encode | rewrite | flatten
     | compose, of two maps on standard input, each on a line
     | lines, of a text there
@@ -198,6 +198,41 @@ fn write_fault<T>(read: Result<T>, output: &mut Output) -> Result<()> {
     }
 }
 
+/// Takes nothing.
+struct Refusing;
+
+impl Write for Refusing {
+    fn write(&mut self, _bytes: &[u8]) -> io::Result<usize> {
+        Err(io::Error::from(io::ErrorKind::BrokenPipe))
+    }
+
+    fn flush(&mut self) -> io::Result<()> {
+        Ok(())
+    }
+}
+
+/// The map rewritten, and contents that it lacks read from files.
+fn with_contents(map: SourceMap) -> Result<SourceMap> {
+    let options = RewriteOptions {
+        load_local_source_contents: true,
+        ..RewriteOptions::default()
+    };
+    map.rewrite(&options)
+}
+
+/// The tokens of a map that is built of these pairs of a column and one in the source.
+fn write_built(pairs: &[Value], output: &mut Output) -> Result<()> {
+    let number = |pair: &Value, at: usize| pair[at].as_u64().unwrap_or_default() as u32;
+    let mut builder = SourceMapBuilder::new(None);
+    for pair in pairs {
+        builder.add(0, number(pair, 0), 0, number(pair, 1), Some("a.js"), None, false);
+    }
+    for token in builder.into_sourcemap().tokens() {
+        write!(output, "{}:{} ", token.get_dst_col(), token.get_src_col())?;
+    }
+    Ok(writeln!(output)?)
+}
+
 fn rewritten(map: Single) -> Result<DecodedMap> {
     let options = RewriteOptions::default();
     Ok(match map {
@@ -291,6 +326,16 @@ fn answer(form: Form, words: &[&str], output: &mut Output) -> Option<Result<()>>
         ["regular"] => bytes()
             .map_err(Error::from)
             .and_then(|bytes| write_fault(SourceMap::from_slice(&bytes), output)),
+        ["sections"] => bytes()
+            .map_err(Error::from)
+            .and_then(|bytes| write_fault(SourceMapIndex::from_slice(&bytes), output)),
+        ["refused"] => map()
+            .and_then(regular)
+            .and_then(|map| write_fault(map.to_writer(Refusing), output)),
+        ["contents"] => map()
+            .and_then(regular)
+            .and_then(|map| write_fault(with_contents(map), output)),
+        ["built", pairs] => questions_in(pairs).and_then(|pairs| write_built(&pairs, output)),
         ["url", url] => write_fault(decode_data_url(url), output),
         ["equal"] => map().and_then(regular).and_then(|map| {
             Ok(writeln!(output, "{}", map.get_token(0) == map.get_token(1))?)
