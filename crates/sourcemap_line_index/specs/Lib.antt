@@ -1,3 +1,4 @@
 pub mod LineIndex
+pub mod Probe
 pub mod Samples
 pub mod TokenList

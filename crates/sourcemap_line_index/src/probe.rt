@@ -72,9 +72,11 @@ impl KeyProbe {
 }
 
 impl Probe for KeyProbe {
-    ghost position = { λ probe. (probe.line, probe.col) };
+    ghost use Rattle.sourcemap_line_index.specs.Probe.{key_of, made_by};
 
-    ghost comparisons = { λ probe. probe.count };
+    ghost position = { key_of };
+
+    ghost comparisons = { made_by };
 
     fn line(&mut self, line: u32) -> Ordering {
         self.count = self.count.saturating_add(1);

@@ -13,6 +13,10 @@ use Rattle.sourcemap_scopes.specs.declared.offsets.HermesScopeOffset.{HermesScop
 abbrev pub offset_place : HermesScopeOffset → ℕ × ℕ
 offset_place offset = (offset.line, offset.column)
 
+-- the index of the name of the function that begins at an offset
+abbrev pub offset_name : HermesScopeOffset → ℕ
+offset_name offset = offset.name_index
+
 -- no offset stands before the one that it follows
 abbrev pub AreOffsetsInOrder : List HermesScopeOffset → Type 0
 AreOffsetsInOrder offsets = IsSortedByKey offset_place position_cmp offsets

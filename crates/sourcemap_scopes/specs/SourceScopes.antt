@@ -7,7 +7,7 @@ use Rattle.std.specs.Cmp.{IsEquivalence}
 use Rattle.std.specs.Cmp.Rules.{comparing}
 use Rattle.std.specs.Cmp.Lexicographic.{pointwise}
 use Rattle.std.proofs.Common.{rules}
-use Rattle.sourcemap_scopes.specs.FunctionMap.{AreOffsetsInOrder, closest_offset, same_offsets}
+use Rattle.sourcemap_scopes.specs.FunctionMap.{AreOffsetsInOrder, closest_offset, offset_name, same_offsets}
 use Rattle.sourcemap_scopes.specs.Picks.{item_at, items_at}
 use Rattle.sourcemap_scopes.specs.ScopeLists.{ScopeEntry, EntryStandsFor, names_of, same_entry}
 use Rattle.sourcemap_scopes.specs.declared.offsets.HermesScopeOffset.{HermesScopeOffset}
@@ -28,7 +28,7 @@ IsInOrderAt scopes id = IfSome (item_at scopes.function_maps id) AreOffsetsInOrd
 -- the index of the name of the function that a place in the source with this id stands in
 abbrev pub name_index : SourceScopesValue → ℕ → ℕ × ℕ → Option ℕ
 name_index scopes id p =
-    option_and_then (λ offsets. option_map (λ o. o.name_index) (closest_offset offsets p)) (item_at scopes.function_maps id)
+    option_and_then (λ offsets. option_map offset_name (closest_offset offsets p)) (item_at scopes.function_maps id)
 
 -- the name of the function that a place in the source with this id stands in; its line and column count from 0
 abbrev pub scope_at : SourceScopesValue → ℕ → ℕ × ℕ → Option (List ℕ)

@@ -7,7 +7,7 @@ ghost use Rattle.std.specs.Option.{option_eq};
 ghost use Rattle.sourcemap_errors.specs.Answer.{Gives};
 ghost use Rattle.sourcemap_errors.specs.declared.errors.Error.TheVariants.{OutOfMemory};
 ghost use Rattle.sourcemap_scopes.specs.Offsets.{StandsFor};
-ghost use Rattle.sourcemap_scopes.specs.FunctionMap.{AreOffsetsInOrder, closest_offset, offset_place, same_offsets, same_offsets_equiv};
+ghost use Rattle.sourcemap_scopes.specs.FunctionMap.{AreOffsetsInOrder, closest_offset, offset_name, offset_place, same_offsets, same_offsets_equiv};
 
 use crate::offsets::{HermesScopeOffset, read_offsets};
 use sourcemap_errors::errors::{Error, Result};
@@ -60,7 +60,7 @@ impl HermesFunctionMap {
     /// others nothing is promised but that the call answers.
     pub fn name_index(&self, line: u32, col: u32) -> Option<u32>
         ensures { AreOffsetsInOrder self.now
-            → result ≡ option_map (λ o. o.name_index) (closest_offset self.now (line, col)) }
+            → result ≡ option_map offset_name (closest_offset self.now (line, col)) }
     {
         let place = (u64::from(line) + 1, col);
         let offsets = self.offsets.as_slice();
