@@ -124,7 +124,7 @@ fn flat_rewritten<F: Files>(
     text: &str,
     options: &RewriteOptions<'_>,
 ) -> Result<String> {
-    let index = index_of(alloc, text)?;
+    let index = Box::into_inner(index_of(alloc, text)?);
     map_told(alloc, index.flatten_and_rewrite(rt, options))
 }
 
