@@ -1,7 +1,7 @@
 // Index maps that answer by their parts.
 use crate::checks::check;
 use crate::debug_ids::id_told;
-use sourcemap::decoder::decode_slice;
+use crate::maps::map_of;
 use sourcemap::errors::{Error, Result};
 use sourcemap::types::{DecodedMap, SourceMapIndex};
 use std::alloc::Global;
@@ -28,7 +28,8 @@ fn parts_told(alloc: Global, index: &SourceMapIndex) -> Result<String> {
     Ok(format!(in alloc; "{:?} {counts:?}", index.get_file())?)
 }
 
-fn lists_told(alloc: Global, index: &SourceMapIndex) -> Result<String> {
+/// The lists of a bundle, and whether the index is one.
+pub fn lists_told(alloc: Global, index: &SourceMapIndex) -> Result<String> {
     let offsets = index.x_facebook_offsets();
     let paths = index.x_metro_module_paths();
     Ok(format!(in alloc; "{offsets:?} {paths:?} {}", index.is_for_ram_bundle())?)
@@ -61,8 +62,7 @@ fn told(alloc: Global, map: &DecodedMap, question: Question) -> Result<String> {
 }
 
 fn answer(alloc: Global, text: &str, question: Question) -> Result<String> {
-    let map = decode_slice(alloc, text.as_bytes())?;
-    told(alloc, &map, question)
+    told(alloc, &*map_of(alloc, text)?, question)
 }
 
 // An index, a question, and the answer.

@@ -1,6 +1,8 @@
 // Index maps that are made of parts, and changed in one of them.
+use crate::answers::lists_told;
 use crate::checks::check;
 use crate::decoding::sections_told;
+use crate::maps::{boxed, map_of, record_told};
 use sourcemap::decoder::decode_slice;
 use sourcemap::encoder::Encodable;
 use sourcemap::errors::Result;
@@ -33,12 +35,22 @@ fn mapped(alloc: Global) -> Result<SourceMapSection> {
     SourceMapSection::new(alloc, (1, 2), None, Some(map))
 }
 
-fn made(alloc: Global) -> Result<SourceMapIndex> {
-    let file = String::from_str(alloc, "test.js")?;
+fn sections(alloc: Global) -> Result<Vec<SourceMapSection>> {
     let mut sections = Vec::new(alloc);
     sections.push(linked(alloc)?)?;
     sections.push(mapped(alloc)?)?;
+    Ok(sections)
+}
+
+/// The index of a file, of these sections.
+pub fn filed(alloc: Global, sections: Vec<SourceMapSection>) -> Result<SourceMapIndex> {
+    let file = String::from_str(alloc, "test.js")?;
     Ok(SourceMapIndex::new(alloc, Some(file), sections))
+}
+
+fn made(alloc: Global) -> Result<Box<SourceMapIndex>> {
+    let sections = sections(alloc)?;
+    boxed(alloc, filed(alloc, sections))
 }
 
 fn with_url(index: &mut SourceMapIndex, id: u32) -> Result<()> {
@@ -56,10 +68,10 @@ fn without_map(index: &mut SourceMapIndex, id: u32) -> Result<()> {
 }
 
 fn with_index(alloc: Global, index: &mut SourceMapIndex, id: u32) -> Result<()> {
-    let map = decode_slice(alloc, br#"{"sections":[]}"#)?;
+    let map = map_of(alloc, r#"{"sections":[]}"#)?;
     match index.get_section_mut(id) {
         None => Ok(()),
-        Some(section) => section.set_sourcemap(Some(map)),
+        Some(section) => section.set_sourcemap(Some(Box::into_inner(map))),
     }
 }
 
@@ -100,7 +112,7 @@ fn change_told(alloc: Global, index: &mut SourceMapIndex, change: Change) -> Res
 }
 
 fn changed(alloc: Global, change: Change) -> Result<String> {
-    change_told(alloc, &mut made(alloc)?, change)
+    change_told(alloc, &mut *made(alloc)?, change)
 }
 
 // A change, and what the index is afterwards.
@@ -159,29 +171,34 @@ fn one_part_of_an_index_is_changed(rt: HostRuntime) {
 }
 
 // An index of no section with both lists of a bundle.
-fn bundled(alloc: Global) -> Result<SourceMapIndex> {
-    let mut offsets = Vec::new(alloc);
-    offsets.push(Some(5))?;
-    offsets.push(None)?;
-    let mut paths = Vec::new(alloc);
-    paths.push(String::from_str(alloc, "a.js")?)?;
-    Ok(SourceMapIndex::new_ram_bundle_compatible(
+fn bundled(alloc: Global) -> Result<Box<SourceMapIndex>> {
+    let offsets = offsets(alloc)?;
+    let paths = paths(alloc)?;
+    let index = SourceMapIndex::new_ram_bundle_compatible(
         alloc,
         None,
         Vec::new(alloc),
         Some(offsets),
         Some(paths),
-    ))
+    );
+    boxed(alloc, Ok(index))
 }
 
-fn lists_told(alloc: Global, index: &SourceMapIndex) -> Result<String> {
-    let offsets = index.x_facebook_offsets();
-    let paths = index.x_metro_module_paths();
-    Ok(format!(in alloc; "{offsets:?} {paths:?} {}", index.is_for_ram_bundle())?)
+fn offsets(alloc: Global) -> Result<Vec<Option<u32>>> {
+    let mut offsets = Vec::new(alloc);
+    offsets.push(Some(5))?;
+    offsets.push(None)?;
+    Ok(offsets)
+}
+
+fn paths(alloc: Global) -> Result<Vec<String>> {
+    let mut paths = Vec::new(alloc);
+    paths.push(String::from_str(alloc, "a.js")?)?;
+    Ok(paths)
 }
 
 fn bundle_told(alloc: Global) -> Result<String> {
-    lists_told(alloc, &bundled(alloc)?)
+    lists_told(alloc, &*bundled(alloc)?)
 }
 
 #[test]
@@ -190,14 +207,8 @@ fn indexes_are_made_for_bundles(rt: HostRuntime) {
     check(&rt, "a bundle", bundle_told(rt.alloc()), want);
 }
 
-fn empty(alloc: Global) -> Result<SourceMapIndex> {
-    let file = String::from_str(alloc, "test.js")?;
-    Ok(SourceMapIndex::new(alloc, Some(file), Vec::new(alloc)))
-}
-
-fn written(alloc: Global, index: &SourceMapIndex) -> Result<String> {
-    let value = index.as_raw_sourcemap()?.into_value(alloc)?;
-    Ok(value.to_string(alloc)?)
+fn empty(alloc: Global) -> Result<Box<SourceMapIndex>> {
+    boxed(alloc, filed(alloc, Vec::new(alloc)))
 }
 
 fn is_index(map: &DecodedMap, index: &SourceMapIndex) -> bool {
@@ -208,18 +219,18 @@ fn is_index(map: &DecodedMap, index: &SourceMapIndex) -> bool {
 }
 
 fn is_read_from(alloc: Global, text: &str, index: &SourceMapIndex) -> Result<bool> {
-    Ok(is_index(&decode_slice(alloc, text.as_bytes())?, index))
+    Ok(is_index(&*map_of(alloc, text)?, index))
 }
 
 // The text that an index is written as, and whether it is read back as the same index.
 fn writing_told(alloc: Global, index: &SourceMapIndex) -> Result<String> {
-    let text = written(alloc, index)?;
+    let text = record_told(alloc, index.as_raw_sourcemap())?;
     let is_read_back = is_read_from(alloc, text.as_str(), index)?;
     Ok(format!(in alloc; "{text} {is_read_back}")?)
 }
 
-fn made_index_told(alloc: Global, index: Result<SourceMapIndex>) -> Result<String> {
-    writing_told(alloc, &index?)
+fn made_index_told(alloc: Global, index: Result<Box<SourceMapIndex>>) -> Result<String> {
+    writing_told(alloc, &*index?)
 }
 
 #[test]

@@ -1,9 +1,10 @@
 // Debug ids of index maps: read under either key, set, taken away and written.
+use crate::changes::filed;
 use crate::checks::{check, fault_told};
-use sourcemap::decoder::decode_slice;
+use crate::maps::{boxed, map_of, value_told};
 use sourcemap::errors::Result;
 use sourcemap::jsontypes::DebugId;
-use sourcemap::types::{DecodedMap, SourceMapIndex};
+use sourcemap::types::DecodedMap;
 use std::alloc::Global;
 
 const ID: &str = "0123456789abcdef0123456789abcdef";
@@ -19,13 +20,13 @@ pub fn id_told(alloc: Global, map: &DecodedMap) -> Result<String> {
 // The debug id of a map, and the text that it is written as.
 fn id_and_text(alloc: Global, map: &DecodedMap) -> Result<String> {
     let id = id_told(alloc, map)?;
-    let text = map.to_value()?.to_string(alloc)?;
+    let text = value_told(alloc, map.to_value())?;
     Ok(format!(in alloc; "{id} {text}")?)
 }
 
 fn read(alloc: Global, text: &str) -> Result<String> {
-    match decode_slice(alloc, text.as_bytes()) {
-        Ok(map) => id_and_text(alloc, &map),
+    match map_of(alloc, text) {
+        Ok(map) => id_and_text(alloc, &*map),
         fault => fault_told(alloc, fault),
     }
 }
@@ -86,7 +87,7 @@ fn told_with(alloc: Global, map: &mut DecodedMap, id: Option<&str>) -> Result<St
 }
 
 fn set(alloc: Global, text: &str, id: Option<&str>) -> Result<String> {
-    told_with(alloc, &mut decode_slice(alloc, text.as_bytes())?, id)
+    told_with(alloc, &mut *map_of(alloc, text)?, id)
 }
 
 // The text of an index, the debug id that it gets, and its debug id then beside the text that it is
@@ -123,10 +124,9 @@ fn debug_ids_of_indexes_are_set(rt: HostRuntime) {
 }
 
 // An index of no sections.
-fn made(alloc: Global) -> Result<DecodedMap> {
-    let file = String::from_str(alloc, "test.js")?;
-    let index = SourceMapIndex::new(alloc, Some(file), Vec::new(alloc));
-    Ok(DecodedMap::Index(index))
+fn made(alloc: Global) -> Result<Box<DecodedMap>> {
+    let index = filed(alloc, Vec::new(alloc))?;
+    boxed(alloc, Ok(DecodedMap::Index(index)))
 }
 
 // An index that was made gets a debug id: whether it had none before, and whether it is then the map
@@ -135,14 +135,14 @@ fn made_told(alloc: Global, map: &mut DecodedMap) -> Result<String> {
     let had_none = map.debug_id().is_none();
     map.set_debug_id(DebugId::parse(ID));
     let text =
-        br#"{"version":3,"file":"test.js","sections":[],"debugId":"0123456789abcdef0123456789abcdef"}"#;
-    let is_read = *map == decode_slice(alloc, text)?;
+        r#"{"version":3,"file":"test.js","sections":[],"debugId":"0123456789abcdef0123456789abcdef"}"#;
+    let is_read = *map == *map_of(alloc, text)?;
     let has_it = map.debug_id() == DebugId::parse(ID);
     Ok(format!(in alloc; "{had_none} {is_read} {has_it}")?)
 }
 
 fn made_with_id(alloc: Global) -> Result<String> {
-    made_told(alloc, &mut made(alloc)?)
+    made_told(alloc, &mut *made(alloc)?)
 }
 
 #[test]

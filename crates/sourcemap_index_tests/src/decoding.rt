@@ -1,5 +1,6 @@
 // Texts and data URLs that are read as index maps, and what is refused.
 use crate::checks::{check, fault_told};
+use crate::maps::boxed;
 use sourcemap::decoder::{decode, decode_data_url, decode_slice, decode_vec};
 use sourcemap::errors::Result;
 use sourcemap::types::{DecodedMap, SourceMapIndex, SourceMapSection};
@@ -25,11 +26,17 @@ pub fn sections_told(alloc: Global, index: &SourceMapIndex) -> Result<String> {
     Ok(told)
 }
 
+fn map_told(alloc: Global, map: &DecodedMap) -> Result<String> {
+    match map {
+        DecodedMap::Index(index) => sections_told(alloc, index),
+        DecodedMap::Regular(_) => Ok(String::from_str(alloc, "a regular map")?),
+        DecodedMap::Hermes(_) => Ok(String::from_str(alloc, "a Hermes map")?),
+    }
+}
+
 fn told(alloc: Global, answer: Result<DecodedMap>) -> Result<String> {
-    match answer {
-        Ok(DecodedMap::Index(index)) => sections_told(alloc, &index),
-        Ok(DecodedMap::Regular(_)) => Ok(String::from_str(alloc, "a regular map")?),
-        Ok(DecodedMap::Hermes(_)) => Ok(String::from_str(alloc, "a Hermes map")?),
+    match boxed(alloc, answer) {
+        Ok(map) => map_told(alloc, &*map),
         fault => fault_told(alloc, fault),
     }
 }
@@ -127,8 +134,8 @@ fn records_are_read_section_by_section(rt: HostRuntime) {
 }
 
 fn index_told(alloc: Global, answer: Result<SourceMapIndex>) -> Result<String> {
-    match answer {
-        Ok(index) => sections_told(alloc, &index),
+    match boxed(alloc, answer) {
+        Ok(index) => sections_told(alloc, &*index),
         fault => fault_told(alloc, fault),
     }
 }

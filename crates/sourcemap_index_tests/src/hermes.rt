@@ -1,8 +1,8 @@
 // Hermes maps among maps of any kind, on their own and in sections.
 use crate::checks::{check, fault_told};
 use crate::debug_ids::id_told;
+use crate::maps::{map_of, value_told};
 use serde_json::Value;
-use sourcemap::decoder::decode_slice;
 use sourcemap::errors::Result;
 use sourcemap::types::DecodedMap;
 use sourcemap::{SourceMap, SourceMapHermes};
@@ -50,7 +50,7 @@ fn name_copied(alloc: Global, map: &DecodedMap, offset: u32) -> Result<String> {
 }
 
 fn name_at(alloc: Global, text: &str, offset: u32) -> Result<String> {
-    name_copied(alloc, &decode_slice(alloc, text.as_bytes())?, offset)
+    name_copied(alloc, &*map_of(alloc, text)?, offset)
 }
 
 // A map, a place in the bytecode, and the name of the function there.
@@ -73,7 +73,7 @@ fn functions_of_a_decoded_map_have_names(rt: HostRuntime) {
 }
 
 fn value_of(alloc: Global, text: &str) -> Result<Value> {
-    decode_slice(alloc, text.as_bytes())?.to_value()
+    map_of(alloc, text)?.to_value()
 }
 
 fn read_back(alloc: Global, value: &Value) -> Result<Value> {
@@ -83,8 +83,7 @@ fn read_back(alloc: Global, value: &Value) -> Result<Value> {
 // The text that a map is written as, read back and written once more.
 fn written_again(alloc: Global, text: &str) -> Result<String> {
     let value = value_of(alloc, text)?;
-    let again = read_back(alloc, &value)?;
-    Ok(again.to_string(alloc)?)
+    value_told(alloc, read_back(alloc, &value))
 }
 
 #[test]
@@ -103,7 +102,7 @@ fn ids_told(alloc: Global, map: &mut DecodedMap) -> Result<String> {
 }
 
 fn ids(alloc: Global, text: &str) -> Result<String> {
-    ids_told(alloc, &mut decode_slice(alloc, text.as_bytes())?)
+    ids_told(alloc, &mut *map_of(alloc, text)?)
 }
 
 #[test]

@@ -17,6 +17,8 @@ mod hermes;
 #[cfg(test)]
 mod lookups;
 #[cfg(test)]
+mod maps;
+#[cfg(test)]
 mod nested;
 #[cfg(test)]
 mod whole;

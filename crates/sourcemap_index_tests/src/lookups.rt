@@ -1,8 +1,8 @@
 // Positions that are looked up in index maps.
 use crate::checks::check;
-use sourcemap::decoder::decode_slice;
-use sourcemap::errors::{Error, Result};
-use sourcemap::types::{DecodedMap, SourceMap, Token};
+use crate::maps::{boxed, index_of, map_of};
+use sourcemap::errors::Result;
+use sourcemap::types::{SourceMapIndex, Token};
 use std::alloc::Global;
 
 // Two maps, the second from the middle of a line on.
@@ -82,15 +82,13 @@ pub fn token_told(alloc: Global, token: Option<Token<'_>>) -> Result<String> {
 }
 
 fn looked_up(alloc: Global, text: &str, line: u32, col: u32) -> Result<String> {
-    let map = decode_slice(alloc, text.as_bytes())?;
+    let map = map_of(alloc, text)?;
     token_told(alloc, map.lookup_token(line, col))
 }
 
 fn looked_up_by_index(alloc: Global, text: &str, line: u32, col: u32) -> Result<String> {
-    match decode_slice(alloc, text.as_bytes())? {
-        DecodedMap::Index(index) => token_told(alloc, index.lookup_token(line, col)),
-        _ => Ok(String::from_str(alloc, "no index")?),
-    }
+    let index = index_of(alloc, text)?;
+    token_told(alloc, index.lookup_token(line, col))
 }
 
 #[test]
@@ -116,16 +114,19 @@ const FLAT_PLACES: [(&str, u32, u32, &str, &str); 4] = [
     (MIXED, 0, 9, "b.js:0:0", "a.js:0:0"),
 ];
 
-fn flat(alloc: Global, text: &str) -> Result<SourceMap> {
-    match decode_slice(alloc, text.as_bytes())? {
-        DecodedMap::Index(index) => index.flatten(),
-        _ => Err(Error::IncompatibleSourceMap),
-    }
+/// The text of a token of the flat map of an index.
+pub fn flat_token_told(
+    alloc: Global,
+    index: &SourceMapIndex,
+    line: u32,
+    col: u32,
+) -> Result<String> {
+    let map = boxed(alloc, index.flatten())?;
+    token_told(alloc, map.lookup_token(line, col))
 }
 
 fn looked_up_flat(alloc: Global, text: &str, line: u32, col: u32) -> Result<String> {
-    let map = flat(alloc, text)?;
-    token_told(alloc, map.lookup_token(line, col))
+    flat_token_told(alloc, &*index_of(alloc, text)?, line, col)
 }
 
 #[test]

@@ -1,6 +1,7 @@
 // Index maps in one another, made in memory and read from text.
 use crate::checks::{check, fault_told};
-use crate::lookups::token_told;
+use crate::lookups::{flat_token_told, token_told};
+use crate::maps::{boxed, map_of};
 use serde_json::Value;
 use sourcemap::decoder::decode_slice;
 use sourcemap::errors::Result;
@@ -20,12 +21,16 @@ fn wrapped(alloc: Global, map: DecodedMap) -> Result<DecodedMap> {
     Ok(DecodedMap::Index(SourceMapIndex::new(alloc, None, sections)))
 }
 
-fn nested(alloc: Global, depth: usize) -> Result<DecodedMap> {
+fn wrapped_often(alloc: Global, depth: usize) -> Result<DecodedMap> {
     let mut map = decode_slice(alloc, INNERMOST.as_bytes())?;
     for _ in 0..depth {
         map = wrapped(alloc, map)?;
     }
     Ok(map)
+}
+
+fn nested(alloc: Global, depth: usize) -> Result<Box<DecodedMap>> {
+    boxed(alloc, wrapped_often(alloc, depth))
 }
 
 fn nested_text(alloc: Global, depth: usize) -> Result<String> {
@@ -34,7 +39,7 @@ fn nested_text(alloc: Global, depth: usize) -> Result<String> {
     Ok(format!(in alloc; "{head}{INNERMOST}{tail}")?)
 }
 
-fn looked_up(alloc: Global, map: Result<DecodedMap>) -> Result<String> {
+fn looked_up(alloc: Global, map: Result<Box<DecodedMap>>) -> Result<String> {
     match map {
         Ok(map) => token_told(alloc, map.lookup_token(0, 0)),
         fault => fault_told(alloc, fault),
@@ -43,7 +48,7 @@ fn looked_up(alloc: Global, map: Result<DecodedMap>) -> Result<String> {
 
 fn read(alloc: Global, depth: usize) -> Result<String> {
     let text = nested_text(alloc, depth)?;
-    looked_up(alloc, decode_slice(alloc, text.as_bytes()))
+    looked_up(alloc, map_of(alloc, text.as_str()))
 }
 
 // How many indexes there are in one another, and what a text of them is read as. Each is three levels
@@ -70,18 +75,15 @@ fn indexes_in_one_another_are_looked_up(rt: HostRuntime) {
 }
 
 // What the flat map of an index prints at the place 0:0.
-fn flat_looked_up(alloc: Global, map: DecodedMap) -> Result<String> {
+fn flat_looked_up(alloc: Global, map: &DecodedMap) -> Result<String> {
     match map {
-        DecodedMap::Index(index) => {
-            let flat = index.flatten()?;
-            token_told(alloc, flat.lookup_token(0, 0))
-        }
+        DecodedMap::Index(index) => flat_token_told(alloc, index, 0, 0),
         _ => Ok(String::from_str(alloc, "no index")?),
     }
 }
 
 fn flattened(alloc: Global, depth: usize) -> Result<String> {
-    flat_looked_up(alloc, nested(alloc, depth)?)
+    flat_looked_up(alloc, &*nested(alloc, depth)?)
 }
 
 // What a map made of another one prints at the place 0:0, and whether it is the same map.
@@ -90,25 +92,25 @@ fn told_beside(alloc: Global, map: &DecodedMap, made: &DecodedMap) -> Result<Str
     Ok(format!(in alloc; "{token} {}", *made == *map)?)
 }
 
-fn value_read(alloc: Global, value: &Value) -> Result<DecodedMap> {
-    DecodedMap::from_value(alloc, value)
+fn value_read(alloc: Global, value: Result<Value>) -> Result<Box<DecodedMap>> {
+    let value = value?;
+    boxed(alloc, DecodedMap::from_value(alloc, &value))
 }
 
 fn read_back_told(alloc: Global, map: &DecodedMap) -> Result<String> {
-    let value = map.to_value()?;
-    told_beside(alloc, map, &value_read(alloc, &value)?)
+    told_beside(alloc, map, &*value_read(alloc, map.to_value())?)
 }
 
 fn read_back(alloc: Global, depth: usize) -> Result<String> {
-    read_back_told(alloc, &nested(alloc, depth)?)
+    read_back_told(alloc, &*nested(alloc, depth)?)
 }
 
 fn copy_told(alloc: Global, map: &DecodedMap) -> Result<String> {
-    told_beside(alloc, map, &map.clone()?)
+    told_beside(alloc, map, &*boxed(alloc, map.clone())?)
 }
 
 fn copied(alloc: Global, depth: usize) -> Result<String> {
-    copy_told(alloc, &nested(alloc, depth)?)
+    copy_told(alloc, &*nested(alloc, depth)?)
 }
 
 #[test]
@@ -120,8 +122,8 @@ fn a_hundred_indexes_in_one_another_are_made_flat_copied_and_read_back(rt: HostR
 }
 
 fn told_of_bytes(alloc: Global, map: &DecodedMap, bytes: &[u8]) -> Result<String> {
-    match decode_slice(alloc, bytes) {
-        Ok(back) => told_beside(alloc, map, &back),
+    match boxed(alloc, decode_slice(alloc, bytes)) {
+        Ok(back) => told_beside(alloc, map, &*back),
         fault => fault_told(alloc, fault),
     }
 }
@@ -138,7 +140,7 @@ fn written_told(alloc: Global, map: &DecodedMap) -> Result<String> {
 }
 
 fn written(alloc: Global, depth: usize) -> Result<String> {
-    written_told(alloc, &nested(alloc, depth)?)
+    written_told(alloc, &*nested(alloc, depth)?)
 }
 
 // How many indexes there are in one another, and what is read of the text that they are written as:

@@ -1,8 +1,7 @@
 // Index maps as a whole: made flat, moved down, copied, compared and written.
 use crate::checks::{check, fault_told};
 use crate::decoding::sections_told;
-use serde_json::Value;
-use sourcemap::decoder::decode_slice;
+use crate::maps::{boxed, index_of, map_of, record_told, value_told};
 use sourcemap::errors::{Error, Result};
 use sourcemap::types::{DecodedMap, RewriteOptions, SourceMap, SourceMapIndex, SourceMapSection};
 use std::alloc::Global;
@@ -41,23 +40,9 @@ const INDENTED: &str =
 const PAST_THE_COLUMNS: &str =
     r#"{"sections":[{"offset":{"line":0,"column":4294967295},"map":{"sources":["a.js"],"mappings":"CAAA"}},{"offset":{"line":1,"column":0}}]}"#;
 
-fn index_of(alloc: Global, text: &str) -> Result<SourceMapIndex> {
-    match decode_slice(alloc, text.as_bytes())? {
-        DecodedMap::Index(index) => Ok(index),
-        _ => Err(Error::IncompatibleSourceMap),
-    }
-}
-
 fn map_told(alloc: Global, map: Result<SourceMap>) -> Result<String> {
     match map {
-        Ok(map) => value_told(alloc, map.into_raw_sourcemap()?.into_value(alloc)),
-        fault => fault_told(alloc, fault),
-    }
-}
-
-fn value_told(alloc: Global, value: Result<Value>) -> Result<String> {
-    match value {
-        Ok(value) => Ok(value.to_string(alloc)?),
+        Ok(map) => record_told(alloc, map.into_raw_sourcemap()),
         fault => fault_told(alloc, fault),
     }
 }
@@ -139,7 +124,7 @@ fn flat_rewritten<F: Files>(
     text: &str,
     options: &RewriteOptions<'_>,
 ) -> Result<String> {
-    let index = index_of(alloc, text)?;
+    let index = Box::into_inner(index_of(alloc, text)?);
     map_told(alloc, index.flatten_and_rewrite(rt, options))
 }
 
@@ -207,7 +192,7 @@ fn moved_told(alloc: Global, index: &mut SourceMapIndex, rows: u32) -> Result<St
 }
 
 fn moved(alloc: Global, text: &str, rows: u32) -> Result<String> {
-    moved_told(alloc, &mut index_of(alloc, text)?, rows)
+    moved_told(alloc, &mut *index_of(alloc, text)?, rows)
 }
 
 const ROWS: &str =
@@ -285,7 +270,7 @@ fn moved_beside(
 
 fn moved_to(alloc: Global, text: &str, rows: u32, after: &str) -> Result<String> {
     let after = index_of(alloc, after)?;
-    moved_beside(alloc, &mut index_of(alloc, text)?, rows, &after)
+    moved_beside(alloc, &mut *index_of(alloc, text)?, rows, &*after)
 }
 
 // An index, how many rows it moves down, the index that it is then in all its parts, and whether it
@@ -306,21 +291,20 @@ fn all_but_rows_stays_where_sections_move(rt: HostRuntime) {
 }
 
 fn written(alloc: Global, text: &str) -> Result<String> {
-    value_told(alloc, decode_slice(alloc, text.as_bytes())?.to_value())
+    value_told(alloc, map_of(alloc, text)?.to_value())
 }
 
 fn written_away(alloc: Global, text: &str) -> Result<String> {
-    let map = decode_slice(alloc, text.as_bytes())?;
-    value_told(alloc, DecodedMap::into_value(map))
+    value_told(alloc, Box::into_inner(map_of(alloc, text)?).into_value())
 }
 
 fn index_written_away(alloc: Global, text: &str) -> Result<String> {
-    let record = index_of(alloc, text)?.into_raw_sourcemap()?;
-    value_told(alloc, record.into_value(alloc))
+    let index = Box::into_inner(index_of(alloc, text)?);
+    record_told(alloc, index.into_raw_sourcemap())
 }
 
 fn put(alloc: Global, text: &str, bytes: &mut Vec<u8>) -> Result<()> {
-    decode_slice(alloc, text.as_bytes())?.to_writer(bytes)
+    map_of(alloc, text)?.to_writer(bytes)
 }
 
 fn put_index(alloc: Global, text: &str, bytes: &mut Vec<u8>) -> Result<()> {
@@ -400,26 +384,22 @@ fn indexes_are_written(rt: HostRuntime) {
     }
 }
 
-fn equals_copy(map: &DecodedMap) -> Result<bool> {
-    Ok(map.clone()? == *map)
-}
-
-fn copy_equals(alloc: Global, text: &str) -> Result<bool> {
-    equals_copy(&decode_slice(alloc, text.as_bytes())?)
+fn equals_copy(alloc: Global, map: &DecodedMap) -> Result<bool> {
+    Ok(*boxed(alloc, map.clone())? == *map)
 }
 
 fn equals(alloc: Global, map: &DecodedMap, other: &str) -> Result<bool> {
-    Ok(*map == decode_slice(alloc, other.as_bytes())?)
+    Ok(*map == *map_of(alloc, other)?)
 }
 
-fn texts_equal(alloc: Global, text: &str, other: &str) -> Result<bool> {
-    equals(alloc, &decode_slice(alloc, text.as_bytes())?, other)
+fn compared_told(alloc: Global, map: &DecodedMap, other: &str) -> Result<String> {
+    let copied = equals_copy(alloc, map)?;
+    let same = equals(alloc, map, other)?;
+    Ok(format!(in alloc; "{copied} {same}")?)
 }
 
 fn compared(alloc: Global, text: &str, other: &str) -> Result<String> {
-    let copied = copy_equals(alloc, text)?;
-    let same = texts_equal(alloc, text, other)?;
-    Ok(format!(in alloc; "{copied} {same}")?)
+    compared_told(alloc, &*map_of(alloc, text)?, other)
 }
 
 // Whether a copy of an index is equal to it, and the index to another map.
@@ -451,25 +431,25 @@ fn copies_are_equal(rt: HostRuntime) {
 
 // Whether copies of an index and of its first section equal what they were made of.
 
-fn index_equals_copy(index: &SourceMapIndex) -> Result<bool> {
-    Ok(index.clone()? == *index)
+fn index_equals_copy(alloc: Global, index: &SourceMapIndex) -> Result<bool> {
+    Ok(*boxed(alloc, index.clone())? == *index)
 }
 
-fn section_equals_copy(section: Option<&SourceMapSection>) -> Result<bool> {
+fn section_equals_copy(alloc: Global, section: Option<&SourceMapSection>) -> Result<bool> {
     match section {
         None => Ok(false),
-        Some(section) => Ok(section.clone()? == *section),
+        Some(section) => Ok(*boxed(alloc, section.clone())? == *section),
     }
 }
 
 fn copies_told(alloc: Global, index: &SourceMapIndex) -> Result<String> {
-    let index_copied = index_equals_copy(index)?;
-    let section_copied = section_equals_copy(index.get_section(0))?;
+    let index_copied = index_equals_copy(alloc, index)?;
+    let section_copied = section_equals_copy(alloc, index.get_section(0))?;
     Ok(format!(in alloc; "{index_copied} {section_copied}")?)
 }
 
 fn parts_copied(alloc: Global, text: &str) -> Result<String> {
-    copies_told(alloc, &index_of(alloc, text)?)
+    copies_told(alloc, &*index_of(alloc, text)?)
 }
 
 #[test]
