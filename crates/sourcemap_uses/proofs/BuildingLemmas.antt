@@ -1,6 +1,6 @@
 -- Maps that are made of tokens, written, and asked once they are read.
-use Rattle.std.proofs.Common.{◌≡◌, ◌↔◌, ◌∙◌, sym, ap, subst, ℕ, List, [], ◌∷◌, Option, None, option_map, Result, Ok}
-use Rattle.sourcemap.specs.Answer.{Gives, IsAnswer}
+use Rattle.std.proofs.Common.{◌≡◌, ◌↔◌, ◌∙◌, sym, ap, subst, ℕ, List, [], ◌∷◌, Option, None, option_map, Result, Ok, Err}
+use Rattle.sourcemap.specs.Answer.{Gives, IsAnswer, UnlessMemory}
 use Rattle.sourcemap.specs.Due.{Gives-given}
 use Rattle.sourcemap.specs.Decoded.{map_tree}
 use Rattle.sourcemap.specs.Decoder.{AreSame, BytesDecode}
@@ -13,6 +13,7 @@ use Rattle.sourcemap.specs.declared.errors.Error.{Error}
 use Rattle.sourcemap.specs.declared.types.DecodedMap.{DecodedMap}
 use Rattle.sourcemap.specs.declared.types.RawToken.{RawToken}
 use Rattle.sourcemap_uses.specs.Building.{place_of}
+use Rattle.sourcemap_uses.proofs.RefusalLemmas.{unless_memory}
 
 -- the map of one source
 pub made : (m : MapValue) (tokens : List RawToken) (names sources : List (List ℕ)) (source : List ℕ)
@@ -42,3 +43,10 @@ pub place_found : (bytes text : List ℕ) (m : MapValue) (map : DecodedMap) (p :
 place_found bytes text m map p found same (back, stands, restored) only is =
     let read = only (Ok back) (subst (λ bytes. BytesDecode bytes (Ok back)) (sym same) stands) in
     ap (option_map place_of) (is ∙ ap (λ t. meaning_of t p) (sym read) ∙ restored.0 p)
+
+-- what was written is read unless memory runs out
+pub read_unless_memory : (bytes text : List ℕ) (m : MapValue) (e : Error) (P : Type 0)
+    → bytes ≡ text → ReadsBack (BytesDecode text) (Restores (leaf (regular m)))
+    → ((due : Result MapTree Error) → BytesDecode bytes due → IsAnswer map_tree (AreSame due) (Err e)) → UnlessMemory e P
+read_unless_memory bytes text m e P same (back, stands, restored) only =
+    unless_memory e ⊥ P (λ never. absurd never) (only (Ok back) (subst (λ bytes. BytesDecode bytes (Ok back)) (sym same) stands))

@@ -3,4 +3,5 @@ pub mod DataUrlsLemmas
 pub mod FlatteningLemmas
 pub mod LinkingLemmas
 pub mod MergingLemmas
+pub mod RefusalLemmas
 pub mod RewritingLemmas

@@ -1,39 +1,151 @@
--- The sources of a builder to which sources are added.
-use Rattle.std.proofs.Common.{◌≡◌, ◌∙◌, refl, sym, ap, ℕ, List, [], ◌∷◌, ◌++◌, cond, fold, is_some, Option, Result, Ok, Err, IfOk}
-use Rattle.sourcemap.specs.Answer.{Gives}
+-- A builder to which sources are added.
+use Rattle.std.proofs.Common.{◌≡◌, ◌∙◌, refl, sym, ap, subst, ℕ, ◌<◌, ◌≤◌, List, [], ◌∷◌, ◌++◌, append-nil, append_assoc, arith, cond, fold, is_some, length, length-append, map, nat_lt, Bool, true, false, Option, Some, None, Result, Ok, Err, IfOk}
+use Rattle.std.proofs.lemmas.Bool.{ltb-false}
+use Rattle.sourcemap.specs.Answer.{Gives, UnlessMemory}
 use Rattle.sourcemap.specs.Builder.{BuilderValue, empty_builder, with_source, built}
-use Rattle.sourcemap.specs.Interner.{place_of, with_text}
+use Rattle.sourcemap.specs.Due.{Gives-given}
+use Rattle.sourcemap.specs.Interner.{id_for, place_of, with_text}
 use Rattle.sourcemap.specs.Rewrite.{kept_once}
-use Rattle.sourcemap.specs.Types.{MapValue}
+use Rattle.sourcemap.specs.Types.{MapValue, made_of, shown, shown_sources}
 use Rattle.sourcemap.specs.declared.errors.Error.{Error}
+use Rattle.sourcemap.specs.declared.errors.Error.TheVariants.{IncompatibleSourceMap}
+use Rattle.sourcemap_uses.specs.Merging.{AreTooMany, HasFirstOf}
+use Rattle.sourcemap_uses.proofs.RefusalLemmas.{unless_memory}
+
+-- What is added.
 
 -- a source that is added is shown as it was given
 shown_as_given : (b : BuilderValue) (text : List ℕ) → b.sources ≡ b.interned → (with_source b text).sources ≡ (with_source b text).interned
 shown_as_given b text same = ap (λ texts. cond (is_some (place_of text b.interned)) texts (texts ++ text ∷ [])) same
 
-pub all_shown : (b : BuilderValue) (texts : List (List ℕ)) → b.sources ≡ b.interned
-    → (fold with_source b texts).sources ≡ fold with_text b.interned texts
-all_shown b [] same = same
-all_shown b (text ∷ texts) same = all_shown (with_source b text) texts (shown_as_given b text same)
+-- nothing else is changed
+all_added : (b : BuilderValue) (texts : List (List ℕ)) → b.sources ≡ b.interned
+    → fold with_source b texts ≡ record b { interned = fold with_text b.interned texts; sources = fold with_text b.interned texts }
+all_added b [] same = ap (λ sources. record b { sources = sources }) same
+all_added b (text ∷ texts) same = all_added (with_source b text) texts (shown_as_given b text same)
+
+all_interned : (b : BuilderValue) (texts : List (List ℕ)) → (fold with_source b texts).interned ≡ fold with_text b.interned texts
+all_interned b [] = refl
+all_interned b (text ∷ texts) = all_interned (with_source b text) texts
 
 fold_twice : {X Y : Type 0} → (f : X → Y → X) → (x : X) → (ys zs : List Y) → fold f (fold f x ys) zs ≡ fold f x (ys ++ zs)
 fold_twice f x [] zs = refl
 fold_twice f x (y ∷ ys) zs = fold_twice f (f x y) ys zs
 
 -- what comes first is added first
-all_added : (file : Option (List ℕ)) (b one two : BuilderValue) (first second : List (List ℕ)) → empty_builder file ≡ b
-    → one ≡ fold with_source b first → two ≡ fold with_source one second
-    → two ≡ fold with_source (empty_builder file) (first ++ second)
-all_added file b one two first second made is_one is_two =
-    is_two ∙ ap (λ b. fold with_source b second) (is_one ∙ ap (λ b. fold with_source b first) (sym made))
-    ∙ fold_twice with_source (empty_builder file) first second
+pub both_added : (b one two : BuilderValue) (first second : List (List ℕ)) → one ≡ fold with_source b first → two ≡ fold with_source one second
+    → two ≡ fold with_source b (first ++ second)
+both_added b one two first second is_one is_two =
+    is_two ∙ ap (λ b. fold with_source b second) is_one ∙ fold_twice with_source b first second
 
-pub merged : (file : Option (List ℕ)) (b one two : BuilderValue) (first second : List (List ℕ)) (r : Result MapValue Error)
-    → Gives (λ b. b) (Ok b) (Ok (empty_builder file)) → one ≡ fold with_source b first → two ≡ fold with_source one second
-    → Gives (λ m. m) r (Ok (built two)) → IfOk r (λ m. m.sources ≡ kept_once (first ++ second))
-merged file b one two first second (Ok m) made is_one is_two gave =
-    let e : built two ≡ m = cc in
-    let start : empty_builder file ≡ b = cc in
-    let is = all_added file b one two first second start is_one is_two in
-    ap (λ m. m.sources) (sym e) ∙ ap (λ b. b.sources) is ∙ all_shown (empty_builder file) (first ++ second) refl
-merged file b one two first second (Err e) made is_one is_two gave = tt
+as_they_stand : (texts : List (List ℕ)) → map (shown None) texts ≡ texts
+as_they_stand [] = refl
+as_they_stand (text ∷ texts) = ap (λ texts. text ∷ texts) (as_they_stand texts)
+
+merged_is : (b one two : BuilderValue) (first second : List (List ℕ)) (m : MapValue)
+    → empty_builder None ≡ b → one ≡ fold with_source b first → two ≡ fold with_source one second → built two ≡ m
+    → m ≡ made_of None [] [] (kept_once (first ++ second)) []
+merged_is b one two first second m start is_one is_two is =
+    let whole = both_added b one two first second is_one is_two ∙ ap (λ b. fold with_source b (first ++ second)) (sym start)
+    ∙ all_added (empty_builder None) (first ++ second) refl in
+    sym is ∙ ap built whole
+
+pub merged : (b one two : BuilderValue) (first second : List (List ℕ)) (r : Result MapValue Error)
+    → Gives (λ b. b) (Ok b) (Ok (empty_builder None)) → one ≡ fold with_source b first → two ≡ fold with_source one second
+    → Gives (λ m. m) r (Ok (built two)) → IfOk r (λ m. m ≡ made_of None [] [] (kept_once (first ++ second)) [])
+merged b one two first second (Ok m) made is_one is_two gave =
+    let is : built two ≡ m = cc in
+    let start : empty_builder None ≡ b = cc in
+    merged_is b one two first second m start is_one is_two is
+merged b one two first second (Err e) made is_one is_two gave = tt
+
+pub shown_so : (texts : List (List ℕ)) (r : Result MapValue Error)
+    → IfOk r (λ m. m ≡ made_of None [] [] texts []) → IfOk r (λ m. shown_sources m ≡ texts)
+shown_so texts (Ok m) is = ap shown_sources is ∙ as_they_stand texts
+shown_so texts (Err e) is = tt
+
+-- What is refused.
+
+more_or_same : (b : Bool) (texts : List (List ℕ)) (text : List ℕ) → length texts ≤ length (cond b texts (texts ++ text ∷ []))
+more_or_same true texts text = omega arith
+more_or_same false texts text = omega (arith, length-append texts (text ∷ []))
+
+-- texts that are added leave no fewer
+no_fewer : (texts more : List (List ℕ)) → length texts ≤ length (fold with_text texts more)
+no_fewer texts [] = omega arith
+no_fewer texts (text ∷ more) =
+    omega (arith, more_or_same (is_some (place_of text texts)) texts text, no_fewer (with_text texts text) more)
+
+too_many_more : (texts more : List (List ℕ)) (e : Error) → AreTooMany texts e → AreTooMany (fold with_text texts more) e
+too_many_more texts more e many = (many.0, omega (arith, many.1, no_fewer texts more))
+
+-- a text without an id is one too many
+without_id : (o : Option ℕ) (texts : List (List ℕ)) (text : List ℕ) (e : Error) → place_of text texts ≡ o
+    → id_for texts text ≡ Err e → AreTooMany (with_text texts text) e
+without_id (Some id) texts text e known refused = absurd (let no : Ok id ≡ Err e = rw known at refused in cc)
+without_id None texts text e new refused =
+    rw new (past (nat_lt (length texts) 4294967295) refl (rw new at refused))
+  where
+    past : (b : Bool) → nat_lt (length texts) 4294967295 ≡ b → cond b (Ok (length texts)) (Err IncompatibleSourceMap) ≡ Err e → AreTooMany (texts ++ text ∷ []) e
+    past true few refused = absurd (let no : Ok (length texts) ≡ Err e = refused in cc)
+    past false many refused = (let is : ◌≡◌ {A = Result ℕ Error} (Err IncompatibleSourceMap) (Err e) = refused in cc, omega (arith, length-append texts (text ∷ []), ltb-false (length texts) 4294967295 many))
+
+pub stopped_at : (b : BuilderValue) (text : List ℕ) (texts : List (List ℕ)) (e : Error) → UnlessMemory e (id_for b.interned text ≡ Err e)
+    → UnlessMemory e (AreTooMany (fold with_source b (text ∷ texts)).interned e)
+stopped_at b text texts e h = unless_memory e (id_for b.interned text ≡ Err e) (AreTooMany (fold with_source b (text ∷ texts)).interned e)
+    (λ refused. subst (λ all. AreTooMany all e) (sym (all_interned b (text ∷ texts)))
+    (too_many_more (with_text b.interned text) texts e (without_id (place_of text b.interned) b.interned text e refl refused)))
+    h
+
+-- the sources of both maps are too many where those of the first are
+both_kept : (b : BuilderValue) (first second : List (List ℕ)) → empty_builder None ≡ b
+    → fold with_text (fold with_source b first).interned second ≡ kept_once (first ++ second)
+both_kept b first second start =
+    ap (λ texts. fold with_text texts second) (ap (λ b. (fold with_source b first).interned) (sym start) ∙ all_interned (empty_builder None) first)
+    ∙ fold_twice with_text [] first second
+
+pub too_many_first : (b : BuilderValue) (first second : List (List ℕ)) (e : Error) → Gives (λ b. b) (Ok b) (Ok (empty_builder None))
+    → UnlessMemory e (AreTooMany (fold with_source b first).interned e) → UnlessMemory e (AreTooMany (kept_once (first ++ second)) e)
+too_many_first b first second e made h =
+    let start : empty_builder None ≡ b = cc in
+    unless_memory e (AreTooMany (fold with_source b first).interned e) (AreTooMany (kept_once (first ++ second)) e)
+    (λ many. subst (λ all. AreTooMany all e) (both_kept b first second start) (too_many_more (fold with_source b first).interned second e many)) h
+
+pub too_many_both : (b one : BuilderValue) (first second : List (List ℕ)) (e : Error) → Gives (λ b. b) (Ok b) (Ok (empty_builder None))
+    → one ≡ fold with_source b first → UnlessMemory e (AreTooMany (fold with_source one second).interned e) → UnlessMemory e (AreTooMany (kept_once (first ++ second)) e)
+too_many_both b one first second e made is_one h =
+    let start : empty_builder None ≡ b = cc in
+    let is = all_interned one second ∙ ap (λ b. fold with_text b.interned second) is_one ∙ both_kept b first second start in
+    subst (λ all. UnlessMemory e (AreTooMany all e)) is h
+
+-- Loops.
+
+-- of all sources some were added, and others are left
+abbrev pub HasAdded : (old new : BuilderValue) (left all : List (List ℕ)) → Type 0
+HasAdded old new left all = (added : List (List ℕ)) × (all ≡ added ++ left) × (new ≡ fold with_source old added)
+
+pub none_added : (b : BuilderValue) (left all : List (List ℕ)) → left ≡ all → HasAdded b b left all
+none_added b left all is = ([], sym is, refl)
+
+pub one_added : (old b new : BuilderValue) (text : List ℕ) (before after all : List (List ℕ)) → HasAdded old b before all
+    → before ≡ text ∷ after → new ≡ with_source b text → HasAdded old new after all
+one_added old b new text before after all (added, is, so_far) first grown = (
+  added ++ text ∷ [],
+  is ∙ ap (λ left. added ++ left) first ∙ sym (append_assoc added (text ∷ []) after),
+  grown ∙ ap (λ b. with_source b text) so_far ∙ fold_twice with_source old added (text ∷ []),
+)
+
+pub whole_added : (old new : BuilderValue) (left all : List (List ℕ)) → HasAdded old new left all → left ≡ [] → new ≡ fold with_source old all
+whole_added old new left all (added, is, so_far) none =
+    so_far ∙ ap (λ texts. fold with_source old texts) (sym (is ∙ ap (λ left. added ++ left) none ∙ append-nil added))
+
+pub stopped_so : (old b new : BuilderValue) (left all : List (List ℕ)) → HasAdded old b left all → new ≡ b → HasFirstOf old new all
+stopped_so old b new left all (added, is, so_far) same = (added, left, is, same ∙ so_far)
+
+pub stopped_why : (old b : BuilderValue) (text : List ℕ) (left rest all : List (List ℕ)) (e : Error) → HasAdded old b left all → left ≡ text ∷ rest
+    → UnlessMemory e (id_for b.interned text ≡ Err e) → UnlessMemory e (AreTooMany (fold with_source old all).interned e)
+stopped_why old b text left rest all e (added, is, so_far) first h =
+    let whole : fold with_source b (text ∷ rest) ≡ fold with_source old all =
+    ap (λ b. fold with_source b (text ∷ rest)) so_far ∙ fold_twice with_source old added (text ∷ rest)
+    ∙ ap (λ texts. fold with_source old texts) (sym (is ∙ ap (λ left. added ++ left) first)) in
+    subst (λ b. UnlessMemory e (AreTooMany b.interned e)) whole (stopped_at b text rest e h)

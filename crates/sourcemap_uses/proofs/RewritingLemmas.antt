@@ -1,11 +1,15 @@
--- What a rewriting leaves that takes names and contents away.
-use Rattle.std.proofs.Common.{◌≡◌, ◌∙◌, refl, sym, ap, subst, ℕ, ◌<◌, List, [], map, length, false, Option, Some, None, option_map, Ok}
+-- What a rewriting leaves that takes names and contents away, and one by default.
+use Rattle.std.proofs.Common.{◌≡◌, ◌∙◌, refl, sym, ap, subst, ℕ, ◌<◌, List, [], ◌∷◌, map, length, false, Option, Some, None, option_map, Result, Ok, Err, IfOk}
+use Rattle.sourcemap.specs.Answer.{Gives, UnlessMemory}
+use Rattle.sourcemap.specs.Due.{Gives-given}
 use Rattle.sourcemap.specs.Encoder.{ReadsBack, Restores}
 use Rattle.sourcemap.specs.Prefixes.{cut_by}
 use Rattle.sourcemap.specs.Reading.{BytesStandFor, RegularDecodes}
-use Rattle.sourcemap.specs.Rewrite.{MeansLess, removal_of, rewrite_due, rewritten, taken_away}
+use Rattle.sourcemap.specs.Rewrite.{IsDefault, MeansLess, no_removal, removal_of, rewrite_due, rewritten, taken_away, used_sources}
 use Rattle.sourcemap.specs.Types.{MapValue, Meaning, contents_of, meaning}
+use Rattle.sourcemap.specs.declared.errors.Error.{Error}
 use Rattle.sourcemap.specs.declared.types.RewriteOptions.{RewriteOptions}
+use Rattle.sourcemap_uses.proofs.RefusalLemmas.{never_due, unless_memory}
 use Rattle.sourcemap_uses.specs.Publishing.{Publishes, without_name, no_details}
 
 whole : (source : Option (List ℕ)) → option_map (cut_by []) source ≡ source
@@ -60,3 +64,32 @@ published_as m bare bytes text read stands is less same (back, reads, restored) 
         ∙ ap (λ m. contents_of m id) is;
   },
 )
+
+-- options that ask for no files are refused for want of memory alone
+pub bare_refused : (options : RewriteOptions) (m : MapValue) (e : Error) (P : Type 0) → options.load_local_source_contents ≡ false
+    → UnlessMemory e (rewrite_due options m ≡ Err e) → UnlessMemory e P
+bare_refused options m e P no_files h =
+    unless_memory e (rewrite_due options m ≡ Err e) P (λ refused. never_due (rewritten (removal_of options) m) e P (rw no_files at refused)) h
+
+-- By default.
+
+default_due : (options : RewriteOptions) (m : MapValue) → options.load_local_source_contents ≡ false → removal_of options ≡ no_removal
+    → rewrite_due options m ≡ Ok (rewritten no_removal m)
+default_due options m no_files removal = rw no_files (ap (λ removal. Ok (rewritten removal m)) removal)
+
+pub default_whole : (options : RewriteOptions) (m : MapValue) (r : Result MapValue Error) → IsDefault options → removal_of options ≡ no_removal
+    → Gives (λ m. m) r (rewrite_due options m) → IfOk r (λ small. small ≡ rewritten no_removal m)
+default_whole options m r defaults removal gave =
+    Gives-given (λ m. m) (rewritten no_removal m) r
+    (subst (λ due. Gives (λ m. m) r due) (default_due options m defaults.no_files removal) gave)
+
+pub whole_so : (P : MapValue → Type 0) (r : Result MapValue Error) (due : MapValue) → IfOk r (λ small. small ≡ due) → P due → IfOk r P
+whole_so P (Ok small) due is holds = subst P (sym is) holds
+whole_so P (Err e) due is holds = tt
+
+all_uncut : (texts : List (List ℕ)) → map (cut_by []) texts ≡ texts
+all_uncut [] = refl
+all_uncut (text ∷ texts) = ap (λ texts. text ∷ texts) (all_uncut texts)
+
+pub sources_uncut : (m : MapValue) → (rewritten no_removal m).sources ≡ used_sources m
+sources_uncut m = all_uncut (used_sources m)

@@ -4,6 +4,8 @@ pub mod DataUrls
 pub mod Faults
 pub mod Flattening
 pub mod Functions
+pub mod Linking
+pub mod Merging
 pub mod Naming
 pub mod Places
 pub mod Publishing

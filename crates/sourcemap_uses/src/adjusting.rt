@@ -51,7 +51,7 @@ pub fn place_behind(
 }
 
 // What a token says, copied.
-fn place_of(alloc: Global, token: &Token<'_>) -> std::result::Result<Place, AllocError>
+pub(crate) fn place_of(alloc: Global, token: &Token<'_>) -> std::result::Result<Place, AllocError>
     ensures { IfOk result (λ place. told place ≡ answers token.now) }
 {
     Ok(Place {

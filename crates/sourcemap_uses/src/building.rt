@@ -1,5 +1,7 @@
 //! A map that is made of tokens, written, and asked once it is read.
-ghost use Rattle.std.specs.Prelude.{◌≡◌, ◌∷◌, [], None, IfOk, option_map};
+ghost use Rattle.std.specs.Prelude.{◌≡◌, ◌∷◌, [], None, IfErr, IfOk, option_map};
+ghost use Rattle.sourcemap.specs.Answer.{UnlessMemory};
+ghost use Rattle.sourcemap.specs.Bytes.{IsIo};
 ghost use Rattle.sourcemap.specs.Decoder.{BytesDecode};
 ghost use Rattle.sourcemap.specs.Encoder.{ReadsBack};
 ghost use Rattle.sourcemap.specs.Tokens.{AllWithin};
@@ -17,7 +19,8 @@ use sourcemap::{Result, SourceMap, decode_slice};
 use std::alloc::Global;
 
 /// Writes the map of these tokens, which all lead to one source or to none, reads what was written,
-/// and answers the line and the column in the source of a position of the generated text.
+/// and answers the line and the column in the source of a position of the generated text. Refused
+/// as `written` is: what was written is read.
 pub fn place_once_written(
     alloc: Global,
     source: &str,
@@ -26,8 +29,9 @@ pub fn place_once_written(
     col: u32,
 ) -> Result<Option<(u32, u32)>>
     requires { AllWithin 1 0 tokens.items }
-    ensures { IfOk result (λ found. found ≡ option_map place_of
+    ensures place { IfOk result (λ found. found ≡ option_map place_of
         (meaning (made_of None tokens.items [] (source.now ∷ []) []) (line, col))) }
+    ensures fault { IfErr result (λ e. UnlessMemory e (IsIo e)) }
 {
     well_formed_maps_are_in_order();
     let text = written(alloc, source, tokens)?;
@@ -39,11 +43,13 @@ pub fn place_once_written(
 }
 
 /// The bytes of the map of these tokens, which all lead to one source or to none. Whoever reads
-/// them gets that map back, but for repeats among its tokens.
+/// them gets that map back, but for repeats among its tokens. Only want of memory refuses; the
+/// clause does not rule out `Io`, for a writer's fault, though these bytes are written to memory.
 pub fn written(alloc: Global, source: &str, tokens: Vec<RawToken>) -> Result<Vec<u8>>
     requires { AllWithin 1 0 tokens.items }
-    ensures { IfOk result (λ text. ReadsBack (BytesDecode text.items)
+    ensures reads_back { IfOk result (λ text. ReadsBack (BytesDecode text.items)
         (Restores (leaf (regular (made_of None tokens.items [] (source.now ∷ []) []))))) }
+    ensures fault { IfErr result (λ e. UnlessMemory e (IsIo e)) }
 {
     written_maps_read_back();
     regular_maps_are_of_a_kind();

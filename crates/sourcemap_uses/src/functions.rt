@@ -1,5 +1,8 @@
 //! The function that a place in bytecode stands in.
-ghost use Rattle.std.specs.Prelude.{IfOk, option_map, string_bytes};
+ghost use Rattle.std.specs.Prelude.{Err, IfErr, IfOk, option_map, string_bytes};
+ghost use Rattle.sourcemap.specs.Answer.{UnlessMemory};
+ghost use Rattle.sourcemap.specs.HermesDecoder.{OnlyHermesDecodes};
+ghost use Rattle.sourcemap.specs.Reading.{BytesStandFor};
 ghost use Rattle.sourcemap_uses.specs.Functions.{IsNameAt};
 
 use sourcemap::{Result, SourceMapHermes};
@@ -9,10 +12,16 @@ use std::alloc::Global;
 /// bytes, where the functions of its source stand in order. Refused as by
 /// `SourceMapHermes::from_slice`.
 pub fn function_at(alloc: Global, bytes: &[u8], offset: u32) -> Result<Option<String>>
-    ensures { IfOk result
+    ensures name { IfOk result
         (λ name. IsNameAt bytes.now offset (option_map string_bytes name)) }
+    ensures fault { IfErr result
+        (λ e. UnlessMemory e (BytesStandFor OnlyHermesDecodes bytes.now (Err e))) }
 {
-    let map = SourceMapHermes::from_slice(alloc, bytes)?;
+    // no `?` for the prover: which fault is passed on is known of a match
+    let map = match SourceMapHermes::from_slice(alloc, bytes) {
+        Ok(map) => map,
+        Err(fault) => return Err(fault),
+    };
     match map.get_original_function_name(offset) {
         None => Ok(None),
         Some(name) => Ok(Some(String::from_str(alloc, name)?)),

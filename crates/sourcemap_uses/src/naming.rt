@@ -1,6 +1,8 @@
 //! What stands in the sources behind a place in a bundle: a function's name, a line of text.
-ghost use Rattle.std.specs.Prelude.{◌≡◌, IfOk, option_and_then, option_map, string_bytes};
+ghost use Rattle.std.specs.Prelude.{◌≡◌, Err, IfErr, IfOk, option_and_then, option_map, string_bytes};
 ghost use Rattle.std.specs.Option.{option_copied};
+ghost use Rattle.sourcemap.specs.Answer.{UnlessMemory};
+ghost use Rattle.sourcemap.specs.Reading.{BytesStandFor, RegularDecodes};
 ghost use Rattle.sourcemap.specs.Types.{lookup};
 ghost use Rattle.sourcemap_uses.specs.Naming.{IsNameOf, line_behind};
 
@@ -10,7 +12,7 @@ use std::alloc::Global;
 /// What the function that is called `minified` in a bundle, whose code stands at a line and a
 /// column of its text, is called in its source: guessed by the bundle's map, which these bytes
 /// hold, and by the text. `None` if there is no guess. Lines and columns count from 0, columns in
-/// UTF-16 units.
+/// UTF-16 units. Bytes that hold no such map are refused as by `SourceMap::from_slice`.
 pub fn original_name(
     alloc: Global,
     map: &[u8],
@@ -19,10 +21,16 @@ pub fn original_name(
     col: u32,
     minified: &str,
 ) -> Result<Option<String>>
-    ensures { IfOk result (λ name.
+    ensures name { IfOk result (λ name.
         IsNameOf map.now text.now (line, col) minified.now (option_map string_bytes name)) }
+    ensures fault { IfErr result
+        (λ e. UnlessMemory e (BytesStandFor RegularDecodes map.now (Err e))) }
 {
-    let map = SourceMap::from_slice(alloc, map)?;
+    // no `?` for the prover: which fault is passed on is known of a match
+    let map = match SourceMap::from_slice(alloc, map) {
+        Ok(map) => map,
+        Err(fault) => return Err(fault),
+    };
     let view = SourceView::new(alloc, text)?;
     match map.get_original_function_name(line, col, minified, &view) {
         None => Ok(None),

@@ -1,5 +1,8 @@
 //! A map as it may be published: what it says stays, but names and the contents of sources go.
-ghost use Rattle.std.specs.Prelude.{IfOk};
+ghost use Rattle.std.specs.Prelude.{◌⊎◌, Err, IfErr, IfOk};
+ghost use Rattle.sourcemap.specs.Answer.{UnlessMemory};
+ghost use Rattle.sourcemap.specs.Bytes.{IsIo};
+ghost use Rattle.sourcemap.specs.Reading.{BytesStandFor, RegularDecodes};
 ghost use Rattle.sourcemap_uses.specs.Publishing.{Publishes};
 
 use sourcemap::encoder::encode_to;
@@ -9,9 +12,13 @@ use std::alloc::Global;
 use std::rt::Files;
 
 /// The bytes of a map that says the same of each position as the map in `bytes`, but no names, and
-/// that holds no contents of sources.
+/// that holds no contents of sources. Bytes that hold no such map are refused as by
+/// `SourceMap::from_slice`. The clause does not rule out `Io`, for a writer's fault, though these
+/// bytes are written to memory.
 pub fn published<F: Files>(rt: &F, alloc: Global, bytes: &[u8]) -> Result<Vec<u8>>
-    ensures { IfOk result (λ text. Publishes bytes.now text.items) }
+    ensures published { IfOk result (λ text. Publishes bytes.now text.items) }
+    ensures fault { IfErr result
+        (λ e. UnlessMemory e (BytesStandFor RegularDecodes bytes.now (Err e) ⊎ IsIo e)) }
 {
     written_maps_read_back();
     let map = SourceMap::from_slice(alloc, bytes)?;

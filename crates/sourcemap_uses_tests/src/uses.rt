@@ -16,7 +16,7 @@ use sourcemap_uses::naming::{original_name, source_line};
 use sourcemap_uses::places::{frame_text, place_text};
 use sourcemap_uses::publishing::published;
 use sourcemap_uses::quick::quick_place;
-use sourcemap_uses::shrinking::shrunk;
+use sourcemap_uses::shrinking::{place_once_shrunk, shrunk};
 use std::alloc::Global;
 use std::process::Abort;
 use std::test::Fail;
@@ -94,6 +94,19 @@ fn a_map_is_shrunk(rt: HostRuntime) -> std::result::Result<(), Fail> {
     assert_eq!(rt;
         place_in(alloc, &small)?.as_str(),
         "coolstuff.js:0:4 name=x"
+    );
+    Ok(())
+}
+
+#[test]
+fn a_shrunk_map_says_what_it_said(rt: HostRuntime) -> std::result::Result<(), Fail> {
+    let alloc = rt.alloc();
+    let map = SourceMap::from_slice(alloc, MAP.as_bytes())?;
+    let place = place_once_shrunk(&rt, alloc, map, 0, 5)?;
+    let told = format!(in alloc; "{place:?}")?;
+    assert_eq!(rt;
+        told.as_str(),
+        r#"Some(Place { source: Some("coolstuff.js"), line: 0, column: 4, name: Some("x"), is_range: false })"#
     );
     Ok(())
 }

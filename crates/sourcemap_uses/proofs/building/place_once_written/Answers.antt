@@ -1,20 +1,34 @@
 -- What was read says what was written.
 use Rattle.std.proofs.Common.{◌∙◌, ap, [], ◌∷◌, Some, None}
+use Rattle.std.proofs.lemmas.Result.{err_from_is_err_and}
+use Rattle.sourcemap.specs.Bytes.{IsIo}
 use Rattle.sourcemap.specs.Decoded.{map_tree}
 use Rattle.sourcemap.specs.Token.{answers}
 use Rattle.sourcemap.specs.Types.{made_of}
-use Rattle.sourcemap_uses.proofs.BuildingLemmas.{place_found}
+use Rattle.sourcemap_uses.proofs.BuildingLemmas.{place_found, read_unless_memory}
 use Rattle.sourcemap_uses.proofs.building.place_once_written.Goals as goal
 
-pub returns-in-None : goal.returns-in-None
-returns-in-None c =
+pub returns-in-None-clause-place : goal.returns-in-None-clause-place
+returns-in-None-clause-place c =
     place_found c.as_slice.result.now _ (made_of None c.args.tokens.items [] (c.args.source.now ∷ []) []) c.in_ok-map.map (c.args.line, c.args.col) None
-    c.as_slice.ensures.value c.in_ok-text.ensures c.in_ok-map.ensures.only
+    c.as_slice.ensures.value c.in_ok-text.ensures.reads_back c.in_ok-map.ensures.only
     (c.in-None.ensures.meaning (c.well_formed_maps_are_in_order.ensures (map_tree c.in_ok-map.map) c.in_ok-map.ensures.well_formed))
 
-pub returns : goal.returns
-returns c =
+pub returns-clause-place : goal.returns-clause-place
+returns-clause-place c =
     ap Some c.get_src.ensures
     ∙ place_found c.as_slice.result.now _ (made_of None c.args.tokens.items [] (c.args.source.now ∷ []) []) c.in_ok-map.map (c.args.line, c.args.col) (Some (answers c.in-Some.token))
-    c.as_slice.ensures.value c.in_ok-text.ensures c.in_ok-map.ensures.only
+    c.as_slice.ensures.value c.in_ok-text.ensures.reads_back c.in_ok-map.ensures.only
     (c.in-Some.ensures.meaning (c.well_formed_maps_are_in_order.ensures (map_tree c.in_ok-map.map) c.in_ok-map.ensures.well_formed))
+
+pub returns-in_err-map-clause-fault : goal.returns-in_err-map-clause-fault
+returns-in_err-map-clause-fault c =
+    let e = c.in_err-map.field-0.0 in
+    let p = err_from_is_err_and c.from_residual-in_err-map.result c.from_residual-in_err-map.ensures.1 in
+    rw (p.1, p.2) (read_unless_memory c.as_slice.result.now _ (made_of None c.args.tokens.items [] (c.args.source.now ∷ []) []) e (IsIo e)
+    c.as_slice.ensures.value c.in_ok-text.ensures.reads_back c.in_err-map.ensures.only)
+
+pub returns-in_err-text-clause-fault : goal.returns-in_err-text-clause-fault
+returns-in_err-text-clause-fault c =
+    let p = err_from_is_err_and c.from_residual.result c.from_residual.ensures.1 in
+    rw (p.1, p.2) c.in_err-text.ensures.fault

@@ -1,0 +1,31 @@
+-- Refusals that are passed on.
+use Rattle.std.proofs.Common.{◌≡◌, ◌⊎◌, inl, inr, Result, Ok, Err, IfErr}
+use Rattle.sourcemap.specs.Answer.{Gives, UnlessMemory}
+use Rattle.sourcemap.specs.Bytes.{IsIo}
+use Rattle.sourcemap.specs.Encoder.{RecordAnswer}
+use Rattle.sourcemap.specs.Types.{MapValue}
+use Rattle.sourcemap.specs.declared.errors.Error.{Error}
+use Rattle.sourcemap.specs.declared.errors.Error.TheVariants.{OutOfMemory}
+
+pub unless_memory : (e : Error) (P Q : Type 0) → (P → Q) → UnlessMemory e P → UnlessMemory e Q
+unless_memory OutOfMemory P Q f h = tt
+unless_memory _ P Q f h = f h
+
+-- where a value is due, want of memory alone refuses
+pub never_due : {Y : Type 0} (due : Y) (e : Error) (Q : Type 0) → Ok due ≡ Err e → Q
+never_due due e Q wrong = absurd (cc)
+
+pub due_refused : {Y : Type 0} (due : Y) (e : Error) (Q : Type 0) → UnlessMemory e (Ok due ≡ Err e) → UnlessMemory e Q
+due_refused due e Q h = unless_memory e (Ok due ≡ Err e) Q (never_due due e Q) h
+
+pub never_refused : {X Y : Type 0} (view : X → Y) (due : Y) (r : Result X Error) (Q : Error → Type 0) → Gives view r (Ok due) → IfErr r (λ e. UnlessMemory e (Q e))
+never_refused view due (Ok x) Q gave = tt
+never_refused view due (Err e) Q gave = due_refused due e (Q e) gave
+
+-- a regular map is written, or the writer fails
+io_alone : (m : MapValue) (e : Error) (P : Type 0) → (IsIo e → P) → RecordAnswer m (Err e) ⊎ IsIo e → P
+io_alone m e P f (inl never) = absurd never
+io_alone m e P f (inr io) = f io
+
+pub unwritten : (m : MapValue) (e : Error) (P : Type 0) → (IsIo e → P) → UnlessMemory e (RecordAnswer m (Err e) ⊎ IsIo e) → UnlessMemory e P
+unwritten m e P f h = unless_memory e (RecordAnswer m (Err e) ⊎ IsIo e) P (io_alone m e P f) h
