@@ -1,6 +1,5 @@
 // Maps that answer by their parts, and tokens that answer by texts.
 use crate::checks::check;
-use crate::samples::boxed;
 use sourcemap::errors::Result;
 use sourcemap::jsontypes::DebugId;
 use sourcemap::types::{SourceMap, Token};
@@ -86,8 +85,8 @@ fn told(alloc: Global, map: &SourceMap, question: Question) -> Result<String> {
 }
 
 fn answer(alloc: Global, question: Question) -> Result<String> {
-    let map = boxed(alloc, SourceMap::from_slice(alloc, FULL.as_bytes()))?;
-    told(alloc, &*map, question)
+    let map = SourceMap::from_slice(alloc, FULL.as_bytes())?;
+    told(alloc, &map, question)
 }
 
 // The second token leads to the second source and has no name.
