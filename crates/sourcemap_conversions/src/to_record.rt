@@ -252,8 +252,8 @@ fn ids_if_some(ids: Vec<u32>) -> Option<Vec<u32>>
     if ids.is_empty() { None } else { Some(ids) }
 }
 
-// The same id: it is sixteen bytes.
-fn checked_id(id: Option<DebugId>) -> Option<DebugId>
+/// The same id, of which a caller knows then that it is sixteen bytes.
+pub fn checked_id(id: Option<DebugId>) -> Option<DebugId>
     ensures value { result ≡ id }
     ensures bytes { IfSome result IsId }
 {

@@ -2,7 +2,6 @@
 ghost use Rattle.std.specs.Prelude.{◌≡◌, ℕ, List, Ok, IfSome, IfOk, IfErr, OnOk, map, option_map, string_bytes};
 ghost use Rattle.std.specs.List.{AllByRecursion};
 ghost use Rattle.sourcemap_errors.specs.Answer.{IsAnswer, Gives, UnlessMemory};
-ghost use Rattle.sourcemap_headers.specs.DebugId.{IsId};
 ghost use Rattle.sourcemap_records.specs.Jsontypes.{tree, flat, indexed, section, sections_from, text_view, FitsU32, AreInRange, IsFine};
 ghost use Rattle.sourcemap_regular.specs.Encode.{ReadsBack};
 ghost use Rattle.sourcemap_regular.specs.Write.{IsEncoded, IsIo};
@@ -16,6 +15,7 @@ ghost use Rattle.sourcemap_index.specs.Family.{index_value, map_tree, section_va
 use crate::clone::{copy_lines, copy_paths};
 use crate::family::{DecodedMap, SourceMapIndex, SourceMapSection};
 use serde_json::Value;
+use sourcemap_conversions::to_record::checked_id;
 use sourcemap_errors::errors::Result;
 use sourcemap_parts::text_lists::copy_text;
 use sourcemap_records::jsontypes::{DebugId, RawSection, RawSectionOffset, RawSourceMap};
@@ -235,17 +235,6 @@ fn record_with(
         x_metro_module_paths: paths,
         x_facebook_sources: None,
         debug_id: checked_id(debug_id),
-    }
-}
-
-// The same id: it is sixteen bytes.
-fn checked_id(id: Option<DebugId>) -> Option<DebugId>
-    ensures value { result ≡ id }
-    ensures bytes { IfSome result IsId }
-{
-    match id {
-        None => None,
-        Some(id) => Some(DebugId::from_uuid(id.uuid())),
     }
 }
 

@@ -1,4 +1,4 @@
 //! Maps written as records and as text.
 
 pub use sourcemap_regular::encode::Encodable;
-pub use sourcemap_regular::write::{encode, encode_to};
+pub use sourcemap_regular::write::{encode, encode_to, encode_to_vec};

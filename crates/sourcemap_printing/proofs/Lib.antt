@@ -1,4 +1,3 @@
-mod BlockLemmas
 mod PlaceLemmas
 mod QuoteLemmas
 mod WritingLemmas

@@ -1,7 +1,6 @@
 //! JSON values to their compact texts, each text in quotes and with its escapes.
 #![tactic(auto)]
 
-mod places;
 mod quoting;
 mod short;
 pub mod writing;

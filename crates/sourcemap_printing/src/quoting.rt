@@ -1,12 +1,13 @@
 //! Texts in quotes: runs of plain bytes, and an escape for each byte that ends one.
-ghost use Rattle.std.specs.Prelude.{◌≡◌, ◌<◌, ◌≤◌, [], ◌∷◌, ◌++◌, true, length, take, IfOk, OnOk};
+ghost use Rattle.std.specs.Prelude.{◌≡◌, ◌+◌, ◌<◌, ◌≤◌, [], ◌∷◌, ◌++◌, true, length, take, IfOk, OnOk};
+ghost use Rattle.json.specs.Filled.{Placed};
 ghost use Rattle.json.specs.Print.{escape, escape_byte, escape_letter, quoted};
 ghost use Rattle.std.specs.Char.{digit_char};
 ghost use Rattle.sourcemap_printing.specs.Quoting.{IsPutUpTo};
 ghost use Rattle.sourcemap_values.specs.Runs.{is_stop};
 
-use crate::places::{place_block, place_pair};
 use crate::short::{is_plain, is_short_and_plain, put_between_quotes, put_bytes};
+use sourcemap_values::places::{place_block, place_byte};
 use sourcemap_values::runs::{copy_run, stops};
 use std::alloc::AllocError;
 use std::simd::prelude::*;
@@ -127,6 +128,16 @@ fn fill(room: &mut [u8], start: usize, text: &[u8], from: usize) -> (usize, usiz
         at += 1;
     }
     (to, at)
+}
+
+// A backslash and a letter, at a place of a buffer which has room for them.
+#[inline(always)]
+fn place_pair(room: &mut [u8], to: usize, letter: u8)
+    requires { to + 2 ≤ length room.old }
+    ensures { Placed room.old room.new to (92 ∷ letter ∷ []) (to + 2) }
+{
+    place_byte(room, to, b'\\');
+    place_byte(room, to + 1, letter);
 }
 
 // Puts what stands for a byte that does not stand for itself.

@@ -7,7 +7,7 @@ ghost use Rattle.json.specs.Filled.{Placed};
 ghost use Rattle.json.specs.Print.{escape};
 ghost use Rattle.json.specs.Written.{PlainBetween};
 
-use crate::places::{place_block, place_byte};
+use sourcemap_values::places::{place_block, place_byte};
 use std::alloc::AllocError;
 use std::simd::Simd;
 

@@ -18,8 +18,10 @@ use sourcemap_printing::writing::value_to_vec;
 use std::alloc::Global;
 use std::io::Write;
 
-// The compact JSON text of the record that a map is written as.
-fn text_of<M: Encodable>(alloc: Global, map: &M) -> Result<Vec<u8>>
+/// The bytes of the compact JSON text of the record that the map is written as. The faults are those
+/// of making the record, which a regular map, a Hermes map and an index have none of, and want of
+/// memory.
+pub fn encode_to_vec<M: Encodable>(alloc: Global, map: &M) -> Result<Vec<u8>>
     ensures text { IfOk result (λ text. IsEncoded (M.encodes map.now) text.items) }
     ensures fault { IfErr result (λ e. UnlessMemory e (M.encodes map.now (Err e))) }
 {
@@ -35,7 +37,7 @@ pub fn encode_to<M: Encodable, W: Write>(alloc: Global, map: &M, writer: &mut W)
         × Appends (W.contents writer.old) (W.contents writer.new) text) }
     ensures fault { IfErr result (λ e. UnlessMemory e (M.encodes map.now (Err e) ⊎ IsIo e)) }
 {
-    let text = text_of(alloc, map)?;
+    let text = encode_to_vec(alloc, map)?;
     writer.write_all(text.as_slice())?;
     Ok(())
 }
@@ -74,7 +76,7 @@ impl SourceMap {
         ensures memory { IsOkUnless result OutOfMemory }
     {
         let alloc = self.allocator();
-        let text = text_of(alloc, self)?;
+        let text = encode_to_vec(alloc, self)?;
         // in two steps for the prover: what a call answers is known behind its `?`
         let url = data_url(alloc, text.as_slice())?;
         Ok(url)

@@ -1,6 +1,6 @@
 -- Maps that are made of tokens, written, and asked once they are read.
 use Rattle.std.proofs.Common.{◌≡◌, ◌↔◌, ◌∙◌, sym, ap, subst, ℕ, List, [], ◌∷◌, Option, None, option_map, Result, Ok, Err}
-use Rattle.sourcemap.specs.Answer.{Gives, IsAnswer, UnlessMemory}
+use Rattle.sourcemap.specs.Answer.{Gives, IsAnswer}
 use Rattle.sourcemap.specs.Due.{Gives-given}
 use Rattle.sourcemap.specs.Decoded.{map_tree}
 use Rattle.sourcemap.specs.Decoder.{AreSame, BytesDecode}
@@ -10,10 +10,11 @@ use Rattle.sourcemap.specs.TreeEncoder.{Restores}
 use Rattle.sourcemap.specs.Trees.{regular, MapTree, leaf, meaning as meaning_of}
 use Rattle.sourcemap.specs.Types.{MapValue, Meaning, made_of, meaning}
 use Rattle.sourcemap.specs.declared.errors.Error.{Error}
+use Rattle.sourcemap.specs.declared.errors.Error.TheVariants.{OutOfMemory}
 use Rattle.sourcemap.specs.declared.types.DecodedMap.{DecodedMap}
 use Rattle.sourcemap.specs.declared.types.RawToken.{RawToken}
 use Rattle.sourcemap_uses.specs.Building.{place_of}
-use Rattle.sourcemap_uses.proofs.RefusalLemmas.{unless_memory}
+use Rattle.sourcemap_uses.proofs.RefusalLemmas.{memory_alone}
 
 -- the map of one source
 pub made : (m : MapValue) (tokens : List RawToken) (names sources : List (List ℕ)) (source : List ℕ)
@@ -25,13 +26,13 @@ made m tokens names sources source gave no_names one_source =
     ∙ ap (λ sources. made_of None tokens [] sources []) one_source
 
 -- a regular map that is read back is read back as a map of any kind
-pub reads_back : (m due : MapValue) (bytes text : List ℕ) → m ≡ due → bytes ≡ text
+pub reads_back : (m due : MapValue) (text : List ℕ) → m ≡ due
     → ((back : MapValue) → BytesStandFor RegularDecodes text (Ok back) ↔ BytesDecode text (Ok (leaf (regular back))))
-    → ReadsBack (BytesStandFor RegularDecodes text) (RestoresRegular m) → ReadsBack (BytesDecode bytes) (Restores (leaf (regular due)))
-reads_back m due bytes text is same any (back, stands, restored) =
+    → ReadsBack (BytesStandFor RegularDecodes text) (RestoresRegular m) → ReadsBack (BytesDecode text) (Restores (leaf (regular due)))
+reads_back m due text is any (back, stands, restored) =
     let whole : Restores (leaf (regular m)) (leaf (regular back)) = (restored.0, restored) in (
       leaf (regular back),
-      subst (λ bytes. BytesDecode bytes (Ok (leaf (regular back)))) (sym same) ((any back).0 stands),
+      (any back).0 stands,
       subst (λ m. Restores (leaf (regular m)) (leaf (regular back))) is whole,
     )
 
@@ -45,8 +46,8 @@ place_found bytes text m map p found same (back, stands, restored) only is =
     ap (option_map place_of) (is ∙ ap (λ t. meaning_of t p) (sym read) ∙ restored.0 p)
 
 -- what was written is read unless memory runs out
-pub read_unless_memory : (bytes text : List ℕ) (m : MapValue) (e : Error) (P : Type 0)
+pub read_unless_memory : (bytes text : List ℕ) (m : MapValue) (e : Error)
     → bytes ≡ text → ReadsBack (BytesDecode text) (Restores (leaf (regular m)))
-    → ((due : Result MapTree Error) → BytesDecode bytes due → IsAnswer map_tree (AreSame due) (Err e)) → UnlessMemory e P
-read_unless_memory bytes text m e P same (back, stands, restored) only =
-    unless_memory e ⊥ P (λ never. absurd never) (only (Ok back) (subst (λ bytes. BytesDecode bytes (Ok back)) (sym same) stands))
+    → ((due : Result MapTree Error) → BytesDecode bytes due → IsAnswer map_tree (AreSame due) (Err e)) → e ≡ OutOfMemory
+read_unless_memory bytes text m e same (back, stands, restored) only =
+    memory_alone e (only (Ok back) (subst (λ bytes. BytesDecode bytes (Ok back)) (sym same) stands))

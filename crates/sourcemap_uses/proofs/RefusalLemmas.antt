@@ -1,7 +1,6 @@
 -- Refusals that are passed on.
-use Rattle.std.proofs.Common.{◌≡◌, ◌⊎◌, inl, inr, Result, Ok, Err, IfErr}
+use Rattle.std.proofs.Common.{◌≡◌, refl, Result, Ok, Err, IfErr}
 use Rattle.sourcemap.specs.Answer.{Gives, UnlessMemory}
-use Rattle.sourcemap.specs.Bytes.{IsIo}
 use Rattle.sourcemap.specs.Encoder.{RecordAnswer}
 use Rattle.sourcemap.specs.Types.{MapValue}
 use Rattle.sourcemap.specs.declared.errors.Error.{Error}
@@ -22,10 +21,11 @@ pub never_refused : {X Y : Type 0} (view : X → Y) (due : Y) (r : Result X Erro
 never_refused view due (Ok x) Q gave = tt
 never_refused view due (Err e) Q gave = due_refused due e (Q e) gave
 
--- a regular map is written, or the writer fails
-io_alone : (m : MapValue) (e : Error) (P : Type 0) → (IsIo e → P) → RecordAnswer m (Err e) ⊎ IsIo e → P
-io_alone m e P f (inl never) = absurd never
-io_alone m e P f (inr io) = f io
+-- a regular map is written, unless memory runs out
+pub unwritten : (m : MapValue) (e : Error) (P : Type 0) → UnlessMemory e (RecordAnswer m (Err e)) → UnlessMemory e P
+unwritten m e P h = unless_memory e ⊥ P (λ never. absurd never) h
 
-pub unwritten : (m : MapValue) (e : Error) (P : Type 0) → (IsIo e → P) → UnlessMemory e (RecordAnswer m (Err e) ⊎ IsIo e) → UnlessMemory e P
-unwritten m e P f h = unless_memory e (RecordAnswer m (Err e) ⊎ IsIo e) P (io_alone m e P f) h
+-- where nothing else refuses, memory ran out
+pub memory_alone : (e : Error) → UnlessMemory e ⊥ → e ≡ OutOfMemory
+memory_alone OutOfMemory h = refl
+memory_alone _ h = absurd h

@@ -49,14 +49,14 @@ pub but_details : (options : RewriteOptions) (m bare : MapValue) → options.wit
 but_details options m bare names contents prefixes =
     subst (λ removal. MeansLess removal m bare) (details options names contents prefixes)
 
-pub published_as : (m bare : MapValue) (bytes text read : List ℕ) → BytesStandFor RegularDecodes bytes (Ok m)
-    → bare ≡ rewritten no_details m → MeansLess no_details m bare → text ≡ read
-    → ReadsBack (BytesStandFor RegularDecodes read) (Restores bare) → Publishes bytes text
-published_as m bare bytes text read stands is less same (back, reads, restored) = (
+pub published_as : (m bare : MapValue) (bytes text : List ℕ) → BytesStandFor RegularDecodes bytes (Ok m)
+    → bare ≡ rewritten no_details m → MeansLess no_details m bare
+    → ReadsBack (BytesStandFor RegularDecodes text) (Restores bare) → Publishes bytes text
+published_as m bare bytes text stands is less (back, reads, restored) = (
   m,
   back,
   stands,
-  subst (λ text. BytesStandFor RegularDecodes text (Ok back)) (sym same) reads,
+  reads,
   record {
     meaning = λ p. restored.0 p ∙ means_but_names m bare less p;
     names = restored.1.names ∙ ap (λ m. m.names) is;

@@ -1,16 +1,15 @@
 //! A map that is made of tokens, written, and asked once it is read.
-ghost use Rattle.std.specs.Prelude.{◌≡◌, ◌∷◌, [], None, IfErr, IfOk, option_map};
-ghost use Rattle.sourcemap.specs.Answer.{UnlessMemory};
-ghost use Rattle.sourcemap.specs.Bytes.{IsIo};
+ghost use Rattle.std.specs.Prelude.{◌≡◌, ◌∷◌, [], None, IfOk, IsOkUnless, option_map};
 ghost use Rattle.sourcemap.specs.Decoder.{BytesDecode};
 ghost use Rattle.sourcemap.specs.Encoder.{ReadsBack};
 ghost use Rattle.sourcemap.specs.Tokens.{AllWithin};
 ghost use Rattle.sourcemap.specs.TreeEncoder.{Restores};
 ghost use Rattle.sourcemap.specs.Trees.{leaf, regular};
 ghost use Rattle.sourcemap.specs.Types.{made_of, meaning};
+ghost use Rattle.sourcemap.specs.declared.errors.Error.TheVariants.{OutOfMemory};
 ghost use Rattle.sourcemap_uses.specs.Building.{place_of};
 
-use sourcemap::encoder::encode_to;
+use sourcemap::encoder::encode_to_vec;
 use sourcemap::laws::{
     regular_maps_are_of_a_kind, well_formed_maps_are_in_order, written_maps_read_back,
 };
@@ -19,8 +18,8 @@ use sourcemap::{Result, SourceMap, decode_slice};
 use std::alloc::Global;
 
 /// Writes the map of these tokens, which all lead to one source or to none, reads what was written,
-/// and answers the line and the column in the source of a position of the generated text. Refused
-/// as `written` is: what was written is read.
+/// and answers the line and the column in the source of a position of the generated text. Only want
+/// of memory refuses: what was written is read.
 pub fn place_once_written(
     alloc: Global,
     source: &str,
@@ -31,7 +30,7 @@ pub fn place_once_written(
     requires { AllWithin 1 0 tokens.items }
     ensures place { IfOk result (λ found. found ≡ option_map place_of
         (meaning (made_of None tokens.items [] (source.now ∷ []) []) (line, col))) }
-    ensures fault { IfErr result (λ e. UnlessMemory e (IsIo e)) }
+    ensures memory { IsOkUnless result OutOfMemory }
 {
     well_formed_maps_are_in_order();
     let text = written(alloc, source, tokens)?;
@@ -43,19 +42,18 @@ pub fn place_once_written(
 }
 
 /// The bytes of the map of these tokens, which all lead to one source or to none. Whoever reads
-/// them gets that map back, but for repeats among its tokens. Only want of memory refuses; the
-/// clause does not rule out `Io`, for a writer's fault, though these bytes are written to memory.
+/// them gets that map back, but for repeats among its tokens. Only want of memory refuses.
 pub fn written(alloc: Global, source: &str, tokens: Vec<RawToken>) -> Result<Vec<u8>>
     requires { AllWithin 1 0 tokens.items }
     ensures reads_back { IfOk result (λ text. ReadsBack (BytesDecode text.items)
         (Restores (leaf (regular (made_of None tokens.items [] (source.now ∷ []) []))))) }
-    ensures fault { IfErr result (λ e. UnlessMemory e (IsIo e)) }
+    ensures memory { IsOkUnless result OutOfMemory }
 {
     written_maps_read_back();
     regular_maps_are_of_a_kind();
     let sources = vec![in alloc; String::from_str(alloc, source)?]?;
     let map = SourceMap::new(alloc, None, tokens, Vec::new(alloc), sources, None)?;
-    let mut text = Vec::new(alloc);
-    encode_to(alloc, &map, &mut text)?;
+    // in two steps for the prover: what a call answers is known behind its `?`
+    let text = encode_to_vec(alloc, &map)?;
     Ok(text)
 }

@@ -3,7 +3,7 @@ mod Lexemes
 mod Numerals
 mod Tokens
 mod EscapeLemmas
-mod ReadLemmas
-mod RunLemmas
+pub mod ReadLemmas
+pub mod RunLemmas
 mod TextLemmas
 mod Turns

@@ -104,9 +104,6 @@ module _ (text : List ℕ) (at n : ℕ) (room : at + n ≤ length text) where
       let long = length-chunk at n text room in
       omega (arith, long, run_ends_within part some, trailing_mask_l is_stop 64 part (omega (arith, long)) some)
 
-  pub stop_within : n ≤ 64 → 0 < mask_l (map is_stop (chunk at n text)) → count_trailing_zeros 64 (mask_l (map is_stop (chunk at n text))) ≤ n
-  stop_within few some = omega (arith, stop_inside few some)
-
 pub run_within : (text : List ℕ) (at : ℕ) → at ≤ length text → at + prefix_len is_plain (drop at text) ≤ length text
 run_within text at h = omega (arith, prefix_len-le-length is_plain (drop at text), length-drop at text)
 

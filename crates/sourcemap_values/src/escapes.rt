@@ -7,7 +7,7 @@ ghost use Rattle.json.specs.Filled.{Placed};
 ghost use Rattle.sourcemap_values.specs.Texts.{IsReadUpTo, Says, SpellsByte, SpellsUnit};
 
 use crate::bytes::byte_at;
-use crate::filling::place_byte;
+use crate::places::place_byte;
 
 /// Puts the character that the escape at a place stands for into the room behind `to`. The answer is
 /// how far each came.

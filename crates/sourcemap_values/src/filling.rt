@@ -6,6 +6,7 @@ ghost use Rattle.sourcemap_values.specs.Runs.{is_stop};
 ghost use Rattle.sourcemap_values.specs.Texts.{IsReadUpTo};
 
 use crate::escapes::short_escape_at;
+use crate::places::{place_block, place_byte};
 use crate::runs::{block_stops, is_plain, stops};
 use std::simd::prelude::*;
 
@@ -76,7 +77,7 @@ fn fill_block(
     let mut at = from;
     let mut left = stops;
     loop {
-        place_block(room, to, &text[at..]);
+        place_block::<64>(room, to, &text[at..]);
         if left == 0 {
             let rest = end.saturating_sub(at);
             return (to + rest, at + rest, true);
@@ -108,7 +109,7 @@ pub(crate) fn fill_run(room: &mut [u8], start: usize, text: &[u8], from: usize) 
     let mut at = from;
     while text.len() - at >= 32 && room.len() - to >= 32 {
         let stops = stops(u8x32::from_slice(&text[at..]));
-        place_half(room, to, &text[at..]);
+        place_block::<32>(room, to, &text[at..]);
         if stops != 0 {
             let plain = stops.trailing_zeros() as usize;
             return (to + plain, at + plain);
@@ -137,31 +138,4 @@ fn fill_by_bytes(room: &mut [u8], start: usize, text: &[u8], from: usize) -> (us
         at += 1;
     }
     (to, at)
-}
-
-// The first 64 bytes, with no look at which of them count.
-#[inline(always)]
-fn place_block(room: &mut [u8], to: usize, text: &[u8])
-    requires { (64 ≤ length text.now) × (to + 64 ≤ length room.old) }
-    ensures { Placed room.old room.new to (take 64 text.now) (to + 64) }
-{
-    u8x64::from_slice(text).copy_to_slice(&mut room[to..]);
-}
-
-// The first 32 bytes, likewise.
-#[inline(always)]
-fn place_half(room: &mut [u8], to: usize, text: &[u8])
-    requires { (32 ≤ length text.now) × (to + 32 ≤ length room.old) }
-    ensures { Placed room.old room.new to (take 32 text.now) (to + 32) }
-{
-    u8x32::from_slice(text).copy_to_slice(&mut room[to..]);
-}
-
-/// Puts a byte at a place.
-#[inline(always)]
-pub(crate) fn place_byte(room: &mut [u8], to: usize, byte: u8)
-    requires { to < length room.old }
-    ensures { Placed room.old room.new to (byte ∷ []) (to + 1) }
-{
-    room[to] = byte;
 }

@@ -5,6 +5,7 @@ mod bytes;
 mod cursor;
 mod escapes;
 mod filling;
+pub mod places;
 pub mod runs;
 mod stop;
 mod texts;

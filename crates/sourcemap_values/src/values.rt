@@ -53,8 +53,10 @@ fn known(alloc: Global, text: &str) -> Result<Value, Stop>
 }
 
 /// The value that begins with the step `first`, behind which the cursor stands, of at most `depth`
-/// levels.
+/// levels. It stands inline in the loops over items and members, so that a text or a number takes
+/// no call of its own.
 #[cycle(read)]
+#[inline(always)]
 fn read(alloc: Global, first: Step, cursor: &mut Cursor<'_>, depth: usize) -> Result<Value, Stop>
     ensures { IfOk result (λ v. (old : List Token) → Takes old first cursor.old
         → BeginsWithValue depth old (view v) cursor.new) }
@@ -82,6 +84,7 @@ fn read(alloc: Global, first: Step, cursor: &mut Cursor<'_>, depth: usize) -> Re
 
 /// The items of an array whose opening bracket has been read, and its closing one.
 #[cycle(read)]
+#[inline(never)]
 fn read_items(alloc: Global, cursor: &mut Cursor<'_>, depth: usize) -> Result<Vec<Value>, Stop>
     ensures { IfOk result (λ v. BeginsWithItems depth (length cursor.old) cursor.old
         (items_view v.items) cursor.new) }
@@ -102,6 +105,7 @@ fn read_items(alloc: Global, cursor: &mut Cursor<'_>, depth: usize) -> Result<Ve
 /// The members of an object whose opening bracket has been read, and its closing one. Of doubled
 /// keys the last one's value stays.
 #[cycle(read)]
+#[inline(never)]
 fn read_members(
     alloc: Global,
     cursor: &mut Cursor<'_>,

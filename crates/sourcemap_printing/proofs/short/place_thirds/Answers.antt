@@ -1,6 +1,7 @@
 use Rattle.std.proofs.Common.{◌≡◌, ◌+◌, ◌-◌, ◌≤◌, length, take, subst, arith, rules, take_all}
 use Rattle.json.specs.Filled.{Placed}
-use Rattle.sourcemap_printing.proofs.PlaceLemmas.{placed_on, rest_placed}
+use Rattle.sourcemap_printing.proofs.PlaceLemmas.{placed_on}
+use Rattle.sourcemap_values.proofs.ReadLemmas.{rest_placed}
 use Rattle.sourcemap_printing.proofs.short.place_thirds.Goals as goal
 
 pub returns : goal.returns

@@ -1,7 +1,6 @@
 -- What was read says what was written.
 use Rattle.std.proofs.Common.{◌∙◌, ap, [], ◌∷◌, Some, None}
 use Rattle.std.proofs.lemmas.Result.{err_from_is_err_and}
-use Rattle.sourcemap.specs.Bytes.{IsIo}
 use Rattle.sourcemap.specs.Decoded.{map_tree}
 use Rattle.sourcemap.specs.Token.{answers}
 use Rattle.sourcemap.specs.Types.{made_of}
@@ -21,14 +20,8 @@ returns-clause-place c =
     c.as_slice.ensures.value c.in_ok-text.ensures.reads_back c.in_ok-map.ensures.only
     (c.in-Some.ensures.meaning (c.well_formed_maps_are_in_order.ensures (map_tree c.in_ok-map.map) c.in_ok-map.ensures.well_formed))
 
-pub returns-in_err-map-clause-fault : goal.returns-in_err-map-clause-fault
-returns-in_err-map-clause-fault c =
-    let e = c.in_err-map.field-0.0 in
+pub returns-in_err-map-clause-memory : goal.returns-in_err-map-clause-memory
+returns-in_err-map-clause-memory c =
     let p = err_from_is_err_and c.from_residual-in_err-map.result c.from_residual-in_err-map.ensures.1 in
-    rw (p.1, p.2) (read_unless_memory c.as_slice.result.now _ (made_of None c.args.tokens.items [] (c.args.source.now ∷ []) []) e (IsIo e)
+    rw (p.1, p.2) (read_unless_memory c.as_slice.result.now _ (made_of None c.args.tokens.items [] (c.args.source.now ∷ []) []) c.in_err-map.field-0.0
     c.as_slice.ensures.value c.in_ok-text.ensures.reads_back c.in_err-map.ensures.only)
-
-pub returns-in_err-text-clause-fault : goal.returns-in_err-text-clause-fault
-returns-in_err-text-clause-fault c =
-    let p = err_from_is_err_and c.from_residual.result c.from_residual.ensures.1 in
-    rw (p.1, p.2) c.in_err-text.ensures.fault

@@ -1,5 +1,5 @@
 use Rattle.std.proofs.Common.{◌≡◌, ◌+◌, ◌-◌, ◌≤◌, ◌++◌, length, take, drop, sym, ap, ◌∙◌, arith}
-use Rattle.sourcemap_values.proofs.RunLemmas.{copied_more, cut_back, run_goes_on, run_stops, run_within, stop_within}
+use Rattle.sourcemap_values.proofs.RunLemmas.{copied_more, cut_back, run_goes_on, run_stops, run_within, stop_inside}
 use Rattle.sourcemap_values.proofs.runs.copy_run.Goals as goal
 use lib.Count.{count_trailing_zeros}
 
@@ -23,7 +23,7 @@ returns-then-stops-ne0-clause-copied c =
     let said = c.loop-at.said.items in
     let run = run_stops text at 32 (omega arith) (omega arith) (omega (arith, c.stops-stops.ensures)) ∙ ap (count_trailing_zeros 64) (sym c.stops-stops.ensures) in
     let mask = c.stops-stops.ensures in
-    let few : n ≤ 32 = omega (arith, stop_within text at 32 (omega arith) (omega arith) (omega (arith, mask)), ap (count_trailing_zeros 64) mask) in
+    let few : n ≤ 32 = omega (arith, stop_inside text at 32 (omega arith) (omega arith) (omega (arith, mask)), ap (count_trailing_zeros 64) mask) in
     let width : at + 32 - at ≡ 32 = omega arith in
     let whole : c.extend_from_slice.new.self.items ≡ said ++ take 32 (drop at text) = c.in_ok-extend_from_slice.ensures.items ∙ ap (λ k. said ++ take k (drop at text)) width in
     let length_before : c.len-before.result ≡ length said = omega (arith, c.len-before.ensures) in

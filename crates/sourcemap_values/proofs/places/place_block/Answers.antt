@@ -1,6 +1,6 @@
 use Rattle.std.proofs.Common.{◌≡◌, length, take, arith, length-take-le}
 use Rattle.std.proofs.lemmas.Simd.{take_more_put_chunk, length-put_chunk}
-use Rattle.sourcemap_printing.proofs.places.place_block.Goals as goal
+use Rattle.sourcemap_values.proofs.places.place_block.Goals as goal
 
 pub returns : goal.returns
 returns g c =

@@ -1,7 +1,7 @@
 use Rattle.std.proofs.Common.{◌≡◌, ◌+◌, ◌∷◌, [], subst, arith}
 use Rattle.json.specs.Filled.{Placed}
 use Rattle.json.proofs.Printed.Places.{Placed-then}
-use Rattle.sourcemap_printing.proofs.places.place_pair.Goals as goal
+use Rattle.sourcemap_printing.proofs.quoting.place_pair.Goals as goal
 
 pub returns : goal.returns
 returns c =
