@@ -1,7 +1,7 @@
 // Maps that are adjusted by others.
 use crate::checks::check;
-use crate::lookups::token_told;
-use crate::samples::{NONE, Row, made, written};
+use crate::lookups::{looked_up, token_told};
+use crate::samples::{Made, NONE, Row, boxed, made, written};
 use sourcemap::errors::{Error, Result};
 use sourcemap::types::{RawToken, SourceMap, Token};
 use std::alloc::Global;
@@ -94,28 +94,30 @@ const ADJUSTED: [(&[Row], &[Row], (u32, u32), &str); 13] = [
 ];
 
 // A map of one source and two names, which those of the adjustment are not to take the place of.
-fn original(alloc: Global, rows: &[Row]) -> Result<SourceMap> {
+fn original(alloc: Global, rows: &[Row]) -> Made {
     made(alloc, rows, &["k", "m"], &["o.js"])
 }
 
-fn adjusted(alloc: Global, originals: &[Row], adjustments: &[Row]) -> Result<SourceMap> {
-    let mut map = original(alloc, originals)?;
-    let adjustment = made(alloc, adjustments, &["n"], &["t.js"])?;
-    map.adjust_mappings(&adjustment)?;
-    Ok(map)
+fn adjustment(alloc: Global, rows: &[Row]) -> Made {
+    made(alloc, rows, &["n"], &["t.js"])
 }
 
-fn looked_up(alloc: Global, map: Result<SourceMap>, place: (u32, u32)) -> Result<String> {
-    let map = map?;
-    token_told(alloc, map.lookup_token(place.0, place.1))
+fn adjust(alloc: Global, map: &mut SourceMap, adjustments: &[Row]) -> Result<()> {
+    map.adjust_mappings(&*adjustment(alloc, adjustments)?)
+}
+
+fn adjusted(alloc: Global, originals: &[Row], adjustments: &[Row]) -> Made {
+    let mut map = original(alloc, originals)?;
+    adjust(alloc, &mut *map, adjustments)?;
+    Ok(map)
 }
 
 #[test]
 fn adjusted_maps_are_looked_up(rt: HostRuntime) {
     let alloc = rt.alloc();
-    for (originals, adjustments, place, want) in ADJUSTED.iter() {
+    for (originals, adjustments, (line, col), want) in ADJUSTED.iter() {
         let map = adjusted(alloc, originals, adjustments);
-        check(&rt, want, looked_up(alloc, map, *place), want);
+        check(&rt, want, looked_up(alloc, map, *line, *col), want);
     }
 }
 
@@ -306,11 +308,14 @@ fn push_tokens(told: &mut String, map: &SourceMap) -> Result<()> {
     Ok(())
 }
 
-fn tokens_told(alloc: Global, map: Result<SourceMap>) -> Result<String> {
-    let map = map?;
+fn tokens_told(alloc: Global, map: &SourceMap) -> Result<String> {
     let mut told = String::new(alloc);
-    push_tokens(&mut told, &map)?;
+    push_tokens(&mut told, map)?;
     Ok(told)
+}
+
+fn tokens_of(alloc: Global, map: Made) -> Result<String> {
+    tokens_told(alloc, &*map?)
 }
 
 #[test]
@@ -318,7 +323,7 @@ fn adjusted_maps_have_these_tokens_and_no_others(rt: HostRuntime) {
     let alloc = rt.alloc();
     for (about, originals, adjustments, want) in LISTS.iter() {
         let map = adjusted(alloc, originals, adjustments);
-        check(&rt, about, tokens_told(alloc, map), want);
+        check(&rt, about, tokens_of(alloc, map), want);
     }
 }
 
@@ -391,33 +396,22 @@ fn meaning_told(alloc: Global, token: Option<Token<'_>>) -> Result<String> {
     Ok(format!(in alloc; "{text}{mark}")?)
 }
 
-// What both maps say, each of its place, if they say the same.
-fn told_alike(
-    alloc: Global,
-    maps: (&SourceMap, &SourceMap),
-    places: [(u32, u32); 2],
-) -> Result<String> {
-    let [(line, col), (old_line, old_col)] = places;
-    let text = meaning_told(alloc, maps.0.lookup_token(line, col))?;
-    let old_text = meaning_told(alloc, maps.1.lookup_token(old_line, old_col))?;
-    if text.as_str() == old_text.as_str() {
-        Ok(text)
-    } else {
-        Ok(format!(in alloc; "{old_text} has become {text}")?)
-    }
-}
-
-fn alike(alloc: Global, tokens: [&[Row]; 2], places: [(u32, u32); 2]) -> Result<String> {
-    let [originals, adjustments] = tokens;
-    let map = adjusted(alloc, originals, adjustments)?;
-    let before = original(alloc, originals)?;
-    told_alike(alloc, (&map, &before), places)
+fn meaning(alloc: Global, map: Made, (line, col): (u32, u32)) -> Result<String> {
+    let map = map?;
+    meaning_told(alloc, map.lookup_token(line, col))
 }
 
 #[test]
 fn places_that_are_moved_mean_what_they_meant(rt: HostRuntime) {
+    let alloc = rt.alloc();
     for (about, tokens, places, want) in ALIKE.iter() {
-        check(&rt, about, alike(rt.alloc(), *tokens, *places), want);
+        // in steps for the prover, which does not follow an array's parts within a pattern
+        let [originals, adjustments] = *tokens;
+        let [place, old_place] = *places;
+        let old_meaning = meaning(alloc, original(alloc, originals), old_place);
+        check(&rt, about, old_meaning, want);
+        let map = adjusted(alloc, originals, adjustments);
+        check(&rt, about, meaning(alloc, map, place), want);
     }
 }
 
@@ -454,22 +448,30 @@ fn adjusted_maps_are_written(rt: HostRuntime) {
 }
 
 // Whether a refused map is as it was. Where memory runs out, the call is made again.
-fn refused_beside(map: &mut SourceMap, before: &SourceMap, by: &SourceMap) -> Result<bool> {
+fn is_refused(map: &mut SourceMap, before: &SourceMap, by: &SourceMap) -> bool {
     let mut outcome = map.adjust_mappings(by);
     if matches!(outcome, Err(Error::OutOfMemory)) {
         if *map != *before {
-            return Ok(false);
+            return false;
         }
         outcome = map.adjust_mappings(by);
     }
-    Ok(matches!(outcome, Err(Error::IncompatibleSourceMap)) && *map == *before)
+    matches!(outcome, Err(Error::IncompatibleSourceMap)) && *map == *before
+}
+
+fn is_refused_by_last(alloc: Global, map: &mut SourceMap, before: &SourceMap) -> Result<bool> {
+    let by = adjustment(alloc, &LAST)?;
+    Ok(is_refused(map, before, &*by))
+}
+
+fn is_refused_at(alloc: Global, map: &mut SourceMap) -> Result<bool> {
+    let before = boxed(alloc, map.clone())?;
+    is_refused_by_last(alloc, map, &*before)
 }
 
 fn refused(alloc: Global) -> Result<String> {
     let mut map = original(alloc, &NEIGHBOURS)?;
-    let before = map.clone()?;
-    let adjustment = made(alloc, &LAST, &["n"], &["t.js"])?;
-    let is_as_before = refused_beside(&mut map, &before, &adjustment)?;
+    let is_as_before = is_refused_at(alloc, &mut *map)?;
     Ok(format!(in alloc; "{is_as_before}")?)
 }
 

@@ -1,5 +1,6 @@
 // Maps that answer by their parts, and tokens that answer by texts.
 use crate::checks::check;
+use crate::samples::boxed;
 use sourcemap::errors::Result;
 use sourcemap::jsontypes::DebugId;
 use sourcemap::types::{SourceMap, Token};
@@ -85,8 +86,8 @@ fn told(alloc: Global, map: &SourceMap, question: Question) -> Result<String> {
 }
 
 fn answer(alloc: Global, question: Question) -> Result<String> {
-    let map = SourceMap::from_slice(alloc, FULL.as_bytes())?;
-    told(alloc, &map, question)
+    let map = boxed(alloc, SourceMap::from_slice(alloc, FULL.as_bytes()))?;
+    told(alloc, &*map, question)
 }
 
 // The second token leads to the second source and has no name.

@@ -1,6 +1,6 @@
 // Maps that are changed, step by step.
 use crate::checks::check;
-use crate::samples::{mixed, written};
+use crate::samples::{Made, boxed, mixed, written};
 use sourcemap::errors::{Error, Result};
 use sourcemap::types::SourceMap;
 use std::alloc::Global;
@@ -82,27 +82,27 @@ fn mark_beside(map: &mut SourceMap, before: &SourceMap, change: &Change<'_>) -> 
     Ok(if *map == *before { '=' } else { '+' })
 }
 
-fn mark(map: &mut SourceMap, change: &Change<'_>) -> Result<char> {
-    let before = map.clone()?;
-    mark_beside(map, &before, change)
+fn mark(alloc: Global, map: &mut SourceMap, change: &Change<'_>) -> Result<char> {
+    let before = boxed(alloc, map.clone())?;
+    mark_beside(map, &*before, change)
 }
 
 fn marks(alloc: Global, map: &mut SourceMap, changes: &[Change<'_>]) -> Result<String> {
     let mut marks = String::new(alloc);
     for change in changes {
-        marks.push(mark(map, change)?)?;
+        marks.push(mark(alloc, map, change)?)?;
     }
     Ok(marks)
 }
 
-fn marked(alloc: Global, map: Result<SourceMap>) -> Result<String> {
+fn marked(alloc: Global, map: Made) -> Result<String> {
     let mut map = map?;
-    marks(alloc, &mut map, &CHANGES)
+    marks(alloc, &mut *map, &CHANGES)
 }
 
-fn changed(map: Result<SourceMap>, changes: &[Change<'_>]) -> Result<SourceMap> {
+fn changed(map: Made, changes: &[Change<'_>]) -> Made {
     let mut map = map?;
-    make_all(&mut map, changes)?;
+    make_all(&mut *map, changes)?;
     Ok(map)
 }
 
@@ -166,11 +166,14 @@ fn push_lists(told: &mut String, map: &SourceMap) -> Result<()> {
     push_names(told, map)
 }
 
-fn lists_told(alloc: Global, map: Result<SourceMap>) -> Result<String> {
-    let map = map?;
+fn lists_told(alloc: Global, map: &SourceMap) -> Result<String> {
     let mut told = String::new(alloc);
-    push_lists(&mut told, &map)?;
+    push_lists(&mut told, map)?;
     Ok(told)
+}
+
+fn lists_of(alloc: Global, map: Made) -> Result<String> {
+    lists_told(alloc, &*map?)
 }
 
 // A root, and the lists of the map behind it.
@@ -191,7 +194,7 @@ fn sources_are_shown_behind_the_root(rt: HostRuntime) {
     let alloc = rt.alloc();
     for (root, want) in SHOWN.iter() {
         let map = changed(mixed(alloc), &[Change::Root(root)]);
-        check(&rt, want, lists_told(alloc, map), want);
+        check(&rt, want, lists_of(alloc, map), want);
     }
 }
 
@@ -199,5 +202,5 @@ fn sources_are_shown_behind_the_root(rt: HostRuntime) {
 fn lists_hold_what_was_changed(rt: HostRuntime) {
     let want = "root/a.js root/b.js http:a https:a root/a.js | - - text - - | 1 3 | ";
     let map = changed(mixed(rt.alloc()), &CHANGES);
-    check(&rt, want, lists_told(rt.alloc(), map), want);
+    check(&rt, want, lists_of(rt.alloc(), map), want);
 }

@@ -1,10 +1,9 @@
 // Maps of tokens that are looked up, written as records, and looked up as they are read back.
 use crate::checks::check;
-use crate::samples::{bare, ranged, readme, written};
+use crate::samples::{Made, bare, boxed, ranged, readme, record_of, written};
 use sourcemap::decoder::decode_regular;
-use sourcemap::encoder::Encodable;
 use sourcemap::errors::Result;
-use sourcemap::types::{SourceMap, Token};
+use sourcemap::types::Token;
 use std::alloc::Global;
 
 // A place, and what is printed there.
@@ -34,13 +33,15 @@ pub fn token_told(alloc: Global, token: Option<Token<'_>>) -> Result<String> {
     }
 }
 
-fn looked_up(alloc: Global, map: Result<SourceMap>, line: u32, col: u32) -> Result<String> {
+/// What a map prints at a place.
+pub fn looked_up(alloc: Global, map: Made, line: u32, col: u32) -> Result<String> {
     let map = map?;
     token_told(alloc, map.lookup_token(line, col))
 }
 
-fn read_back(alloc: Global, map: Result<SourceMap>) -> Result<SourceMap> {
-    decode_regular(alloc, map?.as_raw_sourcemap()?)
+fn read_back(alloc: Global, map: Made) -> Made {
+    let record = record_of(map)?;
+    boxed(alloc, decode_regular(alloc, record))
 }
 
 #[test]

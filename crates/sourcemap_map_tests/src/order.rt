@@ -1,6 +1,6 @@
 // Tokens in their order: compared, sought and printed.
 use crate::checks::check;
-use crate::samples::mixed;
+use crate::samples::{Made, mixed};
 use sourcemap::errors::Result;
 use sourcemap::types::{SourceMap, Token, TokenIter};
 use std::alloc::Global;
@@ -14,14 +14,17 @@ fn compared(map: &SourceMap) -> Option<(bool, bool, bool)> {
     Some((first == second, is_same_raw, second < third))
 }
 
-fn compared_told(alloc: Global, map: Result<SourceMap>) -> Result<String> {
-    let map = map?;
-    Ok(format!(in alloc; "{:?}", compared(&map))?)
+fn compared_told(alloc: Global, map: &SourceMap) -> Result<String> {
+    Ok(format!(in alloc; "{:?}", compared(map))?)
+}
+
+fn mixed_compared(alloc: Global) -> Result<String> {
+    compared_told(alloc, &*mixed(alloc)?)
 }
 
 #[test]
 fn tokens_are_ordered_by_their_answers(rt: HostRuntime) {
-    let answer = compared_told(rt.alloc(), mixed(rt.alloc()));
+    let answer = mixed_compared(rt.alloc());
     check(&rt, "order", answer, "Some((true, false, true))");
 }
 
@@ -46,11 +49,14 @@ fn next_told(alloc: Global, found: bool, mut left: TokenIter<'_>) -> Result<Stri
     }
 }
 
-fn sought(alloc: Global, map: Result<SourceMap>, line: u32, col: u32) -> Result<String> {
-    let map = map?;
+fn sought(alloc: Global, map: &SourceMap, line: u32, col: u32) -> Result<String> {
     let mut left = map.tokens();
     let found = left.seek(line, col);
     next_told(alloc, found, left)
+}
+
+fn sought_in(alloc: Global, map: Made, line: u32, col: u32) -> Result<String> {
+    sought(alloc, &*map?, line, col)
 }
 
 #[test]
@@ -59,7 +65,7 @@ fn seeking_goes_on_behind_the_closest_token(rt: HostRuntime) {
         check(
             &rt,
             about,
-            sought(rt.alloc(), mixed(rt.alloc()), *line, *col),
+            sought_in(rt.alloc(), mixed(rt.alloc()), *line, *col),
             want,
         );
     }
@@ -88,7 +94,7 @@ fn printed(alloc: Global, token: Option<Token<'_>>) -> Result<String> {
     }
 }
 
-fn printed_at(alloc: Global, map: Result<SourceMap>, line: u32, col: u32) -> Result<String> {
+fn printed_at(alloc: Global, map: Made, line: u32, col: u32) -> Result<String> {
     let map = map?;
     printed(alloc, map.lookup_token(line, col))
 }

@@ -1,7 +1,15 @@
-// Maps that are made of parts.
+// Maps that are made of parts, and what maps are written as.
+ghost use Rattle.std.specs.Prelude.{◌≤◌, IfOk, vec_len};
+
+use serde_json::Value;
+use sourcemap::encoder::Encodable;
 use sourcemap::errors::{Error, Result};
+use sourcemap::jsontypes::RawSourceMap;
 use sourcemap::types::{RawToken, SourceMap};
 use std::alloc::Global;
+
+/// A map that was made, if it could be. It is in a box, as `boxed` says.
+pub type Made = Result<Box<SourceMap>>;
 
 /// The id that names nothing, and the line and column of no source.
 pub const NONE: u32 = u32::MAX;
@@ -44,39 +52,58 @@ const BARE: [Row; 2] = [
     ((0, 0), (NONE, NONE, NONE), NONE, false),
 ];
 
-pub fn readme(alloc: Global) -> Result<SourceMap> {
+/// What was made, in a box. The prover takes what lets a box go as one step, and what lets a map go as
+/// one for each of its parts, on each way out of a function.
+pub fn boxed<T: Drop>(alloc: Global, made: Result<T>) -> Result<Box<T>> {
+    Ok(Box::new(alloc, made?)?)
+}
+
+pub fn readme(alloc: Global) -> Made {
     made(alloc, &README, &["x", "alert"], &["coolstuff.js"])
 }
 
-pub fn ranged(alloc: Global) -> Result<SourceMap> {
+pub fn ranged(alloc: Global) -> Made {
     made(alloc, &RANGED, &[], &["coolstuff.js"])
 }
 
-pub fn mixed(alloc: Global) -> Result<SourceMap> {
+pub fn mixed(alloc: Global) -> Made {
     let sources = ["a.js", "/a.js", "http:a", "https:a", "a.js"];
     made(alloc, &MIXED, &["n"], &sources)
 }
 
-pub fn bare(alloc: Global) -> Result<SourceMap> {
+pub fn bare(alloc: Global) -> Made {
     made(alloc, &BARE, &[], &[])
 }
 
 /// A map of these tokens, names and sources.
-pub fn made(alloc: Global, rows: &[Row], names: &[&str], sources: &[&str]) -> Result<SourceMap> {
-    let names = texts(alloc, names)?;
-    let sources = texts(alloc, sources)?;
-    if names.len() > 9 || sources.len() > 9 {
-        return Err(Error::IncompatibleSourceMap);
-    }
-    SourceMap::new(alloc, Some("f"), tokens(alloc, rows)?, names, sources, None)
+pub fn made(alloc: Global, rows: &[Row], names: &[&str], sources: &[&str]) -> Made {
+    boxed(alloc, map_of(alloc, rows, names, sources))
 }
 
-fn texts(alloc: Global, all: &[&str]) -> Result<Vec<String>> {
-    let mut texts = Vec::new(alloc);
-    for text in all {
-        texts.push(String::from_str(alloc, text)?)?;
+fn map_of(alloc: Global, rows: &[Row], names: &[&str], sources: &[&str]) -> Result<SourceMap> {
+    let tokens = tokens(alloc, rows)?;
+    let names = texts(alloc, names)?;
+    let sources = texts(alloc, sources)?;
+    SourceMap::new(alloc, Some("f"), tokens, names, sources, None)
+}
+
+// These texts, of which there may be nine.
+fn texts(alloc: Global, all: &[&str]) -> Result<Vec<String>>
+    ensures { IfOk result (λ texts. vec_len texts ≤ 9) }
+{
+    let texts = copies(alloc, all)?;
+    if texts.len() > 9 {
+        return Err(Error::IncompatibleSourceMap);
     }
     Ok(texts)
+}
+
+fn copies(alloc: Global, all: &[&str]) -> Result<Vec<String>> {
+    let mut copies = Vec::new(alloc);
+    for text in all {
+        copies.push(String::from_str(alloc, text)?)?;
+    }
+    Ok(copies)
 }
 
 fn tokens(alloc: Global, rows: &[Row]) -> Result<Vec<RawToken>> {
@@ -100,11 +127,20 @@ fn token(row: Row) -> RawToken {
     }
 }
 
-/// The text of a map.
-pub fn written(alloc: Global, map: Result<SourceMap>) -> Result<String> {
-    Ok(
-        map?.into_raw_sourcemap()?
-            .into_value(alloc)?
-            .to_string(alloc)?,
-    )
+/// The record of a map.
+pub fn record_of(map: Made) -> Result<RawSourceMap> {
+    map?.as_raw_sourcemap()
+}
+
+/// The text of a map, by the record of one that is given away.
+pub fn written(alloc: Global, map: Made) -> Result<String> {
+    record_written(alloc, Box::into_inner(map?).into_raw_sourcemap())
+}
+
+pub fn record_written(alloc: Global, record: Result<RawSourceMap>) -> Result<String> {
+    value_written(alloc, record?.into_value(alloc))
+}
+
+pub fn value_written(alloc: Global, value: Result<Value>) -> Result<String> {
+    Ok(value?.to_string(alloc)?)
 }

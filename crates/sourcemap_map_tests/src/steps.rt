@@ -1,6 +1,6 @@
 // Lookups whose comparisons are counted.
 use crate::checks::check;
-use crate::samples::NONE;
+use crate::samples::{Made, NONE, boxed};
 use sourcemap::errors::Result;
 use sourcemap::types::{RawToken, SourceMap};
 use std::alloc::Global;
@@ -23,7 +23,7 @@ fn token(place: (u32, u32), src_col: u32) -> RawToken {
 }
 
 // A map of as many tokens at line 0, column 0, known by their numbers from 0.
-fn equal_tokens(alloc: Global, count: u32) -> Result<SourceMap> {
+fn equal_tokens(alloc: Global, count: u32) -> Made {
     let mut tokens = Vec::new(alloc);
     for src_col in 0..count {
         tokens.push(token((0, 0), src_col))?;
@@ -35,7 +35,7 @@ fn equal_tokens(alloc: Global, count: u32) -> Result<SourceMap> {
 const PLACES: [(u32, u32); 2] = [(0, 3), (2, 5)];
 
 // A map of tokens at these places, known by their numbers from 0.
-fn two_lines(alloc: Global) -> Result<SourceMap> {
+fn two_lines(alloc: Global) -> Made {
     let mut tokens = Vec::new(alloc);
     for (at, place) in PLACES.iter().enumerate() {
         tokens.push(token(*place, at as u32))?;
@@ -45,7 +45,7 @@ fn two_lines(alloc: Global) -> Result<SourceMap> {
 
 // A map of five tokens at columns 0 to 4 of line 0, and of 3,000 at each third column of line 2, known
 // by their numbers from 0.
-fn long_line(alloc: Global) -> Result<SourceMap> {
+fn long_line(alloc: Global) -> Made {
     let mut tokens = Vec::new(alloc);
     for number in 0..5 {
         tokens.push(token((0, number), number))?;
@@ -56,10 +56,11 @@ fn long_line(alloc: Global) -> Result<SourceMap> {
     map_of(alloc, tokens)
 }
 
-fn map_of(alloc: Global, tokens: Vec<RawToken>) -> Result<SourceMap> {
+fn map_of(alloc: Global, tokens: Vec<RawToken>) -> Made {
     let names = Vec::new(alloc);
     let sources = Vec::new(alloc);
-    SourceMap::new(alloc, None, tokens, names, sources, None)
+    let map = SourceMap::new(alloc, None, tokens, names, sources, None);
+    boxed(alloc, map)
 }
 
 // The closest token, and whether it took as many comparisons as it may.
@@ -71,8 +72,8 @@ fn counted(alloc: Global, map: &SourceMap, row: &Counted) -> Result<String> {
     Ok(format!(in alloc; "{col:?} {is_counted}")?)
 }
 
-fn told(alloc: Global, map: Result<SourceMap>, row: &Counted) -> Result<String> {
-    counted(alloc, &map?, row)
+fn told(alloc: Global, map: Made, row: &Counted) -> Result<String> {
+    counted(alloc, &*map?, row)
 }
 
 const AMONG_NONE: [Counted; 2] = [

@@ -1,21 +1,27 @@
 // What maps are written as, on each way that leads there, and writers that take little or fail.
 use crate::checks::check;
+use crate::samples::{Made, boxed, record_of, record_written, value_written, written};
 use serde_json::Value;
 use sourcemap::decoder::decode_regular;
-use sourcemap::encoder::{Encodable, encode, encode_to};
+use sourcemap::encoder::{encode, encode_to};
 use sourcemap::jsontypes::RawSourceMap;
 use sourcemap::{DecodedMap, Error, Result, SourceMap, decode_slice};
 use sourcemap_test_writers::NarrowWriter;
 use std::alloc::Global;
+use std::process::Abort;
 use std::str;
 
 // What a row is about, a map, and what it is written as.
-const WRITTEN: [(&str, &str, &str); 11] = [
-    (
-        "a token without a source",
-        r#"{"mappings":"A"}"#,
-        r#"{"mappings":"A","names":[],"sources":[],"version":3}"#,
-    ),
+type Row = (&'static str, &'static str, &'static str);
+
+const BARE: Row = (
+    "a token without a source",
+    r#"{"mappings":"A"}"#,
+    r#"{"mappings":"A","names":[],"sources":[],"version":3}"#,
+);
+
+const WRITTEN: [Row; 11] = [
+    BARE,
     (
         "a token with a source before one without",
         r#"{"sources":["a.js"],"mappings":"AAAA,C"}"#,
@@ -72,50 +78,54 @@ fn record(alloc: Global, text: &str) -> Result<RawSourceMap> {
     RawSourceMap::from_owned(alloc, Value::from_str(alloc, text)?)
 }
 
-fn regular(alloc: Global, text: &str) -> Result<SourceMap> {
-    decode_regular(alloc, record(alloc, text)?)
+fn regular(alloc: Global, text: &str) -> Made {
+    let record = record(alloc, text)?;
+    boxed(alloc, decode_regular(alloc, record))
+}
+
+// A map of any kind.
+fn decoded(alloc: Global, text: &str) -> Result<Box<DecodedMap>> {
+    boxed(alloc, decode_slice(alloc, text.as_bytes()))
 }
 
 // By the record of a map that is lent, and of one that is given away.
 
 fn by_record(alloc: Global, text: &str) -> Result<String> {
-    record_written(alloc, regular(alloc, text)?.as_raw_sourcemap())
+    record_written(alloc, record_of(regular(alloc, text)))
 }
 
 fn by_moved_record(alloc: Global, text: &str) -> Result<String> {
-    record_written(alloc, SourceMap::into_raw_sourcemap(regular(alloc, text)?))
-}
-
-fn record_written(alloc: Global, record: Result<RawSourceMap>) -> Result<String> {
-    Ok(record?.into_value(alloc)?.to_string(alloc)?)
+    written(alloc, regular(alloc, text))
 }
 
 // By the value of a map of any kind that is lent, and of one that is given away.
 
 fn by_value(alloc: Global, text: &str) -> Result<String> {
-    value_written(alloc, decode_slice(alloc, text.as_bytes())?.to_value())
+    value_written(alloc, decoded(alloc, text)?.to_value())
 }
 
 fn by_moved_value(alloc: Global, text: &str) -> Result<String> {
-    let value = Value::from_str(alloc, text)?;
-    let map = DecodedMap::from_value(alloc, &value)?;
-    value_written(alloc, DecodedMap::into_value(map))
+    value_written(alloc, from_value(alloc, text)?.into_value())
 }
 
-fn value_written(alloc: Global, value: Result<Value>) -> Result<String> {
-    Ok(value?.to_string(alloc)?)
+fn from_value(alloc: Global, text: &str) -> Result<DecodedMap> {
+    let value = Value::from_str(alloc, text)?;
+    DecodedMap::from_value(alloc, &value)
+}
+
+fn check_each_way(rt: &impl Abort, alloc: Global, about: &str, text: &str, want: &str) {
+    check(rt, about, by_record(alloc, text), want);
+    check(rt, about, by_moved_record(alloc, text), want);
+    check(rt, about, by_value(alloc, text), want);
+    check(rt, about, by_moved_value(alloc, text), want);
 }
 
 #[test]
 fn maps_are_written_as_told(rt: HostRuntime) {
     let alloc = rt.alloc();
     for (about, text, want) in WRITTEN.iter() {
-        for text in [*text, *want] {
-            check(&rt, about, by_record(alloc, text), want);
-            check(&rt, about, by_moved_record(alloc, text), want);
-            check(&rt, about, by_value(alloc, text), want);
-            check(&rt, about, by_moved_value(alloc, text), want);
-        }
+        check_each_way(&rt, alloc, about, text, want);
+        check_each_way(&rt, alloc, about, want, want);
     }
 }
 
@@ -163,7 +173,7 @@ fn read_and_put_regular(
     call: Call,
     writer: &mut NarrowWriter,
 ) -> Result<()> {
-    put_regular(alloc, &regular(alloc, text)?, call, writer)
+    put_regular(alloc, &*regular(alloc, text)?, call, writer)
 }
 
 fn read_and_put_any(
@@ -172,7 +182,7 @@ fn read_and_put_any(
     call: Call,
     writer: &mut NarrowWriter,
 ) -> Result<()> {
-    put_any(alloc, &decode_slice(alloc, text.as_bytes())?, call, writer)
+    put_any(alloc, &*decoded(alloc, text)?, call, writer)
 }
 
 fn put(alloc: Global, text: &str, call: Call, writer: &mut NarrowWriter) -> Result<()> {
@@ -195,20 +205,34 @@ fn held_told(alloc: Global, text: &str, call: Call, left: Option<usize>) -> Resu
 }
 
 fn outcome_told(alloc: Global, held: &[u8], outcome: Result<()>) -> Result<String> {
-    let held = str::from_utf8(held)?;
     match outcome {
-        Ok(()) => Ok(format!(in alloc; "{held}")?),
-        Err(Error::OutOfMemory) => Err(Error::OutOfMemory),
-        Err(fault) => Ok(format!(in alloc; "{held} {fault}")?),
+        Ok(()) => Ok(String::from_str(alloc, str::from_utf8(held)?)?),
+        Err(fault) => fault_told(alloc, held, &fault),
+    }
+}
+
+fn fault_told(alloc: Global, held: &[u8], fault: &Error) -> Result<String> {
+    match fault {
+        Error::OutOfMemory => Err(Error::OutOfMemory),
+        fault => Ok(format!(in alloc; "{} {fault}", str::from_utf8(held)?)?),
+    }
+}
+
+fn check_each_call(
+    rt: &impl Abort,
+    alloc: Global,
+    (about, text, want): (&str, &str, &str),
+    left: Option<usize>,
+) {
+    for call in CALLS.iter() {
+        check(rt, about, held_told(alloc, text, *call, left), want);
     }
 }
 
 #[test]
 fn bytes_are_written_one_by_one(rt: HostRuntime) {
-    for (about, text, want) in WRITTEN.iter() {
-        for call in CALLS.iter() {
-            check(&rt, about, held_told(rt.alloc(), text, *call, None), want);
-        }
+    for row in WRITTEN.iter() {
+        check_each_call(&rt, rt.alloc(), *row, None);
     }
 }
 
@@ -225,12 +249,9 @@ fn cut(alloc: Global, text: &str, most: usize) -> Result<String> {
 #[test]
 fn each_write_may_fail(rt: HostRuntime) {
     let alloc = rt.alloc();
-    let (about, text, want) = WRITTEN[0];
+    let (about, text, want) = BARE;
     for taken in 0..want.len() {
         let due = cut(alloc, want, taken).expect(&rt, "memory");
-        for call in CALLS.iter() {
-            let held = held_told(alloc, text, *call, Some(taken));
-            check(&rt, about, held, due.as_str());
-        }
+        check_each_call(&rt, alloc, (about, text, due.as_str()), Some(taken));
     }
 }

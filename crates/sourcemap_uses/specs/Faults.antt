@@ -1,7 +1,8 @@
--- What can be done about each fault.
+-- What can be done about each fault, and a number for each kind.
+use Rattle.std.specs.Prelude.{ℕ}
 use Rattle.sourcemap.specs.declared.errors.Error.{Error}
-use Rattle.sourcemap.specs.declared.errors.Error.TheVariants.{Io, Utf8, Scroll, BadJson, IncompatibleSourceMap, InvalidDataUrl, CannotFlatten, InvalidRamBundleMagic, InvalidRamBundleIndex, InvalidRamBundleEntry, NotARamBundle, OutOfMemory}
-use Rattle.sourcemap.specs.declared.errors.JsonFault.TheVariants.{Parse}
+use Rattle.sourcemap.specs.declared.errors.Error.TheVariants.{Io, Utf8, Scroll, BadJson, VlqLeftover, VlqNoValues, VlqOverflow, BadSegmentSize, BadSourceReference, BadNameReference, InvalidBase64, InvalidRangeMappingIndex, IncompatibleSourceMap, InvalidDataUrl, CannotFlatten, InvalidRamBundleMagic, InvalidRamBundleIndex, InvalidRamBundleEntry, NotARamBundle, OutOfMemory}
+use Rattle.sourcemap.specs.declared.errors.JsonFault.TheVariants.{Parse, Shape}
 use Rattle.sourcemap_uses.specs.declared.faults.Advice.{Advice}
 use Rattle.sourcemap_uses.specs.declared.faults.Advice.TheVariants.{ReadAgain, LookAtInput, MendWriter, UseOtherCall, LookAtBundle, FreeMemory}
 
@@ -19,3 +20,27 @@ advice_on InvalidRamBundleEntry = LookAtBundle
 advice_on NotARamBundle = LookAtBundle
 advice_on OutOfMemory = FreeMemory
 advice_on _ = MendWriter
+
+-- no two kinds have one number
+abbrev pub status_of : Error → ℕ
+status_of (Io _) = 10
+status_of (Utf8 _) = 11
+status_of (BadJson Parse) = 12
+status_of (BadJson Shape) = 13
+status_of VlqLeftover = 14
+status_of VlqNoValues = 15
+status_of VlqOverflow = 16
+status_of (BadSegmentSize _) = 17
+status_of (BadSourceReference _) = 18
+status_of (BadNameReference _) = 19
+status_of (InvalidBase64 _) = 20
+status_of (InvalidRangeMappingIndex _) = 21
+status_of IncompatibleSourceMap = 22
+status_of InvalidDataUrl = 23
+status_of (CannotFlatten _) = 24
+status_of (Scroll _) = 25
+status_of InvalidRamBundleMagic = 26
+status_of InvalidRamBundleIndex = 27
+status_of InvalidRamBundleEntry = 28
+status_of NotARamBundle = 29
+status_of OutOfMemory = 30

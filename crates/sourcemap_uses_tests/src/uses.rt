@@ -7,7 +7,7 @@ use sourcemap::{
 use sourcemap_uses::adjusting::place_behind;
 use sourcemap_uses::building::place_once_written;
 use sourcemap_uses::data_urls::inline_map;
-use sourcemap_uses::faults::{Advice, advise};
+use sourcemap_uses::faults::{Advice, advise, exit_status};
 use sourcemap_uses::flattening::is_kept_flat;
 use sourcemap_uses::functions::function_at;
 use sourcemap_uses::linking::link;
@@ -213,6 +213,15 @@ fn refusals_have_advice(rt: HostRuntime) -> std::result::Result<(), Fail> {
     assert!(rt; advise(&Error::BadJson(JsonFault::Parse)) == Advice::LookAtInput);
     assert!(rt; advise(&Error::BadSourceReference(3)) == Advice::MendWriter);
     assert!(rt; advise(&Error::OutOfMemory) == Advice::FreeMemory);
+    Ok(())
+}
+
+#[test]
+fn refusals_are_told_apart(rt: HostRuntime) -> std::result::Result<(), Fail> {
+    assert_eq!(rt; exit_status(&Error::BadJson(JsonFault::Parse)), 12);
+    assert_eq!(rt; exit_status(&Error::BadSourceReference(3)), 18);
+    assert_eq!(rt; exit_status(&Error::BadNameReference(3)), 19);
+    assert_eq!(rt; exit_status(&Error::OutOfMemory), 30);
     Ok(())
 }
 
