@@ -19,6 +19,7 @@ use sourcemap_uses::quick::quick_place;
 use sourcemap_uses::shrinking::{place_once_shrunk, shrunk};
 use std::alloc::Global;
 use std::process::Abort;
+use std::rt::Files;
 use std::test::Fail;
 
 const MAP: &str = r#"{"version":3,"sources":["coolstuff.js","unused.js"],"names":["x","alert"],
@@ -29,6 +30,16 @@ const INLINE: &str =
 
 fn shown(alloc: Global, place: Option<String>) -> String {
     place.unwrap_or(String::new(alloc))
+}
+
+// What was made, in a box. The prover takes what lets a box go as one step, and what lets a map go as
+// one for each of its parts, on each way out of a function.
+fn boxed<T: Drop>(alloc: Global, made: Result<T>) -> Result<Box<T>> {
+    Ok(Box::new(alloc, made?)?)
+}
+
+fn map_of(alloc: Global, bytes: &[u8]) -> Result<Box<SourceMap>> {
+    boxed(alloc, SourceMap::from_slice(alloc, bytes))
 }
 
 #[test]
@@ -70,31 +81,38 @@ fn quick_told(alloc: Global, map: &SourceMap, line: u32, col: u32) -> Result<Str
 #[test]
 fn a_place_is_found_quickly(rt: HostRuntime) -> std::result::Result<(), Fail> {
     let alloc = rt.alloc();
-    let map = SourceMap::from_slice(alloc, MAP.as_bytes())?;
-    let told = quick_told(alloc, &map, 0, 5)?;
+    let told = quick_told(alloc, &*map_of(alloc, MAP.as_bytes())?, 0, 5)?;
     assert_eq!(rt; told.as_str(), "coolstuff.js:0:4 name=x true");
     Ok(())
+}
+
+// What a map says of the place, how many sources it has, and whether it has the text of the first.
+fn told_with_sources(alloc: Global, map: &SourceMap) -> Result<String> {
+    let place = place_in(alloc, map)?;
+    let count = map.get_source_count();
+    let has_text = map.get_source_contents(0).is_some();
+    Ok(format!(in alloc; "{place} {count} {has_text}")?)
 }
 
 #[test]
 fn a_map_is_published(rt: HostRuntime) -> std::result::Result<(), Fail> {
     let alloc = rt.alloc();
     let text = published(&rt, alloc, MAP.as_bytes())?;
-    let map = SourceMap::from_slice(alloc, text.as_slice())?;
-    assert_eq!(rt; place_in(alloc, &map)?.as_str(), "coolstuff.js:0:4");
-    assert!(rt; map.get_source_contents(0).is_none());
+    let told = told_with_sources(alloc, &*map_of(alloc, text.as_slice())?)?;
+    assert_eq!(rt; told.as_str(), "coolstuff.js:0:4 1 false");
     Ok(())
+}
+
+fn shrunk_map<F: Files>(rt: &F, alloc: Global, bytes: &[u8]) -> Result<Box<SourceMap>> {
+    let map = SourceMap::from_slice(alloc, bytes)?;
+    boxed(alloc, shrunk(rt, map))
 }
 
 #[test]
 fn a_map_is_shrunk(rt: HostRuntime) -> std::result::Result<(), Fail> {
     let alloc = rt.alloc();
-    let small = shrunk(&rt, SourceMap::from_slice(alloc, MAP.as_bytes())?)?;
-    assert_eq!(rt; small.get_source_count(), 1);
-    assert_eq!(rt;
-        place_in(alloc, &small)?.as_str(),
-        "coolstuff.js:0:4 name=x"
-    );
+    let told = told_with_sources(alloc, &*shrunk_map(&rt, alloc, MAP.as_bytes())?)?;
+    assert_eq!(rt; told.as_str(), "coolstuff.js:0:4 name=x 1 true");
     Ok(())
 }
 
@@ -146,9 +164,9 @@ const BEHIND_PLACES: [(&str, &str, (u32, u32), &str); 5] = [
 ];
 
 fn behind(alloc: Global, text: &str, later: &str, place: (u32, u32)) -> Result<String> {
+    let later = map_of(alloc, later.as_bytes())?;
     let map = SourceMap::from_slice(alloc, text.as_bytes())?;
-    let later = SourceMap::from_slice(alloc, later.as_bytes())?;
-    let found = place_behind(alloc, map, &later, place.0, place.1)?;
+    let found = place_behind(alloc, map, &*later, place.0, place.1)?;
     Ok(format!(in alloc; "{found:?}")?)
 }
 
@@ -186,17 +204,29 @@ fn a_data_url_holds_its_map(rt: HostRuntime) -> std::result::Result<(), Fail> {
     Ok(())
 }
 
+// The sources of a map, each behind a blank.
+fn push_sources(told: &mut String, map: &SourceMap) -> Result<()> {
+    for source in map.sources() {
+        told.push(' ')?;
+        told.push_str(source)?;
+    }
+    Ok(())
+}
+
+fn merged_told(alloc: Global, first: &[u8], second: &[u8]) -> Result<String> {
+    let first = map_of(alloc, first)?;
+    let second = map_of(alloc, second)?;
+    let both = boxed(alloc, merged_sources(alloc, &*first, &*second))?;
+    let mut told = String::new(alloc);
+    push_sources(&mut told, &*both)?;
+    Ok(told)
+}
+
 #[test]
 fn sources_are_merged(rt: HostRuntime) -> std::result::Result<(), Fail> {
-    let alloc = rt.alloc();
-    let first = SourceMap::from_slice(alloc, MAP.as_bytes())?;
-    let second = SourceMap::from_slice(
-        alloc,
-        br#"{"mappings":"","sources":["a.js","unused.js"]}"#,
-    )?;
-    let both = merged_sources(alloc, &first, &second)?;
-    assert_eq!(rt; both.get_source_count(), 3);
-    assert_eq!(rt; both.get_source(2), Some("a.js"));
+    let second = br#"{"mappings":"","sources":["a.js","unused.js"]}"#;
+    let told = merged_told(rt.alloc(), MAP.as_bytes(), second)?;
+    assert_eq!(rt; told.as_str(), " coolstuff.js unused.js a.js");
     Ok(())
 }
 
@@ -250,17 +280,16 @@ const LATE: &str = r#"{"sections":[
 {"offset":{"line":1,"column":0},"map":{"sources":["a.js"],"mappings":"AAAA"}},
 {"offset":{"line":3,"column":0},"map":{"sources":["b.js"],"mappings":";AAAA"}}]}"#;
 
-fn index_of(alloc: Global, text: &str) -> Result<SourceMapIndex> {
+fn index_of(alloc: Global, text: &str) -> Result<Box<SourceMapIndex>> {
     match decode_slice(alloc, text.as_bytes())? {
-        DecodedMap::Index(index) => Ok(index),
+        DecodedMap::Index(index) => Ok(Box::new(alloc, index)?),
         _ => Err(Error::IncompatibleSourceMap),
     }
 }
 
 // Whether the flat map of the index in a text says of a position what the index says.
 fn is_kept(alloc: Global, text: &str, line: u32, col: u32) -> Result<bool> {
-    let index = index_of(alloc, text)?;
-    is_kept_flat(&index, line, col)
+    is_kept_flat(&*index_of(alloc, text)?, line, col)
 }
 
 // An index, a line and a column, and whether the flat map says the same there.
@@ -295,11 +324,11 @@ fn indexes_are_compared_with_their_flat_maps(rt: HostRuntime) -> std::result::Re
     Ok(())
 }
 
-#[test]
-fn a_section_is_linked(rt: HostRuntime) -> std::result::Result<(), Fail> {
-    let mut index = index_of(rt.alloc(), APART)?;
-    link(&mut index, 1, "u")?;
-    link(&mut index, 2, "v")?;
+// Whether the first section has no URL and the second one `u`, once the second one is linked, and one
+// that is not there.
+fn is_linked(index: &mut SourceMapIndex) -> Result<bool> {
+    link(index, 1, "u")?;
+    link(index, 2, "v")?;
     let urls = (
         index
             .get_section(0)
@@ -308,7 +337,13 @@ fn a_section_is_linked(rt: HostRuntime) -> std::result::Result<(), Fail> {
             .get_section(1)
             .map(|section| section.get_url() == Some("u")),
     );
-    assert!(rt; urls == (Some(true), Some(true)));
+    Ok(urls == (Some(true), Some(true)))
+}
+
+#[test]
+fn a_section_is_linked(rt: HostRuntime) -> std::result::Result<(), Fail> {
+    let mut index = index_of(rt.alloc(), APART)?;
+    assert!(rt; is_linked(&mut *index)?);
     Ok(())
 }
 
@@ -320,7 +355,7 @@ fn a_function_has_its_name(rt: HostRuntime) -> std::result::Result<(), Fail> {
     let alloc = rt.alloc();
     let name = original_name(alloc, BUNDLE.as_bytes(), "function b(){}", 0, 9, "b")?;
     assert_eq!(rt; shown(alloc, name).as_str(), "foo");
-    let map = SourceMap::from_slice(alloc, BUNDLE.as_bytes())?;
-    assert_eq!(rt; source_line(&map, 0, 9).unwrap_or(""), "function foo() {}");
+    let map = map_of(alloc, BUNDLE.as_bytes())?;
+    assert_eq!(rt; source_line(&*map, 0, 9).unwrap_or(""), "function foo() {}");
     Ok(())
 }
