@@ -106,7 +106,7 @@ fn found(
     col: u32,
     with_name: bool,
 ) -> Result<RawToken> {
-    let map = SourceMap::from_slice(alloc, text.as_bytes())?;
+    let map = Box::new(alloc, SourceMap::from_slice(alloc, text.as_bytes())?)?;
     match map.lookup_token(0, col) {
         None => Err(Error::VlqNoValues),
         Some(token) => builder.add_token(&token, with_name),
@@ -333,7 +333,7 @@ fn builders_answer_and_are_written(rt: HostRuntime) {
 }
 
 fn shown(alloc: Global, builder: Result<SourceMapBuilder>) -> Result<String> {
-    let map = builder?.into_sourcemap()?;
+    let map = Box::new(alloc, builder?.into_sourcemap()?)?;
     let sources = (map.get_source(0), map.get_source(1), map.get_source(2));
     Ok(format!(in alloc; "{sources:?} {}", map.get_token_count())?)
 }

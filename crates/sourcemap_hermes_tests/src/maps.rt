@@ -13,9 +13,16 @@ pub fn name_told(alloc: Global, name: Option<&str>) -> Result<String> {
     Ok(String::from_str(alloc, name.unwrap_or("none"))?)
 }
 
+// A map that was read, in a box. The prover takes what lets a box go as one step, and what lets a map
+// go as one for each of its parts, on each way out of a function.
+fn map_of(alloc: Global, text: &str) -> Result<Box<SourceMapHermes>> {
+    let map = SourceMapHermes::from_slice(alloc, text.as_bytes())?;
+    Ok(Box::new(alloc, map)?)
+}
+
 // The name of the function at a place in the bytecode.
 fn name_at(alloc: Global, text: &str, offset: u32) -> Result<String> {
-    let map = SourceMapHermes::from_slice(alloc, text.as_bytes())?;
+    let map = map_of(alloc, text)?;
     name_told(alloc, map.get_original_function_name(offset))
 }
 
@@ -86,7 +93,8 @@ fn scope_told(alloc: Global, map: &SourceMapHermes, token: Option<Token<'_>>) ->
 // The name of the function that the closest token to a place in the bytecode leads to.
 fn scope_at(alloc: Global, text: &str, offset: u32) -> Result<String> {
     let map = SourceMapHermes::from_reader(alloc, text.as_bytes())?;
-    scope_told(alloc, &map, map.lookup_token(0, offset))
+    let map = Box::new(alloc, map)?;
+    scope_told(alloc, &*map, map.lookup_token(0, offset))
 }
 
 #[test]
@@ -96,10 +104,13 @@ fn scopes_of_tokens(rt: HostRuntime) {
     }
 }
 
+fn record_of(alloc: Global, text: &str) -> Result<RawSourceMap> {
+    map_of(alloc, text)?.as_raw_sourcemap()
+}
+
 // The record of a map, as text.
 fn written(alloc: Global, text: &str) -> Result<String> {
-    let map = SourceMapHermes::from_slice(alloc, text.as_bytes())?;
-    let value = map.as_raw_sourcemap()?.into_value(alloc)?;
+    let value = record_of(alloc, text)?.into_value(alloc)?;
     Ok(value.to_string(alloc)?)
 }
 
@@ -112,9 +123,8 @@ fn scopes_are_written_as_they_were_read(rt: HostRuntime) {
 
 // The bytes that a map is written as, as text.
 fn bytes_written(alloc: Global, text: &str) -> Result<String> {
-    let map = SourceMapHermes::from_slice(alloc, text.as_bytes())?;
     let mut bytes = Vec::new(alloc);
-    map.to_writer(&mut bytes)?;
+    map_of(alloc, text)?.to_writer(&mut bytes)?;
     match String::from_utf8(bytes) {
         Ok(text) => Ok(text),
         Err(_) => Err(Error::IncompatibleSourceMap),
@@ -130,10 +140,11 @@ fn bytes_are_those_of_the_record(rt: HostRuntime) {
 
 // Whether the bytes that a map is written as are read back as the same map.
 fn is_read_back(alloc: Global, text: &str) -> Result<String> {
-    let map = SourceMapHermes::from_slice(alloc, text.as_bytes())?;
+    let map = map_of(alloc, text)?;
     let bytes = bytes_written(alloc, text)?;
-    let back = SourceMapHermes::from_slice(alloc, bytes.as_bytes())?;
-    Ok(format!(in alloc; "{}", map == back)?)
+    let back = map_of(alloc, bytes.as_str())?;
+    let is_same = *map == *back;
+    Ok(format!(in alloc; "{is_same}")?)
 }
 
 #[test]
@@ -169,11 +180,7 @@ fn copies_told(alloc: Global, text: &str, map: &SourceMapHermes) -> Result<Strin
 }
 
 fn copied(alloc: Global, text: &str) -> Result<String> {
-    copies_told(
-        alloc,
-        text,
-        &SourceMapHermes::from_slice(alloc, text.as_bytes())?,
-    )
+    copies_told(alloc, text, &*map_of(alloc, text)?)
 }
 
 #[test]

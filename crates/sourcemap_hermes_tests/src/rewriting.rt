@@ -148,6 +148,7 @@ fn files_are_not_read(rt: HostRuntime) {
 fn name_then<F: Files>(rt: &F, alloc: Global, text: &str, offset: u32) -> Result<String> {
     let map = SourceMapHermes::from_slice(alloc, text.as_bytes())?;
     let map = map.rewrite(rt, &RewriteOptions::default())?;
+    let map = Box::new(alloc, map)?;
     name_told(alloc, map.get_original_function_name(offset))
 }
 

@@ -45,10 +45,23 @@ const NAMES: [(&str, (u32, u32), &str, &str); 17] = [
     (HERMES, (1, 0), "b", "none"),
 ];
 
+// A map that was read, in a box. The prover takes what lets a box go as one step, and what lets a map
+// go as one for each of its parts, on each way out of a function.
+fn map_of(alloc: Global, text: &str) -> Result<Box<DecodedMap>> {
+    let map = decode_slice(alloc, text.as_bytes())?;
+    Ok(Box::new(alloc, map)?)
+}
+
+// The same of a regular map.
+fn regular_of(alloc: Global, text: &str) -> Result<Box<SourceMap>> {
+    let map = SourceMap::from_slice(alloc, text.as_bytes())?;
+    Ok(Box::new(alloc, map)?)
+}
+
 fn name_in(alloc: Global, map: &str, place: (u32, u32), minified: &str) -> Result<String> {
     let view = SourceView::new(alloc, TEXT)?;
-    let map = decode_slice(alloc, map.as_bytes())?;
-    told(alloc, &map, place, Some(minified), Some(&view))
+    let map = map_of(alloc, map)?;
+    told(alloc, &*map, place, Some(minified), Some(&view))
 }
 
 fn told(
@@ -89,10 +102,10 @@ const LESS: [(&str, bool, bool, &str); 9] = [
 
 fn name_with(alloc: Global, map: &str, with_name: bool, with_view: bool) -> Result<String> {
     let view = SourceView::new(alloc, TEXT)?;
-    let map = decode_slice(alloc, map.as_bytes())?;
+    let map = map_of(alloc, map)?;
     let minified = if with_name { Some("b") } else { None };
     let view = if with_view { Some(&view) } else { None };
-    told(alloc, &map, (0, 9), minified, view)
+    told(alloc, &*map, (0, 9), minified, view)
 }
 
 #[test]
@@ -110,8 +123,8 @@ fn maps_but_hermes_maps_need_a_name_and_a_view(rt: HostRuntime) {
 // The name by the call of the map's kind.
 fn name_by_kind(alloc: Global, map: &str, (line, col): (u32, u32)) -> Result<String> {
     let view = SourceView::new(alloc, TEXT)?;
-    let map = decode_slice(alloc, map.as_bytes())?;
-    let name = match &map {
+    let map = map_of(alloc, map)?;
+    let name = match &*map {
         DecodedMap::Regular(map) => map.get_original_function_name(line, col, "b", &view),
         DecodedMap::Index(map) => map.get_original_function_name(line, col, "b", &view),
         DecodedMap::Hermes(map) => map.get_original_function_name(col),
@@ -185,13 +198,13 @@ fn line_told(alloc: Global, view: Option<&SourceView>, line: u32) -> Result<Stri
 }
 
 fn line_of_source(alloc: Global, id: u32, line: u32) -> Result<String> {
-    let map = SourceMap::from_slice(alloc, WITH_CONTENTS.as_bytes())?;
+    let map = regular_of(alloc, WITH_CONTENTS)?;
     line_told(alloc, map.get_source_view(id), line)
 }
 
 // The same by the token that leads to the source; the fourth one leads to none.
 fn line_of_token(alloc: Global, id: u32, line: u32) -> Result<String> {
-    let map = SourceMap::from_slice(alloc, WITH_CONTENTS.as_bytes())?;
+    let map = regular_of(alloc, WITH_CONTENTS)?;
     let view = match map.get_token(id as usize) {
         None => None,
         Some(token) => token.get_source_view(),
@@ -234,7 +247,7 @@ fn walk_told(alloc: Global, view: &SourceView, last: Option<Token<'_>>) -> Resul
 
 fn walked(alloc: Global, text: &str, last: usize) -> Result<String> {
     let view = SourceView::new(alloc, text)?;
-    let map = SourceMap::from_slice(alloc, COLUMNS.as_bytes())?;
+    let map = regular_of(alloc, COLUMNS)?;
     walk_told(alloc, &view, map.get_token(last))
 }
 
