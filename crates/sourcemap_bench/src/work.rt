@@ -13,7 +13,8 @@ use sourcemap_commands::regular::{regular_of, rewritten};
 use std::alloc::Global;
 use std::rt::Files;
 
-/// What an operation works on.
+/// What an operation works on. Maps are in boxes, so that a proof takes it as one step that one is let
+/// go.
 #[derive(Drop)]
 pub enum Work {
     /// The bytes to decode from a slice.
@@ -21,26 +22,31 @@ pub enum Work {
     /// The bytes to decode from a reader.
     DecodeReader(Vec<u8>),
     /// The map to ask, and the positions.
-    Lookup(DecodedMap, Vec<(u32, u32)>),
+    Lookup(Box<DecodedMap>, Vec<(u32, u32)>),
     /// The map to go through.
-    Tokens(SourceMap),
+    Tokens(Box<SourceMap>),
     /// The map to write.
-    Encode(DecodedMap),
+    Encode(Box<DecodedMap>),
     /// The map to copy and rewrite.
-    Rewrite(SourceMap),
+    Rewrite(Box<SourceMap>),
     /// The index to make flat.
-    Flatten(SourceMapIndex),
+    Flatten(Box<SourceMapIndex>),
     /// The map to copy and adjust, and the one that adjusts it.
-    Compose(SourceMap, SourceMap),
+    Compose(Box<SourceMap>, Box<SourceMap>),
+}
+
+// The map that bytes hold.
+fn map_of(alloc: Global, bytes: &[u8]) -> Result<Box<DecodedMap>> {
+    Ok(Box::new(alloc, decode_slice(alloc, bytes)?)?)
 }
 
 // The regular map that bytes hold.
-fn regular_map(alloc: Global, bytes: &[u8]) -> Result<SourceMap> {
-    regular_of(decode_slice(alloc, bytes)?)
+fn regular_map(alloc: Global, bytes: &[u8]) -> Result<Box<SourceMap>> {
+    Ok(Box::new(alloc, regular_of(decode_slice(alloc, bytes)?)?)?)
 }
 
 // The regular maps that the first two lines hold.
-fn regular_maps(alloc: Global, bytes: &[u8]) -> Result<(SourceMap, SourceMap)> {
+fn regular_maps(alloc: Global, bytes: &[u8]) -> Result<(Box<SourceMap>, Box<SourceMap>)> {
     let mut lines = bytes.split(|byte| *byte == b'\n');
     let first = regular_map(alloc, lines.next().unwrap_or_default())?;
     let second = regular_map(alloc, lines.next().unwrap_or_default())?;
@@ -48,9 +54,9 @@ fn regular_maps(alloc: Global, bytes: &[u8]) -> Result<(SourceMap, SourceMap)> {
 }
 
 // The index that bytes hold.
-fn index_of(alloc: Global, bytes: Vec<u8>) -> Result<SourceMapIndex> {
+fn index_of(alloc: Global, bytes: Vec<u8>) -> Result<Box<SourceMapIndex>> {
     match decode_slice(alloc, bytes.as_slice())? {
-        DecodedMap::Index(index) => Ok(index),
+        DecodedMap::Index(index) => Ok(Box::new(alloc, index)?),
         _ => Err(Error::IncompatibleSourceMap),
     }
 }
@@ -73,12 +79,12 @@ pub fn prepared(alloc: Global, operation: Operation, bytes: Vec<u8>) -> Result<W
         Operation::Decode => Ok(Work::Decode(bytes)),
         Operation::DecodeReader => Ok(Work::DecodeReader(bytes)),
         Operation::Lookup => {
-            let map = decode_slice(alloc, bytes.as_slice())?;
-            let positions = positions_in(alloc, &map)?;
+            let map = map_of(alloc, bytes.as_slice())?;
+            let positions = positions_in(alloc, &*map)?;
             Ok(Work::Lookup(map, positions))
         }
         Operation::Tokens => Ok(Work::Tokens(regular_map(alloc, bytes.as_slice())?)),
-        Operation::Encode => Ok(Work::Encode(decode_slice(alloc, bytes.as_slice())?)),
+        Operation::Encode => Ok(Work::Encode(map_of(alloc, bytes.as_slice())?)),
         Operation::Rewrite => Ok(Work::Rewrite(regular_map(alloc, bytes.as_slice())?)),
         Operation::Flatten => Ok(Work::Flatten(index_of(alloc, bytes)?)),
         Operation::Compose => {
@@ -155,15 +161,15 @@ fn round<F: Files>(rt: &F, alloc: Global, work: &Work, sum: u32) -> Result<u32>
     match work {
         Work::Decode(bytes) => slice_sum(alloc, bytes, sum),
         Work::DecodeReader(bytes) => reader_sum(alloc, bytes, sum),
-        Work::Lookup(map, positions) => Ok(lookup_sum(map, positions.as_slice(), sum)),
-        Work::Tokens(map) => Ok(token_sum(map, sum)),
-        Work::Encode(map) => text_sum(alloc, map, sum),
+        Work::Lookup(map, positions) => Ok(lookup_sum(&**map, positions.as_slice(), sum)),
+        Work::Tokens(map) => Ok(token_sum(&**map, sum)),
+        Work::Encode(map) => text_sum(alloc, &**map, sum),
         Work::Rewrite(map) => {
             let new = rewritten(rt, map.clone()?)?;
             Ok(mixed(sum, new.get_source_count()))
         }
-        Work::Flatten(index) => flat_sum(index, sum),
-        Work::Compose(map, adjustment) => adjusted_sum(map, adjustment, sum),
+        Work::Flatten(index) => flat_sum(&**index, sum),
+        Work::Compose(map, adjustment) => adjusted_sum(&**map, &**adjustment, sum),
     }
 }
 
