@@ -43,12 +43,12 @@ abbrev pub RoundGives : Work → ℕ → ℕ → Type 0
 RoundGives (Decode bytes) old new = SizeOfDecoded bytes.items old new
 RoundGives (DecodeReader bytes) old new = SizeOfDecoded bytes.items old new
 RoundGives (Lookup m positions) old new =
-    IsInOrder (map_tree m) → new ≡ lookup_sum (map_tree m) positions.items old
-RoundGives (Tokens m) old new = new ≡ token_sum m old
-RoundGives (Encode m) old new = LengthOfText (map_tree m) old new
-RoundGives (Rewrite m) old new = new ≡ mixed old (length (rewritten no_removal m).sources)
-RoundGives (Flatten i) old new = SizeOfFlat (index_tree (index_value i)) old new
-RoundGives (Compose m n) old new = SizeOfAdjusted m n old new
+    IsInOrder (map_tree m.value) → new ≡ lookup_sum (map_tree m.value) positions.items old
+RoundGives (Tokens m) old new = new ≡ token_sum m.value old
+RoundGives (Encode m) old new = LengthOfText (map_tree m.value) old new
+RoundGives (Rewrite m) old new = new ≡ mixed old (length (rewritten no_removal m.value).sources)
+RoundGives (Flatten i) old new = SizeOfFlat (index_tree (index_value i.value)) old new
+RoundGives (Compose m n) old new = SizeOfAdjusted m.value n.value old new
 
 -- the sum of so many rounds, from 0 on
 abbrev pub RoundsGive : Work → ℕ → ℕ → Type 0

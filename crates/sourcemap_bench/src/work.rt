@@ -165,7 +165,7 @@ fn round<F: Files>(rt: &F, alloc: Global, work: &Work, sum: u32) -> Result<u32>
         Work::Tokens(map) => Ok(token_sum(&**map, sum)),
         Work::Encode(map) => text_sum(alloc, &**map, sum),
         Work::Rewrite(map) => {
-            let new = rewritten(rt, map.clone()?)?;
+            let new = rewritten(rt, (**map).clone()?)?;
             Ok(mixed(sum, new.get_source_count()))
         }
         Work::Flatten(index) => flat_sum(&**index, sum),
