@@ -1,5 +1,5 @@
 -- Maps that are made of tokens, written, and asked once they are read.
-use Rattle.std.proofs.Common.{◌≡◌, ◌↔◌, ◌∙◌, sym, ap, subst, ℕ, List, [], ◌∷◌, Option, None, option_map, Result, Ok, Err}
+use Rattle.std.proofs.Common.{◌≡◌, ◌↔◌, ◌∙◌, sym, ap, subst, ℕ, List, [], ◌∷◌, None, option_map, Result, Ok, Err}
 use Rattle.sourcemap.specs.Answer.{Gives, IsAnswer}
 use Rattle.sourcemap.specs.Due.{Gives-given}
 use Rattle.sourcemap.specs.Decoded.{map_tree}
@@ -8,7 +8,7 @@ use Rattle.sourcemap.specs.Encoder.{ReadsBack, Restores as RestoresRegular}
 use Rattle.sourcemap.specs.Reading.{BytesStandFor, RegularDecodes}
 use Rattle.sourcemap.specs.TreeEncoder.{Restores}
 use Rattle.sourcemap.specs.Trees.{regular, MapTree, leaf, meaning as meaning_of}
-use Rattle.sourcemap.specs.Types.{MapValue, Meaning, made_of, meaning}
+use Rattle.sourcemap.specs.Types.{MapValue, made_of, meaning}
 use Rattle.sourcemap.specs.declared.errors.Error.{Error}
 use Rattle.sourcemap.specs.declared.errors.Error.TheVariants.{OutOfMemory}
 use Rattle.sourcemap.specs.declared.types.DecodedMap.{DecodedMap}
@@ -36,14 +36,14 @@ reads_back m due text is any (back, stands, restored) =
       subst (λ m. Restores (leaf (regular m)) (leaf (regular back))) is whole,
     )
 
--- what is found in the map that was read is what the map that was written means
-pub place_found : (bytes text : List ℕ) (m : MapValue) (map : DecodedMap) (p : ℕ × ℕ) (found : Option Meaning)
+-- what the map that was read means is what the map that was written means
+pub place_found : (bytes text : List ℕ) (m : MapValue) (map : DecodedMap) (p : ℕ × ℕ)
     → bytes ≡ text → ReadsBack (BytesDecode text) (Restores (leaf (regular m)))
     → ((due : Result MapTree Error) → BytesDecode bytes due → IsAnswer map_tree (AreSame due) (Ok map))
-    → found ≡ meaning_of (map_tree map) p → option_map place_of found ≡ option_map place_of (meaning m p)
-place_found bytes text m map p found same (back, stands, restored) only is =
+    → option_map place_of (meaning_of (map_tree map) p) ≡ option_map place_of (meaning m p)
+place_found bytes text m map p same (back, stands, restored) only =
     let read = only (Ok back) (subst (λ bytes. BytesDecode bytes (Ok back)) (sym same) stands) in
-    ap (option_map place_of) (is ∙ ap (λ t. meaning_of t p) (sym read) ∙ restored.0 p)
+    ap (option_map place_of) (ap (λ t. meaning_of t p) (sym read) ∙ restored.0 p)
 
 -- what was written is read unless memory runs out
 pub read_unless_memory : (bytes text : List ℕ) (m : MapValue) (e : Error)

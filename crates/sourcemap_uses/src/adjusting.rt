@@ -1,6 +1,6 @@
 //! A map that is adjusted by the map of a later step.
 ghost use Rattle.std.specs.Option.{option_copied};
-ghost use Rattle.std.specs.Prelude.{◌≡◌, ℕ, Err, IfErr, IfOk, option_map, string_bytes};
+ghost use Rattle.std.specs.Prelude.{◌≡◌, ℕ, Err, IfErr, IfOk, IsOkUnless, option_map, string_bytes};
 ghost use Rattle.sourcemap.specs.Adjust.{adjusted};
 ghost use Rattle.sourcemap.specs.Answer.{UnlessMemory};
 ghost use Rattle.sourcemap.specs.Composition.{moved};
@@ -8,6 +8,7 @@ ghost use Rattle.sourcemap.specs.Moved.{IsMovedAlone};
 ghost use Rattle.sourcemap.specs.Token.{answers};
 ghost use Rattle.sourcemap.specs.Types.{IsWellFormed, meaning};
 ghost use Rattle.sourcemap.specs.declared.compose.Stretch.{Stretch};
+ghost use Rattle.sourcemap.specs.declared.errors.Error.TheVariants.{OutOfMemory};
 ghost use Rattle.sourcemap_uses.specs.Adjusting.{told};
 
 use sourcemap::{Result, SourceMap, Token};
@@ -41,9 +42,17 @@ pub fn place_behind(
 {
     // no `?` for the prover: which fault is passed on is known of a match
     match map.adjust_mappings(adjustment) {
-        Ok(()) => {}
-        Err(fault) => return Err(fault),
+        Ok(()) => place_at(alloc, &map, line, col),
+        Err(fault) => Err(fault),
     }
+}
+
+// All that a map says of a position, copied.
+pub(crate) fn place_at(alloc: Global, map: &SourceMap, line: u32, col: u32) -> Result<Option<Place>>
+    ensures place { IfOk result
+        (λ found. option_map told found ≡ meaning map.now (line, col)) }
+    ensures memory { IsOkUnless result OutOfMemory }
+{
     match map.lookup_token(line, col) {
         None => Ok(None),
         Some(token) => Ok(Some(place_of(alloc, &token)?)),
@@ -51,7 +60,7 @@ pub fn place_behind(
 }
 
 // What a token says, copied.
-pub(crate) fn place_of(alloc: Global, token: &Token<'_>) -> std::result::Result<Place, AllocError>
+fn place_of(alloc: Global, token: &Token<'_>) -> std::result::Result<Place, AllocError>
     ensures { IfOk result (λ place. told place ≡ answers token.now) }
 {
     Ok(Place {

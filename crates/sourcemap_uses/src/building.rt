@@ -1,10 +1,11 @@
 //! A map that is made of tokens, written, and asked once it is read.
 ghost use Rattle.std.specs.Prelude.{◌≡◌, ◌∷◌, [], None, IfOk, IsOkUnless, option_map};
+ghost use Rattle.sourcemap.specs.Decoded.{map_tree};
 ghost use Rattle.sourcemap.specs.Decoder.{BytesDecode};
 ghost use Rattle.sourcemap.specs.Encoder.{ReadsBack};
 ghost use Rattle.sourcemap.specs.Tokens.{AllWithin};
 ghost use Rattle.sourcemap.specs.TreeEncoder.{Restores};
-ghost use Rattle.sourcemap.specs.Trees.{leaf, regular};
+ghost use Rattle.sourcemap.specs.Trees.{IsInOrder, leaf, meaning as meaning_of, regular};
 ghost use Rattle.sourcemap.specs.Types.{made_of, meaning};
 ghost use Rattle.sourcemap.specs.declared.errors.Error.TheVariants.{OutOfMemory};
 ghost use Rattle.sourcemap_uses.specs.Building.{place_of};
@@ -14,7 +15,7 @@ use sourcemap::laws::{
     regular_maps_are_of_a_kind, well_formed_maps_are_in_order, written_maps_read_back,
 };
 use sourcemap::types::RawToken;
-use sourcemap::{Result, SourceMap, decode_slice};
+use sourcemap::{DecodedMap, Result, SourceMap, decode_slice};
 use std::alloc::Global;
 
 /// Writes the map of these tokens, which all lead to one source or to none, reads what was written,
@@ -35,9 +36,17 @@ pub fn place_once_written(
     well_formed_maps_are_in_order();
     let text = written(alloc, source, tokens)?;
     let map = decode_slice(alloc, text.as_slice())?;
+    Ok(place_in_source(&map, line, col))
+}
+
+// The line and the column in the source that a map in order says of a position.
+fn place_in_source(map: &DecodedMap, line: u32, col: u32) -> Option<(u32, u32)>
+    ensures { IsInOrder (map_tree map.now)
+        → result ≡ option_map place_of (meaning_of (map_tree map.now) (line, col)) }
+{
     match map.lookup_token(line, col) {
-        None => Ok(None),
-        Some(token) => Ok(Some(token.get_src())),
+        None => None,
+        Some(token) => Some(token.get_src()),
     }
 }
 

@@ -1,11 +1,15 @@
 //! Where a position of a stack trace comes from.
-ghost use Rattle.std.specs.Prelude.{◌<◌, ◌-◌, Err, IfOk, IfErr, option_map, string_bytes};
+ghost use Rattle.std.specs.Prelude.{◌≡◌, ◌<◌, ◌-◌, Err, IfOk, IfErr, IsOkUnless, option_map, string_bytes};
 ghost use Rattle.sourcemap.specs.Answer.{UnlessMemory};
+ghost use Rattle.sourcemap.specs.Decoded.{map_tree};
 ghost use Rattle.sourcemap.specs.Decoder.{BytesDecode};
+ghost use Rattle.sourcemap.specs.Token.{token_text};
+ghost use Rattle.sourcemap.specs.Trees.{IsInOrder, meaning};
+ghost use Rattle.sourcemap.specs.declared.errors.Error.TheVariants.{OutOfMemory};
 ghost use Rattle.sourcemap_uses.specs.Places.{IsTextOf};
 
 use sourcemap::laws::well_formed_maps_are_in_order;
-use sourcemap::{Result, decode_slice};
+use sourcemap::{DecodedMap, Result, decode_slice};
 use std::alloc::Global;
 
 /// What the map in these bytes says of a position of the generated text, as text:
@@ -19,10 +23,19 @@ pub fn place_text(alloc: Global, bytes: &[u8], line: u32, col: u32) -> Result<Op
 {
     well_formed_maps_are_in_order();
     // no `?` for the prover: which fault is passed on is known of a match
-    let map = match decode_slice(alloc, bytes) {
-        Ok(map) => map,
-        Err(fault) => return Err(fault),
-    };
+    match decode_slice(alloc, bytes) {
+        Ok(map) => text_at(alloc, &map, line, col),
+        Err(fault) => Err(fault),
+    }
+}
+
+// What a map in order says of a position, as text.
+fn text_at(alloc: Global, map: &DecodedMap, line: u32, col: u32) -> Result<Option<String>>
+    ensures text { IfOk result (λ text. IsInOrder (map_tree map.now)
+        → option_map string_bytes text
+        ≡ option_map token_text (meaning (map_tree map.now) (line, col))) }
+    ensures memory { IsOkUnless result OutOfMemory }
+{
     match map.lookup_token(line, col) {
         None => Ok(None),
         Some(token) => Ok(Some(token.to_string(alloc)?)),

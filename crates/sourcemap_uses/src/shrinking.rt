@@ -1,11 +1,11 @@
 //! A map with what its tokens use alone, which still says the same.
-ghost use Rattle.std.specs.Prelude.{◌≡◌, IfErr, IfOk, None, option_map};
+ghost use Rattle.std.specs.Prelude.{◌≡◌, IfOk, IsOkUnless, None, option_map};
 ghost use Rattle.sourcemap.specs.Rewrite.{no_removal, rewritten, used_names, used_sources};
 ghost use Rattle.sourcemap.specs.Types.{MeansTheSame, meaning};
 ghost use Rattle.sourcemap.specs.declared.errors.Error.TheVariants.{OutOfMemory};
 ghost use Rattle.sourcemap_uses.specs.Adjusting.{told};
 
-use crate::adjusting::{Place, place_of};
+use crate::adjusting::{Place, place_at};
 use sourcemap::laws::default_rewriting_is_final;
 use sourcemap::{Result, RewriteOptions, SourceMap};
 use std::alloc::Global;
@@ -22,7 +22,7 @@ pub fn shrunk<F: Files>(rt: &F, map: SourceMap) -> Result<SourceMap>
     ensures names { IfOk result (λ small. small.names ≡ used_names map) }
     ensures whole { IfOk result (λ small. small ≡ rewritten no_removal map) }
     ensures last { IfOk result (λ small. rewritten no_removal small ≡ small) }
-    ensures memory { IfErr result (λ e. e ≡ OutOfMemory) }
+    ensures memory { IsOkUnless result OutOfMemory }
 {
     default_rewriting_is_final();
     // for the prover: there are at most 4294967295 sources, and as many names
@@ -41,11 +41,8 @@ pub fn place_once_shrunk<F: Files>(
     col: u32,
 ) -> Result<Option<Place>>
     ensures place { IfOk result (λ found. option_map told found ≡ meaning map (line, col)) }
-    ensures memory { IfErr result (λ e. e ≡ OutOfMemory) }
+    ensures memory { IsOkUnless result OutOfMemory }
 {
     let small = shrunk(rt, map)?;
-    match small.lookup_token(line, col) {
-        None => Ok(None),
-        Some(token) => Ok(Some(place_of(alloc, &token)?)),
-    }
+    place_at(alloc, &small, line, col)
 }

@@ -1,24 +1,16 @@
 -- What was read says what was written.
-use Rattle.std.proofs.Common.{◌∙◌, ap, [], ◌∷◌, Some, None}
+use Rattle.std.proofs.Common.{◌∙◌, [], ◌∷◌, None}
 use Rattle.std.proofs.lemmas.Result.{err_from_is_err_and}
 use Rattle.sourcemap.specs.Decoded.{map_tree}
-use Rattle.sourcemap.specs.Token.{answers}
 use Rattle.sourcemap.specs.Types.{made_of}
 use Rattle.sourcemap_uses.proofs.BuildingLemmas.{place_found, read_unless_memory}
 use Rattle.sourcemap_uses.proofs.building.place_once_written.Goals as goal
 
-pub returns-in-None-clause-place : goal.returns-in-None-clause-place
-returns-in-None-clause-place c =
-    place_found c.as_slice.result.now _ (made_of None c.args.tokens.items [] (c.args.source.now ∷ []) []) c.in_ok-map.map (c.args.line, c.args.col) None
-    c.as_slice.ensures.value c.in_ok-text.ensures.reads_back c.in_ok-map.ensures.only
-    (c.in-None.ensures.meaning (c.well_formed_maps_are_in_order.ensures (map_tree c.in_ok-map.map) c.in_ok-map.ensures.well_formed))
-
 pub returns-clause-place : goal.returns-clause-place
 returns-clause-place c =
-    ap Some c.get_src.ensures
-    ∙ place_found c.as_slice.result.now _ (made_of None c.args.tokens.items [] (c.args.source.now ∷ []) []) c.in_ok-map.map (c.args.line, c.args.col) (Some (answers c.in-Some.token))
+    c.place_in_source.ensures (c.well_formed_maps_are_in_order.ensures (map_tree c.in_ok-map.map) c.in_ok-map.ensures.well_formed)
+    ∙ place_found c.as_slice.result.now _ (made_of None c.args.tokens.items [] (c.args.source.now ∷ []) []) c.in_ok-map.map (c.args.line, c.args.col)
     c.as_slice.ensures.value c.in_ok-text.ensures.reads_back c.in_ok-map.ensures.only
-    (c.in-Some.ensures.meaning (c.well_formed_maps_are_in_order.ensures (map_tree c.in_ok-map.map) c.in_ok-map.ensures.well_formed))
 
 pub returns-in_err-map-clause-memory : goal.returns-in_err-map-clause-memory
 returns-in_err-map-clause-memory c =
