@@ -1,17 +1,17 @@
 -- What the escapes in a text say.
-use Rattle.std.proofs.Common.{◌≡◌, ◌≢◌, ℕ, ◌+◌, ◌*◌, ◌<◌, Bool, true, false, ◌&&◌, cond, List, [], ◌∷◌, length, drop, get_or, Option, Some, None, option_and_then, refl, sym, ap, ap₂, ◌∙◌, subst, arith, lt_of_not-le}
-use Rattle.std.proofs.lemmas.List.{drop_more, get_or_past, get_or_default}
+use Rattle.std.proofs.Common.{◌≡◌, ◌≢◌, ℕ, ◌+◌, ◌*◌, ◌<◌, Bool, true, false, ◌&&◌, cond, List, [], ◌∷◌, length, drop, get_or, Option, Some, None, option_and_then, refl, sym, ap, ap₂, ◌∙◌, subst, arith, lit<, lt_of_not-le}
+use Rattle.std.proofs.lemmas.List.{drop_more, get_or_past}
 use Rattle.std.proofs.lemmas.Bool.{and_parts, ne_eqb, lt-ltb, false≢true}
 use Rattle.std.proofs.lemmas.Bool.Decides.{nat_tests}
 use Rattle.std.proofs.lemmas.Option.{none-some}
-use Rattle.std.proofs.lemmas.Str.{IsCharBoundary-after_ascii}
 use Rattle.std.specs.Char.{digit_value, is_digit, encode_utf8, InScalarRange}
-use Rattle.std.specs.Str.{IsUtf8, IsCharBoundary}
+use Rattle.std.specs.Str.{IsUtf8}
 use Rattle.json.specs.Text.{code_unit, short_escape, is_high_surrogate, is_low_surrogate, surrogate_pair, content, plain, after_u, after_high, prepend}
 use Rattle.json.specs.Lex.{in_string, lex}
 use Rattle.sourcemap_values.specs.Runs.{is_plain}
-use Rattle.sourcemap_values.specs.Texts.{Says, SpellsUnit}
+use Rattle.sourcemap_values.specs.Texts.{IsUtf8UpTo, Says, SpellsUnit}
 use Rattle.sourcemap_values.proofs.TextLemmas.{Says-plain}
+use Rattle.sourcemap_values.proofs.Utf8Lemmas.{utf8_cons}
 
 -- ---- two bytes
 
@@ -103,7 +103,7 @@ pair_bytes a b c d high e f g h low xs first second is_high is_low =
 
 -- ---- at places of a text
 
-unit_within : (text : List ℕ) (at unit : ℕ) → SpellsUnit text at unit → at + 5 < length text
+pub unit_within : (text : List ℕ) (at unit : ℕ) → SpellsUnit text at unit → at + 5 < length text
 unit_within text at unit spells =
     let digit = (are_digits (get_or text (at + 2) 32) (get_or text (at + 3) 32) (get_or text (at + 4) 32) (get_or text (at + 5) 32) unit spells.digits).3 in
     lt_of_not-le (λ past. absurd (false≢true (ap (λ x. is_digit x 16) (sym (get_or_past text (at + 5) 32 past)) ∙ digit)))
@@ -117,12 +117,11 @@ unit_there text at unit spells =
     (drop_next text (at + 2) (at + 3) (omega arith) (omega arith) ∙ ap (cons (get_or text (at + 2) 32)) (drop_next text (at + 3) (at + 4) (omega arith) (omega arith) ∙ ap (cons (get_or text (at + 3) 32))
     (drop_next text (at + 4) (at + 5) (omega arith) (omega arith) ∙ ap (cons (get_or text (at + 4) 32)) (drop_next text (at + 5) (at + 6) (omega arith) within)))))
 
-pub unit_boundary : (text : List ℕ) (at unit : ℕ) → IsUtf8 text → SpellsUnit text at unit → IsCharBoundary text (at + 6)
-unit_boundary text at unit utf8 spells =
-    let within = unit_within text at unit spells in
-    let digit = (are_digits (get_or text (at + 2) 32) (get_or text (at + 3) 32) (get_or text (at + 4) 32) (get_or text (at + 5) 32) unit spells.digits).3 in
-    let next : at + 5 + 1 ≡ at + 6 = omega arith in
-    subst (IsCharBoundary text) next (IsCharBoundary-after_ascii text (at + 5) utf8 within (omega (arith, get_or_default text (at + 5) 0 32 within, digit_is_ascii (get_or text (at + 5) 32) digit)))
+pub unit_passed : (text : List ℕ) (at unit : ℕ) → SpellsUnit text at unit → IsUtf8UpTo text at (at + 6)
+unit_passed text at unit spells =
+    let digits = are_digits (get_or text (at + 2) 32) (get_or text (at + 3) 32) (get_or text (at + 4) 32) (get_or text (at + 5) 32) unit spells.digits in
+    λ rest. subst IsUtf8 (sym (unit_there text at unit spells)) (utf8_cons _ _ (lit< tt) (utf8_cons _ _ (lit< tt)
+    (utf8_cons _ _ (digit_is_ascii _ digits.0) (utf8_cons _ _ (digit_is_ascii _ digits.1) (utf8_cons _ _ (digit_is_ascii _ digits.2) (utf8_cons _ _ (digit_is_ascii _ digits.3) rest))))))
 
 no_surrogate : (u : ℕ) → InScalarRange u → (is_high_surrogate u ≡ false) × (is_low_surrogate u ≡ false)
 no_surrogate u scalar = (grind (arith, nat_tests), grind (arith, nat_tests))

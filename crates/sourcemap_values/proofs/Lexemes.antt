@@ -1,6 +1,7 @@
 -- What the grammar gives, by the first byte of the text.
-use Rattle.std.proofs.Common.{◌≡◌, ◌≢◌, ◌+◌, ℕ, Bool, true, false, cond, ◌==◌, List, [], ◌∷◌, ◌++◌, Some, ⊎_elim, ◌⊎◌, inl, inr, drop, refl, sym, ap, ◌∙◌}
+use Rattle.std.proofs.Common.{◌≡◌, ◌≢◌, ◌+◌, ◌<◌, ℕ, Bool, true, false, cond, ◌==◌, List, [], ◌∷◌, ◌++◌, Some, ⊎_elim, ◌⊎◌, inl, inr, drop, refl, sym, ap, ◌∙◌, arith}
 use Rattle.std.proofs.lemmas.List.{drop-drop}
+use Rattle.std.proofs.lemmas.Bool.Decides.{nat_tests}
 use Rattle.std.proofs.lemmas.Bool.{true≢false, false≢true, eqb-true, or_cases}
 use Rattle.json.specs.Token.{Token, begin_object, end_object, begin_array, end_array, key, string, number, boolean, null, bad}
 use Rattle.json.specs.Text.{content, plain}
@@ -51,6 +52,9 @@ at_space : (t : List ℕ) → is_space (head t) ≡ true → lex between (drop 1
 unfolding lex
 at_space [] e = refl
 at_space (x ∷ xs) e = rw (space_class x e) refl
+
+pub space_is_ascii : (x : ℕ) → is_space x ≡ true → x < 128
+space_is_ascii x white = grind (arith, nat_tests)
 
 pub space_passed : (text : List ℕ) (at : ℕ) → is_space (head (drop at text)) ≡ true → lex between (drop (at + 1) text) ≡ lex between (drop at text)
 space_passed text at white = ap (lex between) (sym (drop-drop 1 at text)) ∙ at_space (drop at text) white

@@ -7,3 +7,4 @@ pub mod ReadLemmas
 pub mod RunLemmas
 mod TextLemmas
 mod Turns
+mod Utf8Lemmas

@@ -1,18 +1,18 @@
 -- What was read of a text up to a place, step by step.
 use Rattle.std.proofs.Common.{◌≡◌, ℕ, zero, suc, ◌+◌, ◌-◌, ◌<◌, ◌≤◌, true, List, [], ◌∷◌, ◌++◌, length, take, drop, get_or, Some, refl, sym, ap, ap₂, ◌∙◌, subst, arith, lit<, append_assoc, length-append, take-take, length-take-le}
 use Rattle.std.proofs.lemmas.List.{drop-drop, drop_at, drop_more, take_at, take_rest, take-append-drop, take-append-le, get_or_default}
-use Rattle.std.proofs.lemmas.Str.{IsCharBoundary-before_ascii, IsCharBoundary-after_ascii, IsUtf8-append, IsUtf8-drop, IsUtf8-from_ascii, IsUtf8-take}
+use Rattle.std.proofs.lemmas.Str.{IsUtf8-append}
 use Rattle.std.specs.List.{prefix_len}
-use Rattle.std.specs.Str.{IsAscii, IsUtf8, IsCharBoundary}
+use Rattle.std.specs.Str.{IsUtf8}
 use Rattle.json.specs.Filled.{Placed}
 use Rattle.json.specs.Lex.{between, in_string, lex}
 use Rattle.json.specs.Text.{content, plain, prepend, short_escape}
 use Rattle.sourcemap_values.specs.Runs.{is_plain}
-use Rattle.sourcemap_values.specs.Texts.{IsReadUpTo, Says, SpellsByte}
-use Rattle.sourcemap_values.proofs.EscapeLemmas.{drop_next, escape_there, Says-escape}
+use Rattle.sourcemap_values.specs.Texts.{IsReadUpTo, IsUtf8UpTo, Says, SpellsByte}
+use Rattle.sourcemap_values.proofs.EscapeLemmas.{escape_there, Says-escape}
 use Rattle.sourcemap_values.proofs.RunLemmas.{cut_back}
 use Rattle.sourcemap_values.proofs.TextLemmas.{prepend-append, prepend-nil, quote_ends, Says-plain, Says-run}
-use lib.Seq.{get_or-append_seam}
+use Rattle.sourcemap_values.proofs.Utf8Lemmas.{cut_at_text, utf8_cons, utf8_one}
 
 pub nothing_read : (bytes text : List ℕ) (at : ℕ) → IsReadUpTo bytes text at bytes at
 nothing_read bytes text at = record { bytes = refl; goes_on = refl; utf8 = λ u. u }
@@ -21,10 +21,10 @@ pub read_on : (a b c text : List ℕ) (i j k : ℕ) → IsReadUpTo a text i b j 
 read_on a b c text i j k first second = record {
   bytes = second.bytes ∙ first.bytes;
   goes_on = second.goes_on ∙ first.goes_on;
-  utf8 = λ u. second.utf8 (first.utf8 u);
+  utf8 = λ u. first.utf8 (second.utf8 u);
 }
 
-step : (old new added text : List ℕ) (at next : ℕ) → new ≡ old ++ added → Says (drop at text) added (drop next text) → (IsUtf8 (old ++ drop at text) → IsUtf8 (new ++ drop next text))
+step : (old new added text : List ℕ) (at next : ℕ) → new ≡ old ++ added → Says (drop at text) added (drop next text) → (IsUtf8 (new ++ drop next text) → IsUtf8 (old ++ drop at text))
     → IsReadUpTo old text at new next
 step old new added text at next put says utf8 = record {
   bytes = ap (λ s. prepend s (content plain (drop next text))) put ∙ sym (prepend-append old added (content plain (drop next text))) ∙ ap (prepend old) (sym says.bytes);
@@ -38,7 +38,7 @@ run_read old new text at n few put =
     let xs = drop at text in
     let behind : drop n xs ≡ drop (at + n) text = drop-drop n at text in
     let whole : old ++ xs ≡ new ++ drop (at + n) text = ap (λ ys. old ++ ys) (sym (take-append-drop n xs)) ∙ sym (append_assoc old (take n xs) (drop n xs)) ∙ ap₂ (λ a b. a ++ b) (sym put) behind in
-    step old new (take n xs) text at (at + n) put (subst (Says xs (take n xs)) behind (Says-run n xs few)) (subst IsUtf8 whole)
+    step old new (take n xs) text at (at + n) put (subst (Says xs (take n xs)) behind (Says-run n xs few)) (subst IsUtf8 (sym whole))
 
 pub byte_read : (old new text : List ℕ) (at : ℕ) → at < length text → is_plain (get_or text at 0) ≡ true → new ≡ old ++ get_or text at 0 ∷ [] → IsReadUpTo old text at new (at + 1)
 byte_read old new text at inside plain_byte put =
@@ -46,38 +46,17 @@ byte_read old new text at inside plain_byte put =
     let rest = drop (at + 1) text in
     let there : drop at text ≡ x ∷ rest = drop_more text at 0 inside in
     let whole : old ++ drop at text ≡ new ++ rest = ap (λ ys. old ++ ys) there ∙ sym (append_assoc old (x ∷ []) rest) ∙ ap (λ bytes. bytes ++ rest) (sym put) in
-    step old new (x ∷ []) text at (at + 1) put (subst (λ before. Says before (x ∷ []) rest) (sym there) (Says-plain x rest plain_byte)) (subst IsUtf8 whole)
-
--- ---- UTF-8 around a byte of ASCII
-
-pub cut_at_ascii : (front rest : List ℕ) (x : ℕ) → x < 128 → IsUtf8 (front ++ x ∷ rest) → IsUtf8 front × IsUtf8 rest
-cut_at_ascii front rest x small utf8 =
-    let bytes = front ++ x ∷ rest in
-    let n = length front in
-    let inside : n < length bytes = omega (arith, length-append front (x ∷ rest)) in
-    let here : get_or bytes n 0 < 128 = omega (arith, get_or-append_seam front x rest 0) in
-    let seam : (front ++ x ∷ []) ++ rest ≡ bytes = append_assoc front (x ∷ []) rest in
-    let behind : drop (n + 1) bytes ≡ rest = ap (drop (n + 1)) (sym seam) ∙ drop_at (front ++ x ∷ []) rest (n + 1) (length-append front (x ∷ [])) in (
-      subst IsUtf8 (take_at front (x ∷ rest) n refl) (IsUtf8-take bytes n utf8 (IsCharBoundary-before_ascii bytes n inside here)),
-      subst IsUtf8 behind (IsUtf8-drop bytes (n + 1) utf8 (IsCharBoundary-after_ascii bytes n utf8 inside here)),
-    )
-
-one_ascii : (c : ℕ) → c < 128 → IsAscii (c ∷ [])
-one_ascii c small zero = small
-one_ascii c small (suc i) = lit< tt
-
-added_utf8 : (old new added rest : List ℕ) → new ≡ old ++ added → IsUtf8 old → IsUtf8 added → IsUtf8 rest → IsUtf8 (new ++ rest)
-added_utf8 old new added rest put first second third =
-    subst IsUtf8 (sym (ap (λ bytes. bytes ++ rest) put ∙ append_assoc old added rest)) (IsUtf8-append old (added ++ rest) first (IsUtf8-append added rest second third))
+    step old new (x ∷ []) text at (at + 1) put (subst (λ before. Says before (x ∷ []) rest) (sym there) (Says-plain x rest plain_byte)) (subst IsUtf8 (sym whole))
 
 -- ---- escapes
 
--- a byte of ASCII in the place of two
-byte_utf8 : (old new rest : List ℕ) (x c : ℕ) → x < 128 → c < 128 → new ≡ old ++ c ∷ [] → IsUtf8 (old ++ 92 ∷ x ∷ rest) → IsUtf8 (new ++ rest)
-byte_utf8 old new rest x c low small put utf8 =
-    let first = cut_at_ascii old (x ∷ rest) 92 (omega arith) utf8 in
-    let second = cut_at_ascii [] rest x low first.1 in
-    added_utf8 old new (c ∷ []) rest put first.0 (IsUtf8-from_ascii (c ∷ []) (one_ascii c small)) second.1
+-- where whole characters were put, what stood before them and what follows is UTF-8
+pub added_read : (old new added text : List ℕ) (at next : ℕ) → IsUtf8 added → 0 < length added → Says (drop at text) added (drop next text) → IsUtf8UpTo text at next → new ≡ old ++ added
+    → IsReadUpTo old text at new next
+added_read old new added text at next added_is some says passed put =
+    step old new added text at next put says (λ utf8.
+    let parts = cut_at_text old added (drop next text) added_is some (subst IsUtf8 (ap (λ bytes. bytes ++ drop next text) put ∙ append_assoc old added (drop next text)) utf8) in
+    IsUtf8-append old (drop at text) parts.0 (passed parts.1))
 
 pub escape_read : (old new text : List ℕ) (at c : ℕ) → at + 2 ≤ length text → SpellsByte text at c → new ≡ old ++ c ∷ [] → IsReadUpTo old text at new (at + 2)
 escape_read old new text at c inside spells put =
@@ -88,14 +67,8 @@ escape_read old new text at c inside spells put =
     let is : short_escape x ≡ Some c = ap short_escape same ∙ spells.letter in
     let there = escape_there text at c slash is in
     let low : x < 128 = omega (arith, same, spells.ascii.1) in
-    step old new (c ∷ []) text at (at + 2) put (Says-escape text at c slash is) (λ utf8. byte_utf8 old new rest x c low spells.ascii.0 put (subst (λ ys. IsUtf8 (old ++ ys)) there utf8))
-
-pub character_read : (old new added text : List ℕ) (at next : ℕ) → IsUtf8 text → at < length text → get_or text at 32 ≡ 92 → IsUtf8 added → Says (drop at text) added (drop next text) → IsCharBoundary text next
-    → new ≡ old ++ added → IsReadUpTo old text at new next
-character_read old new added text at next text_utf8 inside slash added_is says ends put =
-    let there : drop at text ≡ 92 ∷ drop (at + 1) text = drop_next text at (at + 1) refl inside ∙ ap (λ x. x ∷ drop (at + 1) text) slash in
-    let rest_is = IsUtf8-drop text next text_utf8 ends in
-    step old new added text at next put says (λ utf8. added_utf8 old new added (drop next text) put (cut_at_ascii old (drop (at + 1) text) 92 (omega arith) (subst (λ ys. IsUtf8 (old ++ ys)) there utf8)).0 added_is rest_is)
+    let passed : IsUtf8UpTo text at (at + 2) = λ rest_is. subst IsUtf8 (sym there) (utf8_cons 92 (x ∷ rest) (lit< tt) (utf8_cons x rest low rest_is)) in
+    added_read old new (c ∷ []) text at (at + 2) (utf8_one c spells.ascii.0) (lit< tt) (Says-escape text at c slash is) passed put
 
 -- ---- room that is filled
 
@@ -116,14 +89,10 @@ front_kept n len filled old within few = take-take n len (filled ++ drop (length
 -- ---- the end of a text
 
 -- where its quote stands behind what was read of it from the beginning on
-pub text_ends : (text bytes first front said : List ℕ) (start at stop : ℕ) → IsUtf8 text → IsCharBoundary text start → IsReadUpTo [] text start first at → front ≡ first → bytes ≡ text
-    → IsReadUpTo front bytes at said stop → stop < length text → get_or text stop 32 ≡ 34
-    → (content plain (drop start text) ≡ Some said) × IsUtf8 said × (lex in_string (drop start text) ≡ lex between (drop (stop + 1) text)) × IsCharBoundary text (stop + 1)
-text_ends text bytes first front said start at stop text_utf8 begins before same whole last inside quoted =
-    let next : IsReadUpTo first text at said stop = subst (λ xs. IsReadUpTo xs text at said stop) same (subst (λ t. IsReadUpTo front t at said stop) whole last) in
-    let read = read_on [] first said text start at stop before next in
+pub text_ends : (text first front said : List ℕ) (start at stop : ℕ) → IsReadUpTo [] text start first at → front ≡ first → IsReadUpTo front text at said stop → get_or text stop 32 ≡ 34
+    → (content plain (drop start text) ≡ Some said) × (lex in_string (drop start text) ≡ lex between (drop (stop + 1) text)) × (IsUtf8 said → IsUtf8UpTo text start (stop + 1))
+text_ends text first front said start at stop before same last quoted =
+    let read = read_on [] first said text start at stop before (subst (λ xs. IsReadUpTo xs text at said stop) same last) in
     let says : Says (drop start text) said (drop stop text) = record { bytes = sym (read.bytes ∙ prepend-nil (content plain (drop start text))); goes_on = sym read.goes_on } in
-    let ends = quote_ends text said start stop text_utf8 says quoted in
-    let there : drop stop text ≡ 34 ∷ drop (stop + 1) text = drop_next text stop (stop + 1) refl inside ∙ ap (λ x. x ∷ drop (stop + 1) text) quoted in
-    let cut = cut_at_ascii said (drop (stop + 1) text) 34 (omega arith) (subst (λ ys. IsUtf8 (said ++ ys)) there (read.utf8 (IsUtf8-drop text start text_utf8 begins))) in
-    (ends.0, cut.0, ends.1, ends.2)
+    let ends = quote_ends text said start stop says quoted in
+    (ends.0, ends.1, λ said_is rest_is. read.utf8 (IsUtf8-append said (drop stop text) said_is (ends.2 rest_is)))

@@ -1,12 +1,12 @@
 -- Runs of plain bytes, found a vector at a time by the mask of the bytes that end them.
 use Rattle.std.proofs.Common.{◌≡◌, ℕ, zero, suc, ◌+◌, ◌*◌, ◌/◌, ◌%◌, ◌^◌, ◌<◌, ◌≤◌, Bool, true, false, not, ◌||◌, cond, eqb, ltb, List, [], ◌∷◌, ◌++◌, ◌-◌, map, replicate, length, take, drop, refl, sym, ap, ◌∙◌, arith, take-add}
-use Rattle.std.proofs.lemmas.Simd.{chunk-drop, length-chunk, leading_from_mask_l, trailing_mask_l, zip2_splat, zip2_of_maps, map-map, mask_l-mod}
+use Rattle.std.proofs.lemmas.Simd.{chunk-drop, length-chunk, leading_from_mask_l, trailing_mask_l, zip2_splat, zip2_splat_left, zip2_of_maps, map-map, mask_l-mod}
 use Rattle.std.proofs.lemmas.List.{append_assoc, drop-drop, drop-map, length-drop, length-map, take-take}
 use Rattle.std.proofs.lemmas.List.Folds.{prefix_len-append}
 use Rattle.std.proofs.lemmas.List.Sums.{prefix_len-le-length}
 use Rattle.std.proofs.lemmas.Bool.{eq-eqb, ne_eqb}
 use Rattle.std.specs.List.{prefix_len}
-use Rattle.sourcemap_values.specs.Runs.{is_stop, is_plain}
+use Rattle.sourcemap_values.specs.Runs.{is_stop, is_bare_stop}
 use lib.Bits.{bit_or}
 use lib.Lanes.{chunk, mask_l, top, zip2}
 use lib.Count.{count_trailing_zeros}
@@ -28,16 +28,41 @@ either_top false true false = refl
 either_top false false true = refl
 either_top false false false = refl
 
-pub mask_of_stops : (n : ℕ) (v : List ℕ) → length v ≡ n → n ≤ 64
-    → mask_l (map (top 7) (zip2 bit_or (zip2 bit_or (zip2 (λ x y. full_if (eqb x y)) v (replicate n 34)) (zip2 (λ x y. full_if (eqb x y)) v (replicate n 92))) (zip2 (λ x y. full_if (ltb x y)) v (replicate n 32)))) % 2 ^ 64
-    ≡ mask_l (map is_stop v)
+either_full : (a b : Bool) → bit_or (full_if a) (full_if b) ≡ full_if (a || b)
+either_full true true = refl
+either_full true false = refl
+either_full false true = refl
+either_full false false = refl
+
+abbrev equals : ℕ → ℕ → ℕ
+equals x y = full_if (eqb x y)
+
+abbrev below : ℕ → ℕ → ℕ
+below x y = full_if (ltb x y)
+
+-- which bytes are a quote, a backslash or a control byte, a lane for each
+abbrev stop_lanes : ℕ → List ℕ → List ℕ
+stop_lanes n v = zip2 bit_or (zip2 bit_or (zip2 equals v (replicate n 34)) (zip2 equals v (replicate n 92))) (zip2 below v (replicate n 32))
+
+stop_lanes_are : (n : ℕ) (v : List ℕ) → length v ≡ n → stop_lanes n v ≡ map (λ x. bit_or (bit_or (equals x 34) (equals x 92)) (below x 32)) v
+stop_lanes_are n v long =
+    zip2_of_maps bit_or (λ x. bit_or (equals x 34) (equals x 92)) (λ x. below x 32) v
+    (zip2_of_maps bit_or (λ x. equals x 34) (λ x. equals x 92) v (zip2_splat equals v n 34 long) (zip2_splat equals v n 92 long)) (zip2_splat below v n 32 long)
+
+pub mask_of_stops : (n : ℕ) (v : List ℕ) → length v ≡ n → n ≤ 64 → mask_l (map (top 7) (stop_lanes n v)) % 2 ^ 64 ≡ mask_l (map is_stop v)
 mask_of_stops n v long few =
-    let equals = λ (x y : ℕ). full_if (eqb x y) in
-    let below = λ (x y : ℕ). full_if (ltb x y) in
-    let two = zip2_of_maps bit_or (λ x. equals x 34) (λ x. equals x 92) v (zip2_splat equals v n 34 long) (zip2_splat equals v n 92 long) in
-    let three = zip2_of_maps bit_or (λ x. bit_or (equals x 34) (equals x 92)) (λ x. below x 32) v two (zip2_splat below v n 32 long) in
-    ap (λ lanes. mask_l (map (top 7) lanes) % 2 ^ 64) three ∙ ap (λ lanes. mask_l lanes % 2 ^ 64) (map-map (top 7) _ v ∙ (λ i. map (λ x. either_top (eqb x 34) (eqb x 92) (ltb x 32) i) v))
+    ap (λ lanes. mask_l (map (top 7) lanes) % 2 ^ 64) (stop_lanes_are n v long) ∙ ap (λ lanes. mask_l lanes % 2 ^ 64) (map-map (top 7) _ v ∙ (λ i. map (λ x. either_top (eqb x 34) (eqb x 92) (ltb x 32) i) v))
     ∙ mask_l-mod (map is_stop v) 64 (omega (arith, length-map v is_stop))
+
+either_top_of_two : (a b c d : Bool) → top 7 (bit_or (bit_or (bit_or (full_if a) (full_if b)) (full_if c)) (full_if d)) ≡ (a || b || c || d)
+either_top_of_two a b c d =
+    ap (λ u. top 7 (bit_or (bit_or u (full_if c)) (full_if d))) (either_full a b) ∙ either_top (a || b) c d
+
+pub mask_of_bare_stops : (n : ℕ) (v : List ℕ) → length v ≡ n → n ≤ 64 → mask_l (map (top 7) (zip2 bit_or (stop_lanes n v) (zip2 below (replicate n 127) v))) % 2 ^ 64 ≡ mask_l (map is_bare_stop v)
+mask_of_bare_stops n v long few =
+    ap (λ lanes. mask_l (map (top 7) lanes) % 2 ^ 64) (zip2_of_maps bit_or (λ x. bit_or (bit_or (equals x 34) (equals x 92)) (below x 32)) (λ x. below 127 x) v (stop_lanes_are n v long) (zip2_splat_left below 127 n v long))
+    ∙ ap (λ lanes. mask_l lanes % 2 ^ 64) (map-map (top 7) _ v ∙ (λ i. map (λ x. either_top_of_two (eqb x 34) (eqb x 92) (ltb x 32) (ltb 127 x) i) v))
+    ∙ mask_l-mod (map is_bare_stop v) 64 (omega (arith, length-map v is_bare_stop))
 
 -- ---- the mask of what follows
 
@@ -73,39 +98,39 @@ stops_within : (stop : Bool) (m n l : ℕ) → (0 < m → n < l) → 0 < cond st
 stops_within true m n l rest some = omega arith
 stops_within false m n l rest some = let m_some : 0 < m = omega arith in omega (arith, rest m_some)
 
-run_ends_within : (xs : List ℕ) → 0 < mask_l (map is_stop xs) → prefix_len is_plain xs < length xs
-run_ends_within [] some = absurd (omega arith)
-run_ends_within (x ∷ xs) some = stops_within (is_stop x) (mask_l (map is_stop xs)) (prefix_len is_plain xs) (length xs) (run_ends_within xs) some
+run_ends_within : (stop : ℕ → Bool) (xs : List ℕ) → 0 < mask_l (map stop xs) → prefix_len (λ x. not (stop x)) xs < length xs
+run_ends_within stop [] some = absurd (omega arith)
+run_ends_within stop (x ∷ xs) some = stops_within (stop x) (mask_l (map stop xs)) (prefix_len (λ x. not (stop x)) xs) (length xs) (run_ends_within stop xs) some
 
-module _ (text : List ℕ) (at n : ℕ) (room : at + n ≤ length text) where
-  split : prefix_len is_plain (drop at text)
-      ≡ cond (eqb (prefix_len is_plain (chunk at n text)) (length (chunk at n text))) (length (chunk at n text) + prefix_len is_plain (drop (at + n) text)) (prefix_len is_plain (chunk at n text))
-  split = ap (prefix_len is_plain) (chunk-drop at n text) ∙ prefix_len-append is_plain (chunk at n text) (drop (at + n) text)
+module _ (stop : ℕ → Bool) (text : List ℕ) (at n : ℕ) (room : at + n ≤ length text) where
+  split : prefix_len (λ x. not (stop x)) (drop at text)
+      ≡ cond (eqb (prefix_len (λ x. not (stop x)) (chunk at n text)) (length (chunk at n text))) (length (chunk at n text) + prefix_len (λ x. not (stop x)) (drop (at + n) text)) (prefix_len (λ x. not (stop x)) (chunk at n text))
+  split = ap (prefix_len (λ x. not (stop x))) (chunk-drop at n text) ∙ prefix_len-append (λ x. not (stop x)) (chunk at n text) (drop (at + n) text)
 
   -- none of these bytes ends the run
-  pub run_goes_on : mask_l (map is_stop (chunk at n text)) ≡ 0 → prefix_len is_plain (drop at text) ≡ n + prefix_len is_plain (drop (at + n) text)
+  pub run_goes_on : mask_l (map stop (chunk at n text)) ≡ 0 → prefix_len (λ x. not (stop x)) (drop at text) ≡ n + prefix_len (λ x. not (stop x)) (drop (at + n) text)
   run_goes_on none =
       let part = chunk at n text in
-      let rest = prefix_len is_plain (drop (at + n) text) in
-      split ∙ ap (λ whole. cond whole (length part + rest) (prefix_len is_plain part)) (eq-eqb _ _ (leading_from_mask_l is_stop part none)) ∙ ap (λ k. k + rest) (length-chunk at n text room)
+      let rest = prefix_len (λ x. not (stop x)) (drop (at + n) text) in
+      split ∙ ap (λ whole. cond whole (length part + rest) (prefix_len (λ x. not (stop x)) part)) (eq-eqb _ _ (leading_from_mask_l stop part none)) ∙ ap (λ k. k + rest) (length-chunk at n text room)
 
   -- the lowest bit is where it ends
-  pub run_stops : n ≤ 64 → 0 < mask_l (map is_stop (chunk at n text)) → prefix_len is_plain (drop at text) ≡ count_trailing_zeros 64 (mask_l (map is_stop (chunk at n text)))
+  pub run_stops : n ≤ 64 → 0 < mask_l (map stop (chunk at n text)) → prefix_len (λ x. not (stop x)) (drop at text) ≡ count_trailing_zeros 64 (mask_l (map stop (chunk at n text)))
   run_stops few some =
       let part = chunk at n text in
-      let rest = prefix_len is_plain (drop (at + n) text) in
-      let within = run_ends_within part some in
-      split ∙ ap (λ whole. cond whole (length part + rest) (prefix_len is_plain part)) (ne_eqb _ _ (λ (e : prefix_len is_plain part ≡ length part). omega arith))
-      ∙ sym (trailing_mask_l is_stop 64 part (omega (arith, length-chunk at n text room)) some)
+      let rest = prefix_len (λ x. not (stop x)) (drop (at + n) text) in
+      let within = run_ends_within stop part some in
+      split ∙ ap (λ whole. cond whole (length part + rest) (prefix_len (λ x. not (stop x)) part)) (ne_eqb _ _ (λ (e : prefix_len (λ x. not (stop x)) part ≡ length part). omega arith))
+      ∙ sym (trailing_mask_l stop 64 part (omega (arith, length-chunk at n text room)) some)
 
-  pub stop_inside : n ≤ 64 → 0 < mask_l (map is_stop (chunk at n text)) → count_trailing_zeros 64 (mask_l (map is_stop (chunk at n text))) < n
+  pub stop_inside : n ≤ 64 → 0 < mask_l (map stop (chunk at n text)) → count_trailing_zeros 64 (mask_l (map stop (chunk at n text))) < n
   stop_inside few some =
       let part = chunk at n text in
       let long = length-chunk at n text room in
-      omega (arith, long, run_ends_within part some, trailing_mask_l is_stop 64 part (omega (arith, long)) some)
+      omega (arith, long, run_ends_within stop part some, trailing_mask_l stop 64 part (omega (arith, long)) some)
 
-pub run_within : (text : List ℕ) (at : ℕ) → at ≤ length text → at + prefix_len is_plain (drop at text) ≤ length text
-run_within text at h = omega (arith, prefix_len-le-length is_plain (drop at text), length-drop at text)
+pub run_within : (stop : ℕ → Bool) (text : List ℕ) (at : ℕ) → at ≤ length text → at + prefix_len (λ x. not (stop x)) (drop at text) ≤ length text
+run_within stop text at h = omega (arith, prefix_len-le-length (λ x. not (stop x)) (drop at text), length-drop at text)
 
 -- ---- a run that is copied
 

@@ -1,17 +1,15 @@
 -- What parts of a text say, and where the lexer stands behind them.
 use Rattle.std.proofs.Common.{◌≡◌, ℕ, zero, suc, ◌+◌, ◌-◌, ◌<◌, ◌≤◌, Bool, true, false, ◌||◌, cond, ◌==◌, nat_lt, List, [], ◌∷◌, ◌++◌, length, take, drop, get_or, Option, Some, None, refl, sym, ap, ◌∙◌, subst, arith, lt_of_not-le}
-use Rattle.std.proofs.lemmas.List.{append_assoc, append-nil, drop_more, drop-drop, get_or_past, get_or_default, get_or-drop, length-drop}
-use Rattle.std.proofs.lemmas.Bool.{or_parts, not-true}
+use Rattle.std.proofs.lemmas.List.{append_assoc, append-nil, drop_more, drop-drop, get_or_past}
+use Rattle.std.proofs.lemmas.Bool.{or_parts, not-true, false≢true}
 use Rattle.std.proofs.lemmas.Bool.Decides.{nat_tests}
-use Rattle.std.proofs.lemmas.List.Sums.{prefix_len_stops}
-use Rattle.std.proofs.lemmas.Str.{IsCharBoundary-after_ascii}
 use Rattle.std.specs.List.{prefix_len}
-use Rattle.std.specs.Str.{IsUtf8, IsCharBoundary}
 use Rattle.json.specs.Text.{content, plain, after_backslash, prepend}
 use Rattle.json.specs.Word.{is_operator, is_space}
 use Rattle.json.specs.Lex.{Lexeme, quote, backslash, operator, space, other, Mode, between, in_string, lex_byte, lex}
-use Rattle.sourcemap_values.specs.Runs.{is_plain}
-use Rattle.sourcemap_values.specs.Texts.{Says}
+use Rattle.sourcemap_values.specs.Runs.{is_bare, is_plain}
+use Rattle.sourcemap_values.specs.Texts.{IsUtf8UpTo, Says}
+use Rattle.sourcemap_values.proofs.Utf8Lemmas.{ascii_passed}
 
 pub prepend-append : (a b : List ℕ) (rest : Option (List ℕ)) → prepend a (prepend b rest) ≡ prepend (a ++ b) rest
 prepend-append a b None = refl
@@ -59,30 +57,31 @@ Says-run (suc n) (x ∷ xs) few = first_byte (is_plain x) x n xs refl few (Says-
 
 -- ---- at places of a text
 
-pub run_at : (text : List ℕ) (from end : ℕ) → end ≡ from + prefix_len is_plain (drop from text) → Says (drop from text) (take (end - from) (drop from text)) (drop end text)
-run_at text from end is =
-    let long : prefix_len is_plain (drop from text) ≡ end - from = omega arith in
-    let behind : drop (prefix_len is_plain (drop from text)) (drop from text) ≡ drop end text = drop-drop (prefix_len is_plain (drop from text)) from text ∙ ap (λ k. drop k text) (sym is) in
-    subst (λ n. Says (drop from text) (take n (drop from text)) (drop end text)) long (subst (Says (drop from text) (take (prefix_len is_plain (drop from text)) (drop from text))) behind (Says-run (prefix_len is_plain (drop from text)) (drop from text) (omega arith)))
+plain_if_bare : (x : ℕ) → is_bare x ≡ true → is_plain x ≡ true
+plain_if_bare x bare = grind (arith, nat_tests)
 
-ascii_stop : (x : ℕ) → is_plain x ≡ false → x < 128
-ascii_stop x stop = grind (arith, nat_tests)
+no_longer : (b p : Bool) (m n : ℕ) → (b ≡ true → p ≡ true) → m ≤ n → cond b (1 + m) 0 ≤ cond p (1 + n) 0
+no_longer false p m n both rest = omega arith
+no_longer true true m n both rest = omega (arith, rest)
+no_longer true false m n both rest = absurd (false≢true (both refl))
 
--- a text may be cut where a run ends
-pub run_boundary : (text : List ℕ) (from end : ℕ) → end ≡ from + prefix_len is_plain (drop from text) → end ≤ length text → IsCharBoundary text end
-run_boundary text from end is within =
-    let stops : end < length text → get_or text end 0 < 128 = λ inside. ascii_stop (get_or text end 0)
-    (ap (λ k. is_plain (get_or text k 0)) is ∙ ap is_plain (sym (get_or-drop from text (prefix_len is_plain (drop from text)) 0)) ∙ prefix_len_stops is_plain (drop from text) 0 (omega (arith, length-drop from text))) in
-    (within, λ inside high. absurd (omega (arith, stops inside)))
+-- a run of ASCII is one of plain bytes
+bare_within : (xs : List ℕ) → prefix_len is_bare xs ≤ prefix_len is_plain xs
+bare_within [] = omega arith
+bare_within (x ∷ xs) = no_longer (is_bare x) (is_plain x) (prefix_len is_bare xs) (prefix_len is_plain xs) (plain_if_bare x) (bare_within xs)
+
+pub Says-bare : (text : List ℕ) (from n : ℕ) → n ≡ prefix_len is_bare (drop from text) → Says (drop from text) (take n (drop from text)) (drop (from + n) text)
+Says-bare text from n is =
+    subst (Says (drop from text) (take n (drop from text))) (drop-drop n from text) (Says-run n (drop from text) (omega (arith, bare_within (drop from text))))
 
 -- a quote ends the text
-pub quote_ends : (text said : List ℕ) (from at : ℕ) → IsUtf8 text → Says (drop from text) said (drop at text) → get_or text at 32 ≡ 34
-    → (content plain (drop from text) ≡ Some said) × (lex in_string (drop from text) ≡ lex between (drop (at + 1) text)) × IsCharBoundary text (at + 1)
+pub quote_ends : (text said : List ℕ) (from at : ℕ) → Says (drop from text) said (drop at text) → get_or text at 32 ≡ 34
+    → (content plain (drop from text) ≡ Some said) × (lex in_string (drop from text) ≡ lex between (drop (at + 1) text)) × IsUtf8UpTo text at (at + 1)
 unfolding content lex
-quote_ends text said from at utf8 says quoted =
+quote_ends text said from at says quoted =
     let within : at < length text = lt_of_not-le (λ past. omega (arith, get_or_past text at 32 past)) in
     let first : drop at text ≡ 34 ∷ drop (at + 1) text = drop_more text at 32 within ∙ ap (λ x. x ∷ drop (at + 1) text) quoted in (
       says.bytes ∙ ap (λ behind. prepend said (content plain behind)) first ∙ ap Some (append-nil said),
       says.goes_on ∙ ap (lex in_string) first,
-      IsCharBoundary-after_ascii text at utf8 within (omega (arith, get_or_default text at 0 32 within)),
+      ascii_passed text at within (omega (arith, quoted)),
     )

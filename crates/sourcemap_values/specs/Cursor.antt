@@ -1,5 +1,6 @@
 -- Steps along the tokens of a JSON text.
-use Rattle.std.specs.Prelude.{◌≡◌, ℕ, ◌+◌, true, List, [], ◌∷◌, Some, drop, string_bytes}
+use Rattle.std.specs.Prelude.{◌≡◌, ℕ, ◌+◌, true, List, [], ◌∷◌, Some, drop, string_bytes, refl}
+use Rattle.std.specs.Coded.{Coded, code_by, coded×, coded_list, coded_ℕ}
 use Rattle.json.specs.Token as token
 use Rattle.json.specs.Lex as grammar
 use Rattle.json.specs.Lex.{between, lex, may_begin, may_close, punctuate}
@@ -12,18 +13,26 @@ use Rattle.sourcemap_values.specs.declared.cursor.Place.{Place}
 use Rattle.sourcemap_values.specs.declared.cursor.Place.TheVariants.{Fresh, AfterValue, AfterComma}
 use Rattle.sourcemap_values.specs.declared.cursor.Spot.{Spot}
 
--- the step takes the first of the tokens `old` and leaves `new`; at the end there are none
-abbrev pub Takes : List token.Token → Step → List token.Token → Type 0
-Takes old BeginObject new = old ≡ token.begin_object ∷ new
-Takes old EndObject new = old ≡ token.end_object ∷ new
-Takes old BeginArray new = old ≡ token.begin_array ∷ new
-Takes old EndArray new = old ≡ token.end_array ∷ new
-Takes old (Key s) new = old ≡ token.key (string_bytes s) ∷ new
-Takes old (Text s) new = old ≡ token.string (string_bytes s) ∷ new
-Takes old (Number n) new = (digits : List ℕ) × (old ≡ token.number digits ∷ new) × (number_of digits ≡ Some (number_view n))
-Takes old (Bool b) new = old ≡ token.boolean b ∷ new
-Takes old Null new = old ≡ token.null ∷ new
-Takes old End new = (old ≡ []) × (new ≡ [])
+-- what is still to come of a JSON text: its tokens, and its bytes
+pub record Rest : Type 0 where
+  pub tokens : List token.Token
+  pub bytes : List ℕ
+
+abbrev pub rest_code : Coded Rest
+rest_code = code_by (List token.Token × List ℕ) (coded× token.tokens_code (coded_list coded_ℕ)) (λ r. (r.tokens, r.bytes)) (λ p. record { tokens = p.0; bytes = p.1 }) (λ _. refl)
+
+-- the step takes the first of the tokens to come; at the end there are none, and no bytes
+abbrev pub Takes : Rest → Step → Rest → Type 0
+Takes old BeginObject new = old.tokens ≡ token.begin_object ∷ new.tokens
+Takes old EndObject new = old.tokens ≡ token.end_object ∷ new.tokens
+Takes old BeginArray new = old.tokens ≡ token.begin_array ∷ new.tokens
+Takes old EndArray new = old.tokens ≡ token.end_array ∷ new.tokens
+Takes old (Key s) new = old.tokens ≡ token.key (string_bytes s) ∷ new.tokens
+Takes old (Text s) new = old.tokens ≡ token.string (string_bytes s) ∷ new.tokens
+Takes old (Number n) new = (digits : List ℕ) × (old.tokens ≡ token.number digits ∷ new.tokens) × (number_of digits ≡ Some (number_view n))
+Takes old (Bool b) new = old.tokens ≡ token.boolean b ∷ new.tokens
+Takes old Null new = old.tokens ≡ token.null ∷ new.tokens
+Takes old End new = (old.tokens ≡ []) × (new.tokens ≡ []) × (new.bytes ≡ [])
 
 abbrev pub grammar_place : Place → grammar.Place
 grammar_place Fresh = grammar.fresh
@@ -34,9 +43,13 @@ grammar_place AfterComma = grammar.after_comma
 abbrev pub tokens_from : List ℕ → Spot → List token.Token
 tokens_from text spot = punctuate (grammar_place spot.place) (lex between (drop spot.at text))
 
+-- the tokens and the bytes from there on
+abbrev pub rest_from : List ℕ → Spot → Rest
+rest_from text spot = record { tokens = tokens_from text spot; bytes = drop spot.at text }
+
 -- the step leads from one spot of a text to another
 abbrev pub Leads : List ℕ → Spot → Step → Spot → Type 0
-Leads text spot step behind = Takes (tokens_from text spot) step (tokens_from text behind)
+Leads text spot step behind = Takes (rest_from text spot) step (rest_from text behind)
 
 -- a token that may begin here, of one byte, leads behind it
 abbrev pub Opens : Spot → Spot → Type 0

@@ -4,17 +4,21 @@ use Rattle.std.specs.Str.{IsUtf8}
 use Rattle.json.specs.Text.{code_unit, content, plain, prepend, short_escape}
 use Rattle.json.specs.Lex.{lex, in_string}
 
+-- What stands from a place up to another is UTF-8 as far as what follows is.
+abbrev pub IsUtf8UpTo : List ℕ → ℕ → ℕ → Type 0
+IsUtf8UpTo text from at = IsUtf8 (drop at text) → IsUtf8 (drop from text)
+
 -- Inside of a text, what stands in `before` and no more in `behind` says the bytes `said`, and the text goes on there.
 pub record Says (before said behind : List ℕ) : Type 0 where
   pub bytes : content plain before ≡ prepend said (content plain behind)
   pub goes_on : lex in_string before ≡ lex in_string behind
 
--- What stands in a text from a place up to another was put behind the bytes `old`, which gives the bytes `new`. Where
--- `old` may end within a character, it is one with what follows, and so it is with `new`.
+-- What stands in a text from a place up to another was put behind the bytes `old`, which gives the bytes `new`. Either
+-- may end within a character, which is one with what follows: if that is UTF-8 behind `new`, so it is behind `old`.
 pub record IsReadUpTo (old text : List ℕ) (from : ℕ) (new : List ℕ) (at : ℕ) : Type 0 where
   pub bytes : prepend new (content plain (drop at text)) ≡ prepend old (content plain (drop from text))
   pub goes_on : lex in_string (drop at text) ≡ lex in_string (drop from text)
-  pub utf8 : IsUtf8 (old ++ drop from text) → IsUtf8 (new ++ drop at text)
+  pub utf8 : IsUtf8 (new ++ drop at text) → IsUtf8 (old ++ drop from text)
 
 -- At a place stand a backslash and the byte that makes it an escape, which stand for the byte.
 pub record SpellsByte (text : List ℕ) (at byte : ℕ) : Type 0 where

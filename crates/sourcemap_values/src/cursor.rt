@@ -1,10 +1,12 @@
 //! A cursor along the tokens of a JSON text, which reads each text into a room of its own. It knows
 //! what source maps are written with, and gives up on all else.
 ghost use Rattle.std.specs.Prelude.{◌≡◌, ◌<◌, ◌+◌, ◌^◌, IfOk, drop, length};
+ghost use Rattle.std.specs.Str.{IsUtf8};
 ghost use Rattle.json.specs.Lex.{may_begin, may_close, tokens};
 ghost use Rattle.json.specs.Word.{head};
 ghost use Rattle.sourcemap_values.specs.declared.cursor.Place.TheVariants.{AfterValue};
 ghost use Rattle.sourcemap_values.specs.Cursor.{Closes, Leads, Opens, Passes, Takes, grammar_place, tokens_from};
+ghost use Rattle.sourcemap_values.specs.Texts.{IsUtf8UpTo};
 
 use crate::bytes::{after_space, byte_at};
 use crate::stop::Stop;
@@ -62,30 +64,28 @@ pub(crate) struct Spot {
     place: Place,
 }
 
-/// A place in a JSON text. Contracts see the tokens that are still to come.
+/// A place in a JSON text. Contracts see the tokens and the bytes that are still to come.
 #[derive(Drop)]
 pub(crate) struct Cursor<'a> {
-    text: &'a str,
+    text: &'a [u8],
     spot: Spot,
     scratch: Vec<u8>,
 }
 
 impl<'a> Model for Cursor<'a> {
-    ghost use Rattle.std.specs.Prelude.{List};
-    ghost use Rattle.json.specs.Token.{Token, tokens_code};
-    ghost use Rattle.sourcemap_values.specs.Cursor.{tokens_from};
+    ghost use Rattle.sourcemap_values.specs.Cursor.{Rest, rest_code, rest_from};
 
-    ghost Value = { List Token };
+    ghost Value = { Rest };
 
-    ghost coded = { tokens_code };
+    ghost coded = { rest_code };
 
-    ghost view = { λ c. tokens_from c.text.now c.spot };
+    ghost view = { λ c. rest_from c.text.now c.spot };
 }
 
 impl<'a> Cursor<'a> {
     /// The start of a text.
-    pub(crate) fn new(alloc: Global, text: &'a str) -> Cursor<'a>
-        ensures { result ≡ tokens text.now }
+    pub(crate) fn new(alloc: Global, text: &'a [u8]) -> Cursor<'a>
+        ensures { result ≡ record { tokens = tokens text.now; bytes = text.now } }
     {
         let spot = Spot {
             at: 0,
@@ -101,7 +101,8 @@ impl<'a> Cursor<'a> {
 
     /// What stands next, behind which the cursor stands then.
     pub(crate) fn next(&mut self, alloc: Global) -> Result<Step, Stop>
-        ensures { IfOk result (λ step. Takes self.old step self.new) }
+        ensures takes { IfOk result (λ step. Takes self.old step self.new) }
+        ensures utf8 { IfOk result (λ _. IsUtf8 self.new.bytes → IsUtf8 self.old.bytes) }
     {
         let spot = pass_comma(self.text, self.spot);
         let (step, behind) = take(alloc, self.text, spot, &mut self.scratch)?;
@@ -114,8 +115,9 @@ impl<'a> Cursor<'a> {
 
 // The spot behind white space and the comma that may follow a value.
 #[inline(always)]
-fn pass_comma(text: &str, spot: Spot) -> Spot
-    ensures { tokens_from text.now result ≡ tokens_from text.now spot }
+fn pass_comma(text: &[u8], spot: Spot) -> Spot
+    ensures same { tokens_from text.now result ≡ tokens_from text.now spot }
+    ensures utf8 { IsUtf8UpTo text.now spot.at result.at }
 {
     let at = after_space(text, spot.at);
     match spot.place {
@@ -126,8 +128,9 @@ fn pass_comma(text: &str, spot: Spot) -> Spot
 
 // The spot behind the comma that may stand here, behind a value.
 #[inline(always)]
-fn pass_comma_at(text: &str, at: usize) -> Spot
-    ensures { tokens_from text.now result ≡ tokens_from text.now (record { at = at; place = AfterValue }) }
+fn pass_comma_at(text: &[u8], at: usize) -> Spot
+    ensures same { tokens_from text.now result ≡ tokens_from text.now (record { at = at; place = AfterValue }) }
+    ensures utf8 { IsUtf8UpTo text.now at result.at }
 {
     if byte_at(text, at) == b',' {
         return Spot {
@@ -143,8 +146,9 @@ fn pass_comma_at(text: &str, at: usize) -> Spot
 
 // The token that begins at this spot, and the spot behind it.
 #[inline(always)]
-fn take(alloc: Global, text: &str, spot: Spot, scratch: &mut Vec<u8>) -> Result<(Step, Spot), Stop>
-    ensures { IfOk result (λ taken. Leads text.now spot taken.0 taken.1) }
+fn take(alloc: Global, text: &[u8], spot: Spot, scratch: &mut Vec<u8>) -> Result<(Step, Spot), Stop>
+    ensures leads { IfOk result (λ taken. Leads text.now spot taken.0 taken.1) }
+    ensures utf8 { IfOk result (λ taken. IsUtf8UpTo text.now spot.at taken.1.at) }
 {
     match byte_at(text, spot.at) {
         b'"' => take_text(alloc, text, spot, scratch),
@@ -192,8 +196,9 @@ fn closed(spot: Spot) -> Result<Spot, Stop>
 
 // The end of the text, if it stands here and no token is missing.
 #[inline(always)]
-fn take_end(text: &str, spot: Spot) -> Result<(Step, Spot), Stop>
-    ensures { IfOk result (λ taken. Leads text.now spot taken.0 taken.1) }
+fn take_end(text: &[u8], spot: Spot) -> Result<(Step, Spot), Stop>
+    ensures leads { IfOk result (λ taken. Leads text.now spot taken.0 taken.1) }
+    ensures utf8 { IfOk result (λ taken. IsUtf8UpTo text.now spot.at taken.1.at) }
 {
     if spot.at >= text.len() && spot.place.may_close() {
         return Ok((Step::End, spot));
@@ -205,12 +210,13 @@ fn take_end(text: &str, spot: Spot) -> Result<(Step, Spot), Stop>
 #[inline(always)]
 fn take_text(
     alloc: Global,
-    text: &str,
+    text: &[u8],
     spot: Spot,
     scratch: &mut Vec<u8>,
 ) -> Result<(Step, Spot), Stop>
     requires { head (drop spot.at text.now) ≡ 34 }
-    ensures { IfOk result (λ taken. Leads text.now spot taken.0 taken.1) }
+    ensures leads { IfOk result (λ taken. Leads text.now spot taken.0 taken.1) }
+    ensures utf8 { IfOk result (λ taken. IsUtf8UpTo text.now spot.at taken.1.at) }
 {
     if !spot.place.may_begin() {
         return Err(Stop::Unknown);
@@ -233,7 +239,7 @@ fn take_text(
 
 // The spot behind this word, if it stands here and a value may begin.
 #[inline(always)]
-fn behind_word(text: &str, spot: Spot, word: &[u8]) -> Result<Spot, Stop>
+fn behind_word(text: &[u8], spot: Spot, word: &[u8]) -> Result<Spot, Stop>
     requires { spot.at < length text.now }
     ensures { IfOk result (λ behind. Passes text.now spot word.now behind) }
 {
@@ -248,8 +254,9 @@ fn behind_word(text: &str, spot: Spot, word: &[u8]) -> Result<Spot, Stop>
 
 // The number that begins at this spot.
 #[inline(always)]
-fn take_number(text: &str, spot: Spot) -> Result<(Step, Spot), Stop>
-    ensures { IfOk result (λ taken. Leads text.now spot taken.0 taken.1) }
+fn take_number(text: &[u8], spot: Spot) -> Result<(Step, Spot), Stop>
+    ensures leads { IfOk result (λ taken. Leads text.now spot taken.0 taken.1) }
+    ensures utf8 { IfOk result (λ taken. IsUtf8UpTo text.now spot.at taken.1.at) }
 {
     if !spot.place.may_begin() {
         return Err(Stop::Unknown);

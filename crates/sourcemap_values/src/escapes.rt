@@ -1,10 +1,9 @@
 //! The escapes in the texts of JSON.
 ghost use Rattle.std.specs.Prelude.{◌≡◌, ◌+◌, ◌*◌, ◌<◌, ◌≤◌, true, length, take, drop, get_or, Some, IfSome};
 ghost use Rattle.std.specs.Char.{digit_value, encode_utf8};
-ghost use Rattle.std.specs.Str.{IsCharBoundary};
 ghost use Rattle.json.specs.Text.{is_high_surrogate, is_low_surrogate, short_escape, surrogate_pair};
 ghost use Rattle.json.specs.Filled.{Placed};
-ghost use Rattle.sourcemap_values.specs.Texts.{IsReadUpTo, Says, SpellsByte, SpellsUnit};
+ghost use Rattle.sourcemap_values.specs.Texts.{IsReadUpTo, IsUtf8UpTo, Says, SpellsByte, SpellsUnit};
 
 use crate::bytes::byte_at;
 use crate::places::place_byte;
@@ -15,7 +14,7 @@ use crate::places::place_byte;
 pub(crate) fn place_escape(
     room: &mut [u8],
     to: usize,
-    text: &str,
+    text: &[u8],
     at: usize,
 ) -> Option<(usize, usize)>
     requires space { (to + 4 ≤ length room.old) × (at + 2 ≤ length text.now) }
@@ -26,7 +25,7 @@ pub(crate) fn place_escape(
     ensures read { IfSome result (λ found. IsReadUpTo (take to room.old) text.now at
         (take found.0 room.new) found.1) }
 {
-    let byte = short_escape_at(text.as_bytes(), at);
+    let byte = short_escape_at(text, at);
     if byte == 0 {
         return place_unicode(room, to, text, at);
     }
@@ -79,7 +78,7 @@ fn short_escape(byte: u8) -> u8
 
 /// Puts what `\u` at a place stands for, which is rare.
 #[inline(never)]
-fn place_unicode(room: &mut [u8], to: usize, text: &str, at: usize) -> Option<(usize, usize)>
+fn place_unicode(room: &mut [u8], to: usize, text: &[u8], at: usize) -> Option<(usize, usize)>
     requires space { (to + 4 ≤ length room.old) × (at + 2 ≤ length text.now) }
     requires backslash { get_or text.now at 32 ≡ 92 }
     ensures len { length room.new ≡ length room.old }
@@ -105,12 +104,12 @@ fn place_bytes(room: &mut [u8], to: usize, bytes: &[u8])
 
 /// The character that `\u` with four digits stands for, or two of them that are a pair of
 /// surrogates, and the place behind it.
-fn unicode_escape(text: &str, at: usize) -> Option<(char, usize)>
+fn unicode_escape(text: &[u8], at: usize) -> Option<(char, usize)>
     requires { at ≤ length text.now }
     ensures says { IfSome result
         (λ found. Says (drop at text.now) (encode_utf8 found.0) (drop found.1 text.now)) }
-    ensures boundary { IfSome result (λ found. IsCharBoundary text.now found.1) }
-    ensures forward { IfSome result (λ found. at < found.1) }
+    ensures utf8 { IfSome result (λ found. IsUtf8UpTo text.now at found.1) }
+    ensures within { IfSome result (λ found. (at < found.1) × (found.1 ≤ length text.now)) }
 {
     let unit = code_unit(text, at)?;
     if let Some(character) = char::from_u32(unit) {
@@ -134,7 +133,7 @@ fn surrogate_pair(high: u32, low: u32) -> Option<char>
 }
 
 /// The code unit that `\u` and four digits at a place spell.
-fn code_unit(text: &str, at: usize) -> Option<u32>
+fn code_unit(text: &[u8], at: usize) -> Option<u32>
     requires { at ≤ length text.now + 6 }
     ensures { IfSome result (λ unit. SpellsUnit text.now at unit) }
 {
@@ -149,7 +148,7 @@ fn code_unit(text: &str, at: usize) -> Option<u32>
 }
 
 /// The hexadecimal digit at a place.
-fn digit(text: &str, at: usize) -> Option<u32>
+fn digit(text: &[u8], at: usize) -> Option<u32>
     ensures value { IfSome result (λ value. value ≡ digit_value (get_or text.now at 32)) }
     ensures small { IfSome result (λ value. value < 16) }
 {

@@ -1,15 +1,16 @@
 //! The texts of JSON: what stands between two quotes, read into a room of its own.
 ghost use Rattle.std.specs.Prelude.{◌≡◌, ◌+◌, ◌*◌, ◌^◌, ◌<◌, ◌≤◌, length, take, drop, Some, IfOk, IfSome, string_bytes};
-ghost use Rattle.std.specs.Str.{IsCharBoundary, IsUtf8};
+ghost use Rattle.std.specs.Str.{IsUtf8};
 ghost use Rattle.json.specs.Text.{content, plain};
 ghost use Rattle.json.specs.Lex.{lex, in_string, between};
-ghost use Rattle.sourcemap_values.specs.Texts.{IsReadUpTo, Says};
+ghost use Rattle.sourcemap_values.specs.Texts.{IsReadUpTo, IsUtf8UpTo, Says};
 
 use crate::bytes::byte_at;
 use crate::escapes::place_escape;
 use crate::filling::{SLACK, fill, fill_run};
-use crate::runs::run_end;
+use crate::runs::bare_end;
 use crate::stop::Stop;
+use simdutf8::compat::from_utf8;
 use std::alloc::{AllocError, Global};
 use std::str::from_utf8_unchecked;
 
@@ -20,46 +21,48 @@ static ROOM: [u8; 4096] = [0; 4096];
 /// What `scratch` holds is lost: a text with escapes is put together there.
 pub(crate) fn read_text(
     alloc: Global,
-    text: &str,
+    text: &[u8],
     start: usize,
     scratch: &mut Vec<u8>,
 ) -> Result<(String, usize), Stop>
-    requires { IsCharBoundary text.now start }
+    requires { start ≤ length text.now }
     ensures content { IfOk result
         (λ found. content plain (drop start text.now) ≡ Some (string_bytes found.0)) }
     ensures behind { IfOk result
         (λ found. lex in_string (drop start text.now) ≡ lex between (drop found.1 text.now)) }
-    ensures boundary { IfOk result (λ found. IsCharBoundary text.now found.1) }
+    ensures utf8 { IfOk result (λ found. IsUtf8UpTo text.now start found.1) }
 {
-    let run = plain_run(text, start);
+    let run = bare_run(text, start);
     let stop = start + run.len();
-    match byte_at(text, stop) {
-        b'"' => Ok((String::from_str(alloc, run)?, stop + 1)),
-        b'\\' => read_escaped(alloc, text, start, scratch),
-        _ => Err(Stop::Unknown),
+    if byte_at(text, stop) == b'"' {
+        return Ok((String::from_str(alloc, run)?, stop + 1));
     }
+    read_escaped(alloc, text, start, scratch)
 }
 
-/// The same of a text with escapes. The room for what it says is made once for all texts, since no
+/// The same of a text with escapes or characters past ASCII, which is tested where it is put
+/// together. The room for what it says is made once for all texts, since no
 /// text says more bytes than are left of the JSON text that spells it.
 #[inline(never)]
 fn read_escaped(
     alloc: Global,
-    text: &str,
+    text: &[u8],
     start: usize,
     scratch: &mut Vec<u8>,
 ) -> Result<(String, usize), Stop>
-    requires { IsCharBoundary text.now start }
+    requires { start ≤ length text.now }
     ensures content { IfOk result
         (λ found. content plain (drop start text.now) ≡ Some (string_bytes found.0)) }
     ensures behind { IfOk result
         (λ found. lex in_string (drop start text.now) ≡ lex between (drop found.1 text.now)) }
-    ensures boundary { IfOk result (λ found. IsCharBoundary text.now found.1) }
+    ensures utf8 { IfOk result (λ found. IsUtf8UpTo text.now start found.1) }
 {
     let wanted = text.len() - start + 3 * SLACK;
     scratch.reserve(wanted.saturating_sub(scratch.len()))?;
     let (len, end) = unescape(scratch, text, start)?;
-    let said = unsafe { from_utf8_unchecked(&scratch[..len]) };
+    let Ok(said) = from_utf8(&scratch[..len]) else {
+        return Err(Stop::Unknown);
+    };
     Ok((String::from_str(alloc, said)?, end))
 }
 
@@ -67,21 +70,21 @@ fn read_escaped(
 /// grows by zeros where it is short. The answer is how many bytes it says, and the place behind its
 /// closing quote.
 #[inline(always)]
-fn unescape(room: &mut Vec<u8>, text: &str, start: usize) -> Result<(usize, usize), Stop>
-    requires { IsCharBoundary text.now start }
+fn unescape(room: &mut Vec<u8>, text: &[u8], start: usize) -> Result<(usize, usize), Stop>
+    requires { start ≤ length text.now }
     ensures within { IfOk result (λ found. found.0 ≤ length room.new.items) }
     ensures content { IfOk result
         (λ found. content plain (drop start text.now) ≡ Some (take found.0 room.new.items)) }
-    ensures utf8 { IfOk result (λ found. IsUtf8 (take found.0 room.new.items)) }
+    ensures utf8 { IfOk result
+        (λ found. IsUtf8 (take found.0 room.new.items) → IsUtf8UpTo text.now start found.1) }
     ensures behind { IfOk result
         (λ found. lex in_string (drop start text.now) ≡ lex between (drop found.1 text.now)) }
-    ensures ends { IfOk result (λ found. IsCharBoundary text.now found.1) }
 {
     let mut to = 0;
     let mut at = start;
     loop {
         make_room(room, to, text.len() - at)?;
-        let (so_far, stop) = fill(room.as_mut_slice(), to, text.as_bytes(), at);
+        let (so_far, stop) = fill(room.as_mut_slice(), to, text, at);
         if byte_at(text, stop) == b'"' {
             return Ok((so_far, stop + 1));
         }
@@ -108,7 +111,7 @@ fn make_room(room: &mut Vec<u8>, to: usize, left: usize) -> Result<(), AllocErro
 
 /// Puts what stands where blocks end: an escape, or some plain bytes.
 #[inline(always)]
-fn fill_rare(room: &mut [u8], to: usize, text: &str, at: usize) -> Option<(usize, usize)>
+fn fill_rare(room: &mut [u8], to: usize, text: &[u8], at: usize) -> Option<(usize, usize)>
     requires { (to + 4 ≤ length room.old) × (at ≤ length text.now) }
     ensures len { length room.new ≡ length room.old }
     ensures to_within { IfSome result (λ found. found.0 ≤ length room.new) }
@@ -119,20 +122,20 @@ fn fill_rare(room: &mut [u8], to: usize, text: &str, at: usize) -> Option<(usize
     if text.len() - at >= 2 && byte_at(text, at) == b'\\' {
         return place_escape(room, to, text, at);
     }
-    let (next_to, next_at) = fill_run(room, to, text.as_bytes(), at);
+    let (next_to, next_at) = fill_run(room, to, text, at);
     if next_at == at {
         return None;
     }
     Some((next_to, next_at))
 }
 
-/// The plain bytes from a place on.
+/// The bytes from a place on that stand for themselves and are ASCII.
 #[inline(always)]
-fn plain_run(text: &str, from: usize) -> &str
-    requires { IsCharBoundary text.now from }
+fn bare_run(text: &[u8], from: usize) -> &str
+    requires { from ≤ length text.now }
     ensures says { Says (drop from text.now) result.now (drop (from + length result.now) text.now) }
-    ensures boundary { IsCharBoundary text.now (from + length result.now) }
+    ensures utf8 { IsUtf8UpTo text.now from (from + length result.now) }
 {
-    let end = run_end(text.as_bytes(), from);
-    &text[from..end]
+    let end = bare_end(text, from);
+    unsafe { from_utf8_unchecked(&text[from..end]) }
 }

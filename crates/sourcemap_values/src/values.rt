@@ -1,18 +1,16 @@
 //! JSON values from their texts. The fast way goes along a cursor and keeps each text in the room
 //! that the cursor read it into. Where it gives up, the kit's reader answers.
-ghost use Rattle.std.specs.Prelude.{◌≡◌, ◌<◌, ◌≤◌, List, length, Some, None, IfOk, IfErr, IsUtf8};
-ghost use Rattle.json.specs.Token.{Token};
+ghost use Rattle.std.specs.Prelude.{◌≡◌, ◌<◌, ◌≤◌, length, Some, None, IfOk, IfErr, IsUtf8};
 ghost use Rattle.serde_json.specs.Data.{no_members, depth as nesting};
 ghost use Rattle.serde_json.specs.Errors.{IsMemory, IsOfText};
 ghost use Rattle.serde_json.specs.Read.{max_depth, read as read_text};
 ghost use Rattle.serde_json.specs.View.{view, items_view, members_view};
-ghost use Rattle.sourcemap_values.specs.Cursor.{Takes};
+ghost use Rattle.sourcemap_values.specs.Cursor.{Rest, Takes};
 ghost use Rattle.sourcemap_values.specs.Values.{BeginsWithValue, BeginsWithItems, BeginsWithMembers};
 
 use crate::cursor::{Cursor, Step};
 use crate::stop::Stop;
 use serde_json::{Error, Map, Value};
-use simdutf8::compat::from_utf8;
 use std::alloc::{AllocError, Global};
 
 // Levels of arrays and objects, as many as the kit's reader takes.
@@ -29,21 +27,19 @@ pub fn value_from_slice(alloc: Global, bytes: &[u8]) -> Result<Value, Error>
         → read_text bytes.now ≡ None) }
     ensures kind { IfErr result (λ e. ¬ IsMemory e → IsOfText e) }
 {
-    let Ok(text) = from_utf8(bytes) else {
-        return Value::from_slice(alloc, bytes);
-    };
-    match known(alloc, text) {
+    match known(alloc, bytes) {
         Ok(value) => Ok(value),
-        Err(Stop::Unknown) => Value::from_str(alloc, text),
+        Err(Stop::Unknown) => Value::from_slice(alloc, bytes),
         Err(Stop::OutOfMemory) => Err(Error::from(AllocError)),
     }
 }
 
-/// The JSON value that a text is, by the fast way.
-fn known(alloc: Global, text: &str) -> Result<Value, Stop>
-    ensures { IfOk result (λ v. read_text text.now ≡ Some (view v)) }
+/// The JSON value that bytes are, by the fast way.
+fn known(alloc: Global, bytes: &[u8]) -> Result<Value, Stop>
+    ensures utf8 { IfOk result (λ _. IsUtf8 bytes.now) }
+    ensures value { IfOk result (λ v. read_text bytes.now ≡ Some (view v)) }
 {
-    let mut cursor = Cursor::new(alloc, text);
+    let mut cursor = Cursor::new(alloc, bytes);
     let first = cursor.next(alloc)?;
     let value = read(alloc, first, &mut cursor, MAX_DEPTH)?;
     match cursor.next(alloc)? {
@@ -58,8 +54,9 @@ fn known(alloc: Global, text: &str) -> Result<Value, Stop>
 #[cycle(read)]
 #[inline(always)]
 fn read(alloc: Global, first: Step, cursor: &mut Cursor<'_>, depth: usize) -> Result<Value, Stop>
-    ensures { IfOk result (λ v. (old : List Token) → Takes old first cursor.old
-        → BeginsWithValue depth old (view v) cursor.new) }
+    ensures value { IfOk result (λ v. (old : Rest) → Takes old first cursor.old
+        → BeginsWithValue depth old.tokens (view v) cursor.new.tokens) }
+    ensures utf8 { IfOk result (λ _. IsUtf8 cursor.new.bytes → IsUtf8 cursor.old.bytes) }
 {
     match first {
         Step::Text(text) => Ok(Value::String(text)),
@@ -86,8 +83,9 @@ fn read(alloc: Global, first: Step, cursor: &mut Cursor<'_>, depth: usize) -> Re
 #[cycle(read)]
 #[inline(never)]
 fn read_items(alloc: Global, cursor: &mut Cursor<'_>, depth: usize) -> Result<Vec<Value>, Stop>
-    ensures { IfOk result (λ v. BeginsWithItems depth (length cursor.old) cursor.old
-        (items_view v.items) cursor.new) }
+    ensures items { IfOk result (λ v. BeginsWithItems depth (length cursor.old.tokens)
+        cursor.old.tokens (items_view v.items) cursor.new.tokens) }
+    ensures utf8 { IfOk result (λ _. IsUtf8 cursor.new.bytes → IsUtf8 cursor.old.bytes) }
 {
     let mut found = Vec::new(alloc);
     'items: loop {
@@ -111,8 +109,9 @@ fn read_members(
     cursor: &mut Cursor<'_>,
     depth: usize,
 ) -> Result<Map<String, Value>, Stop>
-    ensures { IfOk result (λ m. BeginsWithMembers depth (length cursor.old) cursor.old
-        no_members (members_view m.entries) cursor.new) }
+    ensures members { IfOk result (λ m. BeginsWithMembers depth (length cursor.old.tokens)
+        cursor.old.tokens no_members (members_view m.entries) cursor.new.tokens) }
+    ensures utf8 { IfOk result (λ _. IsUtf8 cursor.new.bytes → IsUtf8 cursor.old.bytes) }
 {
     let mut found = Map::new(alloc);
     'members: loop {

@@ -12,11 +12,11 @@ const GREAT: u64 = 1_000_000_000_000_000;
 
 /// The place behind this word, if it stands here and goes on no further.
 #[inline(always)]
-pub(crate) fn word_end(text: &str, from: usize, word: &[u8]) -> Result<usize, Stop>
+pub(crate) fn word_end(text: &[u8], from: usize, word: &[u8]) -> Result<usize, Stop>
     requires { from ≤ length text.now }
     ensures { IfOk result (λ end. IsWordAt text.now from word.now end) }
 {
-    if !text.as_bytes()[from..].starts_with(word) {
+    if !text[from..].starts_with(word) {
         return Err(Stop::Unknown);
     }
     let end = from + word.len();
@@ -29,7 +29,7 @@ pub(crate) fn word_end(text: &str, from: usize, word: &[u8]) -> Result<usize, St
 
 /// The number that stands here, and the place behind it.
 #[inline(always)]
-pub(crate) fn whole_number(text: &str, from: usize) -> Result<(u64, usize), Stop>
+pub(crate) fn whole_number(text: &[u8], from: usize) -> Result<(u64, usize), Stop>
     ensures { IfOk result (λ read. IsWordAt text.now from (decimal read.0) read.1) }
 {
     let (value, end) = digits(text, from)?;
@@ -45,7 +45,7 @@ pub(crate) fn whole_number(text: &str, from: usize) -> Result<(u64, usize), Stop
 
 // Whether no zero leads these digits, or they are just a zero.
 #[inline(always)]
-fn is_shortest(text: &str, from: usize, end: usize) -> bool
+fn is_shortest(text: &[u8], from: usize, end: usize) -> bool
     requires { from < end }
     ensures { OnTrue result (head (drop from text.now) ≡ 48 → end ≡ from + 1) }
 {
@@ -54,7 +54,7 @@ fn is_shortest(text: &str, from: usize, end: usize) -> bool
 
 // The digits that stand here, as a number, and the place behind them.
 #[inline(always)]
-fn digits(text: &str, from: usize) -> Result<(u64, usize), Stop>
+fn digits(text: &[u8], from: usize) -> Result<(u64, usize), Stop>
     ensures { IfOk result (λ read. AreDigits text.now from read.0 read.1) }
 {
     let mut value = 0;
@@ -71,7 +71,7 @@ fn digits(text: &str, from: usize) -> Result<(u64, usize), Stop>
 
 // The value of the digit that stands here.
 #[inline(always)]
-fn digit_at(text: &str, at: usize) -> Option<u64>
+fn digit_at(text: &[u8], at: usize) -> Option<u64>
     ensures byte { IfSome result (λ digit. head (drop at text.now) ≡ 48 + digit) }
     ensures small { IfSome result (λ digit. digit < 10) }
     ensures inside { IfSome result (λ _. at < length text.now) }

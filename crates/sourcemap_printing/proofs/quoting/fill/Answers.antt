@@ -1,6 +1,6 @@
 use Rattle.std.proofs.Common.{◌≡◌, ◌≢◌, ◌<◌, ◌≤◌, ◌+◌, drop, length, take, sym, ap, ◌∙◌, arith}
 use Rattle.std.specs.List.{prefix_len}
-use Rattle.sourcemap_values.specs.Runs.{is_plain}
+use Rattle.sourcemap_values.specs.Runs.{is_plain, is_stop}
 use Rattle.sourcemap_printing.proofs.QuoteLemmas.{stop_at, block_put, run_put, escape_put}
 use Rattle.sourcemap_values.proofs.RunLemmas.{run_goes_on, run_stops, stop_inside}
 use Rattle.sourcemap_values.proofs.ReadLemmas.{first_placed, rest_placed}
@@ -11,7 +11,7 @@ pub loop-at-preserved-then-stops-eq0 : goal.loop-at-preserved-then-stops-eq0
 loop-at-preserved-then-stops-eq0 c =
     let text = c.args.text.now in
     let l = c.loop-at in
-    let goes_on = run_goes_on text l.at 32 (omega arith) (omega (arith, c.stops-stops.ensures)) in
+    let goes_on = run_goes_on is_stop text l.at 32 (omega arith) (omega (arith, c.stops-stops.ensures)) in
     let placed = rest_placed l.room c.place_block.new.room text l.at l.to 32 c.place_block.ensures in
     let put = first_placed l.room c.place_block.new.room (drop l.at text) l.to 32 32 l.invariant.0 (omega arith) placed in (
       omega (arith, c.place_block.ensures.len),
@@ -25,7 +25,7 @@ bounds-text-at-in-loop-at c =
     let text = c.args.text.now in
     let l = c.loop-at in
     let mask = c.stops-stops.ensures in
-    omega (arith, stop_inside text l.at 32 (omega arith) (omega arith) (omega (arith, mask)), ap (count_trailing_zeros 64) mask)
+    omega (arith, stop_inside is_stop text l.at 32 (omega arith) (omega arith) (omega (arith, mask)), ap (count_trailing_zeros 64) mask)
 
 pub letter-letter-requires : goal.letter-letter-requires
 letter-letter-requires c =
@@ -33,8 +33,8 @@ letter-letter-requires c =
     let l = c.loop-at in
     let mask = c.stops-stops.ensures in
     let n = count_trailing_zeros 64 c.stops-stops.result in
-    let run : prefix_len is_plain (drop l.at text) ≡ n = run_stops text l.at 32 (omega arith) (omega arith) (omega (arith, mask)) ∙ ap (count_trailing_zeros 64) (sym mask) in
-    let few : n ≤ 32 = omega (arith, stop_inside text l.at 32 (omega arith) (omega arith) (omega (arith, mask)), ap (count_trailing_zeros 64) mask) in
+    let run : prefix_len is_plain (drop l.at text) ≡ n = run_stops is_stop text l.at 32 (omega arith) (omega arith) (omega (arith, mask)) ∙ ap (count_trailing_zeros 64) (sym mask) in
+    let few : n ≤ 32 = omega (arith, stop_inside is_stop text l.at 32 (omega arith) (omega arith) (omega (arith, mask)), ap (count_trailing_zeros 64) mask) in
     stop_at text l.at (l.at + n) (omega (arith, run)) (omega (arith, few))
 
 pub returns-then-letter-eq0-clause-to_within : goal.returns-then-letter-eq0-clause-to_within
@@ -42,21 +42,21 @@ returns-then-letter-eq0-clause-to_within c =
     let text = c.args.text.now in
     let l = c.loop-at in
     let mask = c.stops-stops.ensures in
-    omega (arith, c.place_block.ensures.len, stop_inside text l.at 32 (omega arith) (omega arith) (omega (arith, mask)), ap (count_trailing_zeros 64) mask)
+    omega (arith, c.place_block.ensures.len, stop_inside is_stop text l.at 32 (omega arith) (omega arith) (omega (arith, mask)), ap (count_trailing_zeros 64) mask)
 
 pub returns-then-letter-eq0-clause-within : goal.returns-then-letter-eq0-clause-within
 returns-then-letter-eq0-clause-within c =
     let text = c.args.text.now in
     let l = c.loop-at in
     let mask = c.stops-stops.ensures in
-    omega (arith, stop_inside text l.at 32 (omega arith) (omega arith) (omega (arith, mask)), ap (count_trailing_zeros 64) mask)
+    omega (arith, stop_inside is_stop text l.at 32 (omega arith) (omega arith) (omega (arith, mask)), ap (count_trailing_zeros 64) mask)
 
 pub place_pair-requires : goal.place_pair-requires
 place_pair-requires c =
     let text = c.args.text.now in
     let l = c.loop-at in
     let mask = c.stops-stops.ensures in
-    omega (arith, c.place_block.ensures.len, stop_inside text l.at 32 (omega arith) (omega arith) (omega (arith, mask)), ap (count_trailing_zeros 64) mask)
+    omega (arith, c.place_block.ensures.len, stop_inside is_stop text l.at 32 (omega arith) (omega arith) (omega (arith, mask)), ap (count_trailing_zeros 64) mask)
 
 pub returns-then-letter-eq0-clause-put : goal.returns-then-letter-eq0-clause-put
 returns-then-letter-eq0-clause-put c =
@@ -64,8 +64,8 @@ returns-then-letter-eq0-clause-put c =
     let l = c.loop-at in
     let mask = c.stops-stops.ensures in
     let n = count_trailing_zeros 64 c.stops-stops.result in
-    let run : prefix_len is_plain (drop l.at text) ≡ n = run_stops text l.at 32 (omega arith) (omega arith) (omega (arith, mask)) ∙ ap (count_trailing_zeros 64) (sym mask) in
-    let few : n ≤ 32 = omega (arith, stop_inside text l.at 32 (omega arith) (omega arith) (omega (arith, mask)), ap (count_trailing_zeros 64) mask) in
+    let run : prefix_len is_plain (drop l.at text) ≡ n = run_stops is_stop text l.at 32 (omega arith) (omega arith) (omega (arith, mask)) ∙ ap (count_trailing_zeros 64) (sym mask) in
+    let few : n ≤ 32 = omega (arith, stop_inside is_stop text l.at 32 (omega arith) (omega arith) (omega (arith, mask)), ap (count_trailing_zeros 64) mask) in
     let placed = rest_placed l.room c.place_block.new.room text l.at l.to 32 c.place_block.ensures in
     let put = first_placed l.room c.place_block.new.room (drop l.at text) l.to n 32 l.invariant.0 few placed in
     run_put (take l.to l.room) _ _ text l.at n run put l.invariant.3
@@ -76,8 +76,8 @@ loop-at-preserved c =
     let l = c.loop-at in
     let mask = c.stops-stops.ensures in
     let n = count_trailing_zeros 64 c.stops-stops.result in
-    let run : prefix_len is_plain (drop l.at text) ≡ n = run_stops text l.at 32 (omega arith) (omega arith) (omega (arith, mask)) ∙ ap (count_trailing_zeros 64) (sym mask) in
-    let few : n ≤ 32 = omega (arith, stop_inside text l.at 32 (omega arith) (omega arith) (omega (arith, mask)), ap (count_trailing_zeros 64) mask) in
+    let run : prefix_len is_plain (drop l.at text) ≡ n = run_stops is_stop text l.at 32 (omega arith) (omega arith) (omega (arith, mask)) ∙ ap (count_trailing_zeros 64) (sym mask) in
+    let few : n ≤ 32 = omega (arith, stop_inside is_stop text l.at 32 (omega arith) (omega arith) (omega (arith, mask)), ap (count_trailing_zeros 64) mask) in
     let placed = rest_placed l.room c.place_block.new.room text l.at l.to 32 c.place_block.ensures in
     let put = first_placed l.room c.place_block.new.room (drop l.at text) l.to n 32 l.invariant.0 few placed in
     let so_far = run_put (take l.to l.room) _ _ text l.at n run put l.invariant.3 in

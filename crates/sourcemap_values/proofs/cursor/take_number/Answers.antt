@@ -7,10 +7,13 @@ use Rattle.serde_json.proofs.Numbers.{number_of-decimal}
 use Rattle.sourcemap_values.specs.Cursor.{grammar_place}
 use Rattle.sourcemap_values.proofs.Lexemes.{number_value}
 use Rattle.sourcemap_values.proofs.Tokens.{word_at}
+use Rattle.sourcemap_values.proofs.Utf8Lemmas.{word_passed}
+use Rattle.std.proofs.lemmas.Fmt.{IsAscii-decimal}
+use Rattle.std.proofs.lemmas.Str.{IsUtf8-from_ascii}
 use Rattle.sourcemap_values.proofs.cursor.take_number.Goals as goal
 
-pub returns : goal.returns
-returns c =
+pub returns-clause-leads : goal.returns-clause-leads
+returns-clause-leads c =
     let n = c.in_ok-value.value in
     let fits : n < 2 ^ 64 = omega arith in
     let may : may_begin (grammar_place c.args.spot.place) ≡ true = cc in (
@@ -18,3 +21,8 @@ returns c =
       word_at c.args.text.now (decimal n) (number (decimal n)) c.args.spot _ (may, c.in_ok-value.ensures, refl) (λ rest e. lex-number (decimal n) rest (IsNumber-decimal n fits) e) (number_value (decimal n)),
       number_of-decimal n fits ∙ ap Some (sym c.from.ensures),
     )
+
+pub returns-clause-utf8 : goal.returns-clause-utf8
+returns-clause-utf8 c =
+    let n = c.in_ok-value.value in
+    word_passed c.args.text.now c.args.spot.at (decimal n) _ c.in_ok-value.ensures (IsUtf8-from_ascii (decimal n) (IsAscii-decimal n (omega arith)))

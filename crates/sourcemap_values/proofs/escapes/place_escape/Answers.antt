@@ -8,5 +8,5 @@ returns-clause-read c =
     let text = c.args.text.now in
     let byte = c.short_escape_at-byte in
     let some : 0 < byte.result = omega (arith, c.if-byte-eq0.false) in
-    let spells : SpellsByte text c.args.at byte.result = rw c.as_bytes.ensures.value at (byte.ensures some) in
+    let spells : SpellsByte text c.args.at byte.result = byte.ensures some in
     escape_read (take c.args.to c.args.room.now) _ text c.args.at byte.result c.requires.space.1 spells c.place_byte.ensures.bytes

@@ -1,6 +1,7 @@
-use Rattle.std.proofs.Common.{◌≡◌, ◌+◌, ◌++◌, length, take, drop, sym, subst, arith}
+use Rattle.std.proofs.Common.{◌≡◌, ◌+◌, ◌++◌, ◌<◌, length, take, drop, sym, ap, subst, arith}
+use Rattle.std.proofs.lemmas.Str.{length-encode, len_utf8_bounds}
 use Rattle.sourcemap_values.specs.Texts.{Says}
-use Rattle.sourcemap_values.proofs.ReadLemmas.{character_read}
+use Rattle.sourcemap_values.proofs.ReadLemmas.{added_read}
 use Rattle.sourcemap_values.proofs.escapes.place_unicode.Goals as goal
 
 pub returns-clause-read : goal.returns-clause-read
@@ -12,4 +13,5 @@ returns-clause-read c =
     let front = take c.args.to c.args.room.now in
     let says : Says (drop at text) encoded.result.now (drop next text) = subst (λ bytes. Says (drop at text) bytes (drop next text)) (sym encoded.ensures.value) c.in_ok-character.ensures.says in
     let put : take (c.args.to + length encoded.result.now) c.place_bytes.new.room ≡ front ++ encoded.result.now = rw c.as_bytes.ensures.value at c.place_bytes.ensures.bytes in
-    character_read front _ encoded.result.now text at next c.utf8.text (omega arith) c.requires.backslash encoded.utf8 says c.in_ok-character.ensures.boundary put
+    let some : 0 < length encoded.result.now = omega (arith, ap length encoded.ensures.value, length-encode c.in_ok-character.character, (len_utf8_bounds c.in_ok-character.character).0) in
+    added_read front _ encoded.result.now text at next encoded.utf8 some says c.in_ok-character.ensures.utf8 put

@@ -1,8 +1,8 @@
 use Rattle.std.proofs.Common.{◌≡◌, ◌+◌, drop, sym, subst, arith}
 use Rattle.std.specs.Char.{encode_utf8}
-use Rattle.std.specs.Str.{IsCharBoundary}
-use Rattle.sourcemap_values.specs.Texts.{Says, SpellsUnit}
-use Rattle.sourcemap_values.proofs.EscapeLemmas.{Says-unit, Says-pair, unit_boundary}
+use Rattle.sourcemap_values.specs.Texts.{IsUtf8UpTo, Says, SpellsUnit}
+use Rattle.sourcemap_values.proofs.EscapeLemmas.{Says-unit, Says-pair, unit_passed, unit_within}
+use Rattle.sourcemap_values.proofs.Utf8Lemmas.{utf8_on}
 use Rattle.sourcemap_values.proofs.escapes.unicode_escape.Goals as goal
 
 pub returns-in-Some-clause-says : goal.returns-in-Some-clause-says
@@ -13,12 +13,8 @@ returns-in-Some-clause-says c =
     let spells : SpellsUnit text at unit = c.in_ok-unit.ensures in
     subst (λ u. Says (drop at text) (encode_utf8 u) (drop (at + 6) text)) (sym c.in-Some.ensures.value.1) (Says-unit text at unit spells c.in-Some.ensures.cases)
 
-pub returns-in-Some-clause-boundary : goal.returns-in-Some-clause-boundary
-returns-in-Some-clause-boundary c =
-    let text = c.args.text.now in
-    let unit = c.in_ok-unit.unit in
-    let spells : SpellsUnit text c.args.at unit = c.in_ok-unit.ensures in
-    unit_boundary text c.args.at unit c.utf8.text spells
+pub returns-in-Some-clause-utf8 : goal.returns-in-Some-clause-utf8
+returns-in-Some-clause-utf8 c = unit_passed c.args.text.now c.args.at c.in_ok-unit.unit c.in_ok-unit.ensures
 
 pub returns-clause-says : goal.returns-clause-says
 returns-clause-says c =
@@ -31,10 +27,16 @@ returns-clause-says c =
     let second : SpellsUnit text (at + 6) low = c.in_ok-low.ensures in
     subst (λ u. Says (drop at text) (encode_utf8 u) (drop (at + 12) text)) (sym pair.value) (Says-pair text at unit low first second pair.high pair.low)
 
-pub returns-clause-boundary : goal.returns-clause-boundary
-returns-clause-boundary c =
+pub returns-clause-utf8 : goal.returns-clause-utf8
+returns-clause-utf8 c =
     let text = c.args.text.now in
-    let low = c.in_ok-low.low in
-    let last : c.args.at + 6 + 6 ≡ c.args.at + 12 = omega arith in
-    let second : SpellsUnit text (c.args.at + 6) low = c.in_ok-low.ensures in
-    subst (IsCharBoundary text) last (unit_boundary text (c.args.at + 6) low c.utf8.text second)
+    let at = c.args.at in
+    let last : at + 6 + 6 ≡ at + 12 = omega arith in
+    let second : IsUtf8UpTo text (at + 6) (at + 12) = subst (IsUtf8UpTo text (at + 6)) last (unit_passed text (at + 6) c.in_ok-low.low c.in_ok-low.ensures) in
+    utf8_on text at (at + 6) (at + 12) (unit_passed text at c.in_ok-unit.unit c.in_ok-unit.ensures) second
+
+pub returns-in-Some-clause-within : goal.returns-in-Some-clause-within
+returns-in-Some-clause-within c = (omega arith, omega (arith, unit_within c.args.text.now c.args.at c.in_ok-unit.unit c.in_ok-unit.ensures))
+
+pub returns-clause-within : goal.returns-clause-within
+returns-clause-within c = (omega arith, omega (arith, unit_within c.args.text.now (c.args.at + 6) c.in_ok-low.low c.in_ok-low.ensures))

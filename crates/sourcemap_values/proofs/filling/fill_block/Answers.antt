@@ -14,7 +14,7 @@ returns-then-left-eq0-clause-read c =
     let l = c.loop-left in
     let rest = c.saturating_sub-rest.result in
     let length_is : rest ≡ c.args.end - l.at = omega (arith, c.saturating_sub-rest.ensures) in
-    let goes_on = run_goes_on text l.at (c.args.end - l.at) (omega arith) (omega (arith, l.invariant.4)) in
+    let goes_on = run_goes_on is_stop text l.at (c.args.end - l.at) (omega arith) (omega (arith, l.invariant.4)) in
     let placed = rest_placed l.room c.place_block.new.room text l.at l.to 64 c.place_block.ensures in
     let put = first_placed l.room c.place_block.new.room (drop l.at text) l.to rest 64 (omega arith) (omega (arith, length_is)) placed in
     read_on _ _ _ text c.args.from l.at (l.at + rest) l.invariant.5 (run_read (take l.to l.room) _ text l.at rest (omega (arith, goes_on, length_is)) put)
@@ -23,14 +23,14 @@ pub returns-then-byte-eq0-clause-to_within : goal.returns-then-byte-eq0-clause-t
 returns-then-byte-eq0-clause-to_within c =
     let l = c.loop-left in
     let mask = l.invariant.4 in
-    let inside = stop_inside c.args.text.now l.at (c.args.end - l.at) (omega arith) (omega arith) (omega (arith, mask)) in
+    let inside = stop_inside is_stop c.args.text.now l.at (c.args.end - l.at) (omega arith) (omega arith) (omega (arith, mask)) in
     omega (arith, inside, ap (count_trailing_zeros 64) mask)
 
 pub returns-then-byte-eq0-clause-within : goal.returns-then-byte-eq0-clause-within
 returns-then-byte-eq0-clause-within c =
     let l = c.loop-left in
     let mask = l.invariant.4 in
-    let inside = stop_inside c.args.text.now l.at (c.args.end - l.at) (omega arith) (omega arith) (omega (arith, mask)) in
+    let inside = stop_inside is_stop c.args.text.now l.at (c.args.end - l.at) (omega arith) (omega arith) (omega (arith, mask)) in
     (omega arith, omega (arith, inside, ap (count_trailing_zeros 64) mask))
 
 pub returns-then-byte-eq0-clause-read : goal.returns-then-byte-eq0-clause-read
@@ -39,9 +39,9 @@ returns-then-byte-eq0-clause-read c =
     let l = c.loop-left in
     let mask = l.invariant.4 in
     let plain = count_trailing_zeros 64 l.left in
-    let inside = stop_inside text l.at (c.args.end - l.at) (omega arith) (omega arith) (omega (arith, mask)) in
+    let inside = stop_inside is_stop text l.at (c.args.end - l.at) (omega arith) (omega arith) (omega (arith, mask)) in
     let few : plain ≤ 64 = omega (arith, inside, ap (count_trailing_zeros 64) mask) in
-    let run : prefix_len is_plain (drop l.at text) ≡ plain = run_stops text l.at (c.args.end - l.at) (omega arith) (omega arith) (omega (arith, mask)) ∙ ap (count_trailing_zeros 64) (sym mask) in
+    let run : prefix_len is_plain (drop l.at text) ≡ plain = run_stops is_stop text l.at (c.args.end - l.at) (omega arith) (omega arith) (omega (arith, mask)) ∙ ap (count_trailing_zeros 64) (sym mask) in
     let placed = rest_placed l.room c.place_block.new.room text l.at l.to 64 c.place_block.ensures in
     let put = first_placed l.room c.place_block.new.room (drop l.at text) l.to plain 64 (omega arith) few placed in
     read_on _ _ _ text c.args.from l.at (l.at + plain) l.invariant.5 (run_read (take l.to l.room) _ text l.at plain (omega (arith, run)) put)
@@ -55,9 +55,9 @@ loop-left-preserved c =
     let n = c.args.end - l.at in
     let byte = c.short_escape_at-byte in
     let some : 0 < byte.result = omega (arith, c.if-byte-eq0.false) in
-    let inside = stop_inside text l.at n (omega arith) (omega arith) (omega (arith, mask)) in
+    let inside = stop_inside is_stop text l.at n (omega arith) (omega arith) (omega (arith, mask)) in
     let few : plain < n = omega (arith, inside, ap (count_trailing_zeros 64) mask) in
-    let run : prefix_len is_plain (drop l.at text) ≡ plain = run_stops text l.at n (omega arith) (omega arith) (omega (arith, mask)) ∙ ap (count_trailing_zeros 64) (sym mask) in
+    let run : prefix_len is_plain (drop l.at text) ≡ plain = run_stops is_stop text l.at n (omega arith) (omega arith) (omega (arith, mask)) ∙ ap (count_trailing_zeros 64) (sym mask) in
     let placed = rest_placed l.room c.place_block.new.room text l.at l.to 64 c.place_block.ensures in
     let put = first_placed l.room c.place_block.new.room (drop l.at text) l.to plain 64 (omega arith) (omega (arith, few)) placed in
     let so_far = read_on _ _ _ text c.args.from l.at (l.at + plain) l.invariant.5 (run_read (take l.to l.room) _ text l.at plain (omega (arith, run)) put) in

@@ -1,6 +1,6 @@
 use Rattle.std.proofs.Common.{◌≡◌, ◌+◌, ◌≤◌, take, drop, sym, ap, ◌∙◌, arith}
 use Rattle.std.specs.List.{prefix_len}
-use Rattle.sourcemap_values.specs.Runs.{is_plain}
+use Rattle.sourcemap_values.specs.Runs.{is_plain, is_stop}
 use Rattle.sourcemap_values.proofs.ReadLemmas.{first_placed, read_on, rest_placed, run_read}
 use Rattle.sourcemap_values.proofs.RunLemmas.{run_goes_on, run_stops, stop_inside}
 use Rattle.sourcemap_values.proofs.filling.fill_run.Goals as goal
@@ -9,12 +9,12 @@ use lib.Count.{count_trailing_zeros}
 pub returns-then-stops-ne0-clause-to_within : goal.returns-then-stops-ne0-clause-to_within
 returns-then-stops-ne0-clause-to_within c =
     let mask = c.stops-stops.ensures in
-    omega (arith, c.place_block.ensures.len, stop_inside c.args.text.now c.loop-at.at 32 (omega arith) (omega arith) (omega (arith, mask)), ap (count_trailing_zeros 64) mask)
+    omega (arith, c.place_block.ensures.len, stop_inside is_stop c.args.text.now c.loop-at.at 32 (omega arith) (omega arith) (omega (arith, mask)), ap (count_trailing_zeros 64) mask)
 
 pub returns-then-stops-ne0-clause-within : goal.returns-then-stops-ne0-clause-within
 returns-then-stops-ne0-clause-within c =
     let mask = c.stops-stops.ensures in
-    (omega arith, omega (arith, stop_inside c.args.text.now c.loop-at.at 32 (omega arith) (omega arith) (omega (arith, mask)), ap (count_trailing_zeros 64) mask))
+    (omega arith, omega (arith, stop_inside is_stop c.args.text.now c.loop-at.at 32 (omega arith) (omega arith) (omega (arith, mask)), ap (count_trailing_zeros 64) mask))
 
 pub returns-then-stops-ne0-clause-read : goal.returns-then-stops-ne0-clause-read
 returns-then-stops-ne0-clause-read c =
@@ -22,8 +22,8 @@ returns-then-stops-ne0-clause-read c =
     let l = c.loop-at in
     let mask = c.stops-stops.ensures in
     let plain = count_trailing_zeros 64 c.stops-stops.result in
-    let few : plain ≤ 32 = omega (arith, stop_inside text l.at 32 (omega arith) (omega arith) (omega (arith, mask)), ap (count_trailing_zeros 64) mask) in
-    let run : prefix_len is_plain (drop l.at text) ≡ plain = run_stops text l.at 32 (omega arith) (omega arith) (omega (arith, mask)) ∙ ap (count_trailing_zeros 64) (sym mask) in
+    let few : plain ≤ 32 = omega (arith, stop_inside is_stop text l.at 32 (omega arith) (omega arith) (omega (arith, mask)), ap (count_trailing_zeros 64) mask) in
+    let run : prefix_len is_plain (drop l.at text) ≡ plain = run_stops is_stop text l.at 32 (omega arith) (omega arith) (omega (arith, mask)) ∙ ap (count_trailing_zeros 64) (sym mask) in
     let placed = rest_placed l.room c.place_block.new.room text l.at l.to 32 c.place_block.ensures in
     let put = first_placed l.room c.place_block.new.room (drop l.at text) l.to plain 32 l.invariant.3 few placed in
     read_on _ _ _ text c.args.from l.at (l.at + plain) l.invariant.4 (run_read (take l.to l.room) _ text l.at plain (omega (arith, run)) put)
@@ -32,7 +32,7 @@ pub loop-at-preserved : goal.loop-at-preserved
 loop-at-preserved c =
     let text = c.args.text.now in
     let l = c.loop-at in
-    let goes_on = run_goes_on text l.at 32 (omega arith) (omega (arith, c.stops-stops.ensures)) in
+    let goes_on = run_goes_on is_stop text l.at 32 (omega arith) (omega (arith, c.stops-stops.ensures)) in
     let placed = rest_placed l.room c.place_block.new.room text l.at l.to 32 c.place_block.ensures in
     let put = first_placed l.room c.place_block.new.room (drop l.at text) l.to 32 32 l.invariant.3 (omega arith) placed in (
       omega (arith, c.place_block.ensures.len),

@@ -1,4 +1,5 @@
 use Rattle.std.proofs.Common.{◌≡◌, ◌+◌, ◌-◌, ◌≤◌, ◌++◌, length, take, drop, sym, ap, ◌∙◌, arith}
+use Rattle.sourcemap_values.specs.Runs.{is_stop}
 use Rattle.sourcemap_values.proofs.RunLemmas.{copied_more, cut_back, run_goes_on, run_stops, run_within, stop_inside}
 use Rattle.sourcemap_values.proofs.runs.copy_run.Goals as goal
 use lib.Count.{count_trailing_zeros}
@@ -6,14 +7,14 @@ use lib.Count.{count_trailing_zeros}
 pub returns-then-stops-ne0-clause-value : goal.returns-then-stops-ne0-clause-value
 returns-then-stops-ne0-clause-value c =
     let found = c.stops-stops in
-    let run = run_stops c.args.text.now c.loop-at.at 32 (omega arith) (omega arith) (omega (arith, found.ensures)) ∙ ap (count_trailing_zeros 64) (sym found.ensures) in
+    let run = run_stops is_stop c.args.text.now c.loop-at.at 32 (omega arith) (omega arith) (omega (arith, found.ensures)) ∙ ap (count_trailing_zeros 64) (sym found.ensures) in
     omega (arith, run, c.loop-at.invariant.0)
 
 pub returns-then-stops-ne0-clause-within : goal.returns-then-stops-ne0-clause-within
 returns-then-stops-ne0-clause-within c =
     let found = c.stops-stops in
-    let run = run_stops c.args.text.now c.loop-at.at 32 (omega arith) (omega arith) (omega (arith, found.ensures)) ∙ ap (count_trailing_zeros 64) (sym found.ensures) in
-    omega (arith, run, run_within c.args.text.now c.loop-at.at c.loop-at.invariant.2)
+    let run = run_stops is_stop c.args.text.now c.loop-at.at 32 (omega arith) (omega arith) (omega (arith, found.ensures)) ∙ ap (count_trailing_zeros 64) (sym found.ensures) in
+    omega (arith, run, run_within is_stop c.args.text.now c.loop-at.at c.loop-at.invariant.2)
 
 pub returns-then-stops-ne0-clause-copied : goal.returns-then-stops-ne0-clause-copied
 returns-then-stops-ne0-clause-copied c =
@@ -21,9 +22,9 @@ returns-then-stops-ne0-clause-copied c =
     let at = c.loop-at.at in
     let n = count_trailing_zeros 64 c.stops-stops.result in
     let said = c.loop-at.said.items in
-    let run = run_stops text at 32 (omega arith) (omega arith) (omega (arith, c.stops-stops.ensures)) ∙ ap (count_trailing_zeros 64) (sym c.stops-stops.ensures) in
+    let run = run_stops is_stop text at 32 (omega arith) (omega arith) (omega (arith, c.stops-stops.ensures)) ∙ ap (count_trailing_zeros 64) (sym c.stops-stops.ensures) in
     let mask = c.stops-stops.ensures in
-    let few : n ≤ 32 = omega (arith, stop_inside text at 32 (omega arith) (omega arith) (omega (arith, mask)), ap (count_trailing_zeros 64) mask) in
+    let few : n ≤ 32 = omega (arith, stop_inside is_stop text at 32 (omega arith) (omega arith) (omega (arith, mask)), ap (count_trailing_zeros 64) mask) in
     let width : at + 32 - at ≡ 32 = omega arith in
     let whole : c.extend_from_slice.new.self.items ≡ said ++ take 32 (drop at text) = c.in_ok-extend_from_slice.ensures.items ∙ ap (λ k. said ++ take k (drop at text)) width in
     let length_before : c.len-before.result ≡ length said = omega (arith, c.len-before.ensures) in
@@ -37,7 +38,7 @@ loop-at-preserved c =
     let said = c.loop-at.said.items in
     let width : at + 32 - at ≡ 32 = omega arith in
     let whole : c.extend_from_slice.new.self.items ≡ said ++ take 32 (drop at text) = c.in_ok-extend_from_slice.ensures.items ∙ ap (λ k. said ++ take k (drop at text)) width in
-    let run = run_goes_on c.args.text.now c.loop-at.at 32 (omega arith) (omega (arith, c.stops-stops.ensures)) in
+    let run = run_goes_on is_stop c.args.text.now c.loop-at.at 32 (omega arith) (omega (arith, c.stops-stops.ensures)) in
     (omega (arith, run, c.loop-at.invariant.0), omega arith, omega arith, whole ∙ copied_more said c.args.said.now.items text c.args.from at 32 c.loop-at.invariant.1 c.loop-at.invariant.3)
 
 pub returns-clause-copied : goal.returns-clause-copied

@@ -9,9 +9,8 @@ returns-then-byte_at-eq34-clause-content c =
     let l = c.loop-room in
     let f = c.fill-so_far in
     let quoted : get_or text f.result.1 32 ≡ 34 = cc in
-    let inside : f.result.1 < length text = grind (arith, c.byte_at.ensures.inside) in
     let front = ap (take l.to) c.as_mut_slice.ensures.value ∙ c.in_ok-make_room.ensures.kept in
-    let ends = text_ends text _ (take l.to l.room.items) _ (take f.result.0 f.new.room) c.args.start l.at f.result.1 c.utf8.text c.requires l.invariant.2 front c.as_bytes.ensures.value f.ensures.read inside quoted in
+    let ends = text_ends text (take l.to l.room.items) _ (take f.result.0 f.new.room) c.args.start l.at f.result.1 l.invariant.2 front f.ensures.read quoted in
     let kept = front_kept f.result.0 c.make_room.new.room.len f.new.room c.make_room.new.room.items (omega (arith, f.ensures.to_within)) (omega arith) in
     ends.0 ∙ ap Some (sym kept)
 
@@ -21,11 +20,10 @@ returns-then-byte_at-eq34-clause-utf8 c =
     let l = c.loop-room in
     let f = c.fill-so_far in
     let quoted : get_or text f.result.1 32 ≡ 34 = cc in
-    let inside : f.result.1 < length text = grind (arith, c.byte_at.ensures.inside) in
     let front = ap (take l.to) c.as_mut_slice.ensures.value ∙ c.in_ok-make_room.ensures.kept in
-    let ends = text_ends text _ (take l.to l.room.items) _ (take f.result.0 f.new.room) c.args.start l.at f.result.1 c.utf8.text c.requires l.invariant.2 front c.as_bytes.ensures.value f.ensures.read inside quoted in
+    let ends = text_ends text (take l.to l.room.items) _ (take f.result.0 f.new.room) c.args.start l.at f.result.1 l.invariant.2 front f.ensures.read quoted in
     let kept = front_kept f.result.0 c.make_room.new.room.len f.new.room c.make_room.new.room.items (omega (arith, f.ensures.to_within)) (omega arith) in
-    subst IsUtf8 (sym kept) ends.1
+    λ said_is. ends.2 (subst IsUtf8 kept said_is)
 
 pub returns-then-byte_at-eq34-clause-behind : goal.returns-then-byte_at-eq34-clause-behind
 returns-then-byte_at-eq34-clause-behind c =
@@ -33,18 +31,5 @@ returns-then-byte_at-eq34-clause-behind c =
     let l = c.loop-room in
     let f = c.fill-so_far in
     let quoted : get_or text f.result.1 32 ≡ 34 = cc in
-    let inside : f.result.1 < length text = grind (arith, c.byte_at.ensures.inside) in
     let front = ap (take l.to) c.as_mut_slice.ensures.value ∙ c.in_ok-make_room.ensures.kept in
-    let ends = text_ends text _ (take l.to l.room.items) _ (take f.result.0 f.new.room) c.args.start l.at f.result.1 c.utf8.text c.requires l.invariant.2 front c.as_bytes.ensures.value f.ensures.read inside quoted in
-    ends.2
-
-pub returns-then-byte_at-eq34-clause-ends : goal.returns-then-byte_at-eq34-clause-ends
-returns-then-byte_at-eq34-clause-ends c =
-    let text = c.args.text.now in
-    let l = c.loop-room in
-    let f = c.fill-so_far in
-    let quoted : get_or text f.result.1 32 ≡ 34 = cc in
-    let inside : f.result.1 < length text = grind (arith, c.byte_at.ensures.inside) in
-    let front = ap (take l.to) c.as_mut_slice.ensures.value ∙ c.in_ok-make_room.ensures.kept in
-    let ends = text_ends text _ (take l.to l.room.items) _ (take f.result.0 f.new.room) c.args.start l.at f.result.1 c.utf8.text c.requires l.invariant.2 front c.as_bytes.ensures.value f.ensures.read inside quoted in
-    ends.3
+    (text_ends text (take l.to l.room.items) _ (take f.result.0 f.new.room) c.args.start l.at f.result.1 l.invariant.2 front f.ensures.read quoted).1

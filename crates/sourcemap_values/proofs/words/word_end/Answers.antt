@@ -6,11 +6,10 @@ use Rattle.sourcemap_values.proofs.words.word_end.Goals as goal
 
 pub returns-then-is_word_end : goal.returns-then-is_word_end
 returns-then-is_word_end c =
-    let bytes = c.as_bytes.result.now in
+    let bytes = c.args.text.now in
     let from = c.args.from in
     let word = c.args.word.now in
-    let same : bytes ≡ c.args.text.now = c.as_bytes.ensures.value in
     let whole : take (length bytes - from) (drop from bytes) ≡ drop from bytes = take_all _ (drop from bytes) (omega (arith, length-drop from bytes)) in
     let found = rw whole at c.if-not-starts_with.ensures.value in
     let split : drop from bytes ≡ word ++ drop (length word) (drop from bytes) = (starts_is Decides-eqb (drop from bytes) word true found).0 refl in
-    (subst (λ text. drop from text ≡ word ++ drop (from + length word) text) same (split ∙ ap (λ t. word ++ t) (drop-drop (length word) from bytes)), sym c.if-is_word_end.ensures)
+    (split ∙ ap (λ t. word ++ t) (drop-drop (length word) from bytes), sym c.if-is_word_end.ensures)

@@ -1,11 +1,11 @@
 use Rattle.std.proofs.Common.{◌≡◌, ◌+◌, ◌-◌, ◌≤◌, length, drop}
 use Rattle.std.specs.List.{prefix_len}
-use Rattle.sourcemap_values.specs.Runs.{is_plain}
-use Rattle.sourcemap_values.proofs.runs.run_end.Given as goal
+use Rattle.sourcemap_values.specs.Runs.{is_bare}
+use Rattle.sourcemap_values.proofs.runs.bare_end_by_bytes.Given as goal
 
 abbrev pub invariant-loop-at : goal.invariant-loop-at
 invariant-loop-at l =
-    (l.from + prefix_len is_plain (drop l.from l.text) ≡ l.at + prefix_len is_plain (drop l.at l.text)) × (l.at ≤ length l.text)
+    (l.from + prefix_len is_bare (drop l.from l.text) ≡ l.at + prefix_len is_bare (drop l.at l.text)) × (l.at ≤ length l.text)
 
 abbrev pub decreases-loop-at : goal.decreases-loop-at
 decreases-loop-at l = length l.text - l.at
