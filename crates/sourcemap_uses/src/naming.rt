@@ -1,11 +1,13 @@
 //! What stands in the sources behind a place in a bundle: a function's name, a line of text.
-ghost use Rattle.std.specs.Prelude.{◌≡◌, Err, IfErr, IfOk, option_and_then, option_map, string_bytes};
+ghost use Rattle.std.specs.Prelude.{◌≡◌, ◌+◌, Err, IfErr, IfOk, option_and_then, option_map, string_bytes};
 ghost use Rattle.std.specs.Option.{option_copied};
 ghost use Rattle.sourcemap.specs.Answer.{UnlessMemory};
+ghost use Rattle.sourcemap.specs.Lines.{count_ends};
 ghost use Rattle.sourcemap.specs.Reading.{BytesStandFor, RegularDecodes};
 ghost use Rattle.sourcemap.specs.Types.{lookup};
 ghost use Rattle.sourcemap_uses.specs.Naming.{IsNameOf, line_behind};
 
+use sourcemap::laws::lines_make_their_text;
 use sourcemap::{Result, SourceMap, SourceView};
 use std::alloc::Global;
 
@@ -45,4 +47,13 @@ pub fn source_line(map: &SourceMap, line: u32, col: u32) -> Option<&str>
 {
     let token = map.lookup_token(line, col)?;
     token.get_source_view()?.get_line(token.get_src_line())
+}
+
+/// How many lines a source has, by the number of its line ends: `\n`, `\r` and `\r\n`. It takes no
+/// memory.
+pub fn line_total(view: &SourceView) -> usize
+    ensures { result ≡ count_ends view.now + 1 }
+{
+    lines_make_their_text(view.source());
+    view.line_count()
 }

@@ -2,7 +2,8 @@
 use sourcemap::errors::JsonFault;
 use sourcemap::types::RawToken;
 use sourcemap::{
-    DecodedMap, Error, Result, SourceMap, SourceMapBuilder, SourceMapIndex, decode_slice,
+    DecodedMap, Error, Result, SourceMap, SourceMapBuilder, SourceMapIndex, SourceView,
+    decode_slice,
 };
 use sourcemap_uses::adjusting::place_behind;
 use sourcemap_uses::building::place_once_written;
@@ -12,7 +13,7 @@ use sourcemap_uses::flattening::is_kept_flat;
 use sourcemap_uses::functions::function_at;
 use sourcemap_uses::linking::link;
 use sourcemap_uses::merging::{add_shown, merged_sources};
-use sourcemap_uses::naming::{original_name, source_line};
+use sourcemap_uses::naming::{line_total, original_name, source_line};
 use sourcemap_uses::places::{frame_text, place_text};
 use sourcemap_uses::publishing::published;
 use sourcemap_uses::quick::quick_place;
@@ -357,5 +358,14 @@ fn a_function_has_its_name(rt: HostRuntime) -> std::result::Result<(), Fail> {
     assert_eq!(rt; shown(alloc, name).as_str(), "foo");
     let map = map_of(alloc, BUNDLE.as_bytes())?;
     assert_eq!(rt; source_line(&*map, 0, 9).unwrap_or(""), "function foo() {}");
+    Ok(())
+}
+
+#[test]
+fn lines_are_counted_by_their_ends(rt: HostRuntime) -> std::result::Result<(), Fail> {
+    for (text, want) in [("", 1), ("a", 1), ("a\r\nb\n", 3), ("\n\r", 3)] {
+        let view = SourceView::new(rt.alloc(), text)?;
+        assert_eq!(rt; line_total(&view), want);
+    }
     Ok(())
 }

@@ -1,5 +1,5 @@
 // How an answer is compared with the text that is wanted.
-use sourcemap_errors::errors::Result;
+use sourcemap::Result;
 use std::alloc::Global;
 use std::process::Abort;
 

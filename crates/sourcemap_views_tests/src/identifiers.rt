@@ -1,7 +1,7 @@
 //! Which texts are identifiers, and with which one a text starts.
 use crate::checks::{check, shown};
-use sourcemap_errors::errors::Result;
-use sourcemap_views::js_identifiers::{get_javascript_token, is_valid_javascript_identifier};
+use sourcemap::Result;
+use sourcemap::js_identifiers::{get_javascript_token, is_valid_javascript_identifier};
 use std::alloc::Global;
 
 // A text, whether it is an identifier, and the one with which its first word starts.

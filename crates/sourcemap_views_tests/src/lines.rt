@@ -1,7 +1,7 @@
 //! Tables of lines, and places by UTF-16 columns.
 use crate::checks::check;
-use sourcemap_errors::errors::Result;
-use sourcemap_views::lines::LineTable;
+use sourcemap::Result;
+use sourcemap_core::lines::LineTable;
 use std::alloc::Global;
 use std::process::Abort;
 

@@ -1,8 +1,7 @@
 // Names of functions that are guessed by a map and a view of the text that was made of its sources.
 use crate::checks::check;
 use sourcemap::decoder::decode_slice;
-use sourcemap::{DecodedMap, SourceMap, SourceView, Token};
-use sourcemap_errors::errors::Result;
+use sourcemap::{DecodedMap, Result, SourceMap, SourceView, Token};
 use std::alloc::Global;
 
 // What a bundler made: the function `foo` of the source is `b` in the text.

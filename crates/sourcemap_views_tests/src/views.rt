@@ -1,7 +1,7 @@
 //! Views: their lines, slices of them, copies and what is shown of them.
 use crate::checks::{check, shown};
-use sourcemap_errors::errors::Result;
-use sourcemap_views::sourceview::SourceView;
+use sourcemap::Result;
+use sourcemap::sourceview::SourceView;
 use std::alloc::Global;
 
 const SMILES: &str = "abc👌def\nblah";

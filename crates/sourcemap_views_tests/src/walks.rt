@@ -1,8 +1,7 @@
 //! Walks back along tokens, and the names that they guess.
 use crate::checks::{check, shown};
-use sourcemap_errors::errors::Result;
-use sourcemap_views::sourceview::SourceView;
-use sourcemap_views::walk::WalkedToken;
+use sourcemap::Result;
+use sourcemap::sourceview::{SourceView, WalkedToken};
 use std::alloc::Global;
 
 // A line, a column and a name.
