@@ -30,7 +30,7 @@ pub mod Equality
 pub mod RegularDecoder
 pub mod Reading
 pub mod Encoder
-pub use Rattle.sourcemap_regular.specs.Write as Bytes
+pub use Rattle.sourcemap_regular.specs.Write as Written
 pub mod Rewrite
 pub use Rattle.sourcemap_builder.specs.Builder
 pub use Rattle.sourcemap_scopes.specs.FunctionMap
@@ -51,7 +51,7 @@ pub use Rattle.sourcemap_trees.specs.Encode as TreeEncoder
 pub use Rattle.sourcemap_trees.specs.Equality as TreeEquality
 pub use Rattle.sourcemap_trees.specs.Shift
 pub use Rattle.sourcemap_index.specs.Decode as Decoder
-pub mod Decoded
+pub mod AnyMap
 pub use Rattle.sourcemap_index.specs.Equality as IndexEquality
 pub use Rattle.sourcemap_index.specs.Index
 pub use Rattle.sourcemap_index.specs.Names as FunctionNames

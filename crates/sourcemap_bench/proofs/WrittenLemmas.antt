@@ -2,7 +2,7 @@
 use Rattle.std.proofs.Common.{◌⊎◌, inl, inr, ℕ, List, Option, Result, Ok, Err, IfErr, OnOk}
 use Rattle.std.specs.Io.KnownBytes.{Appends}
 use Rattle.sourcemap.specs.Answer.{UnlessMemory}
-use Rattle.sourcemap.specs.Bytes.{IsEncoded, IsIo}
+use Rattle.sourcemap.specs.Written.{IsEncoded, IsIo}
 use Rattle.sourcemap.specs.Decoder.{BytesDecode}
 use Rattle.sourcemap.specs.TreeEncoder.{RecordAnswer}
 use Rattle.sourcemap.specs.Trees.{MapTree}

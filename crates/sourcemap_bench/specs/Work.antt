@@ -1,8 +1,8 @@
 -- What rounds of an operation come to.
 use Rattle.std.specs.Prelude.{◌≡◌, ℕ, suc, zero, List, length, min, Ok}
 use Rattle.sourcemap.specs.Adjust.{adjusted}
-use Rattle.sourcemap.specs.Bytes.{IsEncoded}
-use Rattle.sourcemap.specs.Decoded.{index_value, map_tree}
+use Rattle.sourcemap.specs.Written.{IsEncoded}
+use Rattle.sourcemap.specs.AnyMap.{index_value, map_tree}
 use Rattle.sourcemap.specs.Decoder.{BytesDecode}
 use Rattle.sourcemap.specs.Flat.{FlatAnswer}
 use Rattle.sourcemap.specs.Rewrite.{no_removal, rewritten}

@@ -1,7 +1,7 @@
 -- What a map's bytes are written as.
 use Rattle.std.specs.Prelude.{ℕ, List, Option, Ok, Err, ◌⊎◌}
 use Rattle.std.specs.Io.KnownBytes.{Appends}
-use Rattle.sourcemap.specs.Bytes.{IsEncoded, IsIo}
+use Rattle.sourcemap.specs.Written.{IsEncoded, IsIo}
 use Rattle.sourcemap.specs.Decoder.{BytesDecode}
 use Rattle.sourcemap.specs.TreeEncoder.{RecordAnswer}
 use Rattle.sourcemap.specs.Trees.{MapTree}

@@ -1,6 +1,6 @@
 //! Checksums of answers.
 ghost use Rattle.std.specs.Prelude.{◌≡◌, ℕ, fold, option_map};
-ghost use Rattle.sourcemap.specs.Decoded.{map_tree};
+ghost use Rattle.sourcemap.specs.AnyMap.{map_tree};
 ghost use Rattle.sourcemap.specs.Token.{token_value};
 ghost use Rattle.sourcemap.specs.Trees.{IsInOrder, lookup};
 ghost use Rattle.sourcemap_bench.specs.Sums.{mixed, worth, lookup_sum, token_sum};

@@ -1,6 +1,6 @@
 //! The operations that are repeated.
 ghost use Rattle.std.specs.Prelude.{◌≡◌, ℕ, ◌<◌, IfOk, length, min};
-ghost use Rattle.sourcemap.specs.Decoded.{index_value, map_tree};
+ghost use Rattle.sourcemap.specs.AnyMap.{index_value, map_tree};
 ghost use Rattle.sourcemap.specs.Trees.{index_tree};
 ghost use Rattle.sourcemap_bench.specs.Work.{LengthOfText, RoundGives, RoundsGive, SizeOfAdjusted, SizeOfDecoded, SizeOfFlat, size};
 

@@ -2,7 +2,7 @@
 use Rattle.std.proofs.Common.{◌≡◌, ◌≢◌, ◌⊎◌, inl, inr, refl, sym, ap, subst, ◌∙◌, ℕ, List, [], ◌++◌, codes, Option, Some, None, Result, Ok, Err, IfSome, IsOkAnd, MatchOption, MatchResult, IfOk, string_bytes, String, Global, Vec}
 use Rattle.std.specs.declared.io.Error.{Error as IoError}
 use Rattle.sourcemap.specs.Answer.{UnlessMemory, IsAnswer}
-use Rattle.sourcemap.specs.Decoded.{map_tree}
+use Rattle.sourcemap.specs.AnyMap.{map_tree}
 use Rattle.sourcemap.specs.Decoder.{AreSame, BytesDecode, Reading, UnlessRead}
 use Rattle.sourcemap.specs.Jsontypes.{Tree, record_of}
 use Rattle.sourcemap.specs.Reading.{IsSameFault}

@@ -3,7 +3,7 @@ use Rattle.std.specs.Prelude.{◌≡◌, ◌≢◌, ℕ, List, [], ◌∷◌, �
 use Rattle.std.specs.Fmt.{decimal}
 use Rattle.std.specs.Io.KnownBytes.{Appends}
 use Rattle.sourcemap.specs.Adjust.{adjusted}
-use Rattle.sourcemap.specs.Decoded.{IsTextOf}
+use Rattle.sourcemap.specs.AnyMap.{IsTextOf}
 use Rattle.sourcemap.specs.Answer.{UnlessMemory}
 use Rattle.sourcemap.specs.Errors.{error_text, FromIo}
 use Rattle.sourcemap.specs.HermesRewrite.{rewritten as hermes_rewritten}

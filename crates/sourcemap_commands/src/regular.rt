@@ -3,7 +3,7 @@
 ghost use Rattle.std.specs.Prelude.{◌≡◌, MatchResult, Some};
 ghost use Rattle.sourcemap.specs.Adjust.{adjusted as adjusted_values};
 ghost use Rattle.sourcemap.specs.Answer.{Gives, IsAnswer};
-ghost use Rattle.sourcemap.specs.Decoded.{index_value, map_tree};
+ghost use Rattle.sourcemap.specs.AnyMap.{index_value, map_tree};
 ghost use Rattle.sourcemap.specs.Flat.{FlatAnswer};
 ghost use Rattle.sourcemap.specs.Rewrite.{no_removal, rewritten};
 ghost use Rattle.sourcemap.specs.Trees.{index_tree, leaf, regular};

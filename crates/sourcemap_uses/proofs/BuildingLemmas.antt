@@ -2,7 +2,7 @@
 use Rattle.std.proofs.Common.{◌≡◌, ◌↔◌, ◌∙◌, sym, ap, subst, ℕ, List, [], ◌∷◌, None, option_map, Result, Ok, Err}
 use Rattle.sourcemap.specs.Answer.{Gives, IsAnswer}
 use Rattle.sourcemap.specs.Due.{Gives-given}
-use Rattle.sourcemap.specs.Decoded.{map_tree}
+use Rattle.sourcemap.specs.AnyMap.{map_tree}
 use Rattle.sourcemap.specs.Decoder.{AreSame, BytesDecode}
 use Rattle.sourcemap.specs.Encoder.{ReadsBack, Restores as RestoresRegular}
 use Rattle.sourcemap.specs.Reading.{BytesStandFor, RegularDecodes}

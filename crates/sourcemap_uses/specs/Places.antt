@@ -5,5 +5,5 @@ use Rattle.sourcemap.specs.Token.{token_text}
 use Rattle.sourcemap.specs.Trees.{MapTree, meaning}
 
 -- the text of what the position means by that map, where it means something
-abbrev pub IsTextOf : (bytes : List ℕ) → ℕ × ℕ → Option (List ℕ) → Type 0
-IsTextOf bytes p text = (t : MapTree) × BytesDecode bytes (Ok t) × (text ≡ option_map token_text (meaning t p))
+abbrev pub IsPlaceText : (bytes : List ℕ) → ℕ × ℕ → Option (List ℕ) → Type 0
+IsPlaceText bytes p text = (t : MapTree) × BytesDecode bytes (Ok t) × (text ≡ option_map token_text (meaning t p))

@@ -1,6 +1,6 @@
 //! A map that is made of tokens, written, and asked once it is read.
 ghost use Rattle.std.specs.Prelude.{◌≡◌, ◌∷◌, [], None, IfOk, IsOkUnless, option_map};
-ghost use Rattle.sourcemap.specs.Decoded.{map_tree};
+ghost use Rattle.sourcemap.specs.AnyMap.{map_tree};
 ghost use Rattle.sourcemap.specs.Decoder.{BytesDecode};
 ghost use Rattle.sourcemap.specs.Encoder.{ReadsBack};
 ghost use Rattle.sourcemap.specs.Tokens.{AllWithin};

@@ -1,7 +1,7 @@
 //! Maps that stand in a text as data URLs.
 ghost use Rattle.std.specs.Prelude.{option_map};
 ghost use Rattle.sourcemap.specs.Answer.{IsAnswer};
-ghost use Rattle.sourcemap.specs.Decoded.{map_tree};
+ghost use Rattle.sourcemap.specs.AnyMap.{map_tree};
 ghost use Rattle.sourcemap_uses.specs.DataUrls.{InlineAnswer};
 
 use sourcemap::{DecodedMap, Error, Result, decode_data_url};

@@ -3,7 +3,7 @@ ghost use Rattle.std.specs.Prelude.{◌≡◌, Err, IfErr, IfOk, IfSome, IsTrue,
 ghost use Rattle.std.specs.Bool.{Decides};
 ghost use Rattle.std.specs.Option.{option_copied};
 ghost use Rattle.sourcemap.specs.Answer.{UnlessMemory};
-ghost use Rattle.sourcemap.specs.Decoded.{index_value};
+ghost use Rattle.sourcemap.specs.AnyMap.{index_value};
 ghost use Rattle.sourcemap.specs.Flat.{FlatAnswer};
 ghost use Rattle.sourcemap.specs.FlatList.{IsOrderly};
 ghost use Rattle.sourcemap.specs.Token.{answers};

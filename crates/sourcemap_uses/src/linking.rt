@@ -1,7 +1,7 @@
 //! Index maps whose sections get the URLs of their maps.
 ghost use Rattle.std.specs.Prelude.{◌≡◌, ◌≢◌, ℕ, IfNone, IsOk, slice_get};
 ghost use Rattle.sourcemap.specs.Answer.{Changes};
-ghost use Rattle.sourcemap.specs.Decoded.{index_value};
+ghost use Rattle.sourcemap.specs.AnyMap.{index_value};
 ghost use Rattle.sourcemap_uses.specs.Linking.{linked};
 
 use sourcemap::{Result, SourceMapIndex};

@@ -1,12 +1,12 @@
 //! Where a position of a stack trace comes from.
 ghost use Rattle.std.specs.Prelude.{◌≡◌, ◌<◌, ◌-◌, Err, IfOk, IfErr, IsOkUnless, option_map, string_bytes};
 ghost use Rattle.sourcemap.specs.Answer.{UnlessMemory};
-ghost use Rattle.sourcemap.specs.Decoded.{map_tree};
+ghost use Rattle.sourcemap.specs.AnyMap.{map_tree};
 ghost use Rattle.sourcemap.specs.Decoder.{BytesDecode};
 ghost use Rattle.sourcemap.specs.Token.{token_text};
 ghost use Rattle.sourcemap.specs.Trees.{IsInOrder, meaning};
 ghost use Rattle.sourcemap.specs.declared.errors.Error.TheVariants.{OutOfMemory};
-ghost use Rattle.sourcemap_uses.specs.Places.{IsTextOf};
+ghost use Rattle.sourcemap_uses.specs.Places.{IsPlaceText};
 
 use sourcemap::laws::well_formed_maps_are_in_order;
 use sourcemap::{DecodedMap, Result, decode_slice};
@@ -18,7 +18,7 @@ use std::alloc::Global;
 /// no map are refused as by `decode_slice`.
 pub fn place_text(alloc: Global, bytes: &[u8], line: u32, col: u32) -> Result<Option<String>>
     ensures place { IfOk result
-        (λ text. IsTextOf bytes.now (line, col) (option_map string_bytes text)) }
+        (λ text. IsPlaceText bytes.now (line, col) (option_map string_bytes text)) }
     ensures fault { IfErr result (λ e. UnlessMemory e (BytesDecode bytes.now (Err e))) }
 {
     well_formed_maps_are_in_order();
@@ -48,7 +48,7 @@ pub fn frame_text(alloc: Global, bytes: &[u8], line: u32, column: u32) -> Result
     requires line { 0 < line }
     requires column { 0 < column }
     ensures place { IfOk result
-        (λ text. IsTextOf bytes.now (line - 1, column - 1) (option_map string_bytes text)) }
+        (λ text. IsPlaceText bytes.now (line - 1, column - 1) (option_map string_bytes text)) }
     ensures fault { IfErr result (λ e. UnlessMemory e (BytesDecode bytes.now (Err e))) }
 {
     place_text(alloc, bytes, line - 1, column - 1)

@@ -1,7 +1,7 @@
 use Rattle.std.proofs.Common.{◌∙◌, get_or, ap, arith}
 use Rattle.std.proofs.lemmas.List.{take_more}
 use Rattle.std.proofs.lemmas.List.Sums.{fold-append}
-use Rattle.sourcemap.specs.Decoded.{map_tree}
+use Rattle.sourcemap.specs.AnyMap.{map_tree}
 use Rattle.sourcemap.specs.Trees.{lookup}
 use Rattle.sourcemap_bench.specs.Sums.{mixed, worth}
 use Rattle.sourcemap_bench.proofs.sums.lookup_sum.Goals as goal

@@ -1,5 +1,5 @@
 use Rattle.std.proofs.Common.{◌≡◌, take}
-use Rattle.sourcemap.specs.Decoded.{map_tree}
+use Rattle.sourcemap.specs.AnyMap.{map_tree}
 use Rattle.sourcemap.specs.Trees.{IsInOrder}
 use Rattle.sourcemap_bench.specs.Sums.{lookup_sum}
 use Rattle.sourcemap_bench.proofs.sums.lookup_sum.Given as goal

@@ -1,4 +1,4 @@
-use Rattle.sourcemap.specs.Decoded.{index_value}
+use Rattle.sourcemap.specs.AnyMap.{index_value}
 use Rattle.sourcemap_trees.proofs.MapTreeLemmas.{section_list-from}
 use Rattle.sourcemap_bench.proofs.work.section_count.Goals as goal
 

@@ -1,6 +1,6 @@
 -- The map is written, or the bytes are none.
 use Rattle.std.proofs.lemmas.Result.{err_from_is_err_and}
-use Rattle.sourcemap.specs.Decoded.{map_tree}
+use Rattle.sourcemap.specs.AnyMap.{map_tree}
 use Rattle.sourcemap_bench.proofs.WrittenLemmas.{no_map, text_written, text_unwritten}
 use Rattle.sourcemap_bench.proofs.written.write_map.Goals as goal
 

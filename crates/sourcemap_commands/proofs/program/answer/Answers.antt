@@ -1,7 +1,7 @@
 -- What is said of the map, or what kept the bytes from being one.
 use Rattle.std.proofs.Common.{option_map}
 use Rattle.std.proofs.lemmas.Result.{err_from_is_err_and}
-use Rattle.sourcemap.specs.Decoded.{map_tree}
+use Rattle.sourcemap.specs.AnyMap.{map_tree}
 use Rattle.sourcemap_commands.specs.Program.{file_read}
 use Rattle.sourcemap_commands.proofs.ProgramLemmas.{answer_of_map, answer_of_fault}
 use Rattle.sourcemap_commands.proofs.program.answer.Goals as goal

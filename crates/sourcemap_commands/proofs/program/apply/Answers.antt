@@ -1,5 +1,5 @@
 -- A second map is that of one command.
-use Rattle.sourcemap.specs.Decoded.{map_tree}
+use Rattle.sourcemap.specs.AnyMap.{map_tree}
 use Rattle.sourcemap_commands.proofs.ProgramLemmas.{says_of_two}
 use Rattle.sourcemap_commands.proofs.program.apply.Goals as goal
 

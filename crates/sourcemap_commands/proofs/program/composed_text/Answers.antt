@@ -1,7 +1,7 @@
 -- The adjusted map, or why there is none.
 use Rattle.std.proofs.Common.{Some}
 use Rattle.std.proofs.lemmas.Result.{err_from_is_err_and}
-use Rattle.sourcemap.specs.Decoded.{map_tree}
+use Rattle.sourcemap.specs.AnyMap.{map_tree}
 use Rattle.sourcemap_index.proofs.FamilyLemmas.{regular_tree}
 use Rattle.sourcemap_index.specs.declared.family.DecodedMap.TheVariants.{Regular}
 use Rattle.sourcemap_commands.proofs.ProgramLemmas.{says_adjusted, says_no_adjusted}

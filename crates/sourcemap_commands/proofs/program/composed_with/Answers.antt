@@ -1,4 +1,4 @@
-use Rattle.sourcemap.specs.Decoded.{map_tree}
+use Rattle.sourcemap.specs.AnyMap.{map_tree}
 use Rattle.sourcemap_commands.proofs.ProgramLemmas.{said_of_two}
 use Rattle.sourcemap_commands.proofs.program.composed_with.Goals as goal
 

@@ -1,6 +1,6 @@
 -- The flat map, or why there is none.
 use Rattle.std.proofs.lemmas.Result.{err_from_is_err_and}
-use Rattle.sourcemap.specs.Decoded.{index_value, map_tree}
+use Rattle.sourcemap.specs.AnyMap.{index_value, map_tree}
 use Rattle.sourcemap_index.proofs.FamilyLemmas.{regular_tree}
 use Rattle.sourcemap_index.specs.declared.family.DecodedMap.TheVariants.{Regular}
 use Rattle.sourcemap_commands.proofs.ProgramLemmas.{says_flat, says_no_flat}

@@ -1,5 +1,5 @@
 use Rattle.std.proofs.Common.{ap}
-use Rattle.sourcemap.specs.Decoded.{map_tree}
+use Rattle.sourcemap.specs.AnyMap.{map_tree}
 use Rattle.sourcemap.specs.Hermes.{hermes_value}
 use Rattle.sourcemap.specs.Trees.{hermes}
 use Rattle.sourcemap_index.proofs.FamilyLemmas.{hermes_tree}

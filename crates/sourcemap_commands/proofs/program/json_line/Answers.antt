@@ -1,5 +1,5 @@
 use Rattle.std.proofs.Common.{string_bytes}
-use Rattle.sourcemap.specs.Decoded.{map_tree}
+use Rattle.sourcemap.specs.AnyMap.{map_tree}
 use Rattle.sourcemap_index.proofs.WrittenValueLemmas.{whole_value}
 use Rattle.sourcemap_commands.proofs.program.json_line.Goals as goal
 

@@ -1,5 +1,5 @@
 use Rattle.std.proofs.Common.{ap}
-use Rattle.sourcemap.specs.Decoded.{map_tree}
+use Rattle.sourcemap.specs.AnyMap.{map_tree}
 use Rattle.sourcemap.specs.Trees.{regular}
 use Rattle.sourcemap_index.proofs.FamilyLemmas.{regular_tree}
 use Rattle.sourcemap_index.specs.declared.family.DecodedMap.TheVariants.{Regular}

@@ -1,6 +1,6 @@
 -- A file's map is that of one command.
 use Rattle.std.proofs.Common.{option_map}
-use Rattle.sourcemap.specs.Decoded.{map_tree}
+use Rattle.sourcemap.specs.AnyMap.{map_tree}
 use Rattle.sourcemap_commands.specs.Program.{file_read}
 use Rattle.sourcemap_commands.proofs.ProgramLemmas.{said_of_one, said_with_file}
 use Rattle.sourcemap_commands.proofs.program.said_with.Goals as goal

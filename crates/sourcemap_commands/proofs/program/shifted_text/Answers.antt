@@ -1,6 +1,6 @@
 -- The index with its sections moved, or that one would pass the last row.
 use Rattle.std.proofs.Common.{◌∙◌, ap, refl}
-use Rattle.sourcemap.specs.Decoded.{index_value, map_tree}
+use Rattle.sourcemap.specs.AnyMap.{index_value, map_tree}
 use Rattle.sourcemap.specs.Trees.{index_tree}
 use Rattle.sourcemap_index.proofs.FamilyLemmas.{index_tree-of}
 use Rattle.sourcemap_index.specs.declared.family.DecodedMap.TheVariants.{Index}

@@ -1,6 +1,6 @@
 -- Maps of which one adjusts the other, or cannot.
 use Rattle.std.proofs.lemmas.Result.{err_from_is_err_and}
-use Rattle.sourcemap.specs.Decoded.{map_tree}
+use Rattle.sourcemap.specs.AnyMap.{map_tree}
 use Rattle.sourcemap_commands.proofs.RegularLemmas.{adjusted_trees, refused_adjustment}
 use Rattle.sourcemap_commands.proofs.regular.adjusted.Goals as goal
 

@@ -1,6 +1,6 @@
 -- A map of another kind.
 use Rattle.std.proofs.Common.{◌∙◌, ap, refl, subst, sym}
-use Rattle.sourcemap.specs.Decoded.{map_tree}
+use Rattle.sourcemap.specs.AnyMap.{map_tree}
 use Rattle.sourcemap_commands.specs.Program.{IsOfOtherKind}
 use Rattle.sourcemap_index.proofs.FamilyLemmas.{hermes_tree, index_tree-of}
 use Rattle.sourcemap_commands.proofs.regular.regular_of.Goals as goal

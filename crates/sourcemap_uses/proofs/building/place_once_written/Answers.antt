@@ -1,7 +1,7 @@
 -- What was read says what was written.
 use Rattle.std.proofs.Common.{◌∙◌, [], ◌∷◌, None}
 use Rattle.std.proofs.lemmas.Result.{err_from_is_err_and}
-use Rattle.sourcemap.specs.Decoded.{map_tree}
+use Rattle.sourcemap.specs.AnyMap.{map_tree}
 use Rattle.sourcemap.specs.Types.{made_of}
 use Rattle.sourcemap_uses.proofs.BuildingLemmas.{place_found, read_unless_memory}
 use Rattle.sourcemap_uses.proofs.building.place_once_written.Goals as goal

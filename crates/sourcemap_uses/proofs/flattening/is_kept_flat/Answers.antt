@@ -1,7 +1,7 @@
 -- The flat map is compared with the index by what two lookups find.
 use Rattle.std.proofs.Common.{option_map}
 use Rattle.std.proofs.lemmas.Result.{err_from_is_err_and}
-use Rattle.sourcemap.specs.Decoded.{index_value}
+use Rattle.sourcemap.specs.AnyMap.{index_value}
 use Rattle.sourcemap.specs.Token.{answers}
 use Rattle.sourcemap.specs.Trees.{index_tree}
 use Rattle.sourcemap_uses.proofs.FlatteningLemmas.{decided}

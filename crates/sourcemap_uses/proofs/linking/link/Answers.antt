@@ -1,7 +1,7 @@
 -- What is written to one section stands in its place, and in no other.
 use Rattle.std.proofs.Common.{◌≡◌, ◌∙◌, ap, sym, slice_get, subst}
 use Rattle.std.specs.Option.{OnSome}
-use Rattle.sourcemap.specs.Decoded.{index_value, section_value}
+use Rattle.sourcemap.specs.AnyMap.{index_value, section_value}
 use Rattle.sourcemap.specs.Index.{with_section}
 use Rattle.sourcemap_uses.proofs.LinkingLemmas.{get_other, linked_as, linked_none, unless_there}
 use Rattle.sourcemap_uses.proofs.linking.link.Goals as goal
