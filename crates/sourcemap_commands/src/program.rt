@@ -220,7 +220,7 @@ fn shifted_text(alloc: Global, mut index: SourceMapIndex, rows: u32) -> Result<S
     json_line(alloc, DecodedMap::Index(index))
 }
 
-// The compact JSON text of a map, and a newline. A regular map's texts are moved.
+// The compact JSON text of a map, and a newline. The map's texts are moved.
 fn json_line(alloc: Global, map: DecodedMap) -> Result<String>
     ensures { MatchResult result
         (λ text. IsJsonLine (map_tree map) (string_bytes text))

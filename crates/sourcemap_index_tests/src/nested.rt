@@ -113,12 +113,34 @@ fn copied(alloc: Global, depth: usize) -> Result<String> {
     copy_told(alloc, &*nested(alloc, depth)?)
 }
 
+fn moved_told(alloc: Global, map: &DecodedMap, value: Result<Value>) -> Result<String> {
+    told_beside(alloc, map, &*value_read(alloc, value)?)
+}
+
+fn moved(alloc: Global, depth: usize) -> Result<String> {
+    let value = wrapped_often(alloc, depth)?.into_value();
+    moved_told(alloc, &*nested(alloc, depth)?, value)
+}
+
+// How many sections a map is printed with.
+fn sections_printed(alloc: Global, map: &DecodedMap) -> Result<String> {
+    let text = format!(in alloc; "{map:?}")?;
+    let count = text.split("SourceMapSection {").skip(1).count();
+    Ok(format!(in alloc; "{count}")?)
+}
+
+fn printed(alloc: Global, depth: usize) -> Result<String> {
+    sections_printed(alloc, &*nested(alloc, depth)?)
+}
+
 #[test]
 fn a_hundred_indexes_in_one_another_are_made_flat_copied_and_read_back(rt: HostRuntime) {
     let alloc = rt.alloc();
     check(&rt, "flat", flattened(alloc, 100), "a.js:0:0");
     check(&rt, "copied", copied(alloc, 100), "a.js:0:0 true");
     check(&rt, "by values", read_back(alloc, 100), "a.js:0:0 true");
+    check(&rt, "moved", moved(alloc, 100), "a.js:0:0 true");
+    check(&rt, "printed", printed(alloc, 100), "100");
 }
 
 fn told_of_bytes(alloc: Global, map: &DecodedMap, bytes: &[u8]) -> Result<String> {
