@@ -1,6 +1,7 @@
 -- Checksums of answers, numbers of 32 bits.
 use Rattle.std.specs.Prelude.{ℕ, ◌+◌, ◌*◌, ◌%◌, ◌^◌, ◌==◌, List, fold, Option, Some, None, if◌then◌else◌}
 use Rattle.sourcemap.specs.Token.{TokenValue, says, tokens_from}
+use Rattle.sourcemap.specs.Tokens.{no_id}
 use Rattle.sourcemap.specs.Trees.{MapTree, lookup}
 use Rattle.sourcemap.specs.Types.{MapValue}
 
@@ -12,7 +13,7 @@ mixed sum number = (31 * sum + number) % 2 ^ 32
 abbrev pub worth : Option TokenValue → ℕ
 worth None = 0
 worth (Some t) =
-    if t.raw.src_id == 4294967295 then 0 else ((says t).line + 7 * (says t).column + 1) % 2 ^ 32
+    if t.raw.src_id == no_id then 0 else ((says t).line + 7 * (says t).column + 1) % 2 ^ 32
 
 abbrev pub lookup_sum : MapTree → List (ℕ × ℕ) → ℕ → ℕ
 lookup_sum t positions start = fold (λ sum p. mixed sum (worth (lookup t p))) start positions

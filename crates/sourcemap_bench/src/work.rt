@@ -13,8 +13,8 @@ use sourcemap_commands::regular::{regular_of, rewritten};
 use std::alloc::Global;
 use std::rt::Files;
 
-/// What an operation works on. Maps are in boxes, so that a proof takes it as one step that one is let
-/// go.
+/// What an operation works on. Maps are in boxes, so that a proof takes it as one step that one is
+/// let go.
 #[derive(Drop)]
 pub enum Work {
     /// The bytes to decode from a slice.

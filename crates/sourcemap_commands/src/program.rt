@@ -285,6 +285,7 @@ fn composed_with(alloc: Global, map: DecodedMap, adjustment: Result<DecodedMap>)
     ensures { (path : _) (read : _) → IsAnswer map_tree (FileDecodes read) adjustment
         → IsAnswer string_bytes (SaysWith read (Compose path) (map_tree map)) result }
 {
+    // no `?` for the prover: which fault is passed on is known of a match
     match adjustment {
         Ok(adjustment) => composed_text(alloc, map, adjustment),
         Err(error) => Err(error),

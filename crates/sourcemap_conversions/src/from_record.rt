@@ -77,6 +77,7 @@ pub fn parts_of_record(alloc: Global, rsm: RawSourceMap) -> Result<Parts>
     }
     let sources = lists.sources.len() as u32;
     let names = lists.names.len() as u32;
+    // no `?` for the prover: which fault is passed on is known of a match
     match token_list(alloc, texts, sources, names) {
         Err(fault) => Err(fault),
         Ok(tokens) => parts_with(alloc, heading, lists, tokens),
@@ -112,6 +113,7 @@ fn has_room(lists: &RecordLists) -> bool
     let names = lists.names.len() <= ID_LIMIT;
     let sources = lists.sources.len() <= ID_LIMIT;
     let contents = lists.contents.len() <= ID_LIMIT;
+    // `&` for the prover: each side is cheap, and without a branch one goal is left
     names & sources & contents
 }
 

@@ -20,6 +20,7 @@ impl PartialEq for SourceMapHermes {
     {
         let map = self.sm == other.sm;
         let scopes = self.scopes == other.scopes;
+        // `&` for the prover: both parts are compared, and without a branch one goal is left
         map & scopes
     }
 }

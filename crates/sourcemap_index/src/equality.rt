@@ -43,6 +43,7 @@ fn have_same_parts(a: &SourceMapIndex, b: &SourceMapIndex) -> bool
     let debug_id = a.debug_id == b.debug_id;
     let lines = same_lines(&a.x_facebook_offsets, &b.x_facebook_offsets);
     let paths = same_paths(&a.x_metro_module_paths, &b.x_metro_module_paths);
+    // `&` for the prover: all parts are compared, and without a branch one goal is left
     file & debug_id & lines & paths
 }
 

@@ -120,6 +120,7 @@ impl SourceMapIndex {
         ensures { Decides result (((index_value self.now).parts.x_facebook_offsets ≢ None)
             × ((index_value self.now).parts.x_metro_module_paths ≢ None)) }
     {
+        // `&` for the prover: both sides are cheap, and without a branch one goal is left
         self.x_facebook_offsets.is_some() & self.x_metro_module_paths.is_some()
     }
 

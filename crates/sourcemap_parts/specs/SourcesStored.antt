@@ -10,7 +10,7 @@ sources_in a = record {
   texts = texts_of a.texts;
 }
 
--- the id 4294967295 names nothing, and what is kept as shown is what is shown
+-- `no_id` names nothing, and what is kept as shown is what is shown
 pub record AreStored (a : Inside) : Type 0 where
   pub few : length (texts_of a.texts) ≤ 4294967295
   pub shown : texts_of (unwrap_or a.shown a.texts) ≡ shown_texts (sources_in a)

@@ -23,7 +23,8 @@ pub fn put<T: Drop>(
     Ok(())
 }
 
-/// Cuts or fills a list to this length. Only want of memory refuses, and then the list is as it was.
+/// Cuts or fills a list to this length. Only want of memory refuses, and then the list is as it
+/// was.
 pub fn fit<T: Drop>(items: &mut Vec<Option<T>>, count: usize) -> Result<()>
     ensures ok { OnOk result (items.new.items ≡ fitted count items.old.items) }
     ensures len { OnOk result (vec_len items.new ≡ count) }

@@ -164,6 +164,7 @@ fn are_same(a: &Heading, b: &Heading) -> bool
     let file = same_maybe(&a.file, &b.file);
     let ignored = a.ignored == b.ignored;
     let debug_id = a.debug_id == b.debug_id;
+    // `&` for the prover: all parts are compared, and without a branch one goal is left
     file & ignored & debug_id
 }
 

@@ -189,6 +189,7 @@ fn are_same(a: &Sources, b: &Sources) -> bool
 {
     let root = same_maybe(&a.root, &b.root);
     let texts = same_texts(&a.texts, &b.texts);
+    // `&` for the prover: both parts are compared, and without a branch one goal is left
     root & texts
 }
 
@@ -299,6 +300,7 @@ fn follow(
     ensures err { OnErr result (apart.new ≡ apart.old) }
     ensures memory { IsOkUnless result OutOfMemory }
 {
+    // `&` for the prover: both sides are cheap, and one branch leaves fewer goals than two
     if root.is_empty() & apart.is_none() {
         return Ok(());
     }

@@ -1,22 +1,17 @@
 //! Texts in quotes: runs of plain bytes, and an escape for each byte that ends one.
 ghost use Rattle.std.specs.Prelude.{◌≡◌, ◌+◌, ◌<◌, ◌≤◌, [], ◌∷◌, ◌++◌, true, length, take, IfOk, OnOk};
+ghost use Rattle.json.specs.Ascii.{backslash, quote};
 ghost use Rattle.json.specs.Filled.{Placed};
 ghost use Rattle.json.specs.Print.{escape, escape_byte, escape_letter, quoted};
 ghost use Rattle.std.specs.Char.{digit_char};
 ghost use Rattle.sourcemap_printing.specs.Quoting.{IsPutUpTo};
 ghost use Rattle.sourcemap_values.specs.Runs.{is_stop};
 
-use crate::short::{is_plain, is_short_and_plain, put_between_quotes, put_bytes};
-use sourcemap_values::places::{place_block, place_byte};
+use crate::short::{LONG, is_plain, is_short_and_plain, put_between_quotes, put_bytes};
+use sourcemap_values::places::{ROOM, place_block, place_byte};
 use sourcemap_values::runs::{copy_run, stops};
 use std::alloc::AllocError;
 use std::simd::prelude::*;
-
-// A text that is longer has room made ready for it.
-const LONG: usize = 1024;
-
-// As much room is made ready at once.
-static ROOM: [u8; 4096] = [0; 4096];
 
 // The letters of the short escapes of control bytes, and 0 where one has none.
 const LETTERS: [u8; 32] = [
@@ -48,7 +43,7 @@ pub(crate) fn put_byte(out: &mut Vec<u8>, byte: u8) -> Result<(), AllocError>
 // Puts a text with its escapes, and the quote behind it.
 #[inline(never)]
 fn put_escaped(out: &mut Vec<u8>, text: &[u8]) -> Result<(), AllocError>
-    ensures { OnOk result (out.new.items ≡ out.old.items ++ (escape text.now ++ 34 ∷ [])) }
+    ensures { OnOk result (out.new.items ≡ out.old.items ++ (escape text.now ++ quote ∷ [])) }
 {
     let mut at = 0;
     let mut is_wanted = true;
@@ -134,7 +129,7 @@ fn fill(room: &mut [u8], start: usize, text: &[u8], from: usize) -> (usize, usiz
 #[inline(always)]
 fn place_pair(room: &mut [u8], to: usize, letter: u8)
     requires { to + 2 ≤ length room.old }
-    ensures { Placed room.old room.new to (92 ∷ letter ∷ []) (to + 2) }
+    ensures { Placed room.old room.new to (backslash ∷ letter ∷ []) (to + 2) }
 {
     place_byte(room, to, b'\\');
     place_byte(room, to + 1, letter);

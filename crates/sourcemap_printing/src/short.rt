@@ -3,6 +3,7 @@
 //! copy goes byte by byte.
 ghost use Rattle.std.specs.Prelude.{◌≡◌, ◌+◌, ◌≤◌, [], ◌∷◌, ◌++◌, length, OnOk};
 ghost use Rattle.std.specs.Bool.{OnTrue};
+ghost use Rattle.json.specs.Ascii.{quote};
 ghost use Rattle.json.specs.Filled.{Placed};
 ghost use Rattle.json.specs.Print.{escape};
 ghost use Rattle.json.specs.Written.{PlainBetween};
@@ -14,8 +15,8 @@ use std::simd::Simd;
 // A text that is longer is not short.
 const SHORT: usize = 48;
 
-// A text that is longer is not looked at whole before it is put.
-const LONG: usize = 1024;
+/// A text that is longer is not looked at whole before it is put: room is made ready for it.
+pub(crate) const LONG: usize = 1024;
 
 // Room for any short text between quotes: to make so much ready at once is one test and a few
 // stores.
@@ -61,7 +62,7 @@ pub(crate) fn is_plain(text: &[u8]) -> bool
 #[inline(always)]
 pub(crate) fn put_between_quotes(out: &mut Vec<u8>, text: &[u8]) -> Result<(), AllocError>
     requires { length text.now ≤ 48 }
-    ensures { OnOk result (out.new.items ≡ out.old.items ++ 34 ∷ (text.now ++ 34 ∷ [])) }
+    ensures { OnOk result (out.new.items ≡ out.old.items ++ quote ∷ (text.now ++ quote ∷ [])) }
 {
     let start = out.len();
     out.extend_from_slice(&ROOM)?;
@@ -129,7 +130,7 @@ fn is_block_plain<const N: usize>(text: &[u8], at: usize) -> bool
 fn place_between_quotes(room: &mut [u8], to: usize, text: &[u8]) -> usize
     requires short { length text.now ≤ 48 }
     requires fits { to + length text.now + 2 ≤ length room.old }
-    ensures { Placed room.old room.new to (34 ∷ (text.now ++ 34 ∷ [])) result }
+    ensures { Placed room.old room.new to (quote ∷ (text.now ++ quote ∷ [])) result }
 {
     let end = to + 1 + text.len();
     place_byte(room, to, b'"');

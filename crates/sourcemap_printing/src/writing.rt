@@ -1,6 +1,7 @@
 //! JSON values to their compact texts. The kit's writer answers for a value that holds a fraction.
 ghost use Rattle.std.specs.Prelude.{◌≡◌, ◌≤◌, ◌++◌, ◌∷◌, [], Some, false, IfOk, OnOk, int_lt, pos, string_bytes, FitsSigned, IsUtf8};
 ghost use Rattle.std.specs.Int.{w64};
+ghost use Rattle.json.specs.Ascii.{open_brace, open_bracket};
 ghost use Rattle.serde_json.specs.Data.{depth};
 ghost use Rattle.serde_json.specs.Read.{read, max_depth};
 ghost use Rattle.serde_json.specs.View.{view, number_view, items_view, members_view};
@@ -79,7 +80,7 @@ fn put_value(out: &mut Vec<u8>, value: &Value) -> Result<(), Refusal>
 #[inline(never)]
 fn put_items(out: &mut Vec<u8>, items: &Vec<Value>) -> Result<(), Refusal>
     ensures text { OnOk result (out.new.items
-        ≡ out.old.items ++ 91 ∷ items_text false (items_view items.now.items)) }
+        ≡ out.old.items ++ open_bracket ∷ items_text false (items_view items.now.items)) }
     ensures plain { OnOk result (ArePlainItems (items_view items.now.items)) }
 {
     put_byte(out, b'[')?;
@@ -97,7 +98,7 @@ fn put_items(out: &mut Vec<u8>, items: &Vec<Value>) -> Result<(), Refusal>
 #[inline(never)]
 fn put_members(out: &mut Vec<u8>, members: &Map<String, Value>) -> Result<(), Refusal>
     ensures text { OnOk result (out.new.items
-        ≡ out.old.items ++ 123 ∷ members_text false (members_view members.now.entries)) }
+        ≡ out.old.items ++ open_brace ∷ members_text false (members_view members.now.entries)) }
     ensures plain { OnOk result (ArePlainMembers (members_view members.now.entries)) }
 {
     put_byte(out, b'{')?;

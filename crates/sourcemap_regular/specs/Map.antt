@@ -1,10 +1,11 @@
 -- A regular source map as contracts see it, and what it means: texts are lists of bytes, an id is
 -- a place in a list of texts. Lines and columns count from 0, columns in UTF-16 units.
-use Rattle.std.specs.Prelude.{◌≡◌, ℕ, ◌+◌, ◌-◌, List, [], length, map, min, slice_get, Bool, ◌&&◌, ◌==◌, if◌then◌else◌, Option, None, option_map}
+use Rattle.std.specs.Prelude.{◌≡◌, ℕ, ◌+◌, List, [], length, map, min, slice_get, Bool, Option, None, option_map}
 use Rattle.sourcemap_lists.specs.declared.tokens.RawToken.{RawToken}
 use Rattle.sourcemap_lists.specs.Tokens.{AllWithin, in_order, closest_token}
 use Rattle.sourcemap_parts.specs.Contents.{contents_at}
 use Rattle.sourcemap_parts.specs.Sources.{shown}
+pub use Rattle.sourcemap_composition.specs.Moved.{distance}
 pub use Rattle.sourcemap_parts.specs.Contents.{fitted}
 
 -- all that a map holds
@@ -63,10 +64,6 @@ contents_of m id = contents_at m.contents id
 -- a column so far to the right, as far as numbers go
 abbrev pub column_behind : ℕ → ℕ → ℕ
 column_behind column distance = min (column + distance) 4294967295
-
--- how far a position stands behind a range token of its own line
-abbrev pub distance : RawToken → ℕ × ℕ → ℕ
-distance token p = if token.is_range && (token.dst_line == p.0) then p.1 - token.dst_col else 0
 
 -- what a token says of a place at this distance
 abbrev pub meaning_of : MapValue → RawToken → ℕ → Meaning

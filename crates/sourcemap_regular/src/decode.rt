@@ -28,6 +28,7 @@ pub fn decode_regular(alloc: Global, rsm: RawSourceMap) -> Result<SourceMap>
         → RecordDecodes (flat (tree rsm)) due → Gives (λ m. m) result due }
     ensures well_formed { IfOk result IsWellFormed }
 {
+    // no `?` for the prover: which fault is passed on is known of a match
     match parts_of_record(alloc, rsm) {
         Err(fault) => Err(fault),
         Ok(parts) => Ok(map_of(parts)),

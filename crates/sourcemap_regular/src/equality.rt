@@ -15,6 +15,7 @@ fn same_maps(a: &SourceMap, b: &SourceMap) -> bool
     let names = same_texts(&a.names, &b.names);
     let sources = a.sources == b.sources;
     let contents = a.contents == b.contents;
+    // `&` for the prover: all parts are compared, and without a branch one goal is left
     heading & tokens & names & sources & contents
 }
 

@@ -18,9 +18,9 @@ use sourcemap_printing::writing::value_to_vec;
 use std::alloc::Global;
 use std::io::Write;
 
-/// The bytes of the compact JSON text of the record that the map is written as. The faults are those
-/// of making the record, which a regular map, a Hermes map and an index have none of, and want of
-/// memory.
+/// The bytes of the compact JSON text of the record that the map is written as. The faults are
+/// those of making the record, which a regular map, a Hermes map and an index have none of, and
+/// want of memory.
 pub fn encode_to_vec<M: Encodable>(alloc: Global, map: &M) -> Result<Vec<u8>>
     ensures text { IfOk result (λ text. IsEncoded (M.encodes map.now) text.items) }
     ensures fault { IfErr result (λ e. UnlessMemory e (M.encodes map.now (Err e))) }

@@ -6,6 +6,7 @@ use Rattle.std.specs.List.{AllByRecursion}
 use Rattle.std.specs.Str.{bytes_eq}
 use denote.Ref.{Bor}
 use Rattle.sourcemap_lists.specs.Interner.{place_of, with_text}
+use Rattle.sourcemap_lists.specs.Tokens.{no_id}
 use Rattle.sourcemap_lists.specs.declared.tokens.RawToken.{RawToken}
 use Rattle.sourcemap_rewriting.specs.Kept.{present, kept_once, number_in}
 use Rattle.sourcemap_rewriting.specs.declared.numbering.NewNumbers.{NewNumbers}
@@ -45,7 +46,7 @@ pub record IsMet (texts : List (List ℕ)) (n : NewNumbers) (id : ℕ) : Type 0 
 -- an old number that was not met has no new one
 abbrev pub IsMetOrNot : (texts : List (List ℕ)) → NewNumbers → ℕ → Type 0
 IsMetOrNot texts n id =
-    (slice_get n.numbers.items id ≡ Some 4294967295) ⊎ ((k : ℕ) × (slice_get n.order.items k ≡ Some id))
+    (slice_get n.numbers.items id ≡ Some no_id) ⊎ ((k : ℕ) × (slice_get n.order.items k ≡ Some id))
 
 pub record AreNumbered (texts : List (List ℕ)) (n : NewNumbers) : Type 0 where
   pub many : length n.numbers.items ≡ length texts
@@ -58,7 +59,7 @@ pub record NumbersMore (texts : List (List ℕ)) (id : ℕ) (old new : NewNumber
   pub met : (f : ℕ → Option (List ℕ)) → (slice_get texts id ≡ None → f id ≡ None)
       → first_some f new.order.items ≡ option_or (first_some f old.order.items) (f id)
 
--- the number that a text has in a map
+-- the id that a text has in a map
 abbrev pub id_of : {S : Type 0} → HashMap (Bor (List ℕ)) ℕ S → List ℕ → Option ℕ
 id_of ids text = get_by (λ key. bytes_eq text key.now) ids
 

@@ -2,6 +2,7 @@
 ghost use Rattle.std.specs.Prelude.{◌≡◌, ◌<◌, ◌≤◌, ℕ, List, None, Some, [], length, map, slice_get, string_bytes, vec_len, replicate, IfOk, OnOk, IsOkUnless};
 ghost use Rattle.std.specs.HashMap.{IsEmpty, hash_map_len};
 ghost use Rattle.sourcemap_lists.specs.Interner.{place_of, with_text};
+ghost use Rattle.sourcemap_lists.specs.Tokens.{no_id};
 ghost use Rattle.sourcemap_errors.specs.declared.errors.Error.TheVariants.{OutOfMemory};
 ghost use Rattle.sourcemap_rewriting.specs.Kept.{number_in};
 ghost use Rattle.sourcemap_rewriting.specs.Numbering.{IsIndex, IsNumbering, NumbersMore, Meets, id_of, met_texts};
@@ -25,14 +26,14 @@ pub(crate) struct NewNumbers {
 #[derive(Drop)]
 pub(crate) struct Numbering<'a> {
     pub(crate) met: NewNumbers,
-    // the new number of each text that was met
+    // the new id of each text that was met
     ids: HashMap<&'a str, u32>,
 }
 
 impl<'a> Numbering<'a> {
     // A numbering of so many texts, none of which was asked for.
     pub(crate) fn new(alloc: Global, count: usize) -> Result<Self>
-        ensures numbers { IfOk result (λ n. n.met.numbers.items ≡ replicate count 4294967295) }
+        ensures numbers { IfOk result (λ n. n.met.numbers.items ≡ replicate count no_id) }
         ensures order { IfOk result (λ n. n.met.order.items ≡ []) }
         ensures ids { IfOk result (λ n. IsEmpty n.ids) }
         ensures memory { IsOkUnless result OutOfMemory }

@@ -146,6 +146,7 @@ fn are_same(a: &SourceScopes, b: &SourceScopes) -> bool
 {
     let entries = same_scope_lists(&a.entries, &b.entries);
     let function_maps = same_function_maps(&a.function_maps, &b.function_maps);
+    // `&` for the prover: both parts are compared, and without a branch one goal is left
     entries & function_maps
 }
 

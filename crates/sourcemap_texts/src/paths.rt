@@ -83,6 +83,7 @@ fn common_length(a: &[u8], b: &[u8]) -> usize
         }
         at += 1;
     }
+    // `&` for the prover: both sides are cheap, and one branch leaves fewer goals than two
     if ends_part(a, at) & ends_part(b, at) {
         at
     } else {

@@ -1,6 +1,7 @@
 -- Parts of a text of JSON, and what they say.
 use Rattle.std.specs.Prelude.{◌≡◌, ℕ, ◌+◌, ◌<◌, List, ◌++◌, drop, get_or, Some}
 use Rattle.std.specs.Str.{IsUtf8}
+use Rattle.json.specs.Ascii as ascii
 use Rattle.json.specs.Text.{code_unit, content, plain, prepend, short_escape}
 use Rattle.json.specs.Lex.{lex, in_string}
 
@@ -22,12 +23,12 @@ pub record IsReadUpTo (old text : List ℕ) (from : ℕ) (new : List ℕ) (at : 
 
 -- At a place stand a backslash and the byte that makes it an escape, which stand for the byte.
 pub record SpellsByte (text : List ℕ) (at byte : ℕ) : Type 0 where
-  pub backslash : get_or text at 0 ≡ 92
+  pub backslash : get_or text at 0 ≡ ascii.backslash
   pub letter : short_escape (get_or text (at + 1) 0) ≡ Some byte
   pub ascii : (byte < 128) × (get_or text (at + 1) 0 < 128)
 
 -- At a place stand `\u` and four digits, which spell a code unit.
 pub record SpellsUnit (text : List ℕ) (at unit : ℕ) : Type 0 where
-  pub backslash : get_or text at 32 ≡ 92
-  pub letter : get_or text (at + 1) 32 ≡ 117
+  pub backslash : get_or text at 32 ≡ ascii.backslash
+  pub letter : get_or text (at + 1) 32 ≡ ascii.lower_u
   pub digits : code_unit (get_or text (at + 2) 32) (get_or text (at + 3) 32) (get_or text (at + 4) 32) (get_or text (at + 5) 32) ≡ Some unit

@@ -2,6 +2,7 @@
 //! what source maps are written with, and gives up on all else.
 ghost use Rattle.std.specs.Prelude.{◌≡◌, ◌<◌, ◌+◌, ◌^◌, IfOk, drop, length};
 ghost use Rattle.std.specs.Str.{IsUtf8};
+ghost use Rattle.json.specs.Ascii.{quote};
 ghost use Rattle.json.specs.Lex.{may_begin, may_close, tokens};
 ghost use Rattle.json.specs.Word.{head};
 ghost use Rattle.sourcemap_values.specs.declared.cursor.Place.TheVariants.{AfterValue};
@@ -129,7 +130,8 @@ fn pass_comma(text: &[u8], spot: Spot) -> Spot
 // The spot behind the comma that may stand here, behind a value.
 #[inline(always)]
 fn pass_comma_at(text: &[u8], at: usize) -> Spot
-    ensures same { tokens_from text.now result ≡ tokens_from text.now (record { at = at; place = AfterValue }) }
+    ensures same { tokens_from text.now result
+        ≡ tokens_from text.now (record { at = at; place = AfterValue }) }
     ensures utf8 { IsUtf8UpTo text.now at result.at }
 {
     if byte_at(text, at) == b',' {
@@ -214,7 +216,7 @@ fn take_text(
     spot: Spot,
     scratch: &mut Vec<u8>,
 ) -> Result<(Step, Spot), Stop>
-    requires { head (drop spot.at text.now) ≡ 34 }
+    requires { head (drop spot.at text.now) ≡ quote }
     ensures leads { IfOk result (λ taken. Leads text.now spot taken.0 taken.1) }
     ensures utf8 { IfOk result (λ taken. IsUtf8UpTo text.now spot.at taken.1.at) }
 {

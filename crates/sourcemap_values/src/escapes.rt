@@ -1,6 +1,7 @@
 //! The escapes in the texts of JSON.
 ghost use Rattle.std.specs.Prelude.{◌≡◌, ◌+◌, ◌*◌, ◌<◌, ◌≤◌, true, length, take, drop, get_or, Some, IfSome};
 ghost use Rattle.std.specs.Char.{digit_value, encode_utf8};
+ghost use Rattle.json.specs.Ascii.{backslash};
 ghost use Rattle.json.specs.Text.{is_high_surrogate, is_low_surrogate, short_escape, surrogate_pair};
 ghost use Rattle.json.specs.Filled.{Placed};
 ghost use Rattle.sourcemap_values.specs.Texts.{IsReadUpTo, IsUtf8UpTo, Says, SpellsByte, SpellsUnit};
@@ -8,8 +9,8 @@ ghost use Rattle.sourcemap_values.specs.Texts.{IsReadUpTo, IsUtf8UpTo, Says, Spe
 use crate::bytes::byte_at;
 use crate::places::place_byte;
 
-/// Puts the character that the escape at a place stands for into the room behind `to`. The answer is
-/// how far each came.
+/// Puts the character that the escape at a place stands for into the room behind `to`. The answer
+/// is how far each came.
 #[inline(always)]
 pub(crate) fn place_escape(
     room: &mut [u8],
@@ -18,7 +19,7 @@ pub(crate) fn place_escape(
     at: usize,
 ) -> Option<(usize, usize)>
     requires space { (to + 4 ≤ length room.old) × (at + 2 ≤ length text.now) }
-    requires backslash { get_or text.now at 32 ≡ 92 }
+    requires backslash { get_or text.now at 32 ≡ backslash }
     ensures len { length room.new ≡ length room.old }
     ensures to_within { IfSome result (λ found. found.0 ≤ length room.new) }
     ensures within { IfSome result (λ found. (at < found.1) × (found.1 ≤ length text.now)) }
@@ -45,8 +46,8 @@ pub(crate) fn short_escape_at(text: &[u8], at: usize) -> u8
     short_escape(text[at + 1])
 }
 
-// What a backslash and each byte stand for, and 0 where they are no escape of two bytes. A look into
-// a table costs the same for each, where a choice among branches is often foreseen wrongly.
+// What a backslash and each byte stand for, and 0 where they are no escape of two bytes. A look
+// into a table costs the same for each, where a choice among branches is often foreseen wrongly.
 #[rattlefmt::skip]
 static SHORT: [u8; 256] = [
     0, 0, 0, 0, 0, 0, 0, 0, 0, 0, 0, 0, 0, 0, 0, 0,
@@ -80,7 +81,7 @@ fn short_escape(byte: u8) -> u8
 #[inline(never)]
 fn place_unicode(room: &mut [u8], to: usize, text: &[u8], at: usize) -> Option<(usize, usize)>
     requires space { (to + 4 ≤ length room.old) × (at + 2 ≤ length text.now) }
-    requires backslash { get_or text.now at 32 ≡ 92 }
+    requires backslash { get_or text.now at 32 ≡ backslash }
     ensures len { length room.new ≡ length room.old }
     ensures to_within { IfSome result (λ found. found.0 ≤ length room.new) }
     ensures within { IfSome result (λ found. (at < found.1) × (found.1 ≤ length text.now)) }

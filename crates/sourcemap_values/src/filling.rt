@@ -14,8 +14,8 @@ use std::simd::prelude::*;
 pub(crate) const SLACK: usize = 160;
 
 /// Fills the room behind `start` with what a text says from a place on, as long as there is room,
-/// the end of the text is not near and no escape comes but those of two bytes. The answer is how far
-/// each came.
+/// the end of the text is not near and no escape comes but those of two bytes. The answer is how
+/// far each came.
 pub(crate) fn fill(room: &mut [u8], start: usize, text: &[u8], from: usize) -> (usize, usize)
     requires { (start + 4 ≤ length room.old) × (from ≤ length text.now) }
     ensures len { length room.new ≡ length room.old }
@@ -53,7 +53,8 @@ pub(crate) fn fill(room: &mut [u8], start: usize, text: &[u8], from: usize) -> (
 }
 
 // The same of the rest of a block, which ends at `end` and whose stops are `stops`. The answer also
-// says whether all of it was passed, as where the last two bytes passed are an escape across its end.
+// says whether all of it was passed, as where the last two bytes passed are an escape across its
+// end.
 #[inline(always)]
 fn fill_block(
     room: &mut [u8],

@@ -4,6 +4,9 @@ ghost use Rattle.json.specs.Filled.{Placed};
 
 use std::simd::Simd;
 
+/// Zeros, as many as are put behind a buffer at once where room is made ready.
+pub static ROOM: [u8; 4096] = [0; 4096];
+
 /// The first N bytes are one load and one store, with no look at which of them count.
 #[inline(always)]
 pub fn place_block<const N: usize>(room: &mut [u8], to: usize, text: &[u8])

@@ -8,14 +8,12 @@ ghost use Rattle.sourcemap_values.specs.Texts.{IsReadUpTo, IsUtf8UpTo, Says};
 use crate::bytes::byte_at;
 use crate::escapes::place_escape;
 use crate::filling::{SLACK, fill, fill_run};
+use crate::places::ROOM;
 use crate::runs::bare_end;
 use crate::stop::Stop;
 use simdutf8::compat::from_utf8;
 use std::alloc::{AllocError, Global};
 use std::str::from_utf8_unchecked;
-
-// As much room is made ready at once, if the text is that long.
-static ROOM: [u8; 4096] = [0; 4096];
 
 /// The text that begins at `start`, behind its opening quote, and the place behind its closing one.
 /// What `scratch` holds is lost: a text with escapes is put together there.
@@ -95,7 +93,7 @@ fn unescape(room: &mut Vec<u8>, text: &[u8], start: usize) -> Result<(usize, usi
     }
 }
 
-/// Makes room behind `to`, for as many bytes as are left of the text.
+/// Makes room behind `to`, for as many bytes as are left of the text, if [`ROOM`] has as many.
 #[inline(always)]
 fn make_room(room: &mut Vec<u8>, to: usize, left: usize) -> Result<(), AllocError>
     requires { (to ≤ length room.old.items) × (left < 2 ^ 63) }
