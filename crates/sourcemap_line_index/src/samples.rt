@@ -1,6 +1,5 @@
 //! The columns of every eighth token, so that a search in a long line reads little memory.
 ghost use Rattle.std.specs.Prelude.{◌≡◌, ℕ, ◌<◌, ◌≤◌, ◌+◌, ◌-◌, ◌^◌, IfOk, length, min, slice_index};
-ghost use Rattle.sourcemap_lists.specs.declared.tokens.RawToken.{RawToken};
 ghost use Rattle.sourcemap_line_index.specs.LineIndex.{Rises};
 ghost use Rattle.sourcemap_line_index.specs.Samples.{AreColumns, AreSamples, HasRisingColumns, IsFirstAtColumn};
 
