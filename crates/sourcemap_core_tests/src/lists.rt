@@ -40,7 +40,7 @@ const CLOSEST: [(&str, u32, u32, &str); 5] = [
 ];
 
 fn closest(alloc: Global, line: u32, col: u32) -> Result<String> {
-    match list(alloc)?.closest(line, col) {
+    match list(alloc)?.closest_steps(line, col).0 {
         None => Ok(String::from_str(alloc, "none")?),
         Some((index, token)) => Ok(format!(in alloc; "{} at {index}", token.src_col)?),
     }

@@ -19,7 +19,7 @@ use Rattle.sourcemap_flattening.specs.Entries.{entries_with}
 use Rattle.sourcemap_flattening.specs.Gathering.{names_given, sources_entered, names_entered, IsFlat, IsPartOf}
 use Rattle.sourcemap_flattening.specs.declared.gathering.Part.{Part}
 use Rattle.sourcemap_flattening.specs.declared.gathering.FlatMap.{FlatMap}
-use Rattle.sourcemap_flattening.proofs.GatheringLemmas.{texts_of_sources, texts_of_names}
+use Rattle.sourcemap_flattening.proofs.GatheringLemmas.{map-each, texts_of_sources, texts_of_names}
 
 -- Entries of a map that was made.
 
@@ -72,10 +72,6 @@ no-contents text (e ∷ es) all =
     by_case : (b : Bool) → cond {A = Option TextEntry} (b && false) (Some e) None ≡ None
     by_case true = refl
     by_case false = refl
-
-map-each : {X Y : Type 0} (f g : X → Y) → ((x : X) → f x ≡ g x) → (xs : List X) → map f xs ≡ map g xs
-map-each f g same [] = refl
-map-each f g same (x ∷ xs) = λ i. same x i ∷ map-each f g same xs i
 
 pub names-merged : (file : Option (List ℕ)) (pieces : List Piece) → entries_kept (names_entered pieces) ≡ names_given (merged file pieces)
 names-merged file pieces =

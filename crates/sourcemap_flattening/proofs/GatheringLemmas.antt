@@ -39,7 +39,7 @@ flat_map-same P f g same [] all = refl
 flat_map-same P f g same (x ∷ xs) all =
     flat_map-cons f x xs ∙ (λ i. same x all.0 i ++ flat_map-same P f g same xs all.1 i) ∙ sym (flat_map-cons g x xs)
 
-map-each : {X Y : Type 0} (f g : X → Y) → ((x : X) → f x ≡ g x) → (xs : List X) → map f xs ≡ map g xs
+pub map-each : {X Y : Type 0} (f g : X → Y) → ((x : X) → f x ≡ g x) → (xs : List X) → map f xs ≡ map g xs
 map-each f g same [] = refl
 map-each f g same (x ∷ xs) = λ i. same x i ∷ map-each f g same xs i
 

@@ -29,7 +29,7 @@ pub(crate) struct Entry<'a> {
 #[derive(Drop)]
 pub(crate) struct Table<'a> {
     pub(crate) entries: Vec<Entry<'a>>,
-    // the number of each text
+    // the id of each text
     ids: HashMap<&'a str, u32>,
 }
 

@@ -1,5 +1,9 @@
 -- What a reader that drops a junk header has left, by how far it has come.
-use Rattle.std.specs.Prelude.{◌≡◌, ℕ, List, [], drop, take, Result, Ok, ◌++◌, ◌≤◌, Option, Some, None, option_map, option_and_then, Bool, true, false, ◌&&◌, if◌then◌else◌}
+use Rattle.std.specs.Prelude.{◌≡◌, ℕ, List, [], drop, take, length, Result, Ok, ◌++◌, ◌≤◌, Option, Some, None, option_map, option_and_then, Bool, true, false, ◌&&◌, if◌then◌else◌, IsTrue, IfOk, OnOk, IfErr, IfSome, IsSome}
+use Rattle.std.specs.Io.KnownBytes.{IsAtEnd}
+use Rattle.std.specs.IoError.{error_kind}
+use Rattle.std.specs.declared.io.Error.{Error as IoError}
+use Rattle.std.specs.declared.io.ErrorKind.TheVariants.{InvalidData}
 use Rattle.sourcemap_headers.specs.declared.header_reader.Place.{Place}
 use Rattle.sourcemap_headers.specs.declared.header_reader.Place.TheVariants.{Start, Junk, Behind, Faulty}
 use Rattle.sourcemap_headers.specs.declared.header_reader.Skipped.{Skipped}
@@ -66,3 +70,12 @@ Gave remaining old new bytes =
 -- the bytes that come next make the header faulty
 abbrev pub HasFaultyHeader : {R : Type 0} → (R → Option (List ℕ)) → StripHeaderReader R → Type 0
 HasFaultyHeader remaining r = (xs : List ℕ) × (remaining r.reader ≡ Some xs) × (left_at r.place xs ≡ None)
+
+-- what one read of the inner reader answers, which gave nothing but junk where that is none
+pub record IsTurn {R : Type 0} (remaining : R → Option (List ℕ)) (old new : StripHeaderReader R) (result : Result (Option ℕ) IoError) (buf : List ℕ) : Type 0 where
+  pub bound : IfOk result (λ count. IfSome count (λ n. n ≤ length buf))
+  pub gave : Gave remaining old new (given result buf)
+  pub end : IfOk result (λ count. count ≡ Some 0 → IsAtEnd (left_of remaining new))
+  pub sound : OnOk result (has_failed new ≡ false)
+  pub known : IfOk result (λ count. IsSome count → ¬ HasFaultyHeader remaining new)
+  pub fault : IfErr result (λ e. IsTrue (has_failed new) → error_kind e ≡ InvalidData)

@@ -1,6 +1,6 @@
 //! A reader that drops a junk header, however the bytes come.
-ghost use Rattle.std.specs.Prelude.{◌≡◌, ◌≢◌, ℕ, List, [], ◌++◌, IsTrue, IfOk, OnOk, ◌≤◌, ◌<◌, length, Some, None, false, IsErr, IfErr, IfSome, IsSome, option_and_then};
-ghost use Rattle.sourcemap_headers.specs.HeaderReader.{left_at, left_after, read_behind_header, given, IsWithin, IsInHeader};
+ghost use Rattle.std.specs.Prelude.{◌≡◌, ℕ, List, [], ◌++◌, IsTrue, ◌<◌, length, Some, None, false, IsErr, IfErr, option_and_then};
+ghost use Rattle.sourcemap_headers.specs.HeaderReader.{left_at, left_after, read_behind_header, IsWithin, IsInHeader};
 ghost use Rattle.std.specs.declared.io.ErrorKind.TheVariants.{InvalidData};
 ghost use Rattle.sourcemap_headers.specs.declared.header_reader.Place.TheVariants.{Behind, Faulty};
 ghost use Rattle.sourcemap_headers.specs.declared.header_reader.Skipped.TheVariants.{Ends};
@@ -96,10 +96,10 @@ pub struct StripHeaderReader<R> {
 }
 
 impl<R: Read + Drop> StripHeaderReader<R> {
-    ghost use Rattle.sourcemap_headers.specs.HeaderReader.{has_failed, left_of, Gave, HasFaultyHeader};
+    ghost use Rattle.sourcemap_headers.specs.HeaderReader.{has_failed, left_of, HasFaultyHeader, IsTurn};
     ghost use Rattle.std.specs.IoError.{error_kind};
     ghost use Rattle.std.specs.Io.{ReadsAtMost};
-    ghost use Rattle.std.specs.Io.KnownBytes.{IsAtEnd, ReadConsumes};
+    ghost use Rattle.std.specs.Io.KnownBytes.{ReadConsumes};
 
     /// A reader over `reader`, of which nothing was read here.
     pub fn new(reader: R) -> Self
@@ -117,15 +117,7 @@ impl<R: Read + Drop> StripHeaderReader<R> {
     fn turn(&mut self, buf: &mut [u8]) -> io::Result<Option<usize>>
         requires room { 0 < length buf.old }
         requires sound { has_failed self.old ≡ false }
-        ensures bound { IfOk result (λ count. IfSome count (λ n. n ≤ length buf.new)) }
-        ensures gave { Gave R.remaining self.old self.new (given result buf.new) }
-        ensures end { IfOk result (λ count. count ≡ Some 0
-            → IsAtEnd (left_of R.remaining self.new)) }
-        ensures sound { OnOk result (has_failed self.new ≡ false) }
-        ensures known { IfOk result (λ count. IsSome count
-            → ¬ HasFaultyHeader R.remaining self.new) }
-        ensures fault { IfErr result (λ e. IsTrue (has_failed self.new)
-            → error_kind e ≡ InvalidData) }
+        ensures { IsTurn R.remaining self.old self.new result buf.new }
     {
         match self.place {
             Place::Behind => Ok(Some(self.reader.read(buf)?)),
@@ -159,15 +151,7 @@ impl<R: Read + Drop> StripHeaderReader<R> {
     fn turn_in_header(&mut self, buf: &mut [u8]) -> io::Result<Option<usize>>
         requires room { 0 < length buf.old }
         requires in_header { IsInHeader self.old.place }
-        ensures bound { IfOk result (λ count. IfSome count (λ n. n ≤ length buf.new)) }
-        ensures gave { Gave R.remaining self.old self.new (given result buf.new) }
-        ensures end { IfOk result (λ count. count ≡ Some 0
-            → IsAtEnd (left_of R.remaining self.new)) }
-        ensures sound { OnOk result (has_failed self.new ≡ false) }
-        ensures known { IfOk result (λ count. IsSome count
-            → ¬ HasFaultyHeader R.remaining self.new) }
-        ensures fault { IfErr result (λ e. IsTrue (has_failed self.new)
-            → error_kind e ≡ InvalidData) }
+        ensures { IsTurn R.remaining self.old self.new result buf.new }
     {
         let count = self.reader.read(buf)?;
         if count == 0 {

@@ -5,7 +5,7 @@ use Rattle.std.proofs.lemmas.Bool.{cases_eq, cases_lt}
 use Rattle.std.proofs.lemmas.Bool.Decides.{nat_tests}
 use Rattle.sourcemap_lists.specs.declared.tokens.RawToken.{RawToken}
 use Rattle.sourcemap_line_index.specs.LineIndex.{Rises, col_at}
-use Rattle.sourcemap_line_index.specs.Samples.{AreColumns, AreSamples}
+use Rattle.sourcemap_line_index.specs.Samples.{AreColumns, AreSamples, HasRisingColumns}
 use Rattle.sourcemap_line_index.proofs.LineIndexLemmas.{if_less, if_not_less}
 
 -- tokens of which there are samples are some, on few lines
@@ -39,6 +39,16 @@ samples_rise tokens columns first end low high are rises l h within k lk hk =
     let far : col_at tokens d (8 * k) ≤ col_at tokens d (8 * k + 8) = rises_far (col_at tokens d) first end (8 * k) 8 (rises d) (omega arith) (omega arith) in
     let far' : col_at tokens d (8 * k) ≤ col_at tokens d (8 * (k + 1)) = subst (λ n. col_at tokens d (8 * k) ≤ col_at tokens d n) (sym next) far in
     rw (are.own k d (omega arith), are.own (k + 1) d (omega arith)) far'
+
+-- some of the tokens whose columns do not fall
+pub narrowed : (tokens : List RawToken) (first end from to : ℕ) → HasRisingColumns tokens first end → first ≤ from → from ≤ to → to ≤ end → HasRisingColumns tokens from to
+narrowed tokens first end from to rising l m h =
+    let within = rising.within in
+    record {
+      ordered = m;
+      within = omega arith;
+      rises = λ d place least most. rising.rises d place (omega arith) (omega arith);
+    }
 
 -- a search among the samples between places of tokens ended at one, and another goes on from behind the sample before it
 module _ (tokens : List RawToken) (columns : List ℕ) (first end low high sample key : ℕ) (are : AreColumns tokens columns) (start : 8 * low < first + 8) (past : end ≤ 8 * high) (within : high ≤ length columns) (at_least : low ≤ sample) (at_most : sample ≤ high) where

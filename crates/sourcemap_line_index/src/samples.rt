@@ -1,8 +1,7 @@
 //! The columns of every eighth token, so that a search in a long line reads little memory.
 ghost use Rattle.std.specs.Prelude.{◌≡◌, ℕ, ◌<◌, ◌≤◌, ◌+◌, ◌-◌, ◌^◌, IfOk, length, min, slice_index};
-ghost use Rattle.sourcemap_lists.specs.declared.tokens.RawToken.{RawToken};
-ghost use Rattle.sourcemap_line_index.specs.LineIndex.{Rises, col_at};
-ghost use Rattle.sourcemap_line_index.specs.Samples.{AreColumns, AreSamples};
+ghost use Rattle.sourcemap_line_index.specs.LineIndex.{Rises};
+ghost use Rattle.sourcemap_line_index.specs.Samples.{AreColumns, AreSamples, HasRisingColumns, IsFirstAtColumn};
 
 use crate::probe::Probe;
 use sourcemap_lists::tokens::RawToken;
@@ -40,8 +39,8 @@ impl Model for ColumnSamples {
 }
 
 impl ColumnSamples {
-    /// The samples of these tokens, which stand on so many lines. There are none if lines are short.
-    /// Only want of memory refuses.
+    /// The samples of these tokens, which stand on so many lines. There are none if lines are
+    /// short. Only want of memory refuses.
     pub(crate) fn new(
         alloc: Global,
         tokens: &[RawToken],
@@ -89,15 +88,8 @@ pub(crate) fn first_by_samples<P: Probe>(
     probe: &mut P,
 ) -> usize
     requires sampled { 0 < length samples.now → AreColumns tokens.now samples.now }
-    requires ordered { first ≤ end }
-    requires within { end ≤ length tokens.now }
-    requires rises { (d : RawToken) → Rises (col_at tokens.now d) first end }
-    ensures at_least { first ≤ result }
-    ensures at_most { result ≤ end }
-    ensures before { (d : RawToken) → first < result
-        → col_at tokens.now d (result - 1) < (P.position probe.old).1 }
-    ensures from { (d : RawToken) → result < end
-        → (P.position probe.old).1 ≤ col_at tokens.now d result }
+    requires rising { HasRisingColumns tokens.now first end }
+    ensures found { IsFirstAtColumn tokens.now first end (P.position probe.old).1 result }
     ensures kept { P.position probe.new ≡ P.position probe.old }
     ensures counted_none { (d : ℕ) → length samples.now ≡ 0 → length tokens.now < 2 ^ d
         → P.comparisons probe.new ≤ P.comparisons probe.old + d }
@@ -116,8 +108,8 @@ pub(crate) fn first_by_samples<P: Probe>(
     first_in_turn(tokens, from, end.min(place), probe)
 }
 
-// The first of the samples from `first` up to `end` that is not left of the probe's column, `end` if
-// there is none.
+// The first of the samples from `first` up to `end` that is not left of the probe's column, `end`
+// if there is none.
 fn first_sample<P: Probe>(samples: &[u32], first: usize, end: usize, probe: &mut P) -> usize
     requires ordered { first ≤ end }
     requires within { end ≤ length samples.now }
@@ -152,15 +144,8 @@ fn first_without_samples<P: Probe>(
     end: usize,
     probe: &mut P,
 ) -> usize
-    requires ordered { first ≤ end }
-    requires within { end ≤ length tokens.now }
-    requires rises { (d : RawToken) → Rises (col_at tokens.now d) first end }
-    ensures at_least { first ≤ result }
-    ensures at_most { result ≤ end }
-    ensures before { (d : RawToken) → first < result
-        → col_at tokens.now d (result - 1) < (P.position probe.old).1 }
-    ensures from { (d : RawToken) → result < end
-        → (P.position probe.old).1 ≤ col_at tokens.now d result }
+    requires { HasRisingColumns tokens.now first end }
+    ensures found { IsFirstAtColumn tokens.now first end (P.position probe.old).1 result }
     ensures kept { P.position probe.new ≡ P.position probe.old }
     ensures counted { (d : ℕ) → length tokens.now < 2 ^ d
         → P.comparisons probe.new ≤ P.comparisons probe.old + d }
@@ -176,15 +161,8 @@ fn first_without_samples<P: Probe>(
 // column, `end` if there is none.
 #[inline(always)]
 fn first_at_column<P: Probe>(tokens: &[RawToken], first: usize, end: usize, probe: &mut P) -> usize
-    requires ordered { first ≤ end }
-    requires within { end ≤ length tokens.now }
-    requires rises { (d : RawToken) → Rises (col_at tokens.now d) first end }
-    ensures at_least { first ≤ result }
-    ensures at_most { result ≤ end }
-    ensures before { (d : RawToken) → first < result
-        → col_at tokens.now d (result - 1) < (P.position probe.old).1 }
-    ensures from { (d : RawToken) → result < end
-        → (P.position probe.old).1 ≤ col_at tokens.now d result }
+    requires { HasRisingColumns tokens.now first end }
+    ensures found { IsFirstAtColumn tokens.now first end (P.position probe.old).1 result }
     ensures kept { P.position probe.new ≡ P.position probe.old }
     ensures counted { (d : ℕ) → end - first < 2 ^ d
         → P.comparisons probe.new ≤ P.comparisons probe.old + d }
@@ -204,15 +182,8 @@ fn first_at_column<P: Probe>(tokens: &[RawToken], first: usize, end: usize, prob
 // The same, token by token: for few tokens, since the processor need not wait for one to read the
 // next.
 fn first_in_turn<P: Probe>(tokens: &[RawToken], first: usize, end: usize, probe: &mut P) -> usize
-    requires ordered { first ≤ end }
-    requires within { end ≤ length tokens.now }
-    requires rises { (d : RawToken) → Rises (col_at tokens.now d) first end }
-    ensures at_least { first ≤ result }
-    ensures at_most { result ≤ end }
-    ensures before { (d : RawToken) → first < result
-        → col_at tokens.now d (result - 1) < (P.position probe.old).1 }
-    ensures from { (d : RawToken) → result < end
-        → (P.position probe.old).1 ≤ col_at tokens.now d result }
+    requires { HasRisingColumns tokens.now first end }
+    ensures found { IsFirstAtColumn tokens.now first end (P.position probe.old).1 result }
     ensures kept { P.position probe.new ≡ P.position probe.old }
     ensures counted { P.comparisons probe.new ≤ P.comparisons probe.old + (end - first) }
     ensures raised { min (P.comparisons probe.old) 4294967295 ≤ P.comparisons probe.new }

@@ -15,8 +15,8 @@ use sourcemap_lists::tokens::{RawToken, closest_token, sort_tokens};
 use std::alloc::Global;
 use std::marker::Model;
 
-/// Tokens in order of line and column of the generated text, beside the table of the lines that hold
-/// them, and samples of their columns if lines are long. No call parts them.
+/// Tokens in order of line and column of the generated text, beside the table of the lines that
+/// hold them, and samples of their columns if lines are long. No call parts them.
 #[derive(Debug, Drop)]
 pub struct TokenList {
     tokens: Vec<RawToken>,
@@ -48,8 +48,8 @@ impl TokenList {
         TokenList::of_ordered(tokens)
     }
 
-    /// These tokens, which are in order already. Only want of memory refuses, and the tokens are let
-    /// go then.
+    /// These tokens, which are in order already. Only want of memory refuses, and the tokens are
+    /// let go then.
     pub fn of_ordered(tokens: Vec<RawToken>) -> Result<TokenList>
         requires { AreInOrder tokens.items }
         ensures { Gives (λ list. list) result (Ok tokens.items) }
@@ -97,20 +97,9 @@ impl TokenList {
 
     /// The token closest to a line and a column of the generated text, both from 0, with its place
     /// in the list: of the tokens at that place the first, and if there are none, the last one that
-    /// stands before it.
-    #[inline(always)]
-    pub fn closest(&self, line: u32, col: u32) -> Option<(usize, RawToken)>
-        ensures answer { result ≡ closest_token self.now (line, col) }
-        // the place is the token's own
-        ensures own_index { IfSome result (λ found. slice_get self.now found.0 ≡ Some found.1) }
-        ensures small { IfSome result (λ found. found.0 + 1 < 2 ^ 64) }
-    {
-        self.closest_steps(line, col).0
-    }
-
-    /// The same token, and by how many comparisons of that line and that column with a number it was
-    /// found: with d binary digits in the count of tokens at most 2 (d + 1), however many are equal.
-    /// It takes no memory.
+    /// stands before it. Beside it, by how many comparisons of that line and that column with a
+    /// number it was found: with d binary digits in the count of tokens at most 2 (d + 1), however
+    /// many are equal. It takes no memory.
     #[inline(always)]
     pub fn closest_steps(&self, line: u32, col: u32) -> (Option<(usize, RawToken)>, u32)
         ensures answer { result.0 ≡ closest_token self.now (line, col) }
@@ -127,9 +116,9 @@ impl TokenList {
         (with_token(tokens, place), probe.count())
     }
 
-    /// The same token, by a search among all tokens. It serves where many lists are asked in turn, so
-    /// that none is in the processor's cache: there it is faster than the table, since the branches of
-    /// the search let the processor fetch ahead.
+    /// The same token, by a search among all tokens. It serves where many lists are asked in turn,
+    /// so that none is in the processor's cache: there it is faster than the table, since the
+    /// branches of the search let the processor fetch ahead.
     pub fn closest_among_many(&self, line: u32, col: u32) -> Option<(usize, RawToken)>
         ensures answer { result ≡ closest_token self.now (line, col) }
         // the place is the token's own

@@ -8,6 +8,7 @@ use Rattle.sourcemap_lists.specs.declared.tokens.RawToken.{RawToken}
 use Rattle.sourcemap_lists.specs.Tokens.{AreInOrder, position_cmp, destination}
 use Rattle.sourcemap_lists.proofs.SortLemmas.{Rises, Rises-from_sorted, sorted_from_Rises}
 use Rattle.sourcemap_lists.proofs.TokensLemmas.{position_cmp_total}
+use Rattle.sourcemap_mappings.proofs.WriteTokens.{all_push}
 
 -- none of the tokens stands past a place
 abbrev pub NonePast : ℕ × ℕ → List RawToken → Type 0
@@ -32,10 +33,6 @@ NonePast-line l c [] h = tt
 NonePast-line l c (t ∷ ts) h = (later_line l c t.dst_line t.dst_col h.0, NonePast-line l c ts h.1)
 
 -- one more token, past which none stands
-all_push : (P : RawToken → Type 0) (xs : List RawToken) (t : RawToken) → AllByRecursion P xs → P t → AllByRecursion P (xs ++ t ∷ [])
-all_push P [] t all here = (here, tt)
-all_push P (x ∷ xs) t all here = (all.0, all_push P xs t all.1 here)
-
 Rises-push : (lt : RawToken → RawToken → Bool) (xs : List RawToken) (t : RawToken) → Rises lt xs → AllByRecursion (λ x. lt t x ≡ false) xs → Rises lt (xs ++ t ∷ [])
 Rises-push lt [] t r h = (tt, tt)
 Rises-push lt (x ∷ xs) t r h = (all_push (λ y. lt y x ≡ false) xs t r.0 h.0, Rises-push lt xs t r.1 h.1)

@@ -43,7 +43,7 @@ sum_at k segments = sum_by (step k) segments % 2 ^ 32
 abbrev pub has_number : ℕ → Segment → Bool
 has_number k s = nat_lt k (length s.numbers)
 
--- a field of a token: a sum over the text, or the number that names nothing
+-- a field of a token: a sum over the text, or the id that names nothing
 abbrev pub field : ℕ → List Segment → Segment → ℕ
 field k all s = if has_number k s then sum_at k all else no_id
 

@@ -40,7 +40,8 @@ const START: Sums = Sums {
     name: 0,
 };
 
-/// The first line of a text, up to its `;` or its end, and the text behind that `;` if there is one.
+/// The first line of a text, up to its `;` or its end, and the text behind that `;` if there is
+/// one.
 #[inline]
 pub fn cut(text: &str) -> (&str, Option<&str>)
     ensures split { lines_of text.now ≡ result.0.now ∷ lines_left result.1 }
@@ -168,7 +169,8 @@ struct ReadLines {
     rises: bool,
 }
 
-// Puts a row into the table for a line that brought tokens, of which this is the place of the first.
+// Puts a row into the table for a line that brought tokens, of which this is the place of the
+// first.
 fn add_row(table: &mut LineIndex, tokens: &[RawToken], first: usize) -> Result<()>
     ensures row { OnOk result (AddsRow table.old table.new tokens.now first) }
     ensures memory { IfErr result (λ e. e ≡ OutOfMemory) }

@@ -219,9 +219,9 @@ fn put_token(
 /// four, that column, source id, line and column in the source, for one with a source; and a fifth,
 /// the name id, if it is below `names`. Each number is the plain difference to the one of its kind
 /// that was written last, 0 before the first, in its shortest digits; generated columns start anew
-/// on each line. A token that repeats the one before it in every field is passed over. No tokens give the
-/// empty text. Range flags stand in the text of `write_range_mappings`; with both, a reader that
-/// knows as many sources and names gets the tokens back. Only want of memory refuses.
+/// on each line. A token that repeats the one before it in every field is passed over. No tokens
+/// give the empty text. Range flags stand in the text of `write_range_mappings`; with both, a
+/// reader that knows as many sources and names gets the tokens back. Only want of memory refuses.
 pub fn write_mappings(alloc: Global, tokens: &[RawToken], names: u32) -> Result<String>
     requires { AreInOrder tokens.now }
     ensures text { IfOk result (λ s. IsWritten names tokens.now (string_bytes s)) }

@@ -38,7 +38,7 @@ contents_in pieces text =
     option_and_then (λ source. source.1)
     (find_last (λ source. bytes_eq source.0 text && is_some source.1) (flat_map (λ piece. sources_given piece.1) pieces))
 
--- a token of a piece with its place in the whole, and the numbers of its texts there
+-- a token of a piece with its place in the whole, and the ids of its texts there
 abbrev pub token_in : List Piece → Piece → RawToken → RawToken
 token_in pieces piece t = record t {
   dst_line = (raised piece.0 (destination t)).0;
@@ -47,7 +47,7 @@ token_in pieces piece t = record t {
   name_id = number_in (names_in pieces) (name_of piece.1 t.name_id);
 }
 
--- the source numbers of the tokens whose map passes over their source
+-- the source ids of the tokens whose map passes over their source
 abbrev pub ignored_in : List Piece → Piece → List ℕ
 ignored_in pieces piece =
     map (λ t. (token_in pieces piece t).src_id)

@@ -6,9 +6,9 @@ ghost use Rattle.sourcemap_views.specs.Identifiers.{identifier_at_start, is_iden
 
 use unicode_ident::{is_xid_continue, is_xid_start};
 
-/// Whether the whole text is an identifier. The first character of one is a letter, `$` or `_`, where
-/// letters past ASCII are those of XID_Start; each further one may also be a digit, or past ASCII one
-/// of XID_Continue, U+200C or U+200D. The empty text counts as one.
+/// Whether the whole text is an identifier. The first character of one is a letter, `$` or `_`,
+/// where letters past ASCII are those of XID_Start; each further one may also be a digit, or past
+/// ASCII one of XID_Continue, U+200C or U+200D. The empty text counts as one.
 pub fn is_valid_javascript_identifier(text: &str) -> bool
     ensures { result ≡ is_identifier (chars text.now) }
 {

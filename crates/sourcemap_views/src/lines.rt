@@ -57,14 +57,15 @@ impl LineTable {
         Ok(table)
     }
 
-    // Goes on from a place to behind the block there, of which these are the ends, and answers where
-    // the line at hand starts.
+    // Goes on from a place to behind the block there, of which these are the ends, and answers
+    // where the line at hand starts.
     #[inline(always)]
     fn push_block(&mut self, bytes: &[u8], start: usize, from: usize, ends: u64) -> Result<usize>
         requires room { from + 64 ≤ length bytes.now }
         requires ends { ends ≡ mask_l (map is_terminator (take 64 (drop from bytes.now))) }
         requires before { IsTabled bytes.now self.old start from }
-        ensures { MatchResult result (λ next. IsTabled bytes.now self.new next (from + 64)) (λ e. e ≡ OutOfMemory) }
+        ensures { MatchResult result (λ next. IsTabled bytes.now self.new next (from + 64))
+            (λ e. e ≡ OutOfMemory) }
     {
         let mut left = ends;
         let mut start = start;
@@ -83,7 +84,8 @@ impl LineTable {
     fn push_rest(&mut self, bytes: &[u8], start: usize, from: usize) -> Result<usize>
         requires room { from ≤ length bytes.now }
         requires before { IsTabled bytes.now self.old start from }
-        ensures { MatchResult result (λ next. IsTabled bytes.now self.new next (length bytes.now)) (λ e. e ≡ OutOfMemory) }
+        ensures { MatchResult result (λ next. IsTabled bytes.now self.new next (length bytes.now))
+            (λ e. e ≡ OutOfMemory) }
     {
         let mut start = start;
         for place in from..bytes.len() {
@@ -101,7 +103,8 @@ impl LineTable {
         requires inside { end < length bytes.now }
         requires ends { is_terminator (slice_index bytes.now end) ≡ true }
         requires before { IsTabled bytes.now self.old start end }
-        ensures { MatchResult result (λ next. IsTabled bytes.now self.new next (end + 1)) (λ e. e ≡ OutOfMemory) }
+        ensures { MatchResult result (λ next. IsTabled bytes.now self.new next (end + 1))
+            (λ e. e ≡ OutOfMemory) }
     {
         if end < start {
             return Ok(start);
@@ -169,7 +172,8 @@ fn next_place(bytes: &[u8], from: usize, is_long: bool) -> usize
     requires { from ≤ length bytes.now }
     ensures ahead { from ≤ result }
     ensures within { result ≤ length bytes.now }
-    ensures quiet { (k : ℕ) → from ≤ k → k < result → is_terminator (slice_index bytes.now k) ≡ false }
+    ensures quiet { (k : ℕ) → from ≤ k → k < result
+        → is_terminator (slice_index bytes.now k) ≡ false }
 {
     if !is_long {
         return from;

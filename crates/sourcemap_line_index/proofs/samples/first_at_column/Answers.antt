@@ -23,12 +23,16 @@ loop-left-preserved g c =
       raised = raised_on _ _ _ c.loop-left.invariant.raised counted;
     }
 
-pub returns-clause-before : goal.returns-clause-before
-returns-clause-before g c = λ d l. subst (λ p. col_at c.args.tokens.now d (c.loop-left.place - 1) < p.1) c.loop-left.invariant.kept ((c.loop-left.invariant.window d).before l)
-
-pub returns-clause-from : goal.returns-clause-from
-returns-clause-from g c = λ d l.
-    let here : c.loop-left.place + c.loop-left.left ≡ c.loop-left.place = omega arith in
-    let from = (c.loop-left.invariant.window d).from (omega arith) in
-    subst (λ p. p.1 ≤ col_at c.args.tokens.now d c.loop-left.place) c.loop-left.invariant.kept
-    (subst (λ k. (g.P.Probe.position c.loop-left.probe).1 ≤ col_at c.args.tokens.now d k) here from)
+pub returns-clause-found : goal.returns-clause-found
+returns-clause-found g c =
+    let within = c.loop-left.invariant.within in
+    record {
+      at_least = c.loop-left.invariant.at_least;
+      at_most = omega arith;
+      before = λ d l. subst (λ p. col_at c.args.tokens.now d (c.loop-left.place - 1) < p.1) c.loop-left.invariant.kept ((c.loop-left.invariant.window d).before l);
+      from = λ d l.
+          let here : c.loop-left.place + c.loop-left.left ≡ c.loop-left.place = omega arith in
+          let from = (c.loop-left.invariant.window d).from (omega arith) in
+          subst (λ p. p.1 ≤ col_at c.args.tokens.now d c.loop-left.place) c.loop-left.invariant.kept
+          (subst (λ k. (g.P.Probe.position c.loop-left.probe).1 ≤ col_at c.args.tokens.now d k) here from);
+    }

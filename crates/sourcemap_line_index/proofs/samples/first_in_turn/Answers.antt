@@ -28,8 +28,12 @@ loop-at-preserved g c =
       raised = raised_on _ _ _ c.loop-at.invariant.raised counted;
     }
 
-pub returns-clause-before : goal.returns-clause-before
-returns-clause-before g c = λ d l. subst (λ p. col_at c.args.tokens.now d (c.loop-at.place - 1) < p.1) c.loop-at.invariant.kept ((c.loop-at.invariant.passed d).before l)
-
-pub returns-clause-from : goal.returns-clause-from
-returns-clause-from g c = λ d l. subst (λ p. p.1 ≤ col_at c.args.tokens.now d c.loop-at.place) c.loop-at.invariant.kept ((c.loop-at.invariant.passed d).from (omega arith))
+pub returns-clause-found : goal.returns-clause-found
+returns-clause-found g c =
+    let within = c.loop-at.invariant.within in
+    record {
+      at_least = c.loop-at.invariant.at_least;
+      at_most = omega arith;
+      before = λ d l. subst (λ p. col_at c.args.tokens.now d (c.loop-at.place - 1) < p.1) c.loop-at.invariant.kept ((c.loop-at.invariant.passed d).before l);
+      from = λ d l. subst (λ p. p.1 ≤ col_at c.args.tokens.now d c.loop-at.place) c.loop-at.invariant.kept ((c.loop-at.invariant.passed d).from (omega arith));
+    }

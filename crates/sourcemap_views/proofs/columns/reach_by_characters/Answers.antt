@@ -1,12 +1,8 @@
-use Rattle.std.proofs.Common.{◌≡◌, sym, ap, subst, ◌∙◌, ℕ, ◌<◌, ◌≤◌, ◌+◌, ◌-◌, Some, option_map, arith, length, take, chars, IsCharBoundary}
+use Rattle.std.proofs.Common.{◌≡◌, sym, ap, subst, ◌∙◌, ◌+◌, ◌-◌, Some, option_map, arith, length, take, chars, IsCharBoundary}
 use Rattle.std.specs.Str.Iter.{chars_rest}
-use Rattle.std.proofs.lemmas.Bool.Decides.{nat_tests}
-use Rattle.sourcemap_views.specs.Columns.{column_place, units_of, width}
-use Rattle.sourcemap_views.proofs.ColumnsLemmas.{Walked, Walked-at, Walked-step, Walked-few, Walked-reaches, Walked-boundary, Walked-units, Walked-short}
+use Rattle.sourcemap_views.specs.Columns.{column_place, width}
+use Rattle.sourcemap_views.proofs.ColumnsLemmas.{Walked, Walked-at, Walked-step, Walked-few, Walked-reaches, Walked-boundary, Walked-units, Walked-short, units_is}
 use Rattle.sourcemap_views.proofs.columns.reach_by_characters.Goals as goal
-
-units_is : (c r : ℕ) → (c < 65536 → r ≡ 1) → (65536 ≤ c → r ≡ 2) → r ≡ units_of c
-units_is c r one two = grind (arith, nat_tests)
 
 pub returns-in_err-character-clause-value : goal.returns-in_err-character-clause-value
 returns-in_err-character-clause-value c =

@@ -10,12 +10,13 @@ returns-then-is_empty-clause-answer g c = closest-in-none c.args.tokens.now (g.P
 
 pub returns-clause-answer : goal.returns-clause-answer
 returns-clause-answer g c =
-    let found = c.first_by_samples-place.ensures in
+    let searched = c.first_by_samples-place.ensures in
+    let found = searched.found in
     let span = c.span_of-first.ensures.span in
     let inside = span.inside in
     let here : c.first_by_samples-place.result < c.span_of-first.result.1 → c.min-nearest.result ≡ c.first_by_samples-place.result = λ l. omega (arith, c.min-nearest.ensures) in
     place-told c.args.tokens.now (g.P.Probe.position c.args.probe.now) c.span_of-first.result.0 c.span_of-first.result.1 c.first_by_samples-place.result c.requires.made.0 span found.at_least found.at_most
-    _ c.span_of-first.ensures.kept found.before found.from _ c.min-nearest.result _ found.kept here c.is_eq.result
+    _ c.span_of-first.ensures.kept found.before found.from _ c.min-nearest.result _ searched.kept here c.is_eq.result
     (c.is_eq.ensures ∙ ap is_eq c.column.ensures.answer) c.from.result c.from.ensures c.checked_sub.result c.checked_sub.ensures
 
 pub returns-clause-counted : goal.returns-clause-counted
