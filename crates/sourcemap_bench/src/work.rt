@@ -7,7 +7,7 @@ ghost use Rattle.sourcemap_bench.specs.Work.{LengthOfText, RoundGives, RoundsGiv
 use crate::command::Operation;
 use crate::draws::drawn_positions;
 use crate::sums::{lookup_sum, mixed, token_sum};
-use sourcemap::encoder::encode_to;
+use sourcemap::encoder::encode_to_vec;
 use sourcemap::{DecodedMap, Error, Result, SourceMap, SourceMapIndex, decode, decode_slice};
 use sourcemap_commands::regular::{regular_of, rewritten};
 use std::alloc::Global;
@@ -132,8 +132,7 @@ fn reader_sum(alloc: Global, bytes: &Vec<u8>, sum: u32) -> Result<u32>
 fn text_sum(alloc: Global, map: &DecodedMap, sum: u32) -> Result<u32>
     ensures { IfOk result (LengthOfText (map_tree map.now) sum) }
 {
-    let mut text = Vec::new(alloc);
-    encode_to(alloc, map, &mut text)?;
+    let text = encode_to_vec(alloc, map)?;
     Ok(mixed(sum, u32::try_from(text.len()).unwrap_or(u32::MAX)))
 }
 
