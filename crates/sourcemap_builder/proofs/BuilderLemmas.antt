@@ -4,7 +4,7 @@ use Rattle.std.proofs.lemmas.List.{length-map, take_all}
 use Rattle.std.proofs.lemmas.Option.{slice_get_within}
 use Rattle.std.specs.Option.{option_or}
 use Rattle.sourcemap_errors.specs.declared.errors.Error.{Error}
-use Rattle.sourcemap_lists.specs.Interner.{place_of, with_text}
+use Rattle.sourcemap_lists.specs.Interner.{id_of, with_text}
 use Rattle.sourcemap_builder.specs.Builder.{changed_to}
 use Rattle.sourcemap_parts.specs.Contents.{fitted}
 use Rattle.sourcemap_parts.proofs.ContentsLemmas.{length-fitted}
@@ -57,9 +57,9 @@ slice_get-changed_to (c ∷ cs) (t ∷ ts) (suc i) h = slice_get-changed_to cs t
 
 -- one more text
 pub changed_to-with_text : (cs : List (Option (List ℕ))) (ts : List (List ℕ)) (t : List ℕ) → length cs ≤ length ts
-    → changed_to cs (with_text ts t) ≡ cond (is_some (place_of t ts)) (changed_to cs ts) (changed_to cs ts ++ t ∷ [])
+    → changed_to cs (with_text ts t) ≡ cond (is_some (id_of t ts)) (changed_to cs ts) (changed_to cs ts ++ t ∷ [])
 changed_to-with_text cs ts t h =
-    elim (is_some (place_of t ts)) as (λ b. changed_to cs (cond b ts (ts ++ t ∷ [])) ≡ cond b (changed_to cs ts) (changed_to cs ts ++ t ∷ []))
+    elim (is_some (id_of t ts)) as (λ b. changed_to cs (cond b ts (ts ++ t ∷ [])) ≡ cond b (changed_to cs ts) (changed_to cs ts ++ t ∷ []))
     [ true ↦ refl | false ↦ changed_to-append cs ts (t ∷ []) h ]
 
 pub on_ok : {X E P Q : Type 0} (r : Result X E) → (P → Q) → OnOk r P → OnOk r Q

@@ -3,7 +3,7 @@ use Rattle.std.specs.Prelude.{ℕ, ◌<◌, ◌≢◌, ◌⊎◌, IsSome, length
 use Rattle.sourcemap_errors.specs.declared.errors.Error.{Error}
 use Rattle.sourcemap_lists.specs.declared.tokens.RawToken.{RawToken}
 use Rattle.sourcemap_lists.specs.Tokens.{in_order, no_id}
-use Rattle.sourcemap_lists.specs.Interner.{place_of, with_text, id_for}
+use Rattle.sourcemap_lists.specs.Interner.{id_of, with_text, id_for}
 use Rattle.sourcemap_regular.specs.Map.{MapValue, Meaning}
 
 -- all that a builder holds: `interned` are the texts of sources by which ids are found,
@@ -43,7 +43,7 @@ changed_to (change ∷ changes) (text ∷ texts) = unwrap_or change text ∷ cha
 abbrev pub with_source : BuilderValue → List ℕ → BuilderValue
 with_source b text = record b {
   interned = with_text b.interned text;
-  sources = cond (is_some (place_of text b.interned)) b.sources (b.sources ++ text ∷ []);
+  sources = cond (is_some (id_of text b.interned)) b.sources (b.sources ++ text ∷ []);
 }
 
 abbrev pub with_name : BuilderValue → List ℕ → BuilderValue

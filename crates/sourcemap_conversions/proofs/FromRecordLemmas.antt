@@ -13,7 +13,7 @@ use Rattle.sourcemap_mappings.proofs.ReadAnswers.{MappingsAnswer-same}
 use Rattle.sourcemap_records.specs.Jsontypes.{Fields}
 use Rattle.sourcemap_conversions.specs.declared.from_record.RecordParts.{RecordParts}
 use Rattle.sourcemap_conversions.specs.declared.parts.Parts.{Parts}
-use Rattle.sourcemap_conversions.specs.FromRecord.{PartsAnswer, TokensAnswer, HasRoom, parts_of, listed, rising, name_read, source_read, file_read}
+use Rattle.sourcemap_conversions.specs.FromRecord.{PartsAnswer, TokensAnswer, HasRoom, parts_from, listed, rising, name_read, source_read, file_read}
 use Rattle.sourcemap_conversions.specs.FromRecordSteps.{ArePartsIn, HaveRoom, parts_read}
 use Rattle.sourcemap_conversions.specs.Parts.{PartsValue, parts_view}
 
@@ -51,7 +51,7 @@ module _ (r : Fields) (parts : RecordParts) (are : ArePartsIn r parts) where
   tokens_due : (a : Result (List RawToken) Error) → TextsAnswer a → TokensAnswer r a
   tokens_due a h = rw (← are.texts.mappings, ← are.texts.ranges, ← sources_many, ← names_many) h
 
-  parts_due : (tokens : List RawToken) → parts_read parts.heading parts.lists tokens ≡ parts_of r tokens
+  parts_due : (tokens : List RawToken) → parts_read parts.heading parts.lists tokens ≡ parts_from r tokens
   parts_due tokens = λ i. record {
     heading = record {
       file = option_map file_read (are.heading.file i);
@@ -80,9 +80,9 @@ module _ (r : Fields) (parts : RecordParts) (are : ArePartsIn r parts) where
       → Gives parts_view result (Ok (parts_read parts.heading parts.lists tokens)) → IsAnswer parts_view (PartsAnswer r) result
   read room tokens h (Ok p) gave =
       let same : parts_read parts.heading parts.lists tokens ≡ parts_view p = cc in
-      let is : parts_view p ≡ parts_of r tokens = sym same ∙ parts_due tokens in
+      let is : parts_view p ≡ parts_from r tokens = sym same ∙ parts_due tokens in
       let own : p.tokens ≡ tokens = ap (λ (v : PartsValue). v.tokens) is in
-      (has_room room, subst (λ ts. TokensAnswer r (Ok ts)) (sym own) (tokens_due (Ok tokens) h), is ∙ ap (parts_of r) (sym own))
+      (has_room room, subst (λ ts. TokensAnswer r (Ok ts)) (sym own) (tokens_due (Ok tokens) h), is ∙ ap (parts_from r) (sym own))
   read room tokens h (Err e) gave = UnlessMemory-weaker e (λ bad. cc) gave
 
   names_are : (tokens : List RawToken) (p : Parts) → parts_read parts.heading parts.lists tokens ≡ parts_view p → vec_len p.names ≡ vec_len parts.lists.names

@@ -52,8 +52,8 @@ TokensAnswer r answer = MappingsAnswer (listed r.mappings) (listed r.range_mappi
     (record { sources = length (listed r.sources); names = length (listed r.names) }) answer
 
 -- the parts of a record whose mappings stand for these tokens
-abbrev pub parts_of : Fields → List RawToken → PartsValue
-parts_of r tokens = record {
+abbrev pub parts_from : Fields → List RawToken → PartsValue
+parts_from r tokens = record {
   heading = record {
     file = option_map file_read r.file;
     ignored = rising (listed r.ignore_list);
@@ -70,5 +70,5 @@ parts_of r tokens = record {
 
 -- what a record is read as: a list too long comes first, then the first fault of the mappings
 abbrev pub PartsAnswer : Fields → Result PartsValue Error → Type 0
-PartsAnswer r (Ok p) = HasRoom r × TokensAnswer r (Ok p.tokens) × (p ≡ parts_of r p.tokens)
+PartsAnswer r (Ok p) = HasRoom r × TokensAnswer r (Ok p.tokens) × (p ≡ parts_from r p.tokens)
 PartsAnswer r (Err e) = ((¬ HasRoom r) × (e ≡ IncompatibleSourceMap)) ⊎ (HasRoom r × TokensAnswer r (Err e))

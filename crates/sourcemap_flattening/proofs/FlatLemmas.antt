@@ -6,7 +6,7 @@ use Rattle.std.specs.Str.{bytes_eq}
 use Rattle.std.proofs.lemmas.List.Concat.{flat_map-cons}
 use Rattle.std.proofs.lemmas.Option.{slice_get-map}
 use Rattle.sourcemap_lists.specs.Search.{find_last}
-use Rattle.sourcemap_parts.specs.Contents.{contents_at}
+use Rattle.sourcemap_lists.specs.Items.{item_at}
 use Rattle.sourcemap_parts.specs.Heading.{HeadingValue}
 use Rattle.sourcemap_parts.specs.Sources.{SourcesValue, shown}
 use Rattle.sourcemap_regular.specs.Map.{MapValue}
@@ -38,8 +38,8 @@ beside-given f g n (t ∷ ts) same =
     λ i. it i ∷ beside-given f g (n + 1) ts (λ k text at. ap g (let next : n + 1 + k ≡ n + suc k = omega arith in next) ∙ same (suc k) text at) i
 
 given-back : (f : List ℕ → Option (List ℕ)) (texts : List (List ℕ)) → entries_with (map f texts) texts ≡ map {B = TextEntry} (λ text. (text, f text)) texts
-given-back f texts = beside-given f (contents_at (map f texts)) 0 texts
-    (λ k text at. ap (contents_at (map f texts)) (zero-add k) ∙ ap (option_and_then (λ o. o)) (slice_get-map f texts k ∙ ap (option_map f) at))
+given-back f texts = beside-given f (item_at (map f texts)) 0 texts
+    (λ k text at. ap (item_at (map f texts)) (zero-add k) ∙ ap (option_and_then (λ o. o)) (slice_get-map f texts k ∙ ap (option_map f) at))
 
 pub sources-merged : (file : Option (List ℕ)) (pieces : List Piece) → entries_kept (sources_entered pieces) ≡ sources_given (merged file pieces)
 sources-merged file pieces =

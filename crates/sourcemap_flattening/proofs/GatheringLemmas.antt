@@ -9,7 +9,7 @@ use Rattle.std.proofs.lemmas.List.Sums.{fold-append}
 use Rattle.std.proofs.lemmas.Option.{slice_get-map}
 use Rattle.sourcemap_errors.specs.declared.errors.Error.{Error}
 use Rattle.sourcemap_errors.proofs.AnswerLemmas.{UnlessMemory-weaker}
-use Rattle.sourcemap_lists.specs.Interner.{place_of}
+use Rattle.sourcemap_lists.specs.Interner.{id_of}
 use Rattle.sourcemap_lists.specs.Tokens.{destination}
 use Rattle.sourcemap_lists.specs.declared.tokens.RawToken.{RawToken}
 use Rattle.sourcemap_conversions.specs.FromRecord.{rising}
@@ -110,8 +110,8 @@ module _ (given : MapValue → List TextEntry) where
       by_text : (o : Option (List ℕ)) → HasPlace (texts_entered (entered before)) o → number_in (texts_entered (entered (before ++ next ∷ []))) o ≡ number_in (texts_entered (entered before)) o
       by_text None h = refl
       by_text (Some text) h =
-          let later : place_of text (texts_entered (entered (before ++ next ∷ []))) ≡ Some h.0 =
-          ap (λ all. place_of text (texts_entered all)) all ∙ place-more (entered before) (given next.1) text h.0 h.1 in
+          let later : id_of text (texts_entered (entered (before ++ next ∷ []))) ≡ Some h.0 =
+          ap (λ all. id_of text (texts_entered all)) all ∙ place-more (entered before) (given next.1) text h.0 h.1 in
           rw (later, h.1) refl
 
   -- and those of a new map are on the list

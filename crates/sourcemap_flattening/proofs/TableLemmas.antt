@@ -9,12 +9,12 @@ use Rattle.std.proofs.lemmas.Slice.Eq.{bytes_eq-Decides}
 use Rattle.std.proofs.lemmas.List.Sums.{fold-append}
 use Rattle.std.proofs.lemmas.List.{map_push, map_more, map-set, length_push, map-append, length-map, append-nil, take-append-drop}
 use Rattle.std.proofs.lemmas.Option.{slice_get_within, slice_get-map}
-use Rattle.sourcemap_lists.specs.Interner.{place_of, with_text, AreDistinct}
+use Rattle.sourcemap_lists.specs.Interner.{id_of, with_text, AreDistinct}
 use Rattle.sourcemap_lists.specs.Search.{find_last}
-use Rattle.sourcemap_lists.proofs.InternerLemmas.{place_of-last, slice_get-place_of}
+use Rattle.sourcemap_lists.proofs.InternerLemmas.{id_of-last, slice_get-id_of}
 use Rattle.sourcemap_rewriting.specs.Kept.{kept_once, number_in}
-use Rattle.sourcemap_rewriting.specs.Numbering.{HasPlace, IsIndex, id_of}
-use Rattle.sourcemap_rewriting.proofs.NumberingLemmas.{option_or-None, place_of-fold, place_of-added, distinct-kept_once, slice_get-set_same, slice_get-set_other}
+use Rattle.sourcemap_rewriting.specs.Numbering.{HasPlace, IsIndex, id_in}
+use Rattle.sourcemap_rewriting.proofs.NumberingLemmas.{option_or-None, id_of-fold, id_of-added, distinct-kept_once, slice_get-set_same, slice_get-set_other}
 use Rattle.sourcemap_flattening.specs.Table.{TextEntry, texts_entered, contents_entered, entries_kept, numbers_among, are_too_many, put_at, entry_value, entry_values, IsTable, IsEntered, AreEntered}
 use Rattle.sourcemap_flattening.specs.declared.table.Entry.{Entry}
 use Rattle.sourcemap_flattening.specs.declared.table.Table.{Table}
@@ -47,8 +47,8 @@ pub texts-push : (entered : List TextEntry) (e : TextEntry) → texts_entered (e
 texts-push entered e = texts-more entered (e ∷ [])
 
 -- a text keeps its place
-pub place-more : (entered more : List TextEntry) (text : List ℕ) (n : ℕ) → place_of text (texts_entered entered) ≡ Some n → place_of text (texts_entered (entered ++ more)) ≡ Some n
-place-more entered more text n e = ap (place_of text) (texts-more entered more) ∙ place_of-fold (map (λ e. e.0) more) (texts_entered entered) text n e
+pub place-more : (entered more : List TextEntry) (text : List ℕ) (n : ℕ) → id_of text (texts_entered entered) ≡ Some n → id_of text (texts_entered (entered ++ more)) ≡ Some n
+place-more entered more text n e = ap (id_of text) (texts-more entered more) ∙ id_of-fold (map (λ e. e.0) more) (texts_entered entered) text n e
 
 abbrev pub IsAmong : List TextEntry → TextEntry → Type 0
 IsAmong entered e = HasPlace (texts_entered entered) (Some e.0)
@@ -60,16 +60,16 @@ among-more entered more e among = (among.0, place-more entered more e.0 among.0 
 pub all-among : (before entries : List TextEntry) → AllByRecursion (IsAmong (before ++ entries)) entries
 all-among before [] = tt
 all-among before (e ∷ es) =
-    let here = place_of-added (texts_entered before) e.0 in
-    let at : place_of e.0 (texts_entered (before ++ e ∷ [])) ≡ Some here.0 = ap (place_of e.0) (texts-push before e) ∙ here.1 in
+    let here = id_of-added (texts_entered before) e.0 in
+    let at : id_of e.0 (texts_entered (before ++ e ∷ [])) ≡ Some here.0 = ap (id_of e.0) (texts-push before e) ∙ here.1 in
     let again : (before ++ e ∷ []) ++ es ≡ before ++ e ∷ es = append_assoc before (e ∷ []) es in
     subst (λ all. AllByRecursion (IsAmong all) (e ∷ es)) again
     ((here.0, place-more (before ++ e ∷ []) es e.0 here.0 at), all-among (before ++ e ∷ []) es)
 
 length-with_text : (texts : List (List ℕ)) (text : List ℕ) → length texts ≤ length (with_text texts text)
-length-with_text texts text = by_case (place_of text texts) refl
+length-with_text texts text = by_case (id_of text texts) refl
   where
-    by_case : (o : Option ℕ) → place_of text texts ≡ o → length texts ≤ length (with_text texts text)
+    by_case : (o : Option ℕ) → id_of text texts ≡ o → length texts ≤ length (with_text texts text)
     by_case None e = rw e (let more = length_push texts text in omega arith)
     by_case (Some n) e = rw e (omega arith)
 
@@ -119,7 +119,7 @@ and_false true = refl
 and_false false = refl
 
 -- a text that was not entered has none
-contents-none : (all : List TextEntry) (text : List ℕ) → place_of text (texts_entered all) ≡ None → (entered : List TextEntry) → AllByRecursion (IsAmong all) entered → contents_entered entered text ≡ None
+contents-none : (all : List TextEntry) (text : List ℕ) → id_of text (texts_entered all) ≡ None → (entered : List TextEntry) → AllByRecursion (IsAmong all) entered → contents_entered entered text ≡ None
 contents-none all text new entered among = ap (option_and_then (λ (e : TextEntry). e.1)) (none entered among)
   where
     apart : (e : TextEntry) → IsAmong all e → bytes_eq e.0 text ≡ false
@@ -127,7 +127,7 @@ contents-none all text new entered among = ap (option_and_then (λ (e : TextEntr
         elim (cases_Bool (bytes_eq e.0 text)) [
           | inl same ↦
               let alike : e.0 ≡ text = (bytes_eq-Decides e.0 text).0 same in
-              let here : place_of text (texts_entered all) ≡ Some is.0 = ap (λ t. place_of t (texts_entered all)) (sym alike) ∙ is.1 in
+              let here : id_of text (texts_entered all) ≡ Some is.0 = ap (λ t. id_of t (texts_entered all)) (sym alike) ∙ is.1 in
               let never : None ≡ Some is.0 = sym new ∙ here in
               cc
           | inr other ↦ other
@@ -142,12 +142,12 @@ contents-none all text new entered among = ap (option_and_then (λ (e : TextEntr
 abbrev with_contents : List TextEntry → List ℕ → TextEntry
 with_contents entered text = (text, contents_entered entered text)
 
-apart-from_new : (texts : List (List ℕ)) (text : List ℕ) → place_of text texts ≡ None → (k : ℕ) (other : List ℕ) → slice_get texts k ≡ Some other → AreDistinct texts → bytes_eq text other ≡ false
+apart-from_new : (texts : List (List ℕ)) (text : List ℕ) → id_of text texts ≡ None → (k : ℕ) (other : List ℕ) → slice_get texts k ≡ Some other → AreDistinct texts → bytes_eq text other ≡ false
 apart-from_new texts text new k other at distinct =
     elim (cases_Bool (bytes_eq text other)) [
       | inl same ↦
           let alike : text ≡ other = (bytes_eq-Decides text other).0 same in
-          let here : place_of text texts ≡ Some k = ap (λ t. place_of t texts) alike ∙ distinct other k at in
+          let here : id_of text texts ≡ Some k = ap (λ t. id_of t texts) alike ∙ distinct other k at in
           let never : None ≡ Some k = sym new ∙ here in
           cc
       | inr apart ↦ apart
@@ -174,7 +174,7 @@ module _ (before : List TextEntry) (e : TextEntry) where
       at : (k : ℕ) → slice_get (map (with_contents (before ++ e ∷ [])) T) k ≡ slice_get (map (with_contents before) T) k
       at k = slice_get-map (with_contents (before ++ e ∷ [])) T k ∙ by_item k (slice_get T k) refl ∙ sym (slice_get-map (with_contents before) T k)
 
-  contents-here : place_of e.0 T ≡ None → contents_entered after e.0 ≡ e.1
+  contents-here : id_of e.0 T ≡ None → contents_entered after e.0 ≡ e.1
   contents-here new = by_case e.1 refl
     where
       same : bytes_eq e.0 e.0 ≡ true
@@ -186,21 +186,21 @@ module _ (before : List TextEntry) (e : TextEntry) where
           contents-other before e e.0 (rw is (and_false (bytes_eq e.0 e.0)))
           ∙ contents-none before e.0 new before (all-among [] before) ∙ sym is
 
-  module _ (n : ℕ) (placed : place_of e.0 (texts_entered after) ≡ Some n) where
+  module _ (n : ℕ) (placed : id_of e.0 (texts_entered after) ≡ Some n) where
     one_more : texts_entered after ≡ with_text T e.0
     one_more = texts-push before e
 
     many : length (entries_kept before) ≡ length T
     many = length-map (texts_entered before) (with_contents before)
 
-    kept_there : place_of e.0 T ≡ None → map (with_contents after) T ≡ entries_kept before
+    kept_there : id_of e.0 T ≡ None → map (with_contents after) T ≡ entries_kept before
     kept_there new = kept-same (λ k text at. rw (apart-from_new (texts_entered before) e.0 new k text at distinct) refl)
 
-    put-new : place_of e.0 T ≡ None → put_at n e (entries_kept before) ≡ entries_kept after
+    put-new : id_of e.0 T ≡ None → put_at n e (entries_kept before) ≡ entries_kept after
     put-new new =
         let texts : texts_entered after ≡ T ++ e.0 ∷ [] = one_more ∙ rw new refl in
-        let last : place_of e.0 (T ++ e.0 ∷ []) ≡ Some (length T) = place_of-last T e.0 (length T) refl new in
-        let here : Some n ≡ Some (length T) = sym placed ∙ ap (place_of e.0) texts ∙ last in
+        let last : id_of e.0 (T ++ e.0 ∷ []) ≡ Some (length T) = id_of-last T e.0 (length T) refl new in
+        let here : Some n ≡ Some (length T) = sym placed ∙ ap (id_of e.0) texts ∙ last in
         let same : n ≡ length T = cc in
         let behind : nat_lt n (length (entries_kept before)) ≡ false = not_lt n (length (entries_kept before)) (λ less. omega (arith, less, many, same)) in
         let put : put_at n e (entries_kept before) ≡ entries_kept before ++ e ∷ [] = rw behind refl in
@@ -224,8 +224,8 @@ module _ (before : List TextEntry) (e : TextEntry) where
             elim (cases_Bool (bytes_eq e.0 text)) [
               | inl same ↦
                   let alike : e.0 ≡ text = (bytes_eq-Decides e.0 text).0 same in
-                  let one : place_of e.0 (texts_entered before) ≡ Some n = distinct e.0 n at in
-                  let two : place_of e.0 (texts_entered before) ≡ Some k = ap (λ t. place_of t (texts_entered before)) alike ∙ distinct text k there in
+                  let one : id_of e.0 (texts_entered before) ≡ Some n = distinct e.0 n at in
+                  let two : id_of e.0 (texts_entered before) ≡ Some k = ap (λ t. id_of t (texts_entered before)) alike ∙ distinct text k there in
                   let both : Some n ≡ Some k = sym one ∙ two in
                   absurd (other (let k_is : k ≡ n = cc in k_is))
               | inr differ ↦ differ
@@ -257,21 +257,21 @@ module _ (before : List TextEntry) (e : TextEntry) where
     by_contents at within (Some c) is =
         ap (λ o. cond (is_some o) (slice_set (entries_kept before) n e) (entries_kept before)) is ∙ set-known at within c is
 
-    put-known : (m : ℕ) → place_of e.0 T ≡ Some m → put_at n e (entries_kept before) ≡ entries_kept after
+    put-known : (m : ℕ) → id_of e.0 T ≡ Some m → put_at n e (entries_kept before) ≡ entries_kept after
     put-known m known =
         let texts : texts_entered after ≡ T = one_more ∙ rw known refl in
-        let here : Some n ≡ Some m = sym placed ∙ ap (place_of e.0) texts ∙ known in
+        let here : Some n ≡ Some m = sym placed ∙ ap (id_of e.0) texts ∙ known in
         let same : n ≡ m = cc in
-        let at : slice_get T n ≡ Some e.0 = slice_get-place_of e.0 T n (known ∙ ap Some (sym same)) in
+        let at : slice_get T n ≡ Some e.0 = slice_get-id_of e.0 T n (known ∙ ap Some (sym same)) in
         let within : n < length T = slice_get_within T n e.0 at in
         let inside : nat_lt n (length (entries_kept before)) ≡ true = lt-ltb n (length (entries_kept before)) (subst (λ k. n < k) (sym many) within) in
         let put : put_at n e (entries_kept before) ≡ cond (is_some e.1) (slice_set (entries_kept before) n e) (entries_kept before) = rw inside refl in
         put ∙ by_contents at within e.1 refl ∙ sym (ap (map (with_contents after)) texts)
 
     put-entered : put_at n e (entries_kept before) ≡ entries_kept after
-    put-entered = by_case (place_of e.0 T) refl
+    put-entered = by_case (id_of e.0 T) refl
       where
-        by_case : (o : Option ℕ) → place_of e.0 T ≡ o → put_at n e (entries_kept before) ≡ entries_kept after
+        by_case : (o : Option ℕ) → id_of e.0 T ≡ o → put_at n e (entries_kept before) ≡ entries_kept after
         by_case None new = put-new new
         by_case (Some m) known = put-known m known
 
@@ -282,24 +282,24 @@ table-none t index none = record { index = index; kept = none; few = omega arith
 
 -- with one text more
 pub entered-more : (before : List TextEntry) (e : TextEntry) (number : ℕ) (old new : Table) → IsTable before old
-    → (id_of old.ids e.0 ≡ None → hash_map_len old.ids < 4294967295)
-    → place_of e.0 (with_text (texts_entered before) e.0) ≡ Some number
+    → (id_in old.ids e.0 ≡ None → hash_map_len old.ids < 4294967295)
+    → id_of e.0 (with_text (texts_entered before) e.0) ≡ Some number
     → IsIndex (with_text (texts_entered before) e.0) new.ids
     → entry_values new.entries.items ≡ put_at number e (entry_values old.entries.items)
     → IsEntered (before ++ e ∷ []) e.0 number new
 entered-more before e number old new is room placed index put =
     let texts = texts-push before e in
-    let place : place_of e.0 (texts_entered (before ++ e ∷ [])) ≡ Some number = ap (place_of e.0) texts ∙ placed in
+    let place : id_of e.0 (texts_entered (before ++ e ∷ [])) ≡ Some number = ap (id_of e.0) texts ∙ placed in
     record {
       table = record {
         index = subst (λ texts. IsIndex texts new.ids) (sym texts) index;
         kept = put ∙ ap (put_at number e) is.kept ∙ put-entered before e number place;
-        few = subst (λ texts. length texts ≤ 4294967295) (sym texts) (few (place_of e.0 (texts_entered before)) refl);
+        few = subst (λ texts. length texts ≤ 4294967295) (sym texts) (few (id_of e.0 (texts_entered before)) refl);
       };
       place = place;
     }
   where
-    few : (o : Option ℕ) → place_of e.0 (texts_entered before) ≡ o → length (with_text (texts_entered before) e.0) ≤ 4294967295
+    few : (o : Option ℕ) → id_of e.0 (texts_entered before) ≡ o → length (with_text (texts_entered before) e.0) ≤ 4294967295
     few None new =
         let less : hash_map_len old.ids < 4294967295 = room (is.index.places e.0 ∙ new) in
         rw new (let more = length_push (texts_entered before) e.0 in omega (arith, less, more, is.index.count))
@@ -311,7 +311,7 @@ full-more before e many = ap are_too_many (texts-push before e) ∙ many
 
 -- Several.
 
-numbers-push : (before entries : List TextEntry) (e : TextEntry) (number : ℕ) → place_of e.0 (texts_entered (before ++ (entries ++ e ∷ []))) ≡ Some number
+numbers-push : (before entries : List TextEntry) (e : TextEntry) (number : ℕ) → id_of e.0 (texts_entered (before ++ (entries ++ e ∷ []))) ≡ Some number
     → numbers_among (before ++ (entries ++ e ∷ [])) (entries ++ e ∷ []) ≡ numbers_among (before ++ entries) entries ++ number ∷ []
 numbers-push before entries e number placed =
     map_push asks entries e
@@ -325,8 +325,8 @@ numbers-push before entries e number placed =
 
     stays : (x : TextEntry) → IsAmong (before ++ entries) x → asks x ≡ number_in (texts_entered (before ++ entries)) (Some x.0)
     stays x among =
-        let later : place_of x.0 (texts_entered (before ++ (entries ++ e ∷ []))) ≡ Some among.0 =
-        subst (λ all. place_of x.0 (texts_entered all) ≡ Some among.0) (append_assoc before entries (e ∷ [])) (place-more (before ++ entries) (e ∷ []) x.0 among.0 among.1) in
+        let later : id_of x.0 (texts_entered (before ++ (entries ++ e ∷ []))) ≡ Some among.0 =
+        subst (λ all. id_of x.0 (texts_entered all) ≡ Some among.0) (append_assoc before entries (e ∷ [])) (place-more (before ++ entries) (e ∷ []) x.0 among.0 among.1) in
         rw (later, among.1) refl
 
 pub all-entered-none : (before : List TextEntry) (t : Table) → IsTable before t → AreEntered (before ++ []) [] [] t
@@ -340,7 +340,7 @@ all-entered-more before entries e numbers numbers' number old new so_far entered
     record {
       table = subst (λ all. IsTable all new) again entered.table;
       each = pushed ∙ ap (λ xs. xs ++ number ∷ []) so_far.each
-          ∙ sym (numbers-push before entries e number (subst (λ all. place_of e.0 (texts_entered all) ≡ Some number) again entered.place));
+          ∙ sym (numbers-push before entries e number (subst (λ all. id_of e.0 (texts_entered all) ≡ Some number) again entered.place));
     }
 
 -- Entries put to their numbers.

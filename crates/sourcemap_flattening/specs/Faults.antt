@@ -5,14 +5,14 @@ use Rattle.sourcemap_errors.specs.declared.errors.Error.{Error}
 use Rattle.sourcemap_errors.specs.declared.errors.Error.TheVariants.{CannotFlatten}
 
 -- the error gives this reason
-abbrev pub Says : List ℕ → Error → Type 0
-Says reason (CannotFlatten text) = string_bytes text ≡ reason
-Says reason _ = ⊥
+abbrev pub GivesReason : List ℕ → Error → Type 0
+GivesReason reason (CannotFlatten text) = string_bytes text ≡ reason
+GivesReason reason _ = ⊥
 
 -- it does, or memory ran out
 abbrev pub Refuses : List ℕ → Error → Type 0
-Refuses reason e = UnlessMemory e (Says reason e)
+Refuses reason e = UnlessMemory e (GivesReason reason e)
 
 -- it does, and the reason holds, or memory ran out
 abbrev pub RefusesBy : Bool → List ℕ → Error → Type 0
-RefusesBy holds reason e = UnlessMemory e ((holds ≡ true) × Says reason e)
+RefusesBy holds reason e = UnlessMemory e ((holds ≡ true) × GivesReason reason e)

@@ -7,7 +7,7 @@ use Rattle.sourcemap_errors.specs.Answer.{UnlessMemory}
 use Rattle.sourcemap_conversions.specs.FromRecord.{rising}
 use Rattle.sourcemap_regular.specs.Map.{MapValue}
 use Rattle.sourcemap_trees.specs.Flat.{Piece, sources_given, token_in, ignored_in, with_piece}
-use Rattle.sourcemap_flattening.specs.Faults.{Says}
+use Rattle.sourcemap_flattening.specs.Faults.{GivesReason}
 use Rattle.sourcemap_flattening.specs.Table.{TextEntry, IsTable, entry_values, entries_kept}
 use Rattle.sourcemap_flattening.specs.declared.gathering.Gathering.{Gathering}
 use Rattle.sourcemap_flattening.specs.declared.gathering.Part.{Part}
@@ -51,7 +51,7 @@ pub record GathersMore (before : List Piece) (piece : Piece) (g : Gathering) : T
 
 -- the refusal that is due, or memory ran out
 abbrev pub RefusesFor : Result (List Piece) (List ℕ) → Error → Type 0
-RefusesFor due e = UnlessMemory e ((reason : List ℕ) × (due ≡ Err reason) × Says reason e)
+RefusesFor due e = UnlessMemory e ((reason : List ℕ) × (due ≡ Err reason) × GivesReason reason e)
 
 abbrev pub RefusesPiece : List Piece → Piece → Error → Type 0
 RefusesPiece before piece e = RefusesFor (with_piece before piece) e

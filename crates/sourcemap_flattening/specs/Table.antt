@@ -2,7 +2,7 @@
 use Rattle.std.specs.Prelude.{◌≡◌, ◌≤◌, ℕ, Bool, ◌&&◌, cond, nat_lt, List, [], ◌∷◌, ◌++◌, length, map, slice_set, Option, Some, is_some, option_and_then}
 use Rattle.std.specs.Option.{option_copied}
 use Rattle.std.specs.Str.{bytes_eq}
-use Rattle.sourcemap_lists.specs.Interner.{place_of}
+use Rattle.sourcemap_lists.specs.Interner.{id_of}
 use Rattle.sourcemap_lists.specs.Search.{find_last}
 use Rattle.sourcemap_rewriting.specs.Kept.{kept_once, number_in}
 use Rattle.sourcemap_rewriting.specs.Numbering.{IsIndex}
@@ -49,7 +49,7 @@ pub record IsTable (entered : List TextEntry) (t : Table) : Type 0 where
 -- and the number of the text that was entered last
 pub record IsEntered (entered : List TextEntry) (text : List ℕ) (number : ℕ) (t : Table) : Type 0 where
   pub table : IsTable entered t
-  pub place : place_of text (texts_entered entered) ≡ Some number
+  pub place : id_of text (texts_entered entered) ≡ Some number
 
 -- and the numbers of these
 pub record AreEntered (entered entries : List TextEntry) (numbers : List ℕ) (t : Table) : Type 0 where

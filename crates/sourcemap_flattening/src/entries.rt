@@ -4,24 +4,13 @@ ghost use Rattle.sourcemap_errors.specs.Answer.{Gives};
 ghost use Rattle.sourcemap_texts.specs.Texts.{texts_of};
 ghost use Rattle.sourcemap_flattening.specs.Table.{entry_values};
 ghost use Rattle.sourcemap_flattening.specs.Entries.{entries_with};
-ghost use Rattle.sourcemap_parts.specs.Contents.{contents_at};
-ghost use Rattle.std.specs.Option.{option_copied};
 
 use crate::table::Entry;
 use sourcemap_errors::errors::Result;
+use sourcemap_lists::items::item_at;
 use sourcemap_parts::contents::copied_view;
 use sourcemap_views::sourceview::SourceView;
 use std::alloc::Global;
-
-// The contents at a place, where there are some.
-fn contents_at(contents: &[Option<SourceView>], id: usize) -> Option<&SourceView>
-    ensures { option_copied result ≡ contents_at contents.now id }
-{
-    match contents.get(id) {
-        Some(Some(view)) => Some(view),
-        _ => None,
-    }
-}
 
 // Sources, each with its contents.
 pub(crate) fn sources_of<'a>(
@@ -37,7 +26,7 @@ pub(crate) fn sources_of<'a>(
         let id = entries.len();
         entries.push(Entry {
             text: text.as_str(),
-            contents: contents_at(contents, id),
+            contents: item_at(contents, id),
         })?;
     }
     Ok(entries)

@@ -3,7 +3,7 @@ ghost use Rattle.std.specs.Prelude.{◌≡◌, ◌<◌, ◌++◌, ◌∷◌, ℕ
 ghost use Rattle.std.specs.HashMap.{hash_map_len};
 ghost use Rattle.sourcemap_lists.specs.Interner.{with_text};
 ghost use Rattle.sourcemap_errors.specs.declared.errors.Error.TheVariants.{OutOfMemory};
-ghost use Rattle.sourcemap_rewriting.specs.Numbering.{IsIndex, id_of};
+ghost use Rattle.sourcemap_rewriting.specs.Numbering.{IsIndex, id_in};
 ghost use Rattle.sourcemap_flattening.specs.Faults.{RefusesBy};
 ghost use Rattle.sourcemap_flattening.specs.Table.{AreEntered, IsEntered, IsTable, TextEntry, are_too_many, entry_value, entry_values, put_at, texts_entered};
 
@@ -92,7 +92,7 @@ impl<'a> Table<'a> {
 
 // Whether the text is a new one, and there is no id left for it.
 fn has_no_room(ids: &HashMap<&str, u32>, text: &str) -> bool
-    ensures room { result ≡ false → id_of ids.now text.now ≡ None
+    ensures room { result ≡ false → id_in ids.now text.now ≡ None
         → hash_map_len ids.now < 4294967295 }
     ensures full { (texts : List (List ℕ)) → IsIndex texts ids.now → result ≡ true
         → are_too_many (with_text texts text.now) ≡ true }

@@ -4,11 +4,11 @@ use Rattle.std.specs.List.{AllByRecursion, AllZip}
 use Rattle.std.proofs.lemmas.List.{length-map}
 use Rattle.std.proofs.lemmas.Option.{slice_get-map, slice_get_past}
 use Rattle.sourcemap_errors.specs.declared.errors.Error.TheVariants.{IncompatibleSourceMap}
-use Rattle.sourcemap_lists.specs.Interner.{place_of}
+use Rattle.sourcemap_lists.specs.Interner.{id_of}
 use Rattle.sourcemap_lists.specs.declared.tokens.RawToken.{RawToken}
 use Rattle.sourcemap_lists.specs.Tokens.{destination, position_cmp, closest_token, IsWithin}
 use Rattle.sourcemap_lists.proofs.AllLemmas.{All-at, All-both}
-use Rattle.sourcemap_lists.proofs.InternerLemmas.{slice_get-place_of}
+use Rattle.sourcemap_lists.proofs.InternerLemmas.{slice_get-id_of}
 use Rattle.sourcemap_lists.proofs.SearchLemmas.{closest-change, place-closest}
 use Rattle.sourcemap_parts.specs.Sources.{shown}
 use Rattle.sourcemap_rewriting.specs.FirstIds.{first_of}
@@ -20,7 +20,8 @@ use Rattle.sourcemap_regular.specs.Rewrite.{Removal, removal_of, used_sources, n
 use Rattle.sourcemap_regular.specs.Token.{TokenValue, token_at}
 use Rattle.sourcemap_regular.proofs.RewriteLemmas.{sources_used, few_used_sources}
 use Rattle.sourcemap_regular.proofs.RewriteMeaning.{IsKept, all_tokens_kept}
-use Rattle.sourcemap_scopes.specs.Picks.{item_at, items_at}
+use Rattle.sourcemap_lists.specs.Items.{item_at}
+use Rattle.sourcemap_scopes.specs.Picks.{items_at}
 use Rattle.sourcemap_scopes.specs.ScopeLists.{EntryStandsFor, names_of}
 use Rattle.sourcemap_scopes.specs.SourceScopes.{SourceScopesValue, IsInOrderAt, scope_at, picked_scopes}
 use Rattle.sourcemap_scopes.specs.FunctionMap.{AreOffsetsInOrder, closest_offset}
@@ -102,14 +103,14 @@ module _ (removal : Removal) (h : HermesValue) (few : length h.map.sources ≤ 4
               past h.scopes.function_maps t.src_id (omega (arith, none, well.few, many_maps)),
             )
         by_case (Some text) e has =
-            let placed : (n : ℕ) × (place_of text (used_sources h.map) ≡ Some n) = subst (HasPlace (used_sources h.map)) e has in
+            let placed : (n : ℕ) × (id_of text (used_sources h.map) ≡ Some n) = subst (HasPlace (used_sources h.map)) e has in
             let number : number_in (used_sources h.map) (source_of h.map t.src_id) ≡ placed.0 = ap (number_in (used_sources h.map)) e ∙ rw placed.1 refl in
             let ids : List ℕ = map (λ t. t.src_id) h.map.tokens in
             let at : slice_get (kept_of (shown_sources h.map) ids) placed.0 ≡ Some text =
-            ap (λ kept. slice_get kept placed.0) (sources_used h.map removal) ∙ slice_get-place_of text (used_sources h.map) placed.0 placed.1 in
+            ap (λ kept. slice_get kept placed.0) (sources_used h.map removal) ∙ slice_get-id_of text (used_sources h.map) placed.0 placed.1 in
             let first : ℕ = first_of (shown_sources h.map) ids text in
-            let here : place_of text (shown_sources h.map) ≡ Some first = distinct text first (first_names (shown_sources h.map) ids placed.0 text at) in
-            let own : place_of text (shown_sources h.map) ≡ Some t.src_id = distinct text t.src_id e in
+            let here : id_of text (shown_sources h.map) ≡ Some first = distinct text first (first_names (shown_sources h.map) ids placed.0 text at) in
+            let own : id_of text (shown_sources h.map) ≡ Some t.src_id = distinct text t.src_id e in
             inl (ap (slice_get (first_ids h.map)) number
             ∙ slice_get-map (first_of (shown_sources h.map) ids) (kept_of (shown_sources h.map) ids) placed.0
             ∙ ap (option_map (first_of (shown_sources h.map) ids)) at

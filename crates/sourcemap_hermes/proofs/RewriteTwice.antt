@@ -1,7 +1,7 @@
 -- A Hermes map that is rewritten by default is not changed by the same again.
 use Rattle.std.proofs.Common.{◌≡◌, refl, sym, ap, subst, ◌∙◌, ℕ, ◌+◌, suc, ◌≤◌, List, [], ◌∷◌, ◌++◌, append_assoc, length, map, Some, None, Option, arith, slice_get}
 use Rattle.std.proofs.lemmas.List.{length-map}
-use Rattle.sourcemap_lists.specs.Interner.{place_of}
+use Rattle.sourcemap_lists.specs.Interner.{id_of}
 use Rattle.sourcemap_texts.specs.Prefixes.{cut_by}
 use Rattle.sourcemap_parts.proofs.SourcesLemmas.{map-shown_behind_nothing}
 use Rattle.sourcemap_rewriting.specs.FirstIds.{first_of}
@@ -12,7 +12,8 @@ use Rattle.sourcemap_regular.specs.Map.{MapValue, shown_sources}
 use Rattle.sourcemap_regular.specs.Rewrite.{no_removal, used_sources, first_ids, rewritten as map_rewritten}
 use Rattle.sourcemap_regular.proofs.RewriteLemmas.{sources_used}
 use Rattle.sourcemap_regular.proofs.RewriteTwice.{rewritten-twice}
-use Rattle.sourcemap_scopes.specs.Picks.{item_at, items_at}
+use Rattle.sourcemap_lists.specs.Items.{item_at}
+use Rattle.sourcemap_scopes.specs.Picks.{items_at}
 use Rattle.sourcemap_hermes.specs.Map.{HermesValue}
 use Rattle.sourcemap_hermes.specs.Rewrite.{rewritten}
 
@@ -75,7 +76,7 @@ module _ (m : MapValue) (few_sources : length m.sources ≤ 4294967295) (few_nam
       let named = subst (λ texts. slice_get texts (first_of (shown_sources new) ids text) ≡ Some text) shown_new (first_names (shown_sources new) ids k text at) in
       one (distinct-kept_of (shown_sources new) ids text (first_of (shown_sources new) ids text) named) (distinct-kept_of (shown_sources new) ids text k at)
     where
-      one : {i j : ℕ} → place_of text (kept_of (shown_sources new) ids) ≡ Some i → place_of text (kept_of (shown_sources new) ids) ≡ Some j → i ≡ j
+      one : {i j : ℕ} → id_of text (kept_of (shown_sources new) ids) ≡ Some i → id_of text (kept_of (shown_sources new) ids) ≡ Some j → i ≡ j
       one e f = cc
 
   picked-again : {X : Type 0} (items : List (Option X)) → items_at (items_at items (first_ids m)) (first_ids (map_rewritten no_removal m)) ≡ items_at items (first_ids m)

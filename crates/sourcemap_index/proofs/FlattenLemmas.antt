@@ -16,7 +16,7 @@ use Rattle.sourcemap_trees.specs.WellFormed.{HasTokensInOrder}
 use Rattle.sourcemap_trees.proofs.MapTreeLemmas.{each_section}
 use Rattle.sourcemap_trees.specs.Flat.{AnswersLike, Piece, flat, FlatAnswer, merged, on_ok, pieces_behind, with_piece, unresolved}
 use Rattle.sourcemap_trees.specs.Meaning.{meaning}
-use Rattle.sourcemap_flattening.specs.Faults.{Says, Refuses}
+use Rattle.sourcemap_flattening.specs.Faults.{GivesReason, Refuses}
 use Rattle.sourcemap_flattening.specs.Gathering.{Gathers, GathersMore, IsFlat, RefusesFor}
 use Rattle.sourcemap_flattening.specs.declared.gathering.Gathering.{Gathering}
 use Rattle.sourcemap_flattening.specs.declared.gathering.FlatMap.{FlatMap}
@@ -97,7 +97,7 @@ answer-made v file pieces (Ok m) same due gives =
     ap (λ r. on_ok r (λ pieces. Ok (merged v.parts.file pieces))) due ∙ ap (λ f. Ok (merged f pieces)) (sym same) ∙ ap Ok made
 answer-made v file pieces (Err e) same due gives = UnlessMemory-weaker e (λ h. cc) gives
 
-refusal-due : (t : MapTree) (reason : List ℕ) (e : Error) → flat t ≡ Err reason → Says reason e → FlatAnswer t (Err e)
+refusal-due : (t : MapTree) (reason : List ℕ) (e : Error) → flat t ≡ Err reason → GivesReason reason e → FlatAnswer t (Err e)
 refusal-due t reason (CannotFlatten text) due says = due ∙ ap Err (sym says)
 refusal-due t reason _ due says = says
 

@@ -5,7 +5,7 @@ use Rattle.std.specs.Option.{option_or}
 use Rattle.std.specs.Str.{bytes_eq}
 use Rattle.std.proofs.lemmas.Bool.{cases_Bool}
 use Rattle.std.proofs.lemmas.Slice.Eq.{bytes_eq-Decides}
-use Rattle.sourcemap_lists.specs.Interner.{place_of, AreDistinct}
+use Rattle.sourcemap_lists.specs.Interner.{id_of, AreDistinct}
 
 position_from-append : {X : Type 0} (t : X → Bool) (i : ℕ) (xs : List X) (y : X) → position_from t i (xs ++ y ∷ []) ≡ option_or (position_from t i xs) (cond (t y) (Some (i + length xs)) None)
 position_from-append t i [] y = let here : i + 0 ≡ i = omega arith in rw here refl
@@ -29,19 +29,19 @@ bytes_eq-false : (a b : List ℕ) → (a ≡ b → bytes_eq a b ≡ true → ⊥
 bytes_eq-false a b apart = elim (cases_Bool (bytes_eq a b)) [ inl h ↦ absurd (apart ((bytes_eq-Decides a b).0 h) h) | inr h ↦ h ]
 
 -- a new text is the only one whose place changes
-pub place_of-append : (texts : List (List ℕ)) (text : List ℕ) → place_of text texts ≡ None → (other : List ℕ)
-    → place_of other (texts ++ text ∷ []) ≡ cond (bytes_eq text other) (Some (length texts)) (place_of other texts)
-place_of-append texts text new other =
-    let appended : place_of other (texts ++ text ∷ []) ≡ option_or (place_of other texts) (cond (bytes_eq other text) (Some (0 + length texts)) None) = position_from-append (bytes_eq other) 0 texts text in
+pub id_of-append : (texts : List (List ℕ)) (text : List ℕ) → id_of text texts ≡ None → (other : List ℕ)
+    → id_of other (texts ++ text ∷ []) ≡ cond (bytes_eq text other) (Some (length texts)) (id_of other texts)
+id_of-append texts text new other =
+    let appended : id_of other (texts ++ text ∷ []) ≡ option_or (id_of other texts) (cond (bytes_eq other text) (Some (0 + length texts)) None) = position_from-append (bytes_eq other) 0 texts text in
     elim (cases_Bool (bytes_eq text other)) [
       | inl h ↦
           let same : text ≡ other = (bytes_eq-Decides text other).0 h in
           let found : bytes_eq other text ≡ true = (bytes_eq-Decides other text).1 (sym same) in
-          let none : place_of other texts ≡ None = subst (λ t. place_of t texts ≡ None) same new in
+          let none : id_of other texts ≡ None = subst (λ t. id_of t texts ≡ None) same new in
           rw (appended, none, found, h, zero-add) refl
       | inr h ↦
           let apart : bytes_eq other text ≡ false = bytes_eq-false other text (λ e _. absurd (both text other h (sym e))) in
-          rw (appended, apart, h) (option_or-None (place_of other texts))
+          rw (appended, apart, h) (option_or-None (id_of other texts))
     ]
   where
     both : (a b : List ℕ) → bytes_eq a b ≡ false → a ≡ b → ⊥
@@ -52,36 +52,36 @@ place_of-append texts text new other =
     option_or-None (Some x) = refl
 
 -- a new text joins distinct ones
-pub AreDistinct-append : (texts : List (List ℕ)) (text : List ℕ) → AreDistinct texts → place_of text texts ≡ None → AreDistinct (texts ++ text ∷ [])
+pub AreDistinct-append : (texts : List (List ℕ)) (text : List ℕ) → AreDistinct texts → id_of text texts ≡ None → AreDistinct (texts ++ text ∷ [])
 AreDistinct-append texts text distinct new one id at =
     elim (slice_get-append texts text id one at) [
       | inl h ↦
-          let old : place_of one texts ≡ Some id = distinct one id h in
+          let old : id_of one texts ≡ Some id = distinct one id h in
           elim (cases_Bool (bytes_eq text one)) [
             | inl e ↦
                 let same : text ≡ one = (bytes_eq-Decides text one).0 e in
-                let none : place_of one texts ≡ None = subst (λ t. place_of t texts ≡ None) same new in
+                let none : id_of one texts ≡ None = subst (λ t. id_of t texts ≡ None) same new in
                 cc
-            | inr e ↦ rw (place_of-append texts text new one, e) old
+            | inr e ↦ rw (id_of-append texts text new one, e) old
           ]
       | inr h ↦
           let found : bytes_eq text one ≡ true = (bytes_eq-Decides text one).1 h.1 in
           let last : length texts ≡ id = sym h.0 in
-          rw (place_of-append texts text new one, found, last) refl
+          rw (id_of-append texts text new one, found, last) refl
     ]
 
 -- the map of places keeps up with a new text
-pub places-append : (texts : List (List ℕ)) (text : List ℕ) (count : ℕ) (old new : List ℕ → Option ℕ) → length texts ≡ count → place_of text texts ≡ None
-    → ((t : List ℕ) → old t ≡ place_of t texts) → ((t : List ℕ) → new t ≡ cond (bytes_eq text t) (Some count) (old t))
-    → (t : List ℕ) → new t ≡ place_of t (texts ++ text ∷ [])
+pub places-append : (texts : List (List ℕ)) (text : List ℕ) (count : ℕ) (old new : List ℕ → Option ℕ) → length texts ≡ count → id_of text texts ≡ None
+    → ((t : List ℕ) → old t ≡ id_of t texts) → ((t : List ℕ) → new t ≡ cond (bytes_eq text t) (Some count) (old t))
+    → (t : List ℕ) → new t ≡ id_of t (texts ++ text ∷ [])
 places-append texts text count old new counted missing was now t =
-    now t ∙ ap (λ o. cond (bytes_eq text t) (Some count) o) (was t) ∙ subst (λ n. cond (bytes_eq text t) (Some n) (place_of t texts) ≡ place_of t (texts ++ text ∷ [])) counted (sym (place_of-append texts text missing t))
+    now t ∙ ap (λ o. cond (bytes_eq text t) (Some count) o) (was t) ∙ subst (λ n. cond (bytes_eq text t) (Some n) (id_of t texts) ≡ id_of t (texts ++ text ∷ [])) counted (sym (id_of-append texts text missing t))
 
 -- and finds it at its end
-pub place_of-last : (texts : List (List ℕ)) (text : List ℕ) (count : ℕ) → length texts ≡ count → place_of text texts ≡ None → place_of text (texts ++ text ∷ []) ≡ Some count
-place_of-last texts text count counted missing =
+pub id_of-last : (texts : List (List ℕ)) (text : List ℕ) (count : ℕ) → length texts ≡ count → id_of text texts ≡ None → id_of text (texts ++ text ∷ []) ≡ Some count
+id_of-last texts text count counted missing =
     let same : bytes_eq text text ≡ true = bytes_eq-refl text in
-    rw (place_of-append texts text missing text, same, counted) refl
+    rw (id_of-append texts text missing text, same, counted) refl
 
 place_from : (text : List ℕ) (i : ℕ) (texts : List (List ℕ)) (id : ℕ) → position_from (bytes_eq text) i texts ≡ Some id → (i ≤ id) × (slice_get texts (id - i) ≡ Some text)
 place_from text i [] id e = cc
@@ -100,5 +100,5 @@ place_from text i (first ∷ texts) id e =
     ]
 
 -- a text stands at its place
-pub slice_get-place_of : (text : List ℕ) (texts : List (List ℕ)) (id : ℕ) → place_of text texts ≡ Some id → slice_get texts id ≡ Some text
-slice_get-place_of text texts id e = let same : id - 0 ≡ id = omega arith in subst (λ n. slice_get texts n ≡ Some text) same (place_from text 0 texts id e).1
+pub slice_get-id_of : (text : List ℕ) (texts : List (List ℕ)) (id : ℕ) → id_of text texts ≡ Some id → slice_get texts id ≡ Some text
+slice_get-id_of text texts id e = let same : id - 0 ≡ id = omega arith in subst (λ n. slice_get texts n ≡ Some text) same (place_from text 0 texts id e).1

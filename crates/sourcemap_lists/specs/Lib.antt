@@ -1,3 +1,4 @@
 pub mod Interner
+pub mod Items
 pub mod Search
 pub mod Tokens

@@ -3,7 +3,7 @@ ghost use Rattle.std.specs.Prelude.{◌≡◌, ℕ, List, [], ◌∷◌, ◌++�
 ghost use Rattle.std.specs.HashMap.{get_by_text};
 ghost use Rattle.std.specs.Str.{bytes_eq};
 ghost use Rattle.sourcemap_errors.specs.Answer.{Gives};
-ghost use Rattle.sourcemap_lists.specs.Interner.{place_of, AreDistinct, with_text, id_for};
+ghost use Rattle.sourcemap_lists.specs.Interner.{id_of, AreDistinct, with_text, id_for};
 ghost use Rattle.sourcemap_errors.specs.declared.errors.Error.TheVariants.{IncompatibleSourceMap, OutOfMemory};
 
 use sourcemap_errors::errors::{Error, Result};
@@ -25,7 +25,7 @@ pub struct Interner {
 impl Model for Interner {
     ghost use Rattle.std.specs.Prelude.{◌≡◌, ◌≤◌, ℕ, List, map, length, string_bytes};
     ghost use Rattle.std.specs.HashMap.{get_by_text};
-    ghost use Rattle.sourcemap_lists.specs.Interner.{place_of, AreDistinct};
+    ghost use Rattle.sourcemap_lists.specs.Interner.{id_of, AreDistinct};
 
     ghost Value = { List (List ℕ) };
 
@@ -34,7 +34,7 @@ impl Model for Interner {
     ghost invariant = { λ a. (length (map string_bytes a.texts.items) ≤ 4294967295)
         × AreDistinct (map string_bytes a.texts.items)
         × ((text : List ℕ)
-        → get_by_text a.ids text ≡ place_of text (map string_bytes a.texts.items)) };
+        → get_by_text a.ids text ≡ id_of text (map string_bytes a.texts.items)) };
 }
 
 impl Interner {
@@ -56,10 +56,10 @@ impl Interner {
         ensures texts { OnOk result (self.new ≡ with_text self.old text.now) }
         ensures unchanged { OnErr result (self.new ≡ self.old) }
         // equal texts have equal ids, and an id leads back to its text
-        ensures place { IfOk result (λ id. place_of text.now self.new ≡ Some id) }
+        ensures place { IfOk result (λ id. id_of text.now self.new ≡ Some id) }
         ensures text { IfOk result (λ id. slice_get self.new id ≡ Some text.now) }
         // only a new text for which there is room takes memory
-        ensures known { IsSome (place_of text.now self.old) → IsOk result }
+        ensures known { IsSome (id_of text.now self.old) → IsOk result }
         ensures full { id_for self.old text.now ≡ Err IncompatibleSourceMap
             → result ≡ Err IncompatibleSourceMap }
     {

@@ -2,5 +2,6 @@
 #![tactic(auto)]
 
 pub mod interner;
+pub mod items;
 pub mod search;
 pub mod tokens;

@@ -1,5 +1,5 @@
 -- The contents of sources, each where there are some.
-use Rattle.std.specs.Prelude.{ℕ, ◌++◌, List, take, replicate, slice_get, Bool, Option, None, option_and_then}
+use Rattle.std.specs.Prelude.{ℕ, ◌++◌, List, take, replicate, Bool, Option, None}
 use Rattle.std.specs.Option.{option_eq}
 use Rattle.std.specs.Cmp.{IsEquivalence}
 use Rattle.std.specs.Cmp.Rules.{comparing}
@@ -10,10 +10,6 @@ use Rattle.sourcemap_parts.specs.TextLists.{same_text}
 -- a list of contents cut or filled up to so many
 abbrev pub fitted : {X : Type 0} → ℕ → List (Option X) → List (Option X)
 fitted count contents = take count (contents ++ replicate count None)
-
--- the contents of the source with this id, where there are some
-abbrev pub contents_at : List (Option (List ℕ)) → ℕ → Option (List ℕ)
-contents_at contents id = option_and_then (λ contents. contents) (slice_get contents id)
 
 -- lists as long, with the same contents or none at each place
 abbrev pub same_contents : List (Option (List ℕ)) → List (Option (List ℕ)) → Bool

@@ -5,10 +5,12 @@ ghost use Rattle.std.specs.Cmp.{partial_equiv_from_equiv};
 ghost use Rattle.std.specs.Option.{option_copied};
 ghost use Rattle.sourcemap_errors.specs.Answer.{Gives, Changes};
 ghost use Rattle.sourcemap_texts.specs.Texts.{contents_in};
-ghost use Rattle.sourcemap_parts.specs.Contents.{contents_at, fitted, same_contents, same_contents_equiv};
+ghost use Rattle.sourcemap_lists.specs.Items.{item_at};
+ghost use Rattle.sourcemap_parts.specs.Contents.{fitted, same_contents, same_contents_equiv};
 
 use crate::fitting::put;
 use sourcemap_errors::errors::Result;
+use sourcemap_lists::items::item_at;
 use sourcemap_views::sourceview::SourceView;
 use std::alloc::Global;
 use std::marker::Model;
@@ -60,12 +62,9 @@ impl Contents {
 
     /// The contents of the source with this id, where there are some.
     pub fn get(&self, id: u32) -> Option<&SourceView>
-        ensures { option_copied result ≡ contents_at self.now id }
+        ensures { option_copied result ≡ item_at self.now id }
     {
-        match self.views.get(id as usize) {
-            Some(Some(view)) => Some(view),
-            _ => None,
-        }
+        item_at(&self.views, id as usize)
     }
 
     /// Sets the contents of the source with this id, one of `count`. The list is then that long.

@@ -23,9 +23,9 @@ abbrev pub KeepsOthers : List ℕ → Members → Members → Type 0
 KeepsOthers key before after = (other : List ℕ) → bytes_eq other key ≡ false → get_member other after ≡ get_member other before
 
 -- what a reader returned, seen by `see`, is the reading; a value without one is of the wrong shape
-abbrev pub Reads : {X Y : Type 0} → (X → Y) → Result X Error → Option Y → Type 0
-Reads see (Ok x) reading = reading ≡ Some (see x)
-Reads see (Err e) reading = UnlessMemory e ((e ≡ BadJson Shape) × (reading ≡ None))
+abbrev pub GivesReading : {X Y : Type 0} → (X → Y) → Result X Error → Option Y → Type 0
+GivesReading see (Ok x) reading = reading ≡ Some (see x)
+GivesReading see (Err e) reading = UnlessMemory e ((e ≡ BadJson Shape) × (reading ≡ None))
 
 -- what was made, seen by `see`, is this; only memory may be wanting
 abbrev pub Makes : {X Y : Type 0} → (X → Y) → Result X Error → Y → Type 0

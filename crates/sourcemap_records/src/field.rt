@@ -6,7 +6,7 @@ ghost use Rattle.serde_json.specs.Find.{get, get_member};
 ghost use Rattle.serde_json.specs.View.{view, items_view, members_view};
 ghost use Rattle.sourcemap_errors.specs.declared.errors.Error.TheVariants.{OutOfMemory};
 ghost use Rattle.sourcemap_records.specs.Jsontypes.{FitsU32, is_there};
-ghost use Rattle.sourcemap_records.specs.Field.{IsUnbounded, due, Reads, Makes, put_if, written_number, written_or_null, written_list, KeepsOthers, any, text, small_number, or_null, items_read, found, list, at, needed};
+ghost use Rattle.sourcemap_records.specs.Field.{IsUnbounded, due, GivesReading, Makes, put_if, written_number, written_or_null, written_list, KeepsOthers, any, text, small_number, or_null, items_read, found, list, at, needed};
 
 use serde_json::{Map, Value, put};
 use sourcemap_errors::errors::{Error, JsonFault, Result};
@@ -28,7 +28,7 @@ pub(crate) trait Field: Drop {
 
     // Takes its texts out of the value.
     fn take(alloc: Global, value: Value) -> Result<Self>
-        ensures { Reads see result (reading (view value)) };
+        ensures { GivesReading see result (reading (view value)) };
 
     // Leaves its texts to the value.
     fn give(self, alloc: Global) -> Result<Value>
@@ -190,7 +190,7 @@ impl<T: Field> Field for Vec<T> {
 }
 
 fn take_items<T: Field>(alloc: Global, items: Vec<Value>) -> Result<Vec<T>>
-    ensures { Reads (λ v. map T.see v.items) result
+    ensures { GivesReading (λ v. map T.see v.items) result
         (items_read T.reading (items_view items.items)) }
 {
     let mut fields = Vec::with_capacity(alloc, items.len())?;
@@ -228,7 +228,7 @@ pub(crate) fn take_optional<F: Field>(
     members: &mut Map<String, Value>,
     key: &str,
 ) -> Result<Option<F>>
-    ensures value { Reads (option_map F.see) result
+    ensures value { GivesReading (option_map F.see) result
         (at key.now F.reading (members_view members.old.entries)) }
     ensures others { KeepsOthers key.now (members_view members.old.entries)
         (members_view members.new.entries) }
@@ -241,7 +241,7 @@ pub(crate) fn take_optional<F: Field>(
 
 // The values of a list as they stand, where a null is none.
 fn value_list(value: Value) -> Result<Option<Vec<Value>>>
-    ensures { Reads (option_map (λ v. map view v.items)) result
+    ensures { GivesReading (option_map (λ v. map view v.items)) result
         (or_null (list any) (view value)) }
 {
     match value {
@@ -253,7 +253,7 @@ fn value_list(value: Value) -> Result<Option<Vec<Value>>>
 
 // The values of a key that may be missing. They stay in their list, so that none is moved.
 pub(crate) fn take_values(members: &mut Map<String, Value>, key: &str) -> Result<Option<Vec<Value>>>
-    ensures value { Reads (option_map (λ v. map view v.items)) result
+    ensures value { GivesReading (option_map (λ v. map view v.items)) result
         (at key.now (list any) (members_view members.old.entries)) }
     ensures others { KeepsOthers key.now (members_view members.old.entries)
         (members_view members.new.entries) }
@@ -270,7 +270,7 @@ pub(crate) fn take_needed<F: Field>(
     members: &mut Map<String, Value>,
     key: &str,
 ) -> Result<F>
-    ensures value { Reads F.see result
+    ensures value { GivesReading F.see result
         (needed key.now F.reading (members_view members.old.entries)) }
     ensures others { KeepsOthers key.now (members_view members.old.entries)
         (members_view members.new.entries) }

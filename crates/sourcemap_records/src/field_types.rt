@@ -3,7 +3,7 @@ ghost use Rattle.std.specs.Prelude.{◌≡◌, ℕ, List, string_bytes};
 ghost use Rattle.serde_json.specs.Data.{string};
 ghost use Rattle.serde_json.specs.View.{members_view};
 ghost use Rattle.sourcemap_headers.specs.DebugId.{IsId, debug_id_of, debug_id_text};
-ghost use Rattle.sourcemap_records.specs.Field.{IsUnbounded, Reads};
+ghost use Rattle.sourcemap_records.specs.Field.{IsUnbounded, GivesReading};
 ghost use Rattle.sourcemap_records.specs.Jsontypes.{FitsU32, Scopes, scopes, scopes_in, scopes_view, written_scopes, offset, offset_in, written_offset, debug_id};
 
 use crate::field::{Field, put_field, take_needed};
@@ -39,7 +39,7 @@ impl Field for DebugId {
 }
 
 fn parsed_id(text: &String) -> Result<DebugId>
-    ensures { Reads (λ id. id) result (debug_id_of (string_bytes text.now)) }
+    ensures { GivesReading (λ id. id) result (debug_id_of (string_bytes text.now)) }
 {
     match DebugId::parse(text.as_str()) {
         Some(id) => Ok(id),
@@ -80,7 +80,7 @@ impl Field for RawSectionOffset {
 }
 
 fn take_offset(alloc: Global, mut members: Map<String, Value>) -> Result<RawSectionOffset>
-    ensures { Reads (λ offset. offset) result (offset_in (members_view members.entries)) }
+    ensures { GivesReading (λ offset. offset) result (offset_in (members_view members.entries)) }
 {
     let line = take_needed(alloc, &mut members, "line")?;
     let column = take_needed(alloc, &mut members, "column")?;
@@ -121,7 +121,7 @@ impl Field for FacebookScopeMapping {
 }
 
 fn take_scopes(alloc: Global, mut members: Map<String, Value>) -> Result<FacebookScopeMapping>
-    ensures { Reads scopes_view result (scopes_in (members_view members.entries)) }
+    ensures { GivesReading scopes_view result (scopes_in (members_view members.entries)) }
 {
     let names = take_needed(alloc, &mut members, "names")?;
     let mappings = take_needed(alloc, &mut members, "mappings")?;

@@ -3,7 +3,7 @@ ghost use Rattle.std.specs.Prelude.{◌≡◌, ℕ, List, Some, map, option_map,
 ghost use Rattle.std.specs.Str.{bytes_eq};
 ghost use Rattle.serde_json.specs.Find.{get_member};
 ghost use Rattle.serde_json.specs.View.{view, items_view, members_view};
-ghost use Rattle.sourcemap_records.specs.Field.{Reads, with, found};
+ghost use Rattle.sourcemap_records.specs.Field.{GivesReading, with, found};
 ghost use Rattle.sourcemap_records.specs.Keys.{KeepsBut, heading_in, heading_names, heading_view, content_in, content_names, content_view, extras_in, extras_view, groups_view};
 ghost use Rattle.sourcemap_records.specs.Jsontypes.{debug_id_in, fields_in, place_in, section_at, tree_with, sections_from, sections_read, sections_of, record_of, section_of, section, tree};
 
@@ -17,7 +17,7 @@ use std::alloc::Global;
 
 // Both keys are read, and the first wins.
 fn take_debug_id(alloc: Global, members: &mut Map<String, Value>) -> Result<Option<DebugId>>
-    ensures value { Reads (λ id. id) result (debug_id_in (members_view members.old.entries)) }
+    ensures value { GivesReading (λ id. id) result (debug_id_in (members_view members.old.entries)) }
     ensures others { (other : List ℕ) → bytes_eq other (codes "debugId") ≡ false
         → bytes_eq other (codes "debug_id") ≡ false
         → get_member other (members_view members.new.entries)
@@ -29,7 +29,7 @@ fn take_debug_id(alloc: Global, members: &mut Map<String, Value>) -> Result<Opti
 }
 
 fn take_heading(alloc: Global, members: &mut Map<String, Value>) -> Result<RawHeading>
-    ensures value { Reads heading_view result (heading_in (members_view members.old.entries)) }
+    ensures value { GivesReading heading_view result (heading_in (members_view members.old.entries)) }
     ensures others { OnOk result (KeepsBut heading_names
         (members_view members.old.entries) (members_view members.new.entries)) }
 {
@@ -46,7 +46,7 @@ fn take_heading(alloc: Global, members: &mut Map<String, Value>) -> Result<RawHe
 }
 
 fn take_content(alloc: Global, members: &mut Map<String, Value>) -> Result<RawContent>
-    ensures value { Reads content_view result (content_in (members_view members.old.entries)) }
+    ensures value { GivesReading content_view result (content_in (members_view members.old.entries)) }
     ensures others { OnOk result (KeepsBut content_names
         (members_view members.old.entries) (members_view members.new.entries)) }
 {
@@ -63,7 +63,7 @@ fn take_content(alloc: Global, members: &mut Map<String, Value>) -> Result<RawCo
 }
 
 fn take_extras(alloc: Global, members: &mut Map<String, Value>) -> Result<RawExtras>
-    ensures { Reads extras_view result (extras_in (members_view members.old.entries)) }
+    ensures { GivesReading extras_view result (extras_in (members_view members.old.entries)) }
 {
     let ignore_list = take_optional(alloc, members, "ignoreList")?;
     let x_facebook_offsets = take_optional(alloc, members, "x_facebook_offsets")?;
@@ -78,7 +78,7 @@ fn take_extras(alloc: Global, members: &mut Map<String, Value>) -> Result<RawExt
 }
 
 fn take_groups(alloc: Global, mut members: Map<String, Value>) -> Result<RawGroups>
-    ensures { Reads groups_view result (fields_in (members_view members.entries)) }
+    ensures { GivesReading groups_view result (fields_in (members_view members.entries)) }
 {
     let debug_id = take_debug_id(alloc, &mut members)?;
     let heading = take_heading(alloc, &mut members)?;
@@ -97,7 +97,7 @@ fn take_fields(
     members: Map<String, Value>,
     sections: Option<Vec<RawSection>>,
 ) -> Result<RawSourceMap>
-    ensures { Reads tree result (with (fields_in (members_view members.entries))
+    ensures { GivesReading tree result (with (fields_in (members_view members.entries))
         (λ fields. Some (tree_with fields
         (option_map (λ v. sections_from (map section v.items)) sections)))) }
 {
@@ -110,7 +110,7 @@ fn take_place(
     mut members: Map<String, Value>,
     map: Option<Box<RawSourceMap>>,
 ) -> Result<RawSection>
-    ensures { Reads section result (with (place_in (members_view members.entries))
+    ensures { GivesReading section result (with (place_in (members_view members.entries))
         (λ place. Some (section_at place (option_map (λ b. tree b.value) map)))) }
 {
     let offset = take_needed(alloc, &mut members, "offset")?;
@@ -121,7 +121,7 @@ fn take_place(
 /// The record that a value stands for.
 #[cycle(from_json)]
 pub(crate) fn take_map(alloc: Global, value: Value) -> Result<RawSourceMap>
-    ensures { Reads tree result (record_of (view value)) }
+    ensures { GivesReading tree result (record_of (view value)) }
 {
     match value {
         Value::Object(mut members) => {
@@ -135,7 +135,7 @@ pub(crate) fn take_map(alloc: Global, value: Value) -> Result<RawSourceMap>
 
 #[cycle(from_json)]
 fn take_sections(alloc: Global, value: Option<Value>) -> Result<Option<Vec<RawSection>>>
-    ensures { Reads (option_map (λ v. sections_from (map section v.items))) result
+    ensures { GivesReading (option_map (λ v. sections_from (map section v.items))) result
         (found sections_of (option_map view value)) }
 {
     match value {
@@ -147,7 +147,7 @@ fn take_sections(alloc: Global, value: Option<Value>) -> Result<Option<Vec<RawSe
 
 #[cycle(from_json)]
 fn take_list(alloc: Global, items: Vec<Value>) -> Result<Vec<RawSection>>
-    ensures { Reads (λ v. sections_from (map section v.items)) result
+    ensures { GivesReading (λ v. sections_from (map section v.items)) result
         (sections_read (items_view items.items)) }
 {
     let mut sections = Vec::with_capacity(alloc, items.len())?;
@@ -159,7 +159,7 @@ fn take_list(alloc: Global, items: Vec<Value>) -> Result<Vec<RawSection>>
 
 #[cycle(from_json)]
 fn take_section(alloc: Global, value: Value) -> Result<RawSection>
-    ensures { Reads section result (section_of (view value)) }
+    ensures { GivesReading section result (section_of (view value)) }
 {
     match value {
         Value::Object(mut members) => {
@@ -173,7 +173,7 @@ fn take_section(alloc: Global, value: Value) -> Result<RawSection>
 
 #[cycle(from_json)]
 fn take_inner(alloc: Global, value: Option<Value>) -> Result<Option<Box<RawSourceMap>>>
-    ensures { Reads (option_map (λ b. tree b.value)) result
+    ensures { GivesReading (option_map (λ b. tree b.value)) result
         (found record_of (option_map view value)) }
 {
     match value {

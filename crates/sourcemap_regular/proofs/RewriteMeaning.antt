@@ -5,12 +5,12 @@ use Rattle.std.specs.Option.{option_or}
 use Rattle.std.specs.Ordering.{is_lt, is_eq}
 use Rattle.std.proofs.lemmas.List.{length-map}
 use Rattle.std.proofs.lemmas.Option.{slice_get-map, slice_get_past, slice_get_within}
-use Rattle.sourcemap_lists.specs.Interner.{place_of}
+use Rattle.sourcemap_lists.specs.Interner.{id_of}
 use Rattle.sourcemap_lists.specs.declared.tokens.RawToken.{RawToken}
 use Rattle.sourcemap_lists.specs.Search.{closest_item, find_last}
 use Rattle.sourcemap_lists.specs.Tokens.{destination, position_cmp, IsWithin}
 use Rattle.sourcemap_lists.proofs.AllLemmas.{All-both, All-map, All-unmapped, All-weaker}
-use Rattle.sourcemap_lists.proofs.InternerLemmas.{slice_get-place_of}
+use Rattle.sourcemap_lists.proofs.InternerLemmas.{slice_get-id_of}
 use Rattle.sourcemap_lists.proofs.SearchLemmas.{closest_item-change}
 use Rattle.sourcemap_texts.specs.Prefixes.{cut_by}
 use Rattle.sourcemap_regular.specs.Map.{MapValue, Meaning, IsWellFormed, shown_sources, source_of, name_of, meaning, meaning_of, MeansTheSame, distance, column_behind}
@@ -32,7 +32,7 @@ all_tokens_kept m =
     (All-unmapped (HasPlace (used_sources m)) (λ (t : RawToken). source_of m t.src_id) m.tokens (used-kept (map (λ t. source_of m t.src_id) m.tokens)))
     (All-unmapped (HasPlace (used_names m)) (λ (t : RawToken). name_of m t.name_id) m.tokens (used-kept (map (λ t. name_of m t.name_id) m.tokens)))
 
-number-of : (kept : List (List ℕ)) (o : Option (List ℕ)) (text : List ℕ) (n : ℕ) → o ≡ Some text → place_of text kept ≡ Some n → number_in kept o ≡ n
+number-of : (kept : List (List ℕ)) (o : Option (List ℕ)) (text : List ℕ) (n : ℕ) → o ≡ Some text → id_of text kept ≡ Some n → number_in kept o ≡ n
 number-of kept o text n e placed = rw (e, placed) refl
 
 -- what a token says, beside its place in the generated text
@@ -156,7 +156,7 @@ module _ (m : MapValue) (removal : Removal) (few_sources : length m.sources ≤ 
       by_case (Some text) e =
           let here = subst (HasPlace (used_sources m)) e kept.0 in
           let numbered : number_in (used_sources m) (source_of m t.src_id) ≡ here.0 = number-of (used_sources m) (source_of m t.src_id) text here.0 e here.1 in
-          let below = slice_get_within (used_sources m) here.0 text (slice_get-place_of text (used_sources m) here.0 here.1) in
+          let below = slice_get_within (used_sources m) here.0 text (slice_get-id_of text (used_sources m) here.0 here.1) in
           absurd (omega (arith, many, numbered, below, past))
 
   pub well_rewritten : IsWellFormed m → IsWellFormed (rewritten removal m)

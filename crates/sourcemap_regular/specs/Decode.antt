@@ -5,7 +5,7 @@ use Rattle.sourcemap_lists.specs.declared.tokens.RawToken.{RawToken}
 use Rattle.sourcemap_errors.specs.declared.errors.Error.{Error}
 use Rattle.sourcemap_errors.specs.declared.errors.Error.TheVariants.{IncompatibleSourceMap}
 use Rattle.sourcemap_records.specs.Jsontypes.{Fields, Tree, plain, indexed, flat}
-use Rattle.sourcemap_conversions.specs.FromRecord.{parts_of}
+use Rattle.sourcemap_conversions.specs.FromRecord.{parts_from}
 use Rattle.sourcemap_regular.specs.Map.{MapValue}
 use Rattle.sourcemap_regular.specs.MapStored.{map_in}
 pub use Rattle.sourcemap_conversions.specs.FromRecord.{listed, number_read, name_read, file_read, source_read, rising}
@@ -13,7 +13,7 @@ pub use Rattle.sourcemap_conversions.specs.FromRecord.{HasRoom, TokensAnswer}
 
 -- the map of a record whose mappings stand for these tokens
 abbrev pub map_of : Fields → List RawToken → MapValue
-map_of r tokens = map_in (parts_of r tokens)
+map_of r tokens = map_in (parts_from r tokens)
 
 -- what a record is decoded to: a list too long comes first, then the first fault of the mappings
 abbrev pub RecordDecodes : Fields → Result MapValue Error → Type 0

@@ -3,7 +3,7 @@
 use Rattle.std.specs.Prelude.{◌≡◌, ℕ, ◌+◌, List, [], length, map, min, slice_get, Bool, Option, None, option_map}
 use Rattle.sourcemap_lists.specs.declared.tokens.RawToken.{RawToken}
 use Rattle.sourcemap_lists.specs.Tokens.{AllWithin, in_order, closest_token}
-use Rattle.sourcemap_parts.specs.Contents.{contents_at}
+use Rattle.sourcemap_lists.specs.Items.{item_at}
 use Rattle.sourcemap_parts.specs.Sources.{shown}
 pub use Rattle.sourcemap_composition.specs.Moved.{distance}
 pub use Rattle.sourcemap_parts.specs.Contents.{fitted}
@@ -59,7 +59,7 @@ name_of m id = slice_get m.names id
 
 -- the contents of a source, where there are some
 abbrev pub contents_of : MapValue → ℕ → Option (List ℕ)
-contents_of m id = contents_at m.contents id
+contents_of m id = item_at m.contents id
 
 -- a column so far to the right, as far as numbers go
 abbrev pub column_behind : ℕ → ℕ → ℕ

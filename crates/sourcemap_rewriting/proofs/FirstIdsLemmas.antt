@@ -8,7 +8,7 @@ use Rattle.std.proofs.lemmas.Bool.Decides.{nat_tests}
 use Rattle.std.proofs.lemmas.List.Folds.{find-append}
 use Rattle.std.proofs.lemmas.Option.{slice_get-map}
 use Rattle.std.proofs.lemmas.Slice.Eq.{bytes_eq-Decides}
-use Rattle.sourcemap_lists.specs.Interner.{place_of, with_text}
+use Rattle.sourcemap_lists.specs.Interner.{id_of, with_text}
 use Rattle.sourcemap_lists.specs.declared.tokens.RawToken.{RawToken}
 use Rattle.sourcemap_lists.proofs.AllLemmas.{All-append, All-at, All-unmapped}
 use Rattle.sourcemap_rewriting.specs.FirstIds.{names_text, first_of, firsts_of}
@@ -31,7 +31,7 @@ named texts text id = by_case (slice_get texts id)
     by_case (Some other) e = ap Some (sym ((bytes_eq-Decides text other).0 e))
 
 -- none of the numbers names a text that they do not keep
-none_names : (texts kept : List (List ℕ)) (text : List ℕ) → place_of text kept ≡ None → (ids : List ℕ)
+none_names : (texts kept : List (List ℕ)) (text : List ℕ) → id_of text kept ≡ None → (ids : List ℕ)
     → AllByRecursion (λ id. HasPlace kept (slice_get texts id)) ids → find (names_text texts text) ids ≡ None
 none_names texts kept text new [] all = refl
 none_names texts kept text new (id ∷ ids) all =
@@ -45,19 +45,19 @@ none_names texts kept text new (id ∷ ids) all =
         elim (cases_Bool (bytes_eq text other)) [
           | inl same ↦
               let alike : text ≡ other = (bytes_eq-Decides text other).0 same in
-              let old : place_of text kept ≡ Some h.0 = subst (λ t. place_of t kept ≡ Some h.0) (sym alike) h.1 in
+              let old : id_of text kept ≡ Some h.0 = subst (λ t. id_of t kept ≡ Some h.0) (sym alike) h.1 in
               cc
           | inr apart ↦ apart
         ]
 
-pub none_before : (texts : List (List ℕ)) (ids : List ℕ) (text : List ℕ) → place_of text (kept_of texts ids) ≡ None → find (names_text texts text) ids ≡ None
+pub none_before : (texts : List (List ℕ)) (ids : List ℕ) (text : List ℕ) → id_of text (kept_of texts ids) ≡ None → find (names_text texts text) ids ≡ None
 none_before texts ids text new =
     none_names texts (kept_of texts ids) text new ids
     (All-unmapped (HasPlace (kept_of texts ids)) (slice_get texts) ids (used-kept (map (slice_get texts) ids)))
 
 -- the first that names a new text is the next
 pub first_here : (texts : List (List ℕ)) (before later : List ℕ) (id : ℕ) (text : List ℕ)
-    → place_of text (kept_of texts before) ≡ None → slice_get texts id ≡ Some text → first_of texts (before ++ id ∷ later) text ≡ id
+    → id_of text (kept_of texts before) ≡ None → slice_get texts id ≡ Some text → first_of texts (before ++ id ∷ later) text ≡ id
 first_here texts before later id text new at =
     let test : ℕ → Bool = names_text texts text in
     let none : find test before ≡ None = none_before texts before text new in
@@ -91,7 +91,7 @@ all_found texts xs (id ∷ ids) =
 
 all_kept : (P : List ℕ → Type 0) (kept texts : List (List ℕ)) → AllByRecursion P kept → AllByRecursion P texts → AllByRecursion P (fold with_text kept texts)
 all_kept P kept [] h k = h
-all_kept P kept (text ∷ texts) h k = all_kept P (with_text kept text) texts (by_case (place_of text kept)) k.1
+all_kept P kept (text ∷ texts) h k = all_kept P (with_text kept text) texts (by_case (id_of text kept)) k.1
   where
     by_case : (o : Option ℕ) → AllByRecursion P (cond (is_some o) kept (kept ++ text ∷ []))
     by_case None = All-append P kept (text ∷ []) h (k.0, tt)
@@ -145,7 +145,7 @@ firsts-distinct texts ids = distinct_by_places (firsts_of texts ids) apart
             let same : first_of texts ids text ≡ x = cc in
             (text, at, subst (λ y. slice_get texts y ≡ Some text) same (first_names texts ids k text at))
 
-    one_place : (one other : List ℕ) (i j : ℕ) → Some one ≡ Some other → place_of one (kept_of texts ids) ≡ Some i → place_of other (kept_of texts ids) ≡ Some j → i ≡ j
+    one_place : (one other : List ℕ) (i j : ℕ) → Some one ≡ Some other → id_of one (kept_of texts ids) ≡ Some i → id_of other (kept_of texts ids) ≡ Some j → i ≡ j
     one_place one other i j same first second = cc
 
     apart : (i j x : ℕ) → slice_get (firsts_of texts ids) i ≡ Some x → slice_get (firsts_of texts ids) j ≡ Some x → i ≡ j

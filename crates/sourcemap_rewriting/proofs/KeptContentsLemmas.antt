@@ -5,45 +5,46 @@ use Rattle.std.proofs.lemmas.Bool.{cases_eq}
 use Rattle.std.proofs.lemmas.Option.{slice_get_read}
 use Rattle.std.proofs.lemmas.List.{length-set, length-replicate}
 use Rattle.sourcemap_rewriting.specs.Numbering.{first_some}
-use Rattle.sourcemap_rewriting.specs.KeptContents.{given, given_to, AreKept}
+use Rattle.sourcemap_lists.specs.Items.{item_at}
+use Rattle.sourcemap_rewriting.specs.KeptContents.{given_to, AreKept}
 use Rattle.sourcemap_rewriting.proofs.NumberingLemmas.{first_some-push, slice_get-set_same, slice_get-set_other, option_or-None}
 
 -- contents are where they were, or their new number has some
 abbrev pub AreLeft : List ℕ → (old now kept : List (Option (List ℕ))) → Type 0
-AreLeft numbers old now kept = (id : ℕ) → (given now id ≡ given old id)
-    ⊎ ((number : ℕ) × (text : List ℕ) × (slice_get numbers id ≡ Some number) × (given kept number ≡ Some text))
+AreLeft numbers old now kept = (id : ℕ) → (item_at now id ≡ item_at old id)
+    ⊎ ((number : ℕ) × (text : List ℕ) × (slice_get numbers id ≡ Some number) × (item_at kept number ≡ Some text))
 
-given-set_same : (xs : List (Option (List ℕ))) (i : ℕ) (o : Option (List ℕ)) → i < length xs → given (slice_set xs i o) i ≡ o
-given-set_same xs i o within = ap (option_and_then (λ x. x)) (slice_get-set_same xs i o within)
+item_at-set_same : (xs : List (Option (List ℕ))) (i : ℕ) (o : Option (List ℕ)) → i < length xs → item_at (slice_set xs i o) i ≡ o
+item_at-set_same xs i o within = ap (option_and_then (λ x. x)) (slice_get-set_same xs i o within)
 
-given-cleared : (xs : List (Option (List ℕ))) (i : ℕ) → given (slice_set xs i None) i ≡ None
-given-cleared [] i = refl
-given-cleared (x ∷ xs) zero = refl
-given-cleared (x ∷ xs) (suc i) = given-cleared xs i
+item_at-cleared : (xs : List (Option (List ℕ))) (i : ℕ) → item_at (slice_set xs i None) i ≡ None
+item_at-cleared [] i = refl
+item_at-cleared (x ∷ xs) zero = refl
+item_at-cleared (x ∷ xs) (suc i) = item_at-cleared xs i
 
-given-set_other : (xs : List (Option (List ℕ))) (i j : ℕ) (o : Option (List ℕ)) → j ≢ i → given (slice_set xs i o) j ≡ given xs j
-given-set_other xs i j o apart = ap (option_and_then (λ x. x)) (slice_get-set_other xs i j o apart)
+item_at-set_other : (xs : List (Option (List ℕ))) (i j : ℕ) (o : Option (List ℕ)) → j ≢ i → item_at (slice_set xs i o) j ≡ item_at xs j
+item_at-set_other xs i j o apart = ap (option_and_then (λ x. x)) (slice_get-set_other xs i j o apart)
 
-given_to-same : (numbers : List ℕ) (contents : List (Option (List ℕ))) (id k : ℕ) → slice_get numbers id ≡ Some k → given_to numbers contents k id ≡ given contents id
+given_to-same : (numbers : List ℕ) (contents : List (Option (List ℕ))) (id k : ℕ) → slice_get numbers id ≡ Some k → given_to numbers contents k id ≡ item_at contents id
 given_to-same numbers contents id k e = let same : (k == k) ≡ true = eq-eqb k k refl in rw (e, same) refl
 
 given_to-other : (numbers : List ℕ) (contents : List (Option (List ℕ))) (id n k : ℕ) → slice_get numbers id ≡ Some n → k ≢ n → given_to numbers contents k id ≡ None
 given_to-other numbers contents id n k e apart = rw e (by_case (n == k) refl)
   where
-    by_case : (b : Bool) → (n == k) ≡ b → cond b (given contents id) None ≡ None
+    by_case : (b : Bool) → (n == k) ≡ b → cond b (item_at contents id) None ≡ None
     by_case true same = absurd (apart (sym (eqb-true n k same)))
     by_case false _ = refl
 
-given-nothing : (count k : ℕ) → given (replicate count None) k ≡ None
-given-nothing zero k = refl
-given-nothing (suc n) zero = refl
-given-nothing (suc n) (suc k) = given-nothing n k
+item_at-nothing : (count k : ℕ) → item_at (replicate count None) k ≡ None
+item_at-nothing zero k = refl
+item_at-nothing (suc n) zero = refl
+item_at-nothing (suc n) (suc k) = item_at-nothing n k
 
 -- where there is nothing yet
 pub kept-none : (numbers : List ℕ) (contents kept : List (Option (List ℕ))) (count : ℕ) → kept ≡ replicate count None → AreKept numbers [] contents count kept
 kept-none numbers contents kept count e = record {
   many = ap length e ∙ length-replicate count None;
-  each = λ k below. ap (λ xs. given xs k) e ∙ given-nothing count k;
+  each = λ k below. ap (λ xs. item_at xs k) e ∙ item_at-nothing count k;
 }
 
 pub left-none : (numbers : List ℕ) (contents kept : List (Option (List ℕ))) → AreLeft numbers contents contents kept
@@ -53,76 +54,76 @@ module _ (numbers order : List ℕ) (old now kept now' kept' : List (Option (Lis
     (is : AreKept numbers order old count kept) (left : AreLeft numbers old now kept)
     (named : slice_get numbers id ≡ Some place) (within : place < count) where
   -- a number that has contents keeps them
-  module _ (text : List ℕ) (has : given kept place ≡ Some text) (same : kept' ≡ kept) (stay : now' ≡ now) where
+  module _ (text : List ℕ) (has : item_at kept place ≡ Some text) (same : kept' ≡ kept) (stay : now' ≡ now) where
     full-kept : AreKept numbers (order ++ id ∷ []) old count kept'
     full-kept = record {
       many = ap length same ∙ is.many;
-      each = λ k below. ap (λ xs. given xs k) same ∙ by_case k below (cases_eq k place) ∙ sym (first_some-push (given_to numbers old k) order id);
+      each = λ k below. ap (λ xs. item_at xs k) same ∙ by_case k below (cases_eq k place) ∙ sym (first_some-push (given_to numbers old k) order id);
     } where
-      by_case : (k : ℕ) → k < count → (k ≡ place) ⊎ (k ≢ place) → given kept k ≡ option_or (first_some (given_to numbers old k) order) (given_to numbers old k id)
-      by_case k below (inl e) = let some : first_some (given_to numbers old k) order ≡ Some text = sym (is.each k below) ∙ ap (given kept) e ∙ has in rw some (ap (given kept) e ∙ has)
+      by_case : (k : ℕ) → k < count → (k ≡ place) ⊎ (k ≢ place) → item_at kept k ≡ option_or (first_some (given_to numbers old k) order) (given_to numbers old k id)
+      by_case k below (inl e) = let some : first_some (given_to numbers old k) order ≡ Some text = sym (is.each k below) ∙ ap (item_at kept) e ∙ has in rw some (ap (item_at kept) e ∙ has)
       by_case k below (inr apart) = rw (given_to-other numbers old id place k named apart, option_or-None (first_some (given_to numbers old k) order)) (is.each k below)
 
     full-left : AreLeft numbers old now' kept'
     full-left = rw (same, stay) left
 
   -- one that has none gets some
-  module _ (has : given kept place ≡ None) (put : kept' ≡ slice_set kept place (given now id)) (cleared : now' ≡ slice_set now id None) where
-    untouched : given now id ≡ given old id
+  module _ (has : item_at kept place ≡ None) (put : kept' ≡ slice_set kept place (item_at now id)) (cleared : now' ≡ slice_set now id None) where
+    untouched : item_at now id ≡ item_at old id
     untouched = by_case (left id)
       where
-        by_case : (given now id ≡ given old id) ⊎ ((number : ℕ) × (text : List ℕ) × (slice_get numbers id ≡ Some number) × (given kept number ≡ Some text)) → given now id ≡ given old id
+        by_case : (item_at now id ≡ item_at old id) ⊎ ((number : ℕ) × (text : List ℕ) × (slice_get numbers id ≡ Some number) × (item_at kept number ≡ Some text)) → item_at now id ≡ item_at old id
         by_case (inl e) = e
-        by_case (inr (n, text, e, f)) = let same : n ≡ place = cc in let some : given kept place ≡ Some text = ap (given kept) (sym same) ∙ f in cc
+        by_case (inr (n, text, e, f)) = let same : n ≡ place = cc in let some : item_at kept place ≡ Some text = ap (item_at kept) (sym same) ∙ f in cc
 
-    here : given kept' place ≡ given old id
-    here = ap (λ xs. given xs place) put ∙ given-set_same kept place (given now id) (omega (arith, is.many)) ∙ untouched
+    here : item_at kept' place ≡ item_at old id
+    here = ap (λ xs. item_at xs place) put ∙ item_at-set_same kept place (item_at now id) (omega (arith, is.many)) ∙ untouched
 
     empty-kept : AreKept numbers (order ++ id ∷ []) old count kept'
     empty-kept = record {
-      many = ap length put ∙ length-set kept place (given now id) ∙ is.many;
+      many = ap length put ∙ length-set kept place (item_at now id) ∙ is.many;
       each = λ k below. by_case k below (cases_eq k place) ∙ sym (first_some-push (given_to numbers old k) order id);
     } where
-      by_case : (k : ℕ) → k < count → (k ≡ place) ⊎ (k ≢ place) → given kept' k ≡ option_or (first_some (given_to numbers old k) order) (given_to numbers old k id)
+      by_case : (k : ℕ) → k < count → (k ≡ place) ⊎ (k ≢ place) → item_at kept' k ≡ option_or (first_some (given_to numbers old k) order) (given_to numbers old k id)
       by_case k below (inl e) =
-          let none : first_some (given_to numbers old k) order ≡ None = sym (is.each k below) ∙ ap (given kept) e ∙ has in
+          let none : first_some (given_to numbers old k) order ≡ None = sym (is.each k below) ∙ ap (item_at kept) e ∙ has in
           let named' : slice_get numbers id ≡ Some k = named ∙ ap Some (sym e) in
-          rw (none, given_to-same numbers old id k named') (ap (given kept') e ∙ here)
+          rw (none, given_to-same numbers old id k named') (ap (item_at kept') e ∙ here)
       by_case k below (inr apart) =
           rw (given_to-other numbers old id place k named apart, option_or-None (first_some (given_to numbers old k) order))
-          (ap (λ xs. given xs k) put ∙ given-set_other kept place k (given now id) apart ∙ is.each k below)
+          (ap (λ xs. item_at xs k) put ∙ item_at-set_other kept place k (item_at now id) apart ∙ is.each k below)
 
     empty-left : AreLeft numbers old now' kept'
-    empty-left x = by_case (cases_eq x id) (given old id) refl (left x)
+    empty-left x = by_case (cases_eq x id) (item_at old id) refl (left x)
       where
-        by_case : (x ≡ id) ⊎ (x ≢ id) → (o : Option (List ℕ)) → given old id ≡ o
-            → (given now x ≡ given old x) ⊎ ((number : ℕ) × (text : List ℕ) × (slice_get numbers x ≡ Some number) × (given kept number ≡ Some text))
-            → (given now' x ≡ given old x) ⊎ ((number : ℕ) × (text : List ℕ) × (slice_get numbers x ≡ Some number) × (given kept' number ≡ Some text))
-        by_case (inl e) None f h = inl (ap (given now') e ∙ ap (λ xs. given xs id) cleared ∙ given-cleared now id ∙ sym f ∙ ap (given old) (sym e))
+        by_case : (x ≡ id) ⊎ (x ≢ id) → (o : Option (List ℕ)) → item_at old id ≡ o
+            → (item_at now x ≡ item_at old x) ⊎ ((number : ℕ) × (text : List ℕ) × (slice_get numbers x ≡ Some number) × (item_at kept number ≡ Some text))
+            → (item_at now' x ≡ item_at old x) ⊎ ((number : ℕ) × (text : List ℕ) × (slice_get numbers x ≡ Some number) × (item_at kept' number ≡ Some text))
+        by_case (inl e) None f h = inl (ap (item_at now') e ∙ ap (λ xs. item_at xs id) cleared ∙ item_at-cleared now id ∙ sym f ∙ ap (item_at old) (sym e))
         by_case (inl e) (Some text) f h = inr (place, text, ap (slice_get numbers) e ∙ named, here ∙ f)
-        by_case (inr apart) o f (inl e) = inl (ap (λ xs. given xs x) cleared ∙ given-set_other now id x None apart ∙ e)
+        by_case (inr apart) o f (inl e) = inl (ap (λ xs. item_at xs x) cleared ∙ item_at-set_other now id x None apart ∙ e)
         by_case (inr apart) o f (inr (n, text, e, g)) =
-            let other : n ≢ place = λ same. (let some : given kept place ≡ Some text = ap (given kept) (sym same) ∙ g in cc) in
-            inr (n, text, e, ap (λ xs. given xs n) put ∙ given-set_other kept place n (given now id) other ∙ g)
+            let other : n ≢ place = λ same. (let some : item_at kept place ≡ Some text = ap (item_at kept) (sym same) ∙ g in cc) in
+            inr (n, text, e, ap (λ xs. item_at xs n) put ∙ item_at-set_other kept place n (item_at now id) other ∙ g)
 
-  module _ (put : kept' ≡ cond (is_some (given kept place)) kept (slice_set kept place (given now id)))
-      (cleared : now' ≡ cond (is_some (given kept place)) now (slice_set now id None)) where
+  module _ (put : kept' ≡ cond (is_some (item_at kept place)) kept (slice_set kept place (item_at now id)))
+      (cleared : now' ≡ cond (is_some (item_at kept place)) now (slice_set now id None)) where
     pub kept-more : AreKept numbers (order ++ id ∷ []) old count kept'
-    kept-more = by_case (given kept place) refl
+    kept-more = by_case (item_at kept place) refl
       where
-        by_case : (o : Option (List ℕ)) → given kept place ≡ o → AreKept numbers (order ++ id ∷ []) old count kept'
+        by_case : (o : Option (List ℕ)) → item_at kept place ≡ o → AreKept numbers (order ++ id ∷ []) old count kept'
         by_case None e = empty-kept e (rw e at put) (rw e at cleared)
         by_case (Some text) e = full-kept text e (rw e at put) (rw e at cleared)
 
     pub left-more : AreLeft numbers old now' kept'
-    left-more = by_case (given kept place) refl
+    left-more = by_case (item_at kept place) refl
       where
-        by_case : (o : Option (List ℕ)) → given kept place ≡ o → AreLeft numbers old now' kept'
+        by_case : (o : Option (List ℕ)) → item_at kept place ≡ o → AreLeft numbers old now' kept'
         by_case None e = empty-left e (rw e at put) (rw e at cleared)
         by_case (Some text) e = full-left text e (rw e at put) (rw e at cleared)
 
 -- whether there are contents at a place
-pub given-at : (xs : List (Option (List ℕ))) (i : ℕ) (o : Option (List ℕ)) → i < length xs → o ≡ get_or xs i o
-    → is_some (given xs i) ≡ is_some o
-given-at xs i o within read =
+pub item_at-known : (xs : List (Option (List ℕ))) (i : ℕ) (o : Option (List ℕ)) → i < length xs → o ≡ get_or xs i o
+    → is_some (item_at xs i) ≡ is_some o
+item_at-known xs i o within read =
     ap (λ found. is_some (option_and_then (λ x. x) found)) (slice_get_read xs (length xs) i o refl within read)

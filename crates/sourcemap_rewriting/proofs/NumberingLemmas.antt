@@ -11,11 +11,11 @@ use Rattle.std.proofs.lemmas.Slice.Eq.{bytes_eq-Decides}
 use Rattle.std.proofs.lemmas.List.Sums.{fold-append}
 use Rattle.std.proofs.lemmas.List.{map_push, length_push, append-nil, length-set, length-replicate}
 use Rattle.std.proofs.lemmas.Option.{slice_get_within, slice_get_past, slice_get-map, slice_get_read}
-use Rattle.sourcemap_lists.specs.Interner.{place_of, with_text, AreDistinct}
+use Rattle.sourcemap_lists.specs.Interner.{id_of, with_text, AreDistinct}
 use Rattle.sourcemap_lists.proofs.AllLemmas.{All-append, All-at, All-weaker}
-use Rattle.sourcemap_lists.proofs.InternerLemmas.{AreDistinct-append, place_of-append, place_of-last, slice_get-place_of}
+use Rattle.sourcemap_lists.proofs.InternerLemmas.{AreDistinct-append, id_of-append, id_of-last, slice_get-id_of}
 use Rattle.sourcemap_rewriting.specs.Kept.{present, kept_once, number_in}
-use Rattle.sourcemap_rewriting.specs.Numbering.{with_text_if, first_some, HasPlace, kept_of, met_texts, IsMet, IsMetOrNot, NumbersMore, id_of, IsIndex, IsNumbering, Meets}
+use Rattle.sourcemap_rewriting.specs.Numbering.{with_text_if, first_some, HasPlace, kept_of, met_texts, IsMet, IsMetOrNot, NumbersMore, id_in, IsIndex, IsNumbering, Meets}
 use Rattle.sourcemap_rewriting.specs.declared.numbering.NewNumbers.{NewNumbers}
 use Rattle.sourcemap_rewriting.specs.declared.numbering.Numbering.{Numbering}
 
@@ -45,16 +45,16 @@ pub kept_of-push : (texts : List (List ℕ)) (ids : List ℕ) (id : ℕ) → kep
 kept_of-push texts ids id = ap (λ os. kept_once (present os)) (map_push (slice_get texts) ids id) ∙ kept_once-push (map (slice_get texts) ids) (slice_get texts id)
 
 -- a text that has a place keeps it
-pub place_of-with_text : (texts : List (List ℕ)) (text other : List ℕ) (n : ℕ) → place_of other texts ≡ Some n → place_of other (with_text texts text) ≡ Some n
-place_of-with_text texts text other n e =
-    elim (cases_Option (place_of text texts)) [
+pub id_of-with_text : (texts : List (List ℕ)) (text other : List ℕ) (n : ℕ) → id_of other texts ≡ Some n → id_of other (with_text texts text) ≡ Some n
+id_of-with_text texts text other n e =
+    elim (cases_Option (id_of text texts)) [
       | inl none ↦
           elim (cases_Bool (bytes_eq text other)) [
             | inl same ↦
                 let alike : text ≡ other = (bytes_eq-Decides text other).0 same in
-                let never : place_of other texts ≡ None = subst (λ t. place_of t texts ≡ None) alike none in
+                let never : id_of other texts ≡ None = subst (λ t. id_of t texts ≡ None) alike none in
                 cc
-            | inr apart ↦ rw (none, place_of-append texts text none other, apart) e
+            | inr apart ↦ rw (none, id_of-append texts text none other, apart) e
           ]
       | inr some ↦ rw some.1 e
     ]
@@ -63,22 +63,22 @@ place_of-with_text texts text other n e =
     cases_Option None = inl refl
     cases_Option (Some x) = inr (x, refl)
 
-pub place_of-with_text_if : (texts : List (List ℕ)) (o : Option (List ℕ)) (other : List ℕ) (n : ℕ) → place_of other texts ≡ Some n → place_of other (with_text_if texts o) ≡ Some n
-place_of-with_text_if texts None other n e = e
-place_of-with_text_if texts (Some t) other n e = place_of-with_text texts t other n e
+pub id_of-with_text_if : (texts : List (List ℕ)) (o : Option (List ℕ)) (other : List ℕ) (n : ℕ) → id_of other texts ≡ Some n → id_of other (with_text_if texts o) ≡ Some n
+id_of-with_text_if texts None other n e = e
+id_of-with_text_if texts (Some t) other n e = id_of-with_text texts t other n e
 
 -- also when more numbers are met
-pub place_of-kept_of : (texts : List (List ℕ)) (ids more : List ℕ) (text : List ℕ) (n : ℕ) → place_of text (kept_of texts ids) ≡ Some n → place_of text (kept_of texts (ids ++ more)) ≡ Some n
-place_of-kept_of texts ids [] text n e = rw (append-nil ids) e
-place_of-kept_of texts ids (id ∷ more) text n e =
-    let next : place_of text (kept_of texts (ids ++ id ∷ [])) ≡ Some n =
-    ap (place_of text) (kept_of-push texts ids id) ∙ place_of-with_text_if (kept_of texts ids) (slice_get texts id) text n e in
-    subst (λ all. place_of text (kept_of texts all) ≡ Some n) (append_assoc ids (id ∷ []) more) (place_of-kept_of texts (ids ++ id ∷ []) more text n next)
+pub id_of-kept_of : (texts : List (List ℕ)) (ids more : List ℕ) (text : List ℕ) (n : ℕ) → id_of text (kept_of texts ids) ≡ Some n → id_of text (kept_of texts (ids ++ more)) ≡ Some n
+id_of-kept_of texts ids [] text n e = rw (append-nil ids) e
+id_of-kept_of texts ids (id ∷ more) text n e =
+    let next : id_of text (kept_of texts (ids ++ id ∷ [])) ≡ Some n =
+    ap (id_of text) (kept_of-push texts ids id) ∙ id_of-with_text_if (kept_of texts ids) (slice_get texts id) text n e in
+    subst (λ all. id_of text (kept_of texts all) ≡ Some n) (append_assoc ids (id ∷ []) more) (id_of-kept_of texts (ids ++ id ∷ []) more text n next)
 
 AreDistinct-with_text : (texts : List (List ℕ)) (text : List ℕ) → AreDistinct texts → AreDistinct (with_text texts text)
-AreDistinct-with_text texts text distinct = by_case (place_of text texts) refl
+AreDistinct-with_text texts text distinct = by_case (id_of text texts) refl
   where
-    by_case : (o : Option ℕ) → place_of text texts ≡ o → AreDistinct (with_text texts text)
+    by_case : (o : Option ℕ) → id_of text texts ≡ o → AreDistinct (with_text texts text)
     by_case None e = rw e (AreDistinct-append texts text distinct e)
     by_case (Some n) e = rw e distinct
 
@@ -105,24 +105,24 @@ first_some-push f (y ∷ ys) x =
     option_or-assoc (Some x) b c = refl
 
 -- a text that was added has a place
-pub place_of-added : (texts : List (List ℕ)) (text : List ℕ) → (n : ℕ) × (place_of text (with_text texts text) ≡ Some n)
-place_of-added texts text = by_case (place_of text texts) refl
+pub id_of-added : (texts : List (List ℕ)) (text : List ℕ) → (n : ℕ) × (id_of text (with_text texts text) ≡ Some n)
+id_of-added texts text = by_case (id_of text texts) refl
   where
-    by_case : (o : Option ℕ) → place_of text texts ≡ o → (n : ℕ) × (place_of text (with_text texts text) ≡ Some n)
-    by_case None e = (length texts, rw e (place_of-last texts text (length texts) refl e))
+    by_case : (o : Option ℕ) → id_of text texts ≡ o → (n : ℕ) × (id_of text (with_text texts text) ≡ Some n)
+    by_case None e = (length texts, rw e (id_of-last texts text (length texts) refl e))
     by_case (Some n) e = (n, rw e e)
 
-pub place_of-fold : (us : List (List ℕ)) (texts : List (List ℕ)) (text : List ℕ) (n : ℕ) → place_of text texts ≡ Some n → place_of text (fold with_text texts us) ≡ Some n
-place_of-fold [] texts text n e = e
-place_of-fold (u ∷ us) texts text n e = place_of-fold us (with_text texts u) text n (place_of-with_text texts u text n e)
+pub id_of-fold : (us : List (List ℕ)) (texts : List (List ℕ)) (text : List ℕ) (n : ℕ) → id_of text texts ≡ Some n → id_of text (fold with_text texts us) ≡ Some n
+id_of-fold [] texts text n e = e
+id_of-fold (u ∷ us) texts text n e = id_of-fold us (with_text texts u) text n (id_of-with_text texts u text n e)
 
 -- each text in use is kept
 all_kept : (os : List (Option (List ℕ))) (texts : List (List ℕ)) → AllByRecursion (HasPlace (fold with_text texts (present os))) os
 all_kept [] texts = tt
 all_kept (None ∷ os) texts = (tt, all_kept os texts)
 all_kept (Some t ∷ os) texts =
-    let here = place_of-added texts t in
-    ((here.0, place_of-fold (present os) (with_text texts t) t here.0 here.1), all_kept os (with_text texts t))
+    let here = id_of-added texts t in
+    ((here.0, id_of-fold (present os) (with_text texts t) t here.0 here.1), all_kept os (with_text texts t))
 
 pub used-kept : (os : List (Option (List ℕ))) → AllByRecursion (HasPlace (kept_once (present os))) os
 used-kept os = all_kept os []
@@ -132,7 +132,7 @@ used-kept os = all_kept os []
 -- how many of the texts are not among those that are kept
 abbrev missing : List (List ℕ) → List (List ℕ) → ℕ
 missing kept [] = 0
-missing kept (text ∷ texts) = cond (is_some (place_of text kept)) 0 1 + missing kept texts
+missing kept (text ∷ texts) = cond (is_some (id_of text kept)) 0 1 + missing kept texts
 
 abbrev AreFew : List (List ℕ) → List (List ℕ) → Type 0
 AreFew kept texts = length kept + missing kept texts ≤ length texts
@@ -141,16 +141,16 @@ AreFew-none : (texts : List (List ℕ)) → AreFew [] texts
 AreFew-none [] = omega arith
 AreFew-none (t ∷ ts) = let rest : AreFew [] ts = AreFew-none ts in omega arith
 
-less_missing : (kept : List (List ℕ)) (added text : List ℕ) → cond (is_some (place_of text (with_text kept added))) 0 1 ≤ cond (is_some (place_of text kept)) 0 1
-less_missing kept added text = by_case (place_of text kept) refl
+less_missing : (kept : List (List ℕ)) (added text : List ℕ) → cond (is_some (id_of text (with_text kept added))) 0 1 ≤ cond (is_some (id_of text kept)) 0 1
+less_missing kept added text = by_case (id_of text kept) refl
   where
-    by_case : (o : Option ℕ) → place_of text kept ≡ o → cond (is_some (place_of text (with_text kept added))) 0 1 ≤ cond (is_some (place_of text kept)) 0 1
-    by_case None e = rw e (one_at_most (is_some (place_of text (with_text kept added))))
+    by_case : (o : Option ℕ) → id_of text kept ≡ o → cond (is_some (id_of text (with_text kept added))) 0 1 ≤ cond (is_some (id_of text kept)) 0 1
+    by_case None e = rw e (one_at_most (is_some (id_of text (with_text kept added))))
       where
         one_at_most : (b : Bool) → cond b 0 1 ≤ 1
         one_at_most true = omega arith
         one_at_most false = omega arith
-    by_case (Some n) e = rw (e, place_of-with_text kept added text n e) (omega arith)
+    by_case (Some n) e = rw (e, id_of-with_text kept added text n e) (omega arith)
 
 missing-with_text : (kept texts : List (List ℕ)) (added : List ℕ) → missing (with_text kept added) texts ≤ missing kept texts
 missing-with_text kept [] added = omega arith
@@ -159,13 +159,13 @@ missing-with_text kept (t ∷ ts) added =
     let rest = missing-with_text kept ts added in
     omega arith
 
-one_less : (kept texts : List (List ℕ)) (added : List ℕ) (i : ℕ) → slice_get texts i ≡ Some added → place_of added kept ≡ None → missing (with_text kept added) texts + 1 ≤ missing kept texts
+one_less : (kept texts : List (List ℕ)) (added : List ℕ) (i : ℕ) → slice_get texts i ≡ Some added → id_of added kept ≡ None → missing (with_text kept added) texts + 1 ≤ missing kept texts
 one_less kept [] added i at new = cc
 one_less kept (t ∷ ts) added zero at new =
     let same : t ≡ added = cc in
-    let found = place_of-added kept added in
-    let was : cond {A = ℕ} (is_some (place_of t kept)) 0 1 ≡ 1 = rw (same, new) refl in
-    let now : cond {A = ℕ} (is_some (place_of t (with_text kept added))) 0 1 ≡ 0 = rw (same, found.1) refl in
+    let found = id_of-added kept added in
+    let was : cond {A = ℕ} (is_some (id_of t kept)) 0 1 ≡ 1 = rw (same, new) refl in
+    let now : cond {A = ℕ} (is_some (id_of t (with_text kept added))) 0 1 ≡ 0 = rw (same, found.1) refl in
     let rest = missing-with_text kept ts added in
     omega arith
 one_less kept (t ∷ ts) added (suc i) at new =
@@ -176,10 +176,10 @@ one_less kept (t ∷ ts) added (suc i) at new =
 AreFew-with_text_if : (kept texts : List (List ℕ)) (i : ℕ) → AreFew kept texts → AreFew (with_text_if kept (slice_get texts i)) texts
 AreFew-with_text_if kept texts i few = by_case (slice_get texts i) refl
   where
-    length-new : (t : List ℕ) → place_of t kept ≡ None → length (with_text kept t) ≡ length kept + 1
+    length-new : (t : List ℕ) → id_of t kept ≡ None → length (with_text kept t) ≡ length kept + 1
     length-new t e = rw e (length_push kept t)
 
-    by_text : (t : List ℕ) → slice_get texts i ≡ Some t → (o : Option ℕ) → place_of t kept ≡ o → AreFew (with_text kept t) texts
+    by_text : (t : List ℕ) → slice_get texts i ≡ Some t → (o : Option ℕ) → id_of t kept ≡ o → AreFew (with_text kept t) texts
     by_text t e None new =
         let more = length-new t new in
         let less = one_less kept texts t i e new in
@@ -188,10 +188,10 @@ AreFew-with_text_if kept texts i few = by_case (slice_get texts i) refl
 
     by_case : (o : Option (List ℕ)) → slice_get texts i ≡ o → AreFew (with_text_if kept o) texts
     by_case None e = few
-    by_case (Some t) e = by_text t e (place_of t kept) refl
+    by_case (Some t) e = by_text t e (id_of t kept) refl
 
 -- there is room for a new one
-room-for_new : (kept texts : List (List ℕ)) (i : ℕ) (text : List ℕ) → AreFew kept texts → slice_get texts i ≡ Some text → place_of text kept ≡ None → length kept < length texts
+room-for_new : (kept texts : List (List ℕ)) (i : ℕ) (text : List ℕ) → AreFew kept texts → slice_get texts i ≡ Some text → id_of text kept ≡ None → length kept < length texts
 room-for_new kept texts i text few at new =
     let less = one_less kept texts text i at new in
     omega arith
@@ -215,12 +215,12 @@ kept_once-few texts ids = let all = AreFew-kept_of texts ids in omega arith
 -- a text that is kept has the number of its place, also when more are kept
 pub number_in-with_text_if : (kept : List (List ℕ)) (added o : Option (List ℕ)) → HasPlace kept o → number_in (with_text_if kept added) o ≡ number_in kept o
 number_in-with_text_if kept added None h = refl
-number_in-with_text_if kept added (Some t) h = rw (h.1, place_of-with_text_if kept added t h.0 h.1) refl
+number_in-with_text_if kept added (Some t) h = rw (h.1, id_of-with_text_if kept added t h.0 h.1) refl
 
 -- and its number names it
 pub slice_get-number_in : (kept : List (List ℕ)) (o : Option (List ℕ)) → length kept ≤ 4294967295 → HasPlace kept o → slice_get kept (number_in kept o) ≡ o
 slice_get-number_in kept None few h = slice_get_past kept 4294967295 few
-slice_get-number_in kept (Some t) few h = rw h.1 (slice_get-place_of t kept h.0 h.1)
+slice_get-number_in kept (Some t) few h = rw h.1 (slice_get-id_of t kept h.0 h.1)
 
 -- Items of lists.
 
@@ -280,22 +280,22 @@ numbering-new texts n numbers order none = record {
     others = λ id text e. inl (ap (λ xs. slice_get xs id) numbers ∙ slice_get-replicate (length texts) 4294967295 id (slice_get_within texts id text e));
   };
   index = record {
-    places = λ text. ap (lookup (λ key. bytes_eq text key.now)) none ∙ sym (ap (λ ids. place_of text (kept_of texts ids)) order);
+    places = λ text. ap (lookup (λ key. bytes_eq text key.now)) none ∙ sym (ap (λ ids. id_of text (kept_of texts ids)) order);
     count = ap length none ∙ sym (ap (λ ids. length (kept_of texts ids)) order);
   };
 }
 
 module _ (texts : List (List ℕ)) (n : Numbering) (id : ℕ) (text : List ℕ) (is : IsNumbering texts n) (named : slice_get texts id ≡ Some text) where
-  pub known-met : (known : ℕ) → slice_get n.met.numbers.items id ≡ Some known → known ≢ 4294967295 → (k : ℕ) × (slice_get n.met.order.items k ≡ Some id) × (place_of text (met_texts texts n.met) ≡ Some known)
+  pub known-met : (known : ℕ) → slice_get n.met.numbers.items id ≡ Some known → known ≢ 4294967295 → (k : ℕ) × (slice_get n.met.order.items k ≡ Some id) × (id_of text (met_texts texts n.met) ≡ Some known)
   known-met known numbered apart = by_case (is.numbered.others id text named)
     where
-      by_case : IsMetOrNot texts n.met id → (k : ℕ) × (slice_get n.met.order.items k ≡ Some id) × (place_of text (met_texts texts n.met) ≡ Some known)
+      by_case : IsMetOrNot texts n.met id → (k : ℕ) × (slice_get n.met.order.items k ≡ Some id) × (id_of text (met_texts texts n.met) ≡ Some known)
       by_case (inl none) = let same : 4294967295 ≡ known = cc in absurd (apart (sym same))
       by_case (inr (k, at)) =
           let met = All-at (IsMet texts n.met) n.met.order.items k id at is.numbered.met in
           let same_text : met.text ≡ text = let e = met.named in cc in
           let same_number : met.number ≡ known = let e = met.numbered in cc in
-          (k, at, subst (λ t. place_of t (met_texts texts n.met) ≡ Some known) same_text (met.placed ∙ ap Some same_number))
+          (k, at, subst (λ t. id_of t (met_texts texts n.met) ≡ Some known) same_text (met.placed ∙ ap Some same_number))
 
   -- one that was met before
   pub more-known : (known : ℕ) → slice_get n.met.numbers.items id ≡ Some known → known ≢ 4294967295 → NumbersMore texts id n.met n.met
@@ -309,7 +309,7 @@ module _ (texts : List (List ℕ)) (n : Numbering) (id : ℕ) (text : List ℕ) 
   pub number-known : (known : ℕ) → slice_get n.met.numbers.items id ≡ Some known → known ≢ 4294967295 → number_in (met_texts texts n.met) (slice_get texts id) ≡ known
   number-known known numbered apart = let met = known-met known numbered apart in rw (named, met.2) refl
 
-  pub room : length texts ≤ 4294967295 → id_of n.ids text ≡ None → hash_map_len n.ids < 4294967295
+  pub room : length texts ≤ 4294967295 → id_in n.ids text ≡ None → hash_map_len n.ids < 4294967295
   room few new =
       let less = room-for_new (met_texts texts n.met) texts id text (AreFew-kept_of texts n.met.order.items) named (sym (is.index.places text) ∙ new) in
       omega (arith, is.index.count)
@@ -328,8 +328,8 @@ module _ (texts : List (List ℕ)) (n : Numbering) (id : ℕ) (text : List ℕ) 
     kept_new : met_texts texts next.met ≡ with_text (met_texts texts n.met) text
     kept_new = kept_more ∙ ap (with_text_if (met_texts texts n.met)) named
 
-    placed : place_of text (met_texts texts next.met) ≡ Some number
-    placed = ap (place_of text) kept_new ∙ meets.place (met_texts texts n.met) is.index
+    placed : id_of text (met_texts texts next.met) ≡ Some number
+    placed = ap (id_of text) kept_new ∙ meets.place (met_texts texts n.met) is.index
 
     here_met : IsMet texts next.met id
     here_met = record { text = text; number = number; named = named; numbered = numbered; placed = placed }
@@ -343,7 +343,7 @@ module _ (texts : List (List ℕ)) (n : Numbering) (id : ℕ) (text : List ℕ) 
             number = met.number;
             named = met.named;
             numbered = ap (λ xs. slice_get xs x) meets.numbers ∙ slice_get-set_other n.met.numbers.items id x number other ∙ met.numbered;
-            placed = ap (place_of met.text) kept_new ∙ place_of-with_text (met_texts texts n.met) text met.text met.number met.placed;
+            placed = ap (id_of met.text) kept_new ∙ id_of-with_text (met_texts texts n.met) text met.text met.number met.placed;
           }
         ]
 

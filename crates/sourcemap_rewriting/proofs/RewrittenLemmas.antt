@@ -10,15 +10,16 @@ use Rattle.std.proofs.lemmas.Option.{slice_get-map, slice_get-get_or, slice_get_
 use Rattle.std.proofs.lemmas.Slice.Eq.{bytes_eq-Decides}
 use Rattle.sourcemap_errors.specs.declared.errors.Error.{Error}
 use Rattle.sourcemap_lists.specs.declared.tokens.RawToken.{RawToken}
-use Rattle.sourcemap_lists.specs.Interner.{place_of, AreDistinct}
-use Rattle.sourcemap_lists.proofs.InternerLemmas.{slice_get-place_of}
+use Rattle.sourcemap_lists.specs.Interner.{id_of, AreDistinct}
+use Rattle.sourcemap_lists.proofs.InternerLemmas.{slice_get-id_of}
 use Rattle.sourcemap_texts.specs.Texts.{texts_of}
 use Rattle.sourcemap_texts.specs.Prefixes.{cut_by}
 use Rattle.sourcemap_rewriting.specs.CutSources.{all_prefixes}
 use Rattle.sourcemap_rewriting.specs.Options.{Removal}
 use Rattle.sourcemap_rewriting.specs.Kept.{present}
 use Rattle.sourcemap_rewriting.specs.Numbering.{first_some, met_texts, IsMet, AreNumbered, AreMet}
-use Rattle.sourcemap_rewriting.specs.KeptContents.{given, given_to, IsPlaced, AreKept}
+use Rattle.sourcemap_lists.specs.Items.{item_at}
+use Rattle.sourcemap_rewriting.specs.KeptContents.{given_to, IsPlaced, AreKept}
 use Rattle.sourcemap_rewriting.specs.Rewritten.{contents_among, contents_due, sources_used, names_used, AreFew, AreRewritten}
 use Rattle.sourcemap_rewriting.specs.declared.rewritten.RewrittenParts.{RewrittenParts}
 use Rattle.sourcemap_rewriting.specs.declared.numbering.NewNumbers.{NewNumbers}
@@ -30,7 +31,7 @@ all_placed : (S : List (List ℕ)) (s : NewNumbers) → AreNumbered S s → AllB
 all_placed S s is = All-weaker (IsMet S s) (IsPlaced s.numbers.items (length (met_texts S s))) placed s.order.items is.met
   where
     placed : (id : ℕ) → IsMet S s id → IsPlaced s.numbers.items (length (met_texts S s)) id
-    placed id met = (met.number, met.numbered, slice_get_within (met_texts S s) met.number met.text (slice_get-place_of met.text (met_texts S s) met.number met.placed))
+    placed id met = (met.number, met.numbered, slice_get_within (met_texts S s) met.number met.text (slice_get-id_of met.text (met_texts S s) met.number met.placed))
 
 -- and each has one below the count of the texts that were moved
 pub placed_among : (S : List (List ℕ)) (s : NewNumbers) (texts : Vec (String Global) Global) (count : ℕ) → AreNumbered S s → texts_of texts ≡ met_texts S s → count ≡ vec_len texts
@@ -57,13 +58,13 @@ first_some-same : (P : ℕ → Type 0) (f g : ℕ → Option (List ℕ)) → ((x
 first_some-same P f g same [] all = refl
 first_some-same P f g same (x ∷ xs) all = λ i. option_or (same x all.0 i) (first_some-same P f g same xs all.1 i)
 
-same_given : (xs ys : List (Option (List ℕ))) → length xs ≡ length ys → ((k : ℕ) → k < length xs → given xs k ≡ given ys k) → xs ≡ ys
+same_given : (xs ys : List (Option (List ℕ))) → length xs ≡ length ys → ((k : ℕ) → k < length xs → item_at xs k ≡ item_at ys k) → xs ≡ ys
 same_given [] [] many each = refl
 same_given [] (y ∷ ys) many each = absurd (omega arith)
 same_given (x ∷ xs) [] many each = absurd (omega arith)
 same_given (x ∷ xs) (y ∷ ys) many each = λ i. each 0 (omega arith) i ∷ same_given xs ys (omega arith) (λ k below. each (suc k) (omega arith)) i
 
-tests_agree : (kept : List (List ℕ)) → AreDistinct kept → (text other : List ℕ) (k n : ℕ) → slice_get kept k ≡ Some text → place_of other kept ≡ Some n → (n == k) ≡ bytes_eq other text
+tests_agree : (kept : List (List ℕ)) → AreDistinct kept → (text other : List ℕ) (k n : ℕ) → slice_get kept k ≡ Some text → id_of other kept ≡ Some n → (n == k) ≡ bytes_eq other text
 tests_agree kept distinct text other k n at placed = by_case (cases_eq n k)
   where
     by_bool : (b c : Bool) → (n == k) ≡ b → bytes_eq other text ≡ c → (b ≡ c → (n == k) ≡ bytes_eq other text)
@@ -73,20 +74,20 @@ tests_agree kept distinct text other k n at placed = by_case (cases_eq n k)
     different apart true c e f = absurd (apart (eqb-true n k e))
     different apart false true e f =
         let alike : other ≡ text = (bytes_eq-Decides other text).0 f in
-        let here : place_of other kept ≡ Some k = ap (λ t. place_of t kept) alike ∙ distinct text k at in
+        let here : id_of other kept ≡ Some k = ap (λ t. id_of t kept) alike ∙ distinct text k at in
         absurd (apart (let both : Some n ≡ Some k = sym placed ∙ here in cc))
     different apart false false e f = e ∙ sym f
 
     by_case : (n ≡ k) ⊎ (n ≢ k) → (n == k) ≡ bytes_eq other text
     by_case (inl e) =
-        let there : slice_get kept k ≡ Some other = ap (slice_get kept) (sym e) ∙ slice_get-place_of other kept n placed in
+        let there : slice_get kept k ≡ Some other = ap (slice_get kept) (sym e) ∙ slice_get-id_of other kept n placed in
         let alike : other ≡ text = cc in
         eq-eqb n k e ∙ sym ((bytes_eq-Decides other text).1 alike)
     by_case (inr apart) = different apart (n == k) (bytes_eq other text) refl refl
 
 -- the contents of an old number, if its text is this one
 abbrev of_id : List (List ℕ) → List (Option (List ℕ)) → List ℕ → ℕ → Option (List ℕ)
-of_id S contents text id = option_and_then (λ source. cond (bytes_eq source text) (given contents id) None) (slice_get S id)
+of_id S contents text id = option_and_then (λ source. cond (bytes_eq source text) (item_at contents id) None) (slice_get S id)
 
 pub contents-kept : (S N : List (List ℕ)) (ts : List RawToken) (s n : NewNumbers) (contents kept : List (Option (List ℕ)))
     → AreMet S N ts s n → AreNumbered S s → AreKept s.numbers.items s.order.items contents (length (met_texts S s)) kept
@@ -100,13 +101,13 @@ contents-kept S N ts s n contents kept met numbered are =
 
     of_met : (k : ℕ) (text : List ℕ) → slice_get (met_texts S s) k ≡ Some text → (id : ℕ) → IsMet S s id → given_to s.numbers.items contents k id ≡ of_id S contents text id
     of_met k text at id is =
-        rw (is.numbered, is.named) (ap (λ b. cond b (given contents id) None) (tests_agree (met_texts S s) (distinct-kept_of S s.order.items) text is.text k is.number at is.placed))
+        rw (is.numbered, is.named) (ap (λ b. cond b (item_at contents id) None) (tests_agree (met_texts S s) (distinct-kept_of S s.order.items) text is.text k is.number at is.placed))
 
-    each : (k : ℕ) → k < length (met_texts S s) → given kept k ≡ given (map (contents_due S contents ts) (met_texts S s)) k
+    each : (k : ℕ) → k < length (met_texts S s) → item_at kept k ≡ item_at (map (contents_due S contents ts) (met_texts S s)) k
     each k below =
         let text : List ℕ = get_or (met_texts S s) k [] in
         let at : slice_get (met_texts S s) k ≡ Some text = slice_get-get_or (met_texts S s) k [] below in
-        let due : given (map (contents_due S contents ts) (met_texts S s)) k ≡ contents_due S contents ts text =
+        let due : item_at (map (contents_due S contents ts) (met_texts S s)) k ≡ contents_due S contents ts text =
         ap (option_and_then (λ o. o)) (slice_get-map (contents_due S contents ts) (met_texts S s) k ∙ ap (option_map (contents_due S contents ts)) at) in
         are.each k below
         ∙ first_some-same (IsMet S s) (given_to s.numbers.items contents k) (of_id S contents text) (of_met k text at) s.order.items numbered.met

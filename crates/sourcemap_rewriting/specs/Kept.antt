@@ -1,6 +1,6 @@
 -- Texts that are kept once each, and their numbers.
 use Rattle.std.specs.Prelude.{ℕ, List, [], ◌∷◌, fold, Option, Some, None, option_and_then, unwrap_or}
-use Rattle.sourcemap_lists.specs.Interner.{place_of, with_text}
+use Rattle.sourcemap_lists.specs.Interner.{id_of, with_text}
 use Rattle.sourcemap_lists.specs.Tokens.{no_id}
 
 -- those that are there
@@ -15,4 +15,4 @@ kept_once texts = fold with_text [] texts
 
 -- the number of a text among these, `no_id` for no text and for one that is not among them
 abbrev pub number_in : List (List ℕ) → Option (List ℕ) → ℕ
-number_in texts text = unwrap_or (option_and_then (λ text. place_of text texts) text) no_id
+number_in texts text = unwrap_or (option_and_then (λ text. id_of text texts) text) no_id

@@ -5,7 +5,7 @@ use Rattle.std.specs.HashMap.{HashMap, get_by, hash_map_len}
 use Rattle.std.specs.List.{AllByRecursion}
 use Rattle.std.specs.Str.{bytes_eq}
 use denote.Ref.{Bor}
-use Rattle.sourcemap_lists.specs.Interner.{place_of, with_text}
+use Rattle.sourcemap_lists.specs.Interner.{id_of, with_text}
 use Rattle.sourcemap_lists.specs.Tokens.{no_id}
 use Rattle.sourcemap_lists.specs.declared.tokens.RawToken.{RawToken}
 use Rattle.sourcemap_rewriting.specs.Kept.{present, kept_once, number_in}
@@ -25,7 +25,7 @@ first_some f (x ∷ xs) = option_or (f x) (first_some f xs)
 -- a text among these, or none
 abbrev pub HasPlace : List (List ℕ) → Option (List ℕ) → Type 0
 HasPlace texts None = Unit {0}
-HasPlace texts (Some text) = (n : ℕ) × (place_of text texts ≡ Some n)
+HasPlace texts (Some text) = (n : ℕ) × (id_of text texts ≡ Some n)
 
 -- the texts that these numbers name, each once
 abbrev pub kept_of : List (List ℕ) → List ℕ → List (List ℕ)
@@ -41,7 +41,7 @@ pub record IsMet (texts : List (List ℕ)) (n : NewNumbers) (id : ℕ) : Type 0 
   pub number : ℕ
   pub named : slice_get texts id ≡ Some text
   pub numbered : slice_get n.numbers.items id ≡ Some number
-  pub placed : place_of text (met_texts texts n) ≡ Some number
+  pub placed : id_of text (met_texts texts n) ≡ Some number
 
 -- an old number that was not met has no new one
 abbrev pub IsMetOrNot : (texts : List (List ℕ)) → NewNumbers → ℕ → Type 0
@@ -60,12 +60,12 @@ pub record NumbersMore (texts : List (List ℕ)) (id : ℕ) (old new : NewNumber
       → first_some f new.order.items ≡ option_or (first_some f old.order.items) (f id)
 
 -- the id that a text has in a map
-abbrev pub id_of : {S : Type 0} → HashMap (Bor (List ℕ)) ℕ S → List ℕ → Option ℕ
-id_of ids text = get_by (λ key. bytes_eq text key.now) ids
+abbrev pub id_in : {S : Type 0} → HashMap (Bor (List ℕ)) ℕ S → List ℕ → Option ℕ
+id_in ids text = get_by (λ key. bytes_eq text key.now) ids
 
 -- each of these texts has the number of its place, and no other has one
 pub record IsIndex {S : Type 0} (texts : List (List ℕ)) (ids : HashMap (Bor (List ℕ)) ℕ S) : Type 0 where
-  pub places : (text : List ℕ) → id_of ids text ≡ place_of text texts
+  pub places : (text : List ℕ) → id_in ids text ≡ id_of text texts
   pub count : hash_map_len ids ≡ length texts
 
 pub record IsNumbering (texts : List (List ℕ)) (n : Numbering) : Type 0 where
@@ -74,7 +74,7 @@ pub record IsNumbering (texts : List (List ℕ)) (n : Numbering) : Type 0 where
 
 -- with an old number that was not met before
 pub record Meets (text : List ℕ) (id number : ℕ) (old new : Numbering) : Type 0 where
-  pub place : (texts : List (List ℕ)) → IsIndex texts old.ids → place_of text (with_text texts text) ≡ Some number
+  pub place : (texts : List (List ℕ)) → IsIndex texts old.ids → id_of text (with_text texts text) ≡ Some number
   pub index : (texts : List (List ℕ)) → IsIndex texts old.ids → IsIndex (with_text texts text) new.ids
   pub order : new.met.order.items ≡ old.met.order.items ++ id ∷ []
   pub numbers : new.met.numbers.items ≡ slice_set old.met.numbers.items id number

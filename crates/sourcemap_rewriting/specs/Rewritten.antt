@@ -1,6 +1,7 @@
 -- The parts of a map that a rewriting changes, as they are due.
 use Rattle.std.specs.Prelude.{◌≡◌, ◌≤◌, ℕ, cond, List, [], map, slice_get, Option, None, option_and_then, vec_len}
 use Rattle.std.specs.Str.{bytes_eq}
+use Rattle.sourcemap_lists.specs.Items.{item_at}
 use Rattle.sourcemap_lists.specs.declared.tokens.RawToken.{RawToken}
 use Rattle.sourcemap_texts.specs.Texts.{texts_of}
 use Rattle.sourcemap_texts.specs.Prefixes.{cut_by}
@@ -8,14 +9,13 @@ use Rattle.sourcemap_rewriting.specs.Options.{Removal}
 use Rattle.sourcemap_rewriting.specs.CutSources.{all_prefixes}
 use Rattle.sourcemap_rewriting.specs.FirstIds.{firsts_of}
 use Rattle.sourcemap_rewriting.specs.Kept.{present}
-use Rattle.sourcemap_rewriting.specs.KeptContents.{given}
 use Rattle.sourcemap_rewriting.specs.Numbering.{kept_of, numbered_by}
 use Rattle.sourcemap_rewriting.specs.declared.rewritten.RewrittenParts.{RewrittenParts}
 
 -- the contents of a token's source, if that is this text
 abbrev pub contents_among : List (List ℕ) → List (Option (List ℕ)) → List ℕ → RawToken → Option (List ℕ)
 contents_among sources contents text t =
-    option_and_then (λ source. cond (bytes_eq source text) (given contents t.src_id) None) (slice_get sources t.src_id)
+    option_and_then (λ source. cond (bytes_eq source text) (item_at contents t.src_id) None) (slice_get sources t.src_id)
 
 -- the contents of the first token in order whose source is this text, and has some
 abbrev pub contents_due : List (List ℕ) → List (Option (List ℕ)) → List RawToken → List ℕ → Option (List ℕ)

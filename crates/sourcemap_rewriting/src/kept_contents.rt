@@ -2,23 +2,13 @@
 ghost use Rattle.std.specs.Prelude.{◌≡◌, ◌<◌, None, IfOk, IsOkUnless, cond, is_some, replicate, slice_set, vec_len};
 ghost use Rattle.std.specs.List.{AllByRecursion};
 ghost use Rattle.sourcemap_errors.specs.declared.errors.Error.TheVariants.{OutOfMemory};
-ghost use Rattle.sourcemap_rewriting.specs.KeptContents.{AreKept, IsPlaced, given};
+ghost use Rattle.sourcemap_lists.specs.Items.{item_at};
+ghost use Rattle.sourcemap_rewriting.specs.KeptContents.{AreKept, IsPlaced};
 
 use sourcemap_errors::errors::Result;
+use sourcemap_lists::items::taken;
 use sourcemap_views::sourceview::SourceView;
 use std::alloc::Global;
-
-// The contents at a place, which are taken away from there.
-fn taken(contents: &mut Vec<Option<SourceView>>, id: usize) -> Option<SourceView>
-    ensures taken { result ≡ given contents.old.items id }
-    ensures left { contents.new.items ≡ slice_set contents.old.items id None }
-{
-    if id < contents.len() {
-        contents[id].take()
-    } else {
-        None
-    }
-}
 
 // Moves contents to a place that has none yet.
 fn give(
@@ -28,10 +18,10 @@ fn give(
     place: usize,
 )
     requires { place < vec_len kept.old }
-    ensures kept { kept.new.items ≡ cond (is_some (given kept.old.items place)) kept.old.items
-        (slice_set kept.old.items place (given contents.old.items id)) }
+    ensures kept { kept.new.items ≡ cond (is_some (item_at kept.old.items place)) kept.old.items
+        (slice_set kept.old.items place (item_at contents.old.items id)) }
     ensures left { contents.new.items
-        ≡ cond (is_some (given kept.old.items place)) contents.old.items
+        ≡ cond (is_some (item_at kept.old.items place)) contents.old.items
         (slice_set contents.old.items id None) }
 {
     if kept[place].is_none() {

@@ -1,11 +1,11 @@
 //! New numbers for texts that have old ones.
 ghost use Rattle.std.specs.Prelude.{◌≡◌, ◌<◌, ◌≤◌, ℕ, List, None, Some, [], length, map, slice_get, string_bytes, vec_len, replicate, IfOk, OnOk, IsOkUnless};
 ghost use Rattle.std.specs.HashMap.{IsEmpty, hash_map_len};
-ghost use Rattle.sourcemap_lists.specs.Interner.{place_of, with_text};
+ghost use Rattle.sourcemap_lists.specs.Interner.{id_of, with_text};
 ghost use Rattle.sourcemap_lists.specs.Tokens.{no_id};
 ghost use Rattle.sourcemap_errors.specs.declared.errors.Error.TheVariants.{OutOfMemory};
 ghost use Rattle.sourcemap_rewriting.specs.Kept.{number_in};
-ghost use Rattle.sourcemap_rewriting.specs.Numbering.{IsIndex, IsNumbering, NumbersMore, Meets, id_of, met_texts};
+ghost use Rattle.sourcemap_rewriting.specs.Numbering.{IsIndex, IsNumbering, NumbersMore, Meets, id_in, met_texts};
 
 use sourcemap_errors::errors::Result;
 use sourcemap_lists::tokens::NO_ID;
@@ -75,7 +75,7 @@ impl<'a> Numbering<'a> {
     // Gives a number to an old one that was not met before.
     fn meet(&mut self, text: &'a str, id: u32) -> Result<u32>
         requires within { id < vec_len self.old.met.numbers }
-        requires room { id_of self.old.ids text.now ≡ None
+        requires room { id_in self.old.ids text.now ≡ None
             → hash_map_len self.old.ids < 4294967295 }
         ensures met { IfOk result (λ number. Meets text.now id number self.old self.new) }
         ensures memory { IsOkUnless result OutOfMemory }
@@ -90,9 +90,9 @@ impl<'a> Numbering<'a> {
 /// The number of a text among those that have one, the next one where it has none. Of such a text
 /// there are to be fewer than 4294967295 others. Only want of memory refuses.
 pub fn number_of<'a>(ids: &mut HashMap<&'a str, u32>, text: &'a str) -> Result<u32>
-    requires room { id_of ids.old text.now ≡ None → hash_map_len ids.old < 4294967295 }
+    requires room { id_in ids.old text.now ≡ None → hash_map_len ids.old < 4294967295 }
     ensures number { (texts : List (List ℕ)) → IsIndex texts ids.old
-        → IfOk result (λ number. place_of text.now (with_text texts text.now) ≡ Some number) }
+        → IfOk result (λ number. id_of text.now (with_text texts text.now) ≡ Some number) }
     ensures index { (texts : List (List ℕ)) → IsIndex texts ids.old
         → OnOk result (IsIndex (with_text texts text.now) ids.new) }
     ensures memory { IsOkUnless result OutOfMemory }

@@ -3,7 +3,8 @@ use Rattle.std.proofs.Common.{◌≡◌, ◌≢◌, ℕ, zero, suc, List, [], �
 use Rattle.std.specs.List.{IsDistinct, AllByRecursion}
 use Rattle.std.proofs.lemmas.Bool.Decides.{nat_tests}
 use Rattle.std.proofs.lemmas.List.{map-set}
-use Rattle.sourcemap_scopes.specs.Picks.{item_at, items_at, moved_items}
+use Rattle.sourcemap_lists.specs.Items.{item_at}
+use Rattle.sourcemap_scopes.specs.Picks.{items_at, moved_items}
 
 -- Of distinct ids.
 

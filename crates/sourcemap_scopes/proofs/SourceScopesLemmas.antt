@@ -8,7 +8,8 @@ use Rattle.sourcemap_lists.proofs.DecidesLemmas.{decides_both}
 use Rattle.sourcemap_parts.proofs.TextListsLemmas.{options_decide, texts_decide, text_lists_decide}
 use Rattle.sourcemap_records.specs.Jsontypes.{Scopes}
 use Rattle.sourcemap_records.specs.declared.jsontypes.FacebookScopeMapping.{FacebookScopeMapping}
-use Rattle.sourcemap_scopes.specs.Picks.{item_at, moved_items}
+use Rattle.sourcemap_lists.specs.Items.{item_at}
+use Rattle.sourcemap_scopes.specs.Picks.{moved_items}
 use Rattle.sourcemap_scopes.specs.ScopeLists.{ScopeEntry, EntryStandsFor, ScopesStandFor, entry_in, list_in, first_scopes, same_scopes}
 use Rattle.sourcemap_scopes.specs.SourceScopes.{SourceScopesValue, AreOfEntries, picked_scopes, same_source_scopes}
 use Rattle.sourcemap_scopes.specs.declared.offsets.HermesScopeOffset.{HermesScopeOffset}

@@ -1,9 +1,6 @@
--- Items by id, of which some are missing.
-use Rattle.std.specs.Prelude.{ℕ, List, [], ◌∷◌, map, slice_get, slice_set, Option, None, option_and_then}
-
--- the item with this id, if there is one
-abbrev pub item_at : {X : Type 0} → List (Option X) → ℕ → Option X
-item_at items id = option_and_then (λ item. item) (slice_get items id)
+-- Items by id that are moved to new places.
+use Rattle.std.specs.Prelude.{ℕ, List, [], ◌∷◌, map, slice_set, Option, None}
+use Rattle.sourcemap_lists.specs.Items.{item_at}
 
 -- the items with these ids, in this order
 abbrev pub items_at : {X : Type 0} → List (Option X) → List ℕ → List (Option X)

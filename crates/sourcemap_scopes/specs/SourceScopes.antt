@@ -8,7 +8,8 @@ use Rattle.std.specs.Cmp.Rules.{comparing}
 use Rattle.std.specs.Cmp.Lexicographic.{pointwise}
 use Rattle.std.proofs.Common.{rules}
 use Rattle.sourcemap_scopes.specs.FunctionMap.{AreOffsetsInOrder, closest_offset, offset_name, same_offsets}
-use Rattle.sourcemap_scopes.specs.Picks.{item_at, items_at}
+use Rattle.sourcemap_lists.specs.Items.{item_at}
+use Rattle.sourcemap_scopes.specs.Picks.{items_at}
 use Rattle.sourcemap_scopes.specs.ScopeLists.{ScopeEntry, EntryStandsFor, names_of, same_entry}
 use Rattle.sourcemap_scopes.specs.declared.offsets.HermesScopeOffset.{HermesScopeOffset}
 

@@ -8,7 +8,7 @@ ghost use Rattle.std.specs.Option.{option_copied, option_eq};
 ghost use Rattle.sourcemap_errors.specs.Answer.{Gives};
 ghost use Rattle.sourcemap_errors.specs.declared.errors.Error.TheVariants.{OutOfMemory};
 ghost use Rattle.sourcemap_scopes.specs.FunctionMap.{same_offsets};
-ghost use Rattle.sourcemap_scopes.specs.Picks.{item_at};
+ghost use Rattle.sourcemap_lists.specs.Items.{item_at};
 ghost use Rattle.sourcemap_scopes.specs.ScopeLists.{entries_in, names_of};
 ghost use Rattle.sourcemap_scopes.specs.SourceScopes.{SourceScopesValue, AreOfEntries, IsInOrderAt, name_index, picked_scopes, same_source_scopes, same_source_scopes_equiv, scope_at};
 

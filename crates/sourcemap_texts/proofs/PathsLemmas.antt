@@ -10,7 +10,7 @@ use Rattle.std.proofs.lemmas.Iterator.{YieldsList, items_from_drains}
 use Rattle.std.proofs.lemmas.Bool.{cases_Bool, cases_lt, or_cases, eqb-true, ne_eqb, le-leb, lt-leb}
 use Rattle.std.proofs.lemmas.Slice.Eq.{bytes_eq-Decides}
 use Rattle.std.proofs.lemmas.Str.{IsCharBoundary-start, IsCharBoundary-end, IsCharBoundary-before_ascii}
-use Rattle.sourcemap_texts.specs.Paths.{is_absolute, is_separator, lengthened, parts_of, common_parts, first_parts}
+use Rattle.sourcemap_texts.specs.Paths.{is_absolute, is_separator, lengthened, path_parts, common_parts, first_parts}
 
 -- ---- parts
 
@@ -19,13 +19,13 @@ abbrev pub ends_part : List ℕ → Bool
 ends_part [] = true
 ends_part (byte ∷ text) = is_separator byte
 
-parts_of-cut : (byte : ℕ) (text : List ℕ) → ends_part text ≡ true → parts_of (byte ∷ text) ≡ (byte ∷ []) ∷ parts_of text
-parts_of-cut byte [] e = refl
-parts_of-cut byte (next ∷ text) e = rw e refl
+path_parts-cut : (byte : ℕ) (text : List ℕ) → ends_part text ≡ true → path_parts (byte ∷ text) ≡ (byte ∷ []) ∷ path_parts text
+path_parts-cut byte [] e = refl
+path_parts-cut byte (next ∷ text) e = rw e refl
 
-parts_of-joined : (byte : ℕ) (text : List ℕ) → ends_part text ≡ false → parts_of (byte ∷ text) ≡ lengthened byte (parts_of text)
-parts_of-joined byte [] e = cc
-parts_of-joined byte (next ∷ text) e = rw e refl
+path_parts-joined : (byte : ℕ) (text : List ℕ) → ends_part text ≡ false → path_parts (byte ∷ text) ≡ lengthened byte (path_parts text)
+path_parts-joined byte [] e = cc
+path_parts-joined byte (next ∷ text) e = rw e refl
 
 -- the first part of a text starts with its first byte
 record StartsWith (byte : ℕ) (parts : List (List ℕ)) : Type 0 where
@@ -33,13 +33,13 @@ record StartsWith (byte : ℕ) (parts : List (List ℕ)) : Type 0 where
   others : List (List ℕ)
   is : parts ≡ (byte ∷ part) ∷ others
 
-starts : (byte : ℕ) (text : List ℕ) → StartsWith byte (parts_of (byte ∷ text))
+starts : (byte : ℕ) (text : List ℕ) → StartsWith byte (path_parts (byte ∷ text))
 starts byte [] = record { part = []; others = []; is = refl }
 starts byte (next ∷ text) =
     let later = starts next text in
     elim (cases_Bool (is_separator next)) [
-      | inl e ↦ record { part = []; others = parts_of (next ∷ text); is = parts_of-cut byte (next ∷ text) e }
-      | inr e ↦ record { part = next ∷ later.part; others = later.others; is = parts_of-joined byte (next ∷ text) e ∙ ap (lengthened byte) later.is }
+      | inl e ↦ record { part = []; others = path_parts (next ∷ text); is = path_parts-cut byte (next ∷ text) e }
+      | inr e ↦ record { part = next ∷ later.part; others = later.others; is = path_parts-joined byte (next ∷ text) e ∙ ap (lengthened byte) later.is }
     ]
 
 -- cutting loses nothing
@@ -47,13 +47,13 @@ concat-lengthened : (byte : ℕ) (parts : List (List ℕ)) → concat (lengthene
 concat-lengthened byte [] = refl
 concat-lengthened byte (part ∷ parts) = refl
 
-pub concat-parts_of : (text : List ℕ) → concat (parts_of text) ≡ text
-concat-parts_of [] = refl
-concat-parts_of (byte ∷ text) =
-    let rest : concat (parts_of text) ≡ text = concat-parts_of text in
+pub concat-path_parts : (text : List ℕ) → concat (path_parts text) ≡ text
+concat-path_parts [] = refl
+concat-path_parts (byte ∷ text) =
+    let rest : concat (path_parts text) ≡ text = concat-path_parts text in
     elim (cases_Bool (ends_part text)) [
-      | inl e ↦ ap concat (parts_of-cut byte text e) ∙ ap (λ t. byte ∷ t) rest
-      | inr e ↦ ap concat (parts_of-joined byte text e) ∙ concat-lengthened byte (parts_of text) ∙ ap (λ t. byte ∷ t) rest
+      | inl e ↦ ap concat (path_parts-cut byte text e) ∙ ap (λ t. byte ∷ t) rest
+      | inr e ↦ ap concat (path_parts-joined byte text e) ∙ concat-lengthened byte (path_parts text) ∙ ap (λ t. byte ∷ t) rest
     ]
 
 -- ---- common parts
@@ -122,36 +122,36 @@ start_of-append (parts ∷ lists) last = ap Some (first_parts-append parts lists
 
 -- the parts of the absolute paths among them
 abbrev pub parts_among : List (Bor (List ℕ)) → List (List (List ℕ))
-parts_among texts = map parts_of (filter is_absolute (map (λ text. text.now) texts))
+parts_among texts = map path_parts (filter is_absolute (map (λ text. text.now) texts))
 
-pub parts_among-taken : (texts : List (Bor (List ℕ))) (text : Bor (List ℕ)) → is_absolute text.now ≡ true → parts_among (texts ++ text ∷ []) ≡ parts_among texts ++ parts_of text.now ∷ []
+pub parts_among-taken : (texts : List (Bor (List ℕ))) (text : Bor (List ℕ)) → is_absolute text.now ≡ true → parts_among (texts ++ text ∷ []) ≡ parts_among texts ++ path_parts text.now ∷ []
 parts_among-taken [] text e = rw e refl
 parts_among-taken (first ∷ texts) text e =
-    let rest : parts_among (texts ++ text ∷ []) ≡ parts_among texts ++ parts_of text.now ∷ [] = parts_among-taken texts text e in
-    elim (is_absolute first.now) as (λ b. map parts_of (cond b (first.now ∷ filter is_absolute (map (λ t. t.now) (texts ++ text ∷ []))) (filter is_absolute (map (λ t. t.now) (texts ++ text ∷ []))))
-    ≡ map parts_of (cond b (first.now ∷ filter is_absolute (map (λ t. t.now) texts)) (filter is_absolute (map (λ t. t.now) texts))) ++ parts_of text.now ∷ [])
-    [ true ↦ ap (λ l. parts_of first.now ∷ l) rest | false ↦ rest ]
+    let rest : parts_among (texts ++ text ∷ []) ≡ parts_among texts ++ path_parts text.now ∷ [] = parts_among-taken texts text e in
+    elim (is_absolute first.now) as (λ b. map path_parts (cond b (first.now ∷ filter is_absolute (map (λ t. t.now) (texts ++ text ∷ []))) (filter is_absolute (map (λ t. t.now) (texts ++ text ∷ []))))
+    ≡ map path_parts (cond b (first.now ∷ filter is_absolute (map (λ t. t.now) texts)) (filter is_absolute (map (λ t. t.now) texts))) ++ path_parts text.now ∷ [])
+    [ true ↦ ap (λ l. path_parts first.now ∷ l) rest | false ↦ rest ]
 
 pub parts_among-skipped : (texts : List (Bor (List ℕ))) (text : Bor (List ℕ)) → is_absolute text.now ≡ false → parts_among (texts ++ text ∷ []) ≡ parts_among texts
 parts_among-skipped [] text e = rw e refl
 parts_among-skipped (first ∷ texts) text e =
     let rest : parts_among (texts ++ text ∷ []) ≡ parts_among texts = parts_among-skipped texts text e in
-    elim (is_absolute first.now) as (λ b. map parts_of (cond b (first.now ∷ filter is_absolute (map (λ t. t.now) (texts ++ text ∷ []))) (filter is_absolute (map (λ t. t.now) (texts ++ text ∷ []))))
-    ≡ map parts_of (cond b (first.now ∷ filter is_absolute (map (λ t. t.now) texts)) (filter is_absolute (map (λ t. t.now) texts))))
-    [ true ↦ ap (λ l. parts_of first.now ∷ l) rest | false ↦ rest ]
+    elim (is_absolute first.now) as (λ b. map path_parts (cond b (first.now ∷ filter is_absolute (map (λ t. t.now) (texts ++ text ∷ []))) (filter is_absolute (map (λ t. t.now) (texts ++ text ∷ []))))
+    ≡ map path_parts (cond b (first.now ∷ filter is_absolute (map (λ t. t.now) texts)) (filter is_absolute (map (λ t. t.now) texts))))
+    [ true ↦ ap (λ l. path_parts first.now ∷ l) rest | false ↦ rest ]
 
 -- the start of the texts so far, as one more comes
-pub start_of-taken : (texts : List (Bor (List ℕ))) (text : Bor (List ℕ)) → is_absolute text.now ≡ true → start_of (parts_among (texts ++ text ∷ [])) ≡ Some (start_with (start_of (parts_among texts)) (parts_of text.now))
-start_of-taken texts text e = ap start_of (parts_among-taken texts text e) ∙ start_of-append (parts_among texts) (parts_of text.now)
+pub start_of-taken : (texts : List (Bor (List ℕ))) (text : Bor (List ℕ)) → is_absolute text.now ≡ true → start_of (parts_among (texts ++ text ∷ [])) ≡ Some (start_with (start_of (parts_among texts)) (path_parts text.now))
+start_of-taken texts text e = ap start_of (parts_among-taken texts text e) ∙ start_of-append (parts_among texts) (path_parts text.now)
 
 -- the start of all, joined
 pub concat-first_parts : (lists : List (List (List ℕ))) (start : Option (Bor (List ℕ))) (none joined : Bor (List ℕ)) → none.now ≡ [] → joined ≡ unwrap_or start none
-    → option_map (λ s. parts_of s.now) start ≡ start_of lists → joined.now ≡ concat (first_parts lists)
+    → option_map (λ s. path_parts s.now) start ≡ start_of lists → joined.now ≡ concat (first_parts lists)
 concat-first_parts [] None none joined empty is same = ap (λ t. t.now) is ∙ empty
 concat-first_parts [] (Some s) none joined empty is same = cc
 concat-first_parts (parts ∷ lists) None none joined empty is same = cc
 concat-first_parts (parts ∷ lists) (Some s) none joined empty is same =
-    let first : parts_of s.now ≡ first_parts (parts ∷ lists) = cc in ap (λ t. t.now) is ∙ sym (concat-parts_of s.now) ∙ ap concat first
+    let first : path_parts s.now ≡ first_parts (parts ∷ lists) = cc in ap (λ t. t.now) is ∙ sym (concat-path_parts s.now) ∙ ap concat first
 
 -- ---- where two texts part
 
@@ -204,83 +204,83 @@ extended-true zero = refl
 extended-true (suc count) = refl
 
 -- no bytes without parts, and no parts without bytes
-take-empty : (n : ℕ) (x : ℕ) (a : List ℕ) → parts_of (take n (x ∷ a)) ≡ [] → n ≡ 0
+take-empty : (n : ℕ) (x : ℕ) (a : List ℕ) → path_parts (take n (x ∷ a)) ≡ [] → n ≡ 0
 take-empty zero x a e = refl
 take-empty (suc n) x a e = let h = starts x (take n a) in let clash : [] ≡ (x ∷ h.part) ∷ h.others = sym e ∙ h.is in cc
 
 -- the bytes of both texts from here on start with one byte x
 -- both texts end a part after x
-parts-both_end : (x : ℕ) (a b : List ℕ) → ends_part a ≡ true → ends_part b ≡ true → parts_of (take (shared a b) a) ≡ common_parts (parts_of a) (parts_of b)
-    → parts_of (take (shared (x ∷ a) (x ∷ b)) (x ∷ a)) ≡ common_parts (parts_of (x ∷ a)) (parts_of (x ∷ b))
+parts-both_end : (x : ℕ) (a b : List ℕ) → ends_part a ≡ true → ends_part b ≡ true → path_parts (take (shared a b) a) ≡ common_parts (path_parts a) (path_parts b)
+    → path_parts (take (shared (x ∷ a) (x ∷ b)) (x ∷ a)) ≡ common_parts (path_parts (x ∷ a)) (path_parts (x ∷ b))
 parts-both_end x a b e f tails =
     let count : shared (x ∷ a) (x ∷ b) ≡ suc (shared a b) = shared-same x a b ∙ ap (λ t. extended (shared a b) (t && ends_part b)) e ∙ ap (extended (shared a b)) f ∙ extended-true (shared a b) in
-    ap (λ n. parts_of (take n (x ∷ a))) count ∙ parts_of-cut x (take (shared a b) a) (ends_part-take (shared a b) a e) ∙ ap (λ l. (x ∷ []) ∷ l) tails
-    ∙ sym (ap (λ l. common_parts l (parts_of (x ∷ b))) (parts_of-cut x a e) ∙ ap (common_parts ((x ∷ []) ∷ parts_of a)) (parts_of-cut x b f)
-    ∙ common_parts-same (x ∷ []) (x ∷ []) (parts_of a) (parts_of b) (bytes_eq-refl (x ∷ [])))
+    ap (λ n. path_parts (take n (x ∷ a))) count ∙ path_parts-cut x (take (shared a b) a) (ends_part-take (shared a b) a e) ∙ ap (λ l. (x ∷ []) ∷ l) tails
+    ∙ sym (ap (λ l. common_parts l (path_parts (x ∷ b))) (path_parts-cut x a e) ∙ ap (common_parts ((x ∷ []) ∷ path_parts a)) (path_parts-cut x b f)
+    ∙ common_parts-same (x ∷ []) (x ∷ []) (path_parts a) (path_parts b) (bytes_eq-refl (x ∷ [])))
 
 -- neither does
 parts-neither_ends : (x c d : ℕ) (a b : List ℕ) → is_separator c ≡ false → is_separator d ≡ false
-    → parts_of (take (shared (c ∷ a) (d ∷ b)) (c ∷ a)) ≡ common_parts (parts_of (c ∷ a)) (parts_of (d ∷ b))
-    → parts_of (take (shared (x ∷ c ∷ a) (x ∷ d ∷ b)) (x ∷ c ∷ a)) ≡ common_parts (parts_of (x ∷ c ∷ a)) (parts_of (x ∷ d ∷ b))
+    → path_parts (take (shared (c ∷ a) (d ∷ b)) (c ∷ a)) ≡ common_parts (path_parts (c ∷ a)) (path_parts (d ∷ b))
+    → path_parts (take (shared (x ∷ c ∷ a) (x ∷ d ∷ b)) (x ∷ c ∷ a)) ≡ common_parts (path_parts (x ∷ c ∷ a)) (path_parts (x ∷ d ∷ b))
 parts-neither_ends x c d a b e f tails =
     let left = starts c a in
     let right = starts d b in
     let p = c ∷ left.part in
     let q = d ∷ right.part in
-    let both : common_parts (parts_of (c ∷ a)) (parts_of (d ∷ b)) ≡ common_parts (p ∷ left.others) (q ∷ right.others) =
-    ap (λ l. common_parts l (parts_of (d ∷ b))) left.is ∙ ap (common_parts (p ∷ left.others)) right.is in
-    let longer : common_parts (parts_of (x ∷ c ∷ a)) (parts_of (x ∷ d ∷ b)) ≡ common_parts ((x ∷ p) ∷ left.others) ((x ∷ q) ∷ right.others) =
-    ap (λ l. common_parts l (parts_of (x ∷ d ∷ b))) (parts_of-joined x (c ∷ a) e ∙ ap (lengthened x) left.is)
-    ∙ ap (common_parts ((x ∷ p) ∷ left.others)) (parts_of-joined x (d ∷ b) f ∙ ap (lengthened x) right.is) in
+    let both : common_parts (path_parts (c ∷ a)) (path_parts (d ∷ b)) ≡ common_parts (p ∷ left.others) (q ∷ right.others) =
+    ap (λ l. common_parts l (path_parts (d ∷ b))) left.is ∙ ap (common_parts (p ∷ left.others)) right.is in
+    let longer : common_parts (path_parts (x ∷ c ∷ a)) (path_parts (x ∷ d ∷ b)) ≡ common_parts ((x ∷ p) ∷ left.others) ((x ∷ q) ∷ right.others) =
+    ap (λ l. common_parts l (path_parts (x ∷ d ∷ b))) (path_parts-joined x (c ∷ a) e ∙ ap (lengthened x) left.is)
+    ∙ ap (common_parts ((x ∷ p) ∷ left.others)) (path_parts-joined x (d ∷ b) f ∙ ap (lengthened x) right.is) in
     let count : shared (x ∷ c ∷ a) (x ∷ d ∷ b) ≡ extended (shared (c ∷ a) (d ∷ b)) false =
     shared-same x (c ∷ a) (d ∷ b) ∙ ap (λ t. extended (shared (c ∷ a) (d ∷ b)) (t && is_separator d)) e in
     elim (cases_Bool (bytes_eq p q)) [
       | inl s ↦
           let same : bytes_eq (x ∷ p) (x ∷ q) ≡ true = (bytes_eq-Decides (x ∷ p) (x ∷ q)).1 (ap (λ t. x ∷ t) ((bytes_eq-Decides p q).0 s)) in
-          let kept : parts_of (take (shared (c ∷ a) (d ∷ b)) (c ∷ a)) ≡ p ∷ common_parts left.others right.others = tails ∙ both ∙ common_parts-same p q left.others right.others s in
-          ap (λ n. parts_of (take n (x ∷ c ∷ a))) count ∙ grown (shared (c ∷ a) (d ∷ b)) p (common_parts left.others right.others) kept
+          let kept : path_parts (take (shared (c ∷ a) (d ∷ b)) (c ∷ a)) ≡ p ∷ common_parts left.others right.others = tails ∙ both ∙ common_parts-same p q left.others right.others s in
+          ap (λ n. path_parts (take n (x ∷ c ∷ a))) count ∙ grown (shared (c ∷ a) (d ∷ b)) p (common_parts left.others right.others) kept
           ∙ sym (longer ∙ common_parts-same (x ∷ p) (x ∷ q) left.others right.others same)
       | inr s ↦
           let differ : bytes_eq (x ∷ p) (x ∷ q) ≡ false = rw (eq-eqb x x refl) s in
           let none : shared (c ∷ a) (d ∷ b) ≡ 0 = take-empty (shared (c ∷ a) (d ∷ b)) c a (tails ∙ both ∙ common_parts-apart p q left.others right.others s) in
-          ap (λ n. parts_of (take n (x ∷ c ∷ a))) (count ∙ ap (λ n. extended n false) none)
+          ap (λ n. path_parts (take n (x ∷ c ∷ a))) (count ∙ ap (λ n. extended n false) none)
           ∙ sym (longer ∙ common_parts-apart (x ∷ p) (x ∷ q) left.others right.others differ)
     ]
   where
-    grown : (n : ℕ) (part : List ℕ) (others : List (List ℕ)) → parts_of (take n (c ∷ a)) ≡ part ∷ others
-        → parts_of (take (extended n false) (x ∷ c ∷ a)) ≡ (x ∷ part) ∷ others
+    grown : (n : ℕ) (part : List ℕ) (others : List (List ℕ)) → path_parts (take n (c ∷ a)) ≡ part ∷ others
+        → path_parts (take (extended n false) (x ∷ c ∷ a)) ≡ (x ∷ part) ∷ others
     grown zero part others h = cc
-    grown (suc n) part others h = parts_of-joined x (take (suc n) (c ∷ a)) e ∙ ap (lengthened x) h
+    grown (suc n) part others h = path_parts-joined x (take (suc n) (c ∷ a)) e ∙ ap (lengthened x) h
 
 -- only the first does
 parts-left_ends : (x d : ℕ) (a b : List ℕ) → ends_part a ≡ true → is_separator d ≡ false
-    → parts_of (take (shared (x ∷ a) (x ∷ d ∷ b)) (x ∷ a)) ≡ common_parts (parts_of (x ∷ a)) (parts_of (x ∷ d ∷ b))
+    → path_parts (take (shared (x ∷ a) (x ∷ d ∷ b)) (x ∷ a)) ≡ common_parts (path_parts (x ∷ a)) (path_parts (x ∷ d ∷ b))
 parts-left_ends x d a b e f =
     let right = starts d b in
     let count : shared (x ∷ a) (x ∷ d ∷ b) ≡ 0 = shared-same x a (d ∷ b) ∙ ap (λ n. extended n (ends_part a && is_separator d)) (shared-ends_left a (d ∷ b) e f)
     ∙ ap (λ t. extended 0 (t && is_separator d)) e ∙ ap (λ t. extended 0 t) f in
     let differ : bytes_eq (x ∷ []) (x ∷ d ∷ right.part) ≡ false = rw (eq-eqb x x refl) refl in
-    ap (λ n. parts_of (take n (x ∷ a))) count
-    ∙ sym (ap (λ l. common_parts l (parts_of (x ∷ d ∷ b))) (parts_of-cut x a e)
-    ∙ ap (common_parts ((x ∷ []) ∷ parts_of a)) (parts_of-joined x (d ∷ b) f ∙ ap (lengthened x) right.is)
-    ∙ common_parts-apart (x ∷ []) (x ∷ d ∷ right.part) (parts_of a) right.others differ)
+    ap (λ n. path_parts (take n (x ∷ a))) count
+    ∙ sym (ap (λ l. common_parts l (path_parts (x ∷ d ∷ b))) (path_parts-cut x a e)
+    ∙ ap (common_parts ((x ∷ []) ∷ path_parts a)) (path_parts-joined x (d ∷ b) f ∙ ap (lengthened x) right.is)
+    ∙ common_parts-apart (x ∷ []) (x ∷ d ∷ right.part) (path_parts a) right.others differ)
 
 -- only the second does
 parts-right_ends : (x c : ℕ) (a b : List ℕ) → is_separator c ≡ false → ends_part b ≡ true
-    → parts_of (take (shared (x ∷ c ∷ a) (x ∷ b)) (x ∷ c ∷ a)) ≡ common_parts (parts_of (x ∷ c ∷ a)) (parts_of (x ∷ b))
+    → path_parts (take (shared (x ∷ c ∷ a) (x ∷ b)) (x ∷ c ∷ a)) ≡ common_parts (path_parts (x ∷ c ∷ a)) (path_parts (x ∷ b))
 parts-right_ends x c a b e f =
     let left = starts c a in
     let count : shared (x ∷ c ∷ a) (x ∷ b) ≡ 0 = shared-same x (c ∷ a) b ∙ ap (λ n. extended n (is_separator c && ends_part b)) (shared-ends_right (c ∷ a) b e f)
     ∙ ap (λ t. extended 0 (t && ends_part b)) e in
     let differ : bytes_eq (x ∷ c ∷ left.part) (x ∷ []) ≡ false = rw (eq-eqb x x refl) refl in
-    ap (λ n. parts_of (take n (x ∷ c ∷ a))) count
-    ∙ sym (ap (λ l. common_parts l (parts_of (x ∷ b))) (parts_of-joined x (c ∷ a) e ∙ ap (lengthened x) left.is)
-    ∙ ap (common_parts ((x ∷ c ∷ left.part) ∷ left.others)) (parts_of-cut x b f)
-    ∙ common_parts-apart (x ∷ c ∷ left.part) (x ∷ []) left.others (parts_of b) differ)
+    ap (λ n. path_parts (take n (x ∷ c ∷ a))) count
+    ∙ sym (ap (λ l. common_parts l (path_parts (x ∷ b))) (path_parts-joined x (c ∷ a) e ∙ ap (lengthened x) left.is)
+    ∙ ap (common_parts ((x ∷ c ∷ left.part) ∷ left.others)) (path_parts-cut x b f)
+    ∙ common_parts-apart (x ∷ c ∷ left.part) (x ∷ []) left.others (path_parts b) differ)
 
 -- one equal byte more in front
-parts-step : (x : ℕ) (a b : List ℕ) → parts_of (take (shared a b) a) ≡ common_parts (parts_of a) (parts_of b)
-    → parts_of (take (shared (x ∷ a) (x ∷ b)) (x ∷ a)) ≡ common_parts (parts_of (x ∷ a)) (parts_of (x ∷ b))
+parts-step : (x : ℕ) (a b : List ℕ) → path_parts (take (shared a b) a) ≡ common_parts (path_parts a) (path_parts b)
+    → path_parts (take (shared (x ∷ a) (x ∷ b)) (x ∷ a)) ≡ common_parts (path_parts (x ∷ a)) (path_parts (x ∷ b))
 parts-step x [] [] tails = parts-both_end x [] [] refl refl tails
 parts-step x [] (d ∷ b) tails =
     elim (cases_Bool (is_separator d)) [
@@ -307,19 +307,19 @@ parts-step x (c ∷ a) (d ∷ b) tails =
     ]
 
 -- the shared bytes are the common first parts
-pub parts_of-shared : (a b : List ℕ) → parts_of (take (shared a b) a) ≡ common_parts (parts_of a) (parts_of b)
-parts_of-shared [] b = refl
-parts_of-shared (x ∷ a) [] = sym (common_parts-nil (parts_of (x ∷ a)))
-parts_of-shared (x ∷ a) (y ∷ b) =
-    let tails : parts_of (take (shared a b) a) ≡ common_parts (parts_of a) (parts_of b) = parts_of-shared a b in
+pub path_parts-shared : (a b : List ℕ) → path_parts (take (shared a b) a) ≡ common_parts (path_parts a) (path_parts b)
+path_parts-shared [] b = refl
+path_parts-shared (x ∷ a) [] = sym (common_parts-nil (path_parts (x ∷ a)))
+path_parts-shared (x ∷ a) (y ∷ b) =
+    let tails : path_parts (take (shared a b) a) ≡ common_parts (path_parts a) (path_parts b) = path_parts-shared a b in
     elim (cases_Bool (x == y)) [
-      | inl e ↦ subst (λ z. parts_of (take (shared (x ∷ a) (z ∷ b)) (x ∷ a)) ≡ common_parts (parts_of (x ∷ a)) (parts_of (z ∷ b))) (eqb-true x y e) (parts-step x a b tails)
+      | inl e ↦ subst (λ z. path_parts (take (shared (x ∷ a) (z ∷ b)) (x ∷ a)) ≡ common_parts (path_parts (x ∷ a)) (path_parts (z ∷ b))) (eqb-true x y e) (parts-step x a b tails)
       | inr e ↦
           let left = starts x a in
           let right = starts y b in
           let differ : bytes_eq (x ∷ left.part) (y ∷ right.part) ≡ false = rw e refl in
-          ap (λ n. parts_of (take n (x ∷ a))) (shared-apart x y a b e)
-          ∙ sym (ap (λ l. common_parts l (parts_of (y ∷ b))) left.is ∙ ap (common_parts ((x ∷ left.part) ∷ left.others)) right.is
+          ap (λ n. path_parts (take n (x ∷ a))) (shared-apart x y a b e)
+          ∙ sym (ap (λ l. common_parts l (path_parts (y ∷ b))) left.is ∙ ap (common_parts ((x ∷ left.part) ∷ left.others)) right.is
           ∙ common_parts-apart (x ∷ left.part) (y ∷ right.part) left.others right.others differ)
     ]
 

@@ -26,9 +26,9 @@ lengthened byte [] = (byte ∷ []) ∷ []
 lengthened byte (part ∷ parts) = (byte ∷ part) ∷ parts
 
 -- a text cut before every separator
-abbrev pub parts_of : List ℕ → List (List ℕ)
-parts_of [] = []
-parts_of (byte ∷ text) = cond (is_separated text) ((byte ∷ []) ∷ parts_of text) (lengthened byte (parts_of text))
+abbrev pub path_parts : List ℕ → List (List ℕ)
+path_parts [] = []
+path_parts (byte ∷ text) = cond (is_separated text) ((byte ∷ []) ∷ path_parts text) (lengthened byte (path_parts text))
 
 -- the parts with which both start
 abbrev pub common_parts : List (List ℕ) → List (List ℕ) → List (List ℕ)
@@ -48,4 +48,4 @@ unless_bare prefix = cond (bytes_eq prefix [] || bytes_eq prefix (codes "/")) No
 
 -- the first parts that all absolute paths among the texts have in common, joined
 abbrev pub common_prefix : List (List ℕ) → Option (List ℕ)
-common_prefix texts = unless_bare (concat (first_parts (map parts_of (filter is_absolute texts))))
+common_prefix texts = unless_bare (concat (first_parts (map path_parts (filter is_absolute texts))))

@@ -4,7 +4,7 @@ ghost use Rattle.std.specs.Bool.{OnTrue, OnFalse};
 ghost use Rattle.std.specs.Iterator.{IsFinite};
 ghost use Rattle.std.specs.Iterator.Runs.{WholeRun};
 ghost use Rattle.sourcemap_errors.specs.Answer.{Gives};
-ghost use Rattle.sourcemap_texts.specs.Paths.{is_absolute as starts_at_root, is_separator as separates, common_prefix, unless_bare, parts_of, common_parts};
+ghost use Rattle.sourcemap_texts.specs.Paths.{is_absolute as starts_at_root, is_separator as separates, common_prefix, unless_bare, path_parts, common_parts};
 
 use sourcemap_errors::errors::Result;
 use std::alloc::Global;
@@ -64,14 +64,14 @@ fn owned_unless_bare(alloc: Global, prefix: &str) -> Result<Option<String>>
 
 // What two texts have in common of their first parts, joined.
 fn common_start<'a>(a: &'a str, b: &str) -> &'a str
-    ensures { parts_of result.now ≡ common_parts (parts_of a.now) (parts_of b.now) }
+    ensures { path_parts result.now ≡ common_parts (path_parts a.now) (path_parts b.now) }
 {
     &a[..common_length(a.as_bytes(), b.as_bytes())]
 }
 
 // How many bytes of the first text the common first parts of both take.
 fn common_length(a: &[u8], b: &[u8]) -> usize
-    ensures parts { parts_of (take result a.now) ≡ common_parts (parts_of a.now) (parts_of b.now) }
+    ensures parts { path_parts (take result a.now) ≡ common_parts (path_parts a.now) (path_parts b.now) }
     ensures within { result ≤ length a.now }
     ensures cut { 0 < result → result < length a.now → separates (slice_index a.now result) ≡ true }
 {

@@ -6,7 +6,7 @@ use Rattle.std.proofs.lemmas.Option.{slice_get-map, slice_get_past, slice_get_wi
 use Rattle.std.specs.List.{AllByRecursion, list_any}
 use Rattle.std.specs.List.Sorted.{IsStableByKey}
 use Rattle.sourcemap_lists.proofs.AllLemmas.{All-at, All-both, All-flat_map, All-from_flat_map, All-unmapped}
-use Rattle.sourcemap_lists.proofs.InternerLemmas.{slice_get-place_of}
+use Rattle.sourcemap_lists.proofs.InternerLemmas.{slice_get-id_of}
 use Rattle.sourcemap_lists.proofs.SortLemmas.{stable-sorted_by}
 use Rattle.sourcemap_lists.proofs.TokensLemmas.{position_cmp_total, AllWithin-in_order}
 use Rattle.sourcemap_lists.specs.declared.tokens.RawToken.{RawToken}
@@ -165,7 +165,7 @@ module _ (file : Option (List ℕ)) (pieces : List Piece) (few : AreFew pieces) 
   number_past None h past = refl
   number_past (Some text) h past =
       let numbered : number_in (sources_in pieces) (Some text) ≡ h.0 = rw h.1 refl in
-      let below = slice_get_within (sources_in pieces) h.0 text (slice_get-place_of text (sources_in pieces) h.0 h.1) in
+      let below = slice_get_within (sources_in pieces) h.0 text (slice_get-id_of text (sources_in pieces) h.0 h.1) in
       absurd (omega (arith, numbered, below, past))
 
   within_merged : (piece : Piece) (t : RawToken) → IsAmong pieces piece → IsWithin (length piece.1.sources) (length piece.1.names) t

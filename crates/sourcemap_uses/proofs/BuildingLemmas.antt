@@ -13,7 +13,7 @@ use Rattle.sourcemap.specs.declared.errors.Error.{Error}
 use Rattle.sourcemap.specs.declared.errors.Error.TheVariants.{OutOfMemory}
 use Rattle.sourcemap.specs.declared.types.DecodedMap.{DecodedMap}
 use Rattle.sourcemap.specs.declared.types.RawToken.{RawToken}
-use Rattle.sourcemap_uses.specs.Building.{place_of}
+use Rattle.sourcemap_uses.specs.Building.{source_place}
 use Rattle.sourcemap_uses.proofs.RefusalLemmas.{memory_alone}
 
 -- the map of one source
@@ -40,10 +40,10 @@ reads_back m due text is any (back, stands, restored) =
 pub place_found : (bytes text : List ℕ) (m : MapValue) (map : DecodedMap) (p : ℕ × ℕ)
     → bytes ≡ text → ReadsBack (BytesDecode text) (Restores (leaf (regular m)))
     → ((due : Result MapTree Error) → BytesDecode bytes due → IsAnswer map_tree (AreSame due) (Ok map))
-    → option_map place_of (meaning_of (map_tree map) p) ≡ option_map place_of (meaning m p)
+    → option_map source_place (meaning_of (map_tree map) p) ≡ option_map source_place (meaning m p)
 place_found bytes text m map p same (back, stands, restored) only =
     let read = only (Ok back) (subst (λ bytes. BytesDecode bytes (Ok back)) (sym same) stands) in
-    ap (option_map place_of) (ap (λ t. meaning_of t p) (sym read) ∙ restored.0 p)
+    ap (option_map source_place) (ap (λ t. meaning_of t p) (sym read) ∙ restored.0 p)
 
 -- what was written is read unless memory runs out
 pub read_unless_memory : (bytes text : List ℕ) (m : MapValue) (e : Error)

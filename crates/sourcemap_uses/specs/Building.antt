@@ -3,5 +3,5 @@ use Rattle.std.specs.Prelude.{ℕ}
 use Rattle.sourcemap.specs.Types.{Meaning}
 
 -- line and column in the source
-abbrev pub place_of : Meaning → ℕ × ℕ
-place_of says = (says.line, says.column)
+abbrev pub source_place : Meaning → ℕ × ℕ
+source_place says = (says.line, says.column)

@@ -8,7 +8,7 @@ ghost use Rattle.sourcemap.specs.TreeEncoder.{Restores};
 ghost use Rattle.sourcemap.specs.Trees.{IsInOrder, leaf, meaning as meaning_of, regular};
 ghost use Rattle.sourcemap.specs.Types.{made_of, meaning};
 ghost use Rattle.sourcemap.specs.declared.errors.Error.TheVariants.{OutOfMemory};
-ghost use Rattle.sourcemap_uses.specs.Building.{place_of};
+ghost use Rattle.sourcemap_uses.specs.Building.{source_place};
 
 use sourcemap::encoder::encode_to_vec;
 use sourcemap::laws::{
@@ -29,7 +29,7 @@ pub fn place_once_written(
     col: u32,
 ) -> Result<Option<(u32, u32)>>
     requires { AllWithin 1 0 tokens.items }
-    ensures place { IfOk result (λ found. found ≡ option_map place_of
+    ensures place { IfOk result (λ found. found ≡ option_map source_place
         (meaning (made_of None tokens.items [] (source.now ∷ []) []) (line, col))) }
     ensures memory { IsOkUnless result OutOfMemory }
 {
@@ -42,7 +42,7 @@ pub fn place_once_written(
 // The line and the column in the source that a map in order says of a position.
 fn place_in_source(map: &DecodedMap, line: u32, col: u32) -> Option<(u32, u32)>
     ensures { IsInOrder (map_tree map.now)
-        → result ≡ option_map place_of (meaning_of (map_tree map.now) (line, col)) }
+        → result ≡ option_map source_place (meaning_of (map_tree map.now) (line, col)) }
 {
     match map.lookup_token(line, col) {
         None => None,

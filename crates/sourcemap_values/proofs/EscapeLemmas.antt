@@ -9,8 +9,8 @@ use Rattle.std.specs.Str.{IsUtf8}
 use Rattle.json.specs.Text.{code_unit, short_escape, is_high_surrogate, is_low_surrogate, surrogate_pair, content, plain, after_u, after_high, prepend}
 use Rattle.json.specs.Lex.{in_string, lex}
 use Rattle.sourcemap_values.specs.Runs.{is_plain}
-use Rattle.sourcemap_values.specs.Texts.{IsUtf8UpTo, Says, SpellsUnit}
-use Rattle.sourcemap_values.proofs.TextLemmas.{Says-plain}
+use Rattle.sourcemap_values.specs.Texts.{IsUtf8UpTo, IsSaidBetween, SpellsUnit}
+use Rattle.sourcemap_values.proofs.TextLemmas.{IsSaidBetween-plain}
 use Rattle.sourcemap_values.proofs.Utf8Lemmas.{utf8_cons}
 
 -- ---- two bytes
@@ -18,7 +18,7 @@ use Rattle.sourcemap_values.proofs.Utf8Lemmas.{utf8_cons}
 refuses : (x y c : ℕ) → short_escape y ≡ None → short_escape x ≡ Some c → x ≢ y
 refuses x y c none some same = absurd (none-some c (sym none ∙ ap short_escape (sym same) ∙ some))
 
-escape_bytes : (x c : ℕ) (xs : List ℕ) → short_escape x ≡ Some c → Says (92 ∷ x ∷ xs) (c ∷ []) xs
+escape_bytes : (x c : ℕ) (xs : List ℕ) → short_escape x ≡ Some c → IsSaidBetween (92 ∷ x ∷ xs) (c ∷ []) xs
 unfolding content lex short_escape
 escape_bytes x c xs is =
     let stands_for = λ (s : ℕ). prepend (s ∷ []) (content plain xs) in
@@ -40,9 +40,9 @@ escape_there text at c slash is =
     let within = escape_within text at c is in
     drop_next text at (at + 1) refl (omega arith) ∙ ap₂ (λ x xs. x ∷ xs) slash (drop_next text (at + 1) (at + 2) (omega arith) within)
 
-pub Says-escape : (text : List ℕ) (at c : ℕ) → get_or text at 32 ≡ 92 → short_escape (get_or text (at + 1) 32) ≡ Some c → Says (drop at text) (c ∷ []) (drop (at + 2) text)
-Says-escape text at c slash is =
-    subst (λ before. Says before (c ∷ []) (drop (at + 2) text)) (sym (escape_there text at c slash is)) (escape_bytes (get_or text (at + 1) 32) c (drop (at + 2) text) is)
+pub IsSaidBetween-escape : (text : List ℕ) (at c : ℕ) → get_or text at 32 ≡ 92 → short_escape (get_or text (at + 1) 32) ≡ Some c → IsSaidBetween (drop at text) (c ∷ []) (drop (at + 2) text)
+IsSaidBetween-escape text at c slash is =
+    subst (λ before. IsSaidBetween before (c ∷ []) (drop (at + 2) text)) (sym (escape_there text at c slash is)) (escape_bytes (get_or text (at + 1) 32) c (drop (at + 2) text) is)
 
 -- ---- four digits
 
@@ -74,13 +74,13 @@ unit_goes_on : (a b c d u : ℕ) (xs : List ℕ) → code_unit a b c d ≡ Some 
 unfolding lex
 unit_goes_on a b c d u xs is =
     let digits = are_digits a b c d u is in
-    let passes : (x : ℕ) (rest : List ℕ) → is_digit x 16 ≡ true → lex in_string (x ∷ rest) ≡ lex in_string rest = λ x rest digit. (Says-plain x rest (digit_is_plain x digit)).goes_on in
+    let passes : (x : ℕ) (rest : List ℕ) → is_digit x 16 ≡ true → lex in_string (x ∷ rest) ≡ lex in_string rest = λ x rest digit. (IsSaidBetween-plain x rest (digit_is_plain x digit)).goes_on in
     passes a (b ∷ c ∷ d ∷ xs) digits.0 ∙ passes b (c ∷ d ∷ xs) digits.1 ∙ passes c (d ∷ xs) digits.2 ∙ passes d xs digits.3
 
 abbrev said_behind : List ℕ → ℕ → Option (List ℕ)
 said_behind xs u = cond (is_high_surrogate u) (content (after_high u) xs) (cond (is_low_surrogate u) None (prepend (encode_utf8 u) (content plain xs)))
 
-unit_bytes : (a b c d u : ℕ) (xs : List ℕ) → code_unit a b c d ≡ Some u → is_high_surrogate u ≡ false → is_low_surrogate u ≡ false → Says (92 ∷ 117 ∷ a ∷ b ∷ c ∷ d ∷ xs) (encode_utf8 u) xs
+unit_bytes : (a b c d u : ℕ) (xs : List ℕ) → code_unit a b c d ≡ Some u → is_high_surrogate u ≡ false → is_low_surrogate u ≡ false → IsSaidBetween (92 ∷ 117 ∷ a ∷ b ∷ c ∷ d ∷ xs) (encode_utf8 u) xs
 unfolding content
 unit_bytes a b c d u xs is not_high not_low = record {
   bytes = ap (option_and_then (said_behind xs)) is ∙ (λ i. cond (not_high i) (content (after_high u) xs) (cond (not_low i) None (prepend (encode_utf8 u) (content plain xs))));
@@ -91,7 +91,7 @@ abbrev said_by_low : ℕ → List ℕ → ℕ → Option (List ℕ)
 said_by_low high xs low = cond (is_low_surrogate low) (prepend (encode_utf8 (surrogate_pair high low)) (content plain xs)) None
 
 pair_bytes : (a b c d high e f g h low : ℕ) (xs : List ℕ) → code_unit a b c d ≡ Some high → code_unit e f g h ≡ Some low → is_high_surrogate high ≡ true → is_low_surrogate low ≡ true
-    → Says (92 ∷ 117 ∷ a ∷ b ∷ c ∷ d ∷ 92 ∷ 117 ∷ e ∷ f ∷ g ∷ h ∷ xs) (encode_utf8 (surrogate_pair high low)) xs
+    → IsSaidBetween (92 ∷ 117 ∷ a ∷ b ∷ c ∷ d ∷ 92 ∷ 117 ∷ e ∷ f ∷ g ∷ h ∷ xs) (encode_utf8 (surrogate_pair high low)) xs
 unfolding content
 pair_bytes a b c d high e f g h low xs first second is_high is_low =
     let behind = 92 ∷ 117 ∷ e ∷ f ∷ g ∷ h ∷ xs in
@@ -126,16 +126,16 @@ unit_passed text at unit spells =
 no_surrogate : (u : ℕ) → InScalarRange u → (is_high_surrogate u ≡ false) × (is_low_surrogate u ≡ false)
 no_surrogate u scalar = (grind (arith, nat_tests), grind (arith, nat_tests))
 
-pub Says-unit : (text : List ℕ) (at unit : ℕ) → SpellsUnit text at unit → InScalarRange unit → Says (drop at text) (encode_utf8 unit) (drop (at + 6) text)
-Says-unit text at unit spells scalar =
+pub IsSaidBetween-unit : (text : List ℕ) (at unit : ℕ) → SpellsUnit text at unit → InScalarRange unit → IsSaidBetween (drop at text) (encode_utf8 unit) (drop (at + 6) text)
+IsSaidBetween-unit text at unit spells scalar =
     let none = no_surrogate unit scalar in
-    subst (λ before. Says before (encode_utf8 unit) (drop (at + 6) text)) (sym (unit_there text at unit spells)) (unit_bytes _ _ _ _ unit (drop (at + 6) text) spells.digits none.0 none.1)
+    subst (λ before. IsSaidBetween before (encode_utf8 unit) (drop (at + 6) text)) (sym (unit_there text at unit spells)) (unit_bytes _ _ _ _ unit (drop (at + 6) text) spells.digits none.0 none.1)
 
-pub Says-pair : (text : List ℕ) (at high low : ℕ) → SpellsUnit text at high → SpellsUnit text (at + 6) low → is_high_surrogate high ≡ true → is_low_surrogate low ≡ true
-    → Says (drop at text) (encode_utf8 (surrogate_pair high low)) (drop (at + 12) text)
-Says-pair text at high low first second is_high is_low =
+pub IsSaidBetween-pair : (text : List ℕ) (at high low : ℕ) → SpellsUnit text at high → SpellsUnit text (at + 6) low → is_high_surrogate high ≡ true → is_low_surrogate low ≡ true
+    → IsSaidBetween (drop at text) (encode_utf8 (surrogate_pair high low)) (drop (at + 12) text)
+IsSaidBetween-pair text at high low first second is_high is_low =
     let cons = λ (x : ℕ) (xs : List ℕ). x ∷ xs in
     let last : at + 6 + 6 ≡ at + 12 = omega arith in
     let all = unit_there text at high first ∙ ap (λ xs. 92 ∷ 117 ∷ get_or text (at + 2) 32 ∷ get_or text (at + 3) 32 ∷ get_or text (at + 4) 32 ∷ get_or text (at + 5) 32 ∷ xs) (unit_there text (at + 6) low second) in
-    subst (λ k. Says (drop at text) (encode_utf8 (surrogate_pair high low)) (drop k text)) last
-    (subst (λ before. Says before (encode_utf8 (surrogate_pair high low)) (drop (at + 6 + 6) text)) (sym all) (pair_bytes _ _ _ _ high _ _ _ _ low (drop (at + 6 + 6) text) first.digits second.digits is_high is_low))
+    subst (λ k. IsSaidBetween (drop at text) (encode_utf8 (surrogate_pair high low)) (drop k text)) last
+    (subst (λ before. IsSaidBetween before (encode_utf8 (surrogate_pair high low)) (drop (at + 6 + 6) text)) (sym all) (pair_bytes _ _ _ _ high _ _ _ _ low (drop (at + 6 + 6) text) first.digits second.digits is_high is_low))

@@ -8,10 +8,10 @@ use Rattle.json.specs.Filled.{Placed}
 use Rattle.json.specs.Lex.{between, in_string, lex}
 use Rattle.json.specs.Text.{content, plain, prepend, short_escape}
 use Rattle.sourcemap_values.specs.Runs.{is_plain}
-use Rattle.sourcemap_values.specs.Texts.{IsReadUpTo, IsUtf8UpTo, Says, SpellsByte}
-use Rattle.sourcemap_values.proofs.EscapeLemmas.{escape_there, Says-escape}
+use Rattle.sourcemap_values.specs.Texts.{IsReadUpTo, IsUtf8UpTo, IsSaidBetween, SpellsByte}
+use Rattle.sourcemap_values.proofs.EscapeLemmas.{escape_there, IsSaidBetween-escape}
 use Rattle.sourcemap_values.proofs.RunLemmas.{cut_back}
-use Rattle.sourcemap_values.proofs.TextLemmas.{prepend-append, prepend-nil, quote_ends, Says-plain, Says-run}
+use Rattle.sourcemap_values.proofs.TextLemmas.{prepend-append, prepend-nil, quote_ends, IsSaidBetween-plain, IsSaidBetween-run}
 use Rattle.sourcemap_values.proofs.Utf8Lemmas.{cut_at_text, utf8_cons, utf8_one}
 
 pub nothing_read : (bytes text : List ℕ) (at : ℕ) → IsReadUpTo bytes text at bytes at
@@ -24,7 +24,7 @@ read_on a b c text i j k first second = record {
   utf8 = λ u. first.utf8 (second.utf8 u);
 }
 
-step : (old new added text : List ℕ) (at next : ℕ) → new ≡ old ++ added → Says (drop at text) added (drop next text) → (IsUtf8 (new ++ drop next text) → IsUtf8 (old ++ drop at text))
+step : (old new added text : List ℕ) (at next : ℕ) → new ≡ old ++ added → IsSaidBetween (drop at text) added (drop next text) → (IsUtf8 (new ++ drop next text) → IsUtf8 (old ++ drop at text))
     → IsReadUpTo old text at new next
 step old new added text at next put says utf8 = record {
   bytes = ap (λ s. prepend s (content plain (drop next text))) put ∙ sym (prepend-append old added (content plain (drop next text))) ∙ ap (prepend old) (sym says.bytes);
@@ -38,7 +38,7 @@ run_read old new text at n few put =
     let xs = drop at text in
     let behind : drop n xs ≡ drop (at + n) text = drop-drop n at text in
     let whole : old ++ xs ≡ new ++ drop (at + n) text = ap (λ ys. old ++ ys) (sym (take-append-drop n xs)) ∙ sym (append_assoc old (take n xs) (drop n xs)) ∙ ap₂ (λ a b. a ++ b) (sym put) behind in
-    step old new (take n xs) text at (at + n) put (subst (Says xs (take n xs)) behind (Says-run n xs few)) (subst IsUtf8 (sym whole))
+    step old new (take n xs) text at (at + n) put (subst (IsSaidBetween xs (take n xs)) behind (IsSaidBetween-run n xs few)) (subst IsUtf8 (sym whole))
 
 pub byte_read : (old new text : List ℕ) (at : ℕ) → at < length text → is_plain (get_or text at 0) ≡ true → new ≡ old ++ get_or text at 0 ∷ [] → IsReadUpTo old text at new (at + 1)
 byte_read old new text at inside plain_byte put =
@@ -46,12 +46,12 @@ byte_read old new text at inside plain_byte put =
     let rest = drop (at + 1) text in
     let there : drop at text ≡ x ∷ rest = drop_more text at 0 inside in
     let whole : old ++ drop at text ≡ new ++ rest = ap (λ ys. old ++ ys) there ∙ sym (append_assoc old (x ∷ []) rest) ∙ ap (λ bytes. bytes ++ rest) (sym put) in
-    step old new (x ∷ []) text at (at + 1) put (subst (λ before. Says before (x ∷ []) rest) (sym there) (Says-plain x rest plain_byte)) (subst IsUtf8 (sym whole))
+    step old new (x ∷ []) text at (at + 1) put (subst (λ before. IsSaidBetween before (x ∷ []) rest) (sym there) (IsSaidBetween-plain x rest plain_byte)) (subst IsUtf8 (sym whole))
 
 -- ---- escapes
 
 -- where whole characters were put, what stood before them and what follows is UTF-8
-pub added_read : (old new added text : List ℕ) (at next : ℕ) → IsUtf8 added → 0 < length added → Says (drop at text) added (drop next text) → IsUtf8UpTo text at next → new ≡ old ++ added
+pub added_read : (old new added text : List ℕ) (at next : ℕ) → IsUtf8 added → 0 < length added → IsSaidBetween (drop at text) added (drop next text) → IsUtf8UpTo text at next → new ≡ old ++ added
     → IsReadUpTo old text at new next
 added_read old new added text at next added_is some says passed put =
     step old new added text at next put says (λ utf8.
@@ -68,7 +68,7 @@ escape_read old new text at c inside spells put =
     let there = escape_there text at c slash is in
     let low : x < 128 = omega (arith, same, spells.ascii.1) in
     let passed : IsUtf8UpTo text at (at + 2) = λ rest_is. subst IsUtf8 (sym there) (utf8_cons 92 (x ∷ rest) (lit< tt) (utf8_cons x rest low rest_is)) in
-    added_read old new (c ∷ []) text at (at + 2) (utf8_one c spells.ascii.0) (lit< tt) (Says-escape text at c slash is) passed put
+    added_read old new (c ∷ []) text at (at + 2) (utf8_one c spells.ascii.0) (lit< tt) (IsSaidBetween-escape text at c slash is) passed put
 
 -- ---- room that is filled
 
@@ -93,6 +93,6 @@ pub text_ends : (text first front said : List ℕ) (start at stop : ℕ) → IsR
     → (content plain (drop start text) ≡ Some said) × (lex in_string (drop start text) ≡ lex between (drop (stop + 1) text)) × (IsUtf8 said → IsUtf8UpTo text start (stop + 1))
 text_ends text first front said start at stop before same last quoted =
     let read = read_on [] first said text start at stop before (subst (λ xs. IsReadUpTo xs text at said stop) same last) in
-    let says : Says (drop start text) said (drop stop text) = record { bytes = sym (read.bytes ∙ prepend-nil (content plain (drop start text))); goes_on = sym read.goes_on } in
+    let says : IsSaidBetween (drop start text) said (drop stop text) = record { bytes = sym (read.bytes ∙ prepend-nil (content plain (drop start text))); goes_on = sym read.goes_on } in
     let ends = quote_ends text said start stop says quoted in
     (ends.0, ends.1, λ said_is rest_is. read.utf8 (IsUtf8-append said (drop stop text) said_is (ends.2 rest_is)))

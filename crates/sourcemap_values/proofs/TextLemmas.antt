@@ -8,7 +8,7 @@ use Rattle.json.specs.Text.{content, plain, after_backslash, prepend}
 use Rattle.json.specs.Word.{is_operator, is_space}
 use Rattle.json.specs.Lex.{Lexeme, quote, backslash, operator, space, other, Mode, between, in_string, lex_byte, lex}
 use Rattle.sourcemap_values.specs.Runs.{is_bare, is_plain}
-use Rattle.sourcemap_values.specs.Texts.{IsUtf8UpTo, Says}
+use Rattle.sourcemap_values.specs.Texts.{IsUtf8UpTo, IsSaidBetween}
 use Rattle.sourcemap_values.proofs.Utf8Lemmas.{ascii_passed}
 
 pub prepend-append : (a b : List ℕ) (rest : Option (List ℕ)) → prepend a (prepend b rest) ≡ prepend (a ++ b) rest
@@ -19,11 +19,11 @@ pub prepend-nil : (rest : Option (List ℕ)) → prepend [] rest ≡ rest
 prepend-nil None = refl
 prepend-nil (Some s) = refl
 
-pub Says-nothing : (text : List ℕ) → Says text [] text
-Says-nothing text = record { bytes = sym (prepend-nil (content plain text)); goes_on = refl }
+pub IsSaidBetween-nothing : (text : List ℕ) → IsSaidBetween text [] text
+IsSaidBetween-nothing text = record { bytes = sym (prepend-nil (content plain text)); goes_on = refl }
 
-pub Says-then : (a b c x y : List ℕ) → Says a x b → Says b y c → Says a (x ++ y) c
-Says-then a b c x y first second = record {
+pub IsSaidBetween-then : (a b c x y : List ℕ) → IsSaidBetween a x b → IsSaidBetween b y c → IsSaidBetween a (x ++ y) c
+IsSaidBetween-then a b c x y first second = record {
   bytes = first.bytes ∙ ap (prepend x) second.bytes ∙ prepend-append x y (content plain c);
   goes_on = first.goes_on ∙ second.goes_on;
 }
@@ -33,9 +33,9 @@ passes true s x xs k = refl
 passes false true x xs k = refl
 passes false false x xs k = refl
 
-pub Says-plain : (x : ℕ) (xs : List ℕ) → is_plain x ≡ true → Says (x ∷ xs) (x ∷ []) xs
+pub IsSaidBetween-plain : (x : ℕ) (xs : List ℕ) → is_plain x ≡ true → IsSaidBetween (x ∷ xs) (x ∷ []) xs
 unfolding content lex
-Says-plain x xs plain_byte =
+IsSaidBetween-plain x xs plain_byte =
     let none = or_parts ((x == 34) || (x == 92)) (nat_lt x 32) (not-true _ plain_byte) in
     let tests = or_parts (x == 34) (x == 92) none.0 in
     record {
@@ -44,16 +44,16 @@ Says-plain x xs plain_byte =
           ∙ passes (is_operator x) (is_space x) x xs (λ next. lex next xs);
     }
 
-first_byte : (p : Bool) (x n : ℕ) (xs : List ℕ) → is_plain x ≡ p → suc n ≤ cond p (1 + prefix_len is_plain xs) 0 → (n ≤ prefix_len is_plain xs → Says xs (take n xs) (drop n xs))
-    → Says (x ∷ xs) (x ∷ take n xs) (drop n xs)
+first_byte : (p : Bool) (x n : ℕ) (xs : List ℕ) → is_plain x ≡ p → suc n ≤ cond p (1 + prefix_len is_plain xs) 0 → (n ≤ prefix_len is_plain xs → IsSaidBetween xs (take n xs) (drop n xs))
+    → IsSaidBetween (x ∷ xs) (x ∷ take n xs) (drop n xs)
 first_byte false x n xs e few rest = absurd (omega arith)
-first_byte true x n xs e few rest = Says-then (x ∷ xs) xs (drop n xs) (x ∷ []) (take n xs) (Says-plain x xs e) (rest (omega arith))
+first_byte true x n xs e few rest = IsSaidBetween-then (x ∷ xs) xs (drop n xs) (x ∷ []) (take n xs) (IsSaidBetween-plain x xs e) (rest (omega arith))
 
 -- plain bytes say themselves
-pub Says-run : (n : ℕ) (xs : List ℕ) → n ≤ prefix_len is_plain xs → Says xs (take n xs) (drop n xs)
-Says-run zero xs few = Says-nothing xs
-Says-run (suc n) [] few = absurd (omega arith)
-Says-run (suc n) (x ∷ xs) few = first_byte (is_plain x) x n xs refl few (Says-run n xs)
+pub IsSaidBetween-run : (n : ℕ) (xs : List ℕ) → n ≤ prefix_len is_plain xs → IsSaidBetween xs (take n xs) (drop n xs)
+IsSaidBetween-run zero xs few = IsSaidBetween-nothing xs
+IsSaidBetween-run (suc n) [] few = absurd (omega arith)
+IsSaidBetween-run (suc n) (x ∷ xs) few = first_byte (is_plain x) x n xs refl few (IsSaidBetween-run n xs)
 
 -- ---- at places of a text
 
@@ -70,12 +70,12 @@ bare_within : (xs : List ℕ) → prefix_len is_bare xs ≤ prefix_len is_plain 
 bare_within [] = omega arith
 bare_within (x ∷ xs) = no_longer (is_bare x) (is_plain x) (prefix_len is_bare xs) (prefix_len is_plain xs) (plain_if_bare x) (bare_within xs)
 
-pub Says-bare : (text : List ℕ) (from n : ℕ) → n ≡ prefix_len is_bare (drop from text) → Says (drop from text) (take n (drop from text)) (drop (from + n) text)
-Says-bare text from n is =
-    subst (Says (drop from text) (take n (drop from text))) (drop-drop n from text) (Says-run n (drop from text) (omega (arith, bare_within (drop from text))))
+pub IsSaidBetween-bare : (text : List ℕ) (from n : ℕ) → n ≡ prefix_len is_bare (drop from text) → IsSaidBetween (drop from text) (take n (drop from text)) (drop (from + n) text)
+IsSaidBetween-bare text from n is =
+    subst (IsSaidBetween (drop from text) (take n (drop from text))) (drop-drop n from text) (IsSaidBetween-run n (drop from text) (omega (arith, bare_within (drop from text))))
 
 -- a quote ends the text
-pub quote_ends : (text said : List ℕ) (from at : ℕ) → Says (drop from text) said (drop at text) → get_or text at 32 ≡ 34
+pub quote_ends : (text said : List ℕ) (from at : ℕ) → IsSaidBetween (drop from text) said (drop at text) → get_or text at 32 ≡ 34
     → (content plain (drop from text) ≡ Some said) × (lex in_string (drop from text) ≡ lex between (drop (at + 1) text)) × IsUtf8UpTo text at (at + 1)
 unfolding content lex
 quote_ends text said from at says quoted =

@@ -10,7 +10,7 @@ abbrev pub IsUtf8UpTo : List ℕ → ℕ → ℕ → Type 0
 IsUtf8UpTo text from at = IsUtf8 (drop at text) → IsUtf8 (drop from text)
 
 -- Inside of a text, what stands in `before` and no more in `behind` says the bytes `said`, and the text goes on there.
-pub record Says (before said behind : List ℕ) : Type 0 where
+pub record IsSaidBetween (before said behind : List ℕ) : Type 0 where
   pub bytes : content plain before ≡ prepend said (content plain behind)
   pub goes_on : lex in_string before ≡ lex in_string behind
 

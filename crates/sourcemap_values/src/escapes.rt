@@ -4,7 +4,7 @@ ghost use Rattle.std.specs.Char.{digit_value, encode_utf8};
 ghost use Rattle.json.specs.Ascii.{backslash};
 ghost use Rattle.json.specs.Text.{is_high_surrogate, is_low_surrogate, short_escape, surrogate_pair};
 ghost use Rattle.json.specs.Filled.{Placed};
-ghost use Rattle.sourcemap_values.specs.Texts.{IsReadUpTo, IsUtf8UpTo, Says, SpellsByte, SpellsUnit};
+ghost use Rattle.sourcemap_values.specs.Texts.{IsReadUpTo, IsUtf8UpTo, IsSaidBetween, SpellsByte, SpellsUnit};
 
 use crate::bytes::byte_at;
 use crate::places::place_byte;
@@ -108,7 +108,7 @@ fn place_bytes(room: &mut [u8], to: usize, bytes: &[u8])
 fn unicode_escape(text: &[u8], at: usize) -> Option<(char, usize)>
     requires { at ≤ length text.now }
     ensures says { IfSome result
-        (λ found. Says (drop at text.now) (encode_utf8 found.0) (drop found.1 text.now)) }
+        (λ found. IsSaidBetween (drop at text.now) (encode_utf8 found.0) (drop found.1 text.now)) }
     ensures utf8 { IfSome result (λ found. IsUtf8UpTo text.now at found.1) }
     ensures within { IfSome result (λ found. (at < found.1) × (found.1 ≤ length text.now)) }
 {

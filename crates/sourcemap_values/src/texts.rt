@@ -3,7 +3,7 @@ ghost use Rattle.std.specs.Prelude.{◌≡◌, ◌+◌, ◌*◌, ◌^◌, ◌<�
 ghost use Rattle.std.specs.Str.{IsUtf8};
 ghost use Rattle.json.specs.Text.{content, plain};
 ghost use Rattle.json.specs.Lex.{lex, in_string, between};
-ghost use Rattle.sourcemap_values.specs.Texts.{IsReadUpTo, IsUtf8UpTo, Says};
+ghost use Rattle.sourcemap_values.specs.Texts.{IsReadUpTo, IsUtf8UpTo, IsSaidBetween};
 
 use crate::bytes::byte_at;
 use crate::escapes::place_escape;
@@ -131,7 +131,7 @@ fn fill_rare(room: &mut [u8], to: usize, text: &[u8], at: usize) -> Option<(usiz
 #[inline(always)]
 fn bare_run(text: &[u8], from: usize) -> &str
     requires { from ≤ length text.now }
-    ensures says { Says (drop from text.now) result.now (drop (from + length result.now) text.now) }
+    ensures says { IsSaidBetween (drop from text.now) result.now (drop (from + length result.now) text.now) }
     ensures utf8 { IsUtf8UpTo text.now from (from + length result.now) }
 {
     let end = bare_end(text, from);

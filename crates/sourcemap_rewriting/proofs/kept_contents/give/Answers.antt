@@ -1,28 +1,28 @@
 use Rattle.std.proofs.Common.{◌≡◌, true, false, is_some, slice_set, refl, ap, ◌∙◌, arith}
-use Rattle.sourcemap_rewriting.specs.KeptContents.{given}
-use Rattle.sourcemap_rewriting.proofs.KeptContentsLemmas.{given-at}
+use Rattle.sourcemap_lists.specs.Items.{item_at}
+use Rattle.sourcemap_rewriting.proofs.KeptContentsLemmas.{item_at-known}
 use Rattle.sourcemap_rewriting.proofs.kept_contents.give.Goals as goal
 
 pub returns-then-is_none-clause-kept : goal.returns-then-is_none-clause-kept
 returns-then-is_none-clause-kept c =
     let kept = c.args.kept.now in
-    let none : is_some (given kept.items c.args.place) ≡ false = given-at kept.items c.args.place c.index.result.now (omega (arith, kept.ok.0)) c.index.ensures ∙ c.if-is_none.ensures in
+    let none : is_some (item_at kept.items c.args.place) ≡ false = item_at-known kept.items c.args.place c.index.result.now (omega (arith, kept.ok.0)) c.index.ensures ∙ c.if-is_none.ensures in
     rw none (ap (slice_set kept.items c.args.place) c.taken.ensures.taken)
 
 pub returns-then-is_none-clause-left : goal.returns-then-is_none-clause-left
 returns-then-is_none-clause-left c =
     let kept = c.args.kept.now in
-    let none : is_some (given kept.items c.args.place) ≡ false = given-at kept.items c.args.place c.index.result.now (omega (arith, kept.ok.0)) c.index.ensures ∙ c.if-is_none.ensures in
+    let none : is_some (item_at kept.items c.args.place) ≡ false = item_at-known kept.items c.args.place c.index.result.now (omega (arith, kept.ok.0)) c.index.ensures ∙ c.if-is_none.ensures in
     rw none c.taken.ensures.left
 
 pub returns-else-is_none-clause-kept : goal.returns-else-is_none-clause-kept
 returns-else-is_none-clause-kept c =
     let kept = c.args.kept.now in
-    let some : is_some (given kept.items c.args.place) ≡ true = given-at kept.items c.args.place c.index.result.now (omega (arith, kept.ok.0)) c.index.ensures ∙ c.if-is_none.ensures in
+    let some : is_some (item_at kept.items c.args.place) ≡ true = item_at-known kept.items c.args.place c.index.result.now (omega (arith, kept.ok.0)) c.index.ensures ∙ c.if-is_none.ensures in
     rw some refl
 
 pub returns-else-is_none-clause-left : goal.returns-else-is_none-clause-left
 returns-else-is_none-clause-left c =
     let kept = c.args.kept.now in
-    let some : is_some (given kept.items c.args.place) ≡ true = given-at kept.items c.args.place c.index.result.now (omega (arith, kept.ok.0)) c.index.ensures ∙ c.if-is_none.ensures in
+    let some : is_some (item_at kept.items c.args.place) ≡ true = item_at-known kept.items c.args.place c.index.result.now (omega (arith, kept.ok.0)) c.index.ensures ∙ c.if-is_none.ensures in
     rw some refl

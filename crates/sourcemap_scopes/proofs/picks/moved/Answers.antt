@@ -1,7 +1,8 @@
 -- One more item is moved.
 use Rattle.std.proofs.Common.{◌≡◌, ◌++◌, ◌∷◌, [], ℕ, ◌+◌, List, drop, get_or, subst}
 use Rattle.std.proofs.lemmas.List.{drop_more}
-use Rattle.sourcemap_scopes.specs.Picks.{item_at, moved_items}
+use Rattle.sourcemap_lists.specs.Items.{item_at}
+use Rattle.sourcemap_scopes.specs.Picks.{moved_items}
 use Rattle.sourcemap_scopes.proofs.PicksLemmas.{moved-more}
 use Rattle.sourcemap_scopes.proofs.picks.moved.Goals as goal
 

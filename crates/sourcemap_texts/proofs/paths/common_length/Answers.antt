@@ -1,6 +1,6 @@
 use Rattle.std.proofs.Common.{◌≡◌, ◌+◌, ◌∙◌, cond, sym, subst, take, get_or}
-use Rattle.sourcemap_texts.specs.Paths.{parts_of, common_parts, is_separator}
-use Rattle.sourcemap_texts.proofs.PathsLemmas.{shared, IsWalk, IsWalk-start, IsWalk-step, IsWalk-cut, IsWalk-kept, parts_of-shared, IsCut, IsCut-shared}
+use Rattle.sourcemap_texts.specs.Paths.{path_parts, common_parts, is_separator}
+use Rattle.sourcemap_texts.proofs.PathsLemmas.{shared, IsWalk, IsWalk-start, IsWalk-step, IsWalk-cut, IsWalk-kept, path_parts-shared, IsCut, IsCut-shared}
 use Rattle.sourcemap_texts.proofs.paths.common_length.Goals as goal
 use Rattle.sourcemap_texts.proofs.paths.common_length.Goals.{then-is_separator, else-is_separator}
 
@@ -20,12 +20,12 @@ loop-kept-preserved c =
 pub returns-then-ends_part-clause-parts : goal.returns-then-ends_part-clause-parts
 returns-then-ends_part-clause-parts c =
     let is : shared c.args.a.now c.args.b.now ≡ c.loop-kept.at = IsWalk-cut c.loop-kept.invariant c.loop-kept-test.ensures.differ _ _ c.ends_part.ensures c.ends_part-2.ensures c.if-ends_part.true in
-    subst (λ n. parts_of (take n c.args.a.now) ≡ common_parts (parts_of c.args.a.now) (parts_of c.args.b.now)) is (parts_of-shared c.args.a.now c.args.b.now)
+    subst (λ n. path_parts (take n c.args.a.now) ≡ common_parts (path_parts c.args.a.now) (path_parts c.args.b.now)) is (path_parts-shared c.args.a.now c.args.b.now)
 
 pub returns-else-ends_part-clause-parts : goal.returns-else-ends_part-clause-parts
 returns-else-ends_part-clause-parts c =
     let is : shared c.args.a.now c.args.b.now ≡ c.loop-kept.kept = IsWalk-kept c.loop-kept.invariant c.loop-kept-test.ensures.differ _ _ c.ends_part.ensures c.ends_part-2.ensures c.if-ends_part.false in
-    subst (λ n. parts_of (take n c.args.a.now) ≡ common_parts (parts_of c.args.a.now) (parts_of c.args.b.now)) is (parts_of-shared c.args.a.now c.args.b.now)
+    subst (λ n. path_parts (take n c.args.a.now) ≡ common_parts (path_parts c.args.a.now) (path_parts c.args.b.now)) is (path_parts-shared c.args.a.now c.args.b.now)
 
 pub returns-else-ends_part-clause-within : goal.returns-else-ends_part-clause-within
 returns-else-ends_part-clause-within c =

@@ -1,19 +1,19 @@
 use Rattle.std.proofs.Common.{◌≡◌, ◌∙◌, List, ℕ, Ok, Option, Some, map, refl, option_map, string_bytes, sym, ap, subst, Bor}
 use Rattle.std.proofs.iter.runs.Made.{run_of_exit}
 use Rattle.sourcemap_errors.specs.Answer.{Gives}
-use Rattle.sourcemap_texts.specs.Paths.{parts_of, common_prefix, unless_bare}
+use Rattle.sourcemap_texts.specs.Paths.{path_parts, common_prefix, unless_bare}
 use Rattle.sourcemap_texts.proofs.PathsLemmas.{start_with, parts_among, start_of-taken, concat-first_parts}
 use Rattle.sourcemap_texts.proofs.paths.find_common_prefix.Goals as goal
 use Rattle.sourcemap_texts.proofs.paths.find_common_prefix.Goals.{in-Some-prefix, in-None-prefix}
 
 pub loop-text-preserved-then-is_absolute : goal.loop-text-preserved-then-is_absolute
 loop-text-preserved-then-is_absolute g c =
-    let seen : Option (Bor (List ℕ)) → Option (List (List ℕ)) = option_map (λ start. parts_of start.now) in
-    let parts = parts_of c.in-Some.text.now in
-    let beside : parts_of c.match-prefix.prefix.now ≡ start_with (seen c.loop-text.prefix) parts =
+    let seen : Option (Bor (List ℕ)) → Option (List (List ℕ)) = option_map (λ start. path_parts start.now) in
+    let parts = path_parts c.in-Some.text.now in
+    let beside : path_parts c.match-prefix.prefix.now ≡ start_with (seen c.loop-text.prefix) parts =
     elim c.match-prefix.branch [
-      | in-Some-prefix w ↦ ap (λ start. parts_of start.now) w.prefix-is ∙ w.common_start.ensures ∙ sym (ap (λ start. start_with (seen start) parts) w.in-Some-prefix.is)
-      | in-None-prefix w ↦ ap (λ start. parts_of start.now) w.prefix-is ∙ sym (ap (λ start. start_with (seen start) parts) w.in-None-prefix.is)
+      | in-Some-prefix w ↦ ap (λ start. path_parts start.now) w.prefix-is ∙ w.common_start.ensures ∙ sym (ap (λ start. start_with (seen start) parts) w.in-Some-prefix.is)
+      | in-None-prefix w ↦ ap (λ start. path_parts start.now) w.prefix-is ∙ sym (ap (λ start. start_with (seen start) parts) w.in-None-prefix.is)
     ] in
     ap Some (beside ∙ ap (λ start. start_with start parts) c.loop-text.invariant)
     ∙ sym (start_of-taken c.loop-text.yielded c.in-Some.text (sym c.is_absolute.ensures ∙ c.if-is_absolute.true))

@@ -1,7 +1,7 @@
 use Rattle.std.proofs.Common.{◌≡◌, option_map}
-use Rattle.sourcemap_texts.specs.Paths.{parts_of}
+use Rattle.sourcemap_texts.specs.Paths.{path_parts}
 use Rattle.sourcemap_texts.proofs.PathsLemmas.{start_of, parts_among}
 use Rattle.sourcemap_texts.proofs.paths.find_common_prefix.Given as goal
 
 abbrev pub invariant-loop-text : goal.invariant-loop-text
-invariant-loop-text g l = option_map (λ start. parts_of start.now) l.prefix ≡ start_of (parts_among l.yielded)
+invariant-loop-text g l = option_map (λ start. path_parts start.now) l.prefix ≡ start_of (parts_among l.yielded)

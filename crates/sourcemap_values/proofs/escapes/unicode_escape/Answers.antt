@@ -1,7 +1,7 @@
 use Rattle.std.proofs.Common.{◌≡◌, ◌+◌, drop, sym, subst, arith}
 use Rattle.std.specs.Char.{encode_utf8}
-use Rattle.sourcemap_values.specs.Texts.{IsUtf8UpTo, Says, SpellsUnit}
-use Rattle.sourcemap_values.proofs.EscapeLemmas.{Says-unit, Says-pair, unit_passed, unit_within}
+use Rattle.sourcemap_values.specs.Texts.{IsUtf8UpTo, IsSaidBetween, SpellsUnit}
+use Rattle.sourcemap_values.proofs.EscapeLemmas.{IsSaidBetween-unit, IsSaidBetween-pair, unit_passed, unit_within}
 use Rattle.sourcemap_values.proofs.Utf8Lemmas.{utf8_on}
 use Rattle.sourcemap_values.proofs.escapes.unicode_escape.Goals as goal
 
@@ -11,7 +11,7 @@ returns-in-Some-clause-says c =
     let at = c.args.at in
     let unit = c.in_ok-unit.unit in
     let spells : SpellsUnit text at unit = c.in_ok-unit.ensures in
-    subst (λ u. Says (drop at text) (encode_utf8 u) (drop (at + 6) text)) (sym c.in-Some.ensures.value.1) (Says-unit text at unit spells c.in-Some.ensures.cases)
+    subst (λ u. IsSaidBetween (drop at text) (encode_utf8 u) (drop (at + 6) text)) (sym c.in-Some.ensures.value.1) (IsSaidBetween-unit text at unit spells c.in-Some.ensures.cases)
 
 pub returns-in-Some-clause-utf8 : goal.returns-in-Some-clause-utf8
 returns-in-Some-clause-utf8 c = unit_passed c.args.text.now c.args.at c.in_ok-unit.unit c.in_ok-unit.ensures
@@ -25,7 +25,7 @@ returns-clause-says c =
     let pair = c.in_ok-character.ensures in
     let first : SpellsUnit text at unit = c.in_ok-unit.ensures in
     let second : SpellsUnit text (at + 6) low = c.in_ok-low.ensures in
-    subst (λ u. Says (drop at text) (encode_utf8 u) (drop (at + 12) text)) (sym pair.value) (Says-pair text at unit low first second pair.high pair.low)
+    subst (λ u. IsSaidBetween (drop at text) (encode_utf8 u) (drop (at + 12) text)) (sym pair.value) (IsSaidBetween-pair text at unit low first second pair.high pair.low)
 
 pub returns-clause-utf8 : goal.returns-clause-utf8
 returns-clause-utf8 c =

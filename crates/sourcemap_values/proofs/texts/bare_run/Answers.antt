@@ -1,6 +1,6 @@
 use Rattle.std.proofs.Common.{◌≡◌, ◌+◌, ◌-◌, length, length-drop, length-take-le, take, drop, sym, ap, ◌∙◌, subst, arith}
-use Rattle.sourcemap_values.specs.Texts.{IsUtf8UpTo, Says}
-use Rattle.sourcemap_values.proofs.TextLemmas.{Says-bare}
+use Rattle.sourcemap_values.specs.Texts.{IsUtf8UpTo, IsSaidBetween}
+use Rattle.sourcemap_values.proofs.TextLemmas.{IsSaidBetween-bare}
 use Rattle.sourcemap_values.proofs.Utf8Lemmas.{bare_run_utf8, run_passed}
 use Rattle.sourcemap_values.proofs.texts.bare_run.Goals as goal
 
@@ -14,8 +14,8 @@ returns-clause-says c =
     let n = c.bare_end-end.result - from in
     let run : c.from_utf8_unchecked.result.now ≡ take n (drop from text) = c.from_utf8_unchecked.ensures in
     let long : length c.from_utf8_unchecked.result.now ≡ n = ap length run ∙ length-take-le n (drop from text) (omega (arith, c.bare_end-end.ensures.within, length-drop from text)) in
-    subst (λ said. Says (drop from text) said (drop (from + length c.from_utf8_unchecked.result.now) text)) (sym run)
-    (subst (λ k. Says (drop from text) (take n (drop from text)) (drop (from + k) text)) (sym long) (Says-bare text from n (omega (arith, c.bare_end-end.ensures.value))))
+    subst (λ said. IsSaidBetween (drop from text) said (drop (from + length c.from_utf8_unchecked.result.now) text)) (sym run)
+    (subst (λ k. IsSaidBetween (drop from text) (take n (drop from text)) (drop (from + k) text)) (sym long) (IsSaidBetween-bare text from n (omega (arith, c.bare_end-end.ensures.value))))
 
 pub returns-clause-utf8 : goal.returns-clause-utf8
 returns-clause-utf8 c =

@@ -1,0 +1,28 @@
+//! Items by id, of which some are missing.
+ghost use Rattle.std.specs.Prelude.{◌≡◌, None, slice_set};
+ghost use Rattle.std.specs.Option.{option_copied};
+ghost use Rattle.sourcemap_lists.specs.Items.{item_at};
+
+/// The item with this id, if there is one.
+#[inline]
+pub fn item_at<T>(items: &[Option<T>], id: usize) -> Option<&T>
+    ensures { option_copied result ≡ item_at items.now id }
+{
+    match items.get(id) {
+        Some(Some(item)) => Some(item),
+        _ => None,
+    }
+}
+
+/// The item with this id, if there is one, which is taken away from there.
+#[inline]
+pub fn taken<T: Drop>(items: &mut Vec<Option<T>>, id: usize) -> Option<T>
+    ensures taken { result ≡ item_at items.old.items id }
+    ensures left { items.new.items ≡ slice_set items.old.items id None }
+{
+    if id < items.len() {
+        items[id].take()
+    } else {
+        None
+    }
+}
