@@ -16,7 +16,7 @@ pub use sourcemap_hermes::rewrite::{default_rewriting_keeps_scopes, rewriting_ke
 pub use sourcemap_index::decode::{answers_are_determined, no_other_fault_is_of_urls};
 pub use sourcemap_index::laws::{
     encoded_texts_are_compact, encoded_texts_read_back, hermes_maps_are_of_a_kind,
-    maps_without_sections_are_shallow, regular_maps_are_of_a_kind, written_values_have_one_text,
+    maps_of_forty_levels_are_shallow, regular_maps_are_of_a_kind, written_values_have_one_text,
 };
 pub use sourcemap_regular::encode::written_records_are_determined;
 pub use sourcemap_regular::rewrite::default_rewriting_is_final;

@@ -1,99 +1,52 @@
--- The value that a map of any kind is written as: there is one, no number in it has a fraction, and that
--- of a map that is no index has few levels.
-use Rattle.std.proofs.Common.{◌≡◌, ◌∙◌, ◌≤◌, refl, sym, ap, subst, arith, ℕ, List, [], ◌∷◌, codes, map, Option, Some, None, option_map, Bool, true, false, ◌||◌}
-use Rattle.std.specs.Ordering.{nat_cmp, match_ordering}
-use Rattle.std.specs.Cmp.Lexicographic.{slice_cmp}
-use Rattle.std.specs.declared.cmp.Ordering.{Ordering}
-use Rattle.std.specs.declared.cmp.Ordering.TheVariants.{Less, Equal, Greater}
-use Rattle.serde_json.specs.Data.{Data, null, string, array, Members, no_members, member, put, depth}
+-- The value that a map of any kind is written as: there is one, no number in it has a fraction, and it has few levels
+-- where few indexes stand in one another.
+use Rattle.std.proofs.Common.{◌≡◌, ◌∙◌, ◌+◌, ◌*◌, ◌≤◌, ◌++◌, refl, sym, ap, subst, arith, ℕ, List, [], ◌∷◌, codes, Option, Some, Bool, false, ◌||◌}
+use Rattle.serde_json.specs.Data.{Data, null, string, array, object, Members, no_members, Items, item, depth, items_depth}
 use Rattle.serde_json.specs.Read.{max_depth}
-use Rattle.serde_json.specs.View.{items_of}
-use Rattle.serde_json.specs.Written.{compact_text, has_float, items_have_float, members_have_float}
+use Rattle.serde_json.specs.Written.{compact_text, has_float, items_have_float}
 use Rattle.sourcemap_headers.specs.DebugId.{debug_id_text}
 use Rattle.sourcemap_records.specs.Field.{written_number, written_or_null, written_list, put_if, put_all}
 use Rattle.sourcemap_records.specs.Jsontypes.{Tree, Sections, Place, entries, written, written_fields, written_sections, written_section, written_offset}
-use Rattle.sourcemap_regular.proofs.WriteLemmas.{record-low as regular-low}
+use Rattle.sourcemap_regular.proofs.WriteLemmas.{IsLow, EntriesAreLow, low_object, low_list, low_or_null, low_if, low_string, low_entries, record-low as regular-low}
 use Rattle.sourcemap_hermes.proofs.WriteLemmas.{record-low as hermes-low}
 use Rattle.sourcemap_trees.specs.Encode.{index_fields, AreWrittenBy, IsLeafRecord, IsRecordOf}
 use Rattle.sourcemap_trees.specs.MapTree.{LeafMap, regular, hermes, IndexParts, MapTree, leaf, index, MapSections, no_sections, hollow, filled}
 use Rattle.sourcemap_trees.proofs.EncodeLemmas.{tree_written_once}
-use Rattle.sourcemap_index.specs.DecodedMap.{IsShallow, IsValueOf, IsTextOf}
+use Rattle.sourcemap_index.specs.DecodedMap.{levels, deepest, IsShallow, IsValueOf, IsTextOf}
 
--- no number in the value has a fraction
-abbrev IsWhole : Data → Type 0
-IsWhole d = has_float d ≡ false
+low_number : (n k : ℕ) → IsLow n (written_number k)
+low_number n k = (omega arith, refl)
 
-abbrev AreWhole : Members → Type 0
-AreWhole ms = members_have_float ms ≡ false
-
-abbrev IsWholeIf : Option Data → Type 0
-IsWholeIf None = Unit {0}
-IsWholeIf (Some d) = IsWhole d
-
-abbrev EntriesAreWhole : List (List ℕ × Option Data) → Type 0
-EntriesAreWhole [] = Unit {0}
-EntriesAreWhole (e ∷ es) = IsWholeIf e.1 × EntriesAreWhole es
+-- more levels do not matter
+low_more : (n m : ℕ) (d : Data) → n ≤ m → IsLow n d → IsLow m d
+low_more n m d upto low = ((let a = low.0 in omega (arith, upto)), low.1)
 
 neither : (r s : Bool) → r ≡ false → s ≡ false → r || s ≡ false
 neither r s p q = rw (p, q) refl
 
-fst_false : (r s : Bool) → r || s ≡ false → r ≡ false
-fst_false true s p = cc
-fst_false false s p = refl
+-- An object with one key more.
 
-snd_false : (r s : Bool) → r || s ≡ false → s ≡ false
-snd_false true s p = cc
-snd_false false s p = p
+put_all-push : (es : List (List ℕ × Option Data)) (e : List ℕ × Option Data) (ms : Members) → put_all (es ++ e ∷ []) ms ≡ put_if e.0 e.1 (put_all es ms)
+put_all-push [] e ms = refl
+put_all-push (x ∷ es) e ms = put_all-push es e (put_if x.0 x.1 ms)
 
-whole_order : (o : Ordering) (a b c : Members) → AreWhole a → AreWhole b → AreWhole c → AreWhole (match_ordering o a b c)
-whole_order Less a b c p q r = p
-whole_order Equal a b c p q r = q
-whole_order Greater a b c p q r = r
-
-whole_put : (k : List ℕ) (d : Data) (ms : Members) → IsWhole d → AreWhole ms → AreWhole (put k d ms)
-whole_put k d no_members p q = neither (has_float d) false p refl
-whole_put k d (member l e ms) p q =
-    let head = fst_false (has_float e) (members_have_float ms) q in
-    let rest = snd_false (has_float e) (members_have_float ms) q in
-    whole_order (slice_cmp nat_cmp k l) (member k d (member l e ms)) (member l d ms) (member l e (put k d ms))
-    (neither (has_float d) (members_have_float (member l e ms)) p q)
-    (neither (has_float d) (members_have_float ms) p rest)
-    (neither (has_float e) (members_have_float (put k d ms)) head (whole_put k d ms p rest))
-
-whole_put_if : (k : List ℕ) (o : Option Data) (ms : Members) → IsWholeIf o → AreWhole ms → AreWhole (put_if k o ms)
-whole_put_if k None ms p q = q
-whole_put_if k (Some d) ms p q = whole_put k d ms p q
-
-whole_put_all : (es : List (List ℕ × Option Data)) (ms : Members) → EntriesAreWhole es → AreWhole ms → AreWhole (put_all es ms)
-whole_put_all [] ms p q = q
-whole_put_all (e ∷ es) ms p q = whole_put_all es (put_if e.0 e.1 ms) p.1 (whole_put_if e.0 e.1 ms p.0 q)
+low-push : (n : ℕ) (es : List (List ℕ × Option Data)) (e : List ℕ × Option Data) → EntriesAreLow n es → EntriesAreLow n (e ∷ []) → EntriesAreLow n (es ++ e ∷ [])
+low-push n [] e all last = last
+low-push n (x ∷ es) e all last = (all.0, low-push n es e all.1 last)
 
 -- What sections and indexes are written as.
 
-whole_items : {X : Type 0} (write : X → Data) → ((x : X) → IsWhole (write x)) → (xs : List X) → items_have_float (items_of (map write xs)) ≡ false
-whole_items write each [] = refl
-whole_items write each (x ∷ xs) = neither (has_float (write x)) (items_have_float (items_of (map write xs))) (each x) (whole_items write each xs)
-
-whole_if : {X : Type 0} (write : X → Data) → ((x : X) → IsWhole (write x)) → (o : Option X) → IsWholeIf (option_map write o)
-whole_if write each None = tt
-whole_if write each (Some x) = each x
-
-whole_text : (o : Option (List ℕ)) → IsWhole (written_or_null string o)
-whole_text None = refl
-whole_text (Some s) = refl
-
-whole_number : (o : Option ℕ) → IsWhole (written_or_null written_number o)
-whole_number None = refl
-whole_number (Some n) = refl
-
-whole_index : (parts : IndexParts) → AreWhole (written_fields (index_fields parts))
-whole_index parts =
-    whole_put_all (entries (index_fields parts)) no_members (
-      refl,
+index_low : (parts : IndexParts) → EntriesAreLow 1 (entries (index_fields parts))
+index_low parts = (
+  low_number 1 3,
+  (
+    low_if 1 string (low_string 1) parts.file,
+    (
+      (omega arith, refl),
       (
-        whole_if string (λ s. refl) parts.file,
+        tt,
         (
-          refl,
+          tt,
           (
             tt,
             (
@@ -103,16 +56,10 @@ whole_index parts =
                 (
                   tt,
                   (
-                    tt,
+                    low_if 1 (written_list (written_or_null written_number)) (low_list 0 (written_or_null written_number) (low_or_null 0 written_number (low_number 0))) parts.x_facebook_offsets,
                     (
-                      tt,
-                      (
-                        whole_if (written_list (written_or_null written_number)) (whole_items (written_or_null written_number) whole_number) parts.x_facebook_offsets,
-                        (
-                          whole_if (written_list string) (whole_items string (λ s. refl)) parts.x_metro_module_paths,
-                          (tt, (whole_if (λ id. string (debug_id_text id)) (λ id. refl) parts.debug_id, tt)),
-                        ),
-                      ),
+                      low_if 1 (written_list string) (low_list 0 string (low_string 0)) parts.x_metro_module_paths,
+                      (tt, (low_if 1 (λ id. string (debug_id_text id)) (λ id. low_string 1 (debug_id_text id)) parts.debug_id, tt)),
                     ),
                   ),
                 ),
@@ -121,56 +68,75 @@ whole_index parts =
           ),
         ),
       ),
-    )
-    refl
+    ),
+  ),
+)
 
-whole_offset : (line column : ℕ) → IsWhole (written_offset (record { line = line; column = column }))
-whole_offset line column =
-    whole_put_all (
+low_offset : (line column : ℕ) → IsLow 1 (written_offset (record { line = line; column = column }))
+low_offset line column =
+    low_object 0 (
     (codes "line", Some (written_number line)) ∷
     (codes "column", Some (written_number column)) ∷ [])
-    no_members (refl, (refl, tt)) refl
+    (low_number 0 line, (low_number 0 column, tt))
 
-whole_section : (place : Place) (d : Data) → IsWhole d → IsWhole (written_section place d)
-whole_section place d whole =
-    whole_put_all (
+low_section : (n : ℕ) (place : Place) (d : Data) → 1 ≤ n → IsLow n d → IsLow (n + 1) (written_section place d)
+low_section n place d some low =
+    low_object n (
     (codes "map", Some d) ∷
     (codes "offset", Some (written_offset (record { line = place.line; column = place.column }))) ∷
     (codes "url", Some (written_or_null string place.url)) ∷ [])
-    no_members (whole, (whole_offset place.line place.column, (whole_text place.url, tt))) refl
+    (low, (low_more 1 n (written_offset (record { line = place.line; column = place.column })) some (low_offset place.line place.column), (low_or_null n string (low_string n) place.url, tt)))
 
--- What maps that are no index are written as.
+low_leaf : (l : LeafMap) (r : Tree) → IsLeafRecord l r → IsLow 5 (written r)
+low_leaf (regular m) r is = low_more 2 5 (written r) (omega arith) (regular-low m r is)
+low_leaf (hermes h) r is = hermes-low h r is
 
-whole_leaf : (l : LeafMap) (r : Tree) → IsLeafRecord l r → IsWhole (written r)
-whole_leaf (regular m) r is = (regular-low m r is).1
-whole_leaf (hermes h) r is = (hermes-low h r is).1
+-- an index around sections of this value
+low_index : (n : ℕ) (parts : IndexParts) (xs : Sections) → items_depth (written_sections xs) ≤ n → items_have_float (written_sections xs) ≡ false
+    → IsLow (n + 2) (object (put_if (codes "sections") (Some (array (written_sections xs))) (written_fields (index_fields parts))))
+low_index n parts xs few whole =
+    let last : List ℕ × Option Data = (codes "sections", Some (array (written_sections xs))) in
+    let keys : EntriesAreLow (n + 1) (entries (index_fields parts)) =
+        subst (λ k. EntriesAreLow k (entries (index_fields parts))) (omega arith) (low_entries 1 n (entries (index_fields parts)) (index_low parts)) in
+    let low = low_object (n + 1) (entries (index_fields parts) ++ last ∷ []) (low-push (n + 1) (entries (index_fields parts)) last keys (((omega (arith, few)), whole), tt)) in
+    let same = put_all-push (entries (index_fields parts)) last no_members in
+    subst (λ ms. IsLow (n + 2) (object ms)) same (low_more (n + 1 + 1) (n + 2) (object (put_all (entries (index_fields parts) ++ last ∷ []) no_members)) (omega arith) low)
 
-few_levels : (l : LeafMap) (r : Tree) → IsLeafRecord l r → depth (written r) ≤ max_depth
-few_levels (regular m) r is = let low = (regular-low m r is).0 in omega arith
-few_levels (hermes h) r is = let low = (hermes-low h r is).0 in omega arith
+abbrev AreLowItems : ℕ → Items → Type 0
+AreLowItems n ds = (items_depth ds ≤ 3 * n + 6) × (items_have_float ds ≡ false)
 
-pub shallow_leaf : (l : LeafMap) → IsShallow (leaf l)
-shallow_leaf l d (r, is, same) = subst (λ d. depth d ≤ max_depth) (sym same) (few_levels l r is)
+low_item : (n : ℕ) (d : Data) (ys : Sections) → IsLow (3 * n + 5 + 1) d → AreLowItems n (written_sections ys) → AreLowItems n (item d (written_sections ys))
+low_item n d ys here rest =
+    ((let a = here.0 in let b = rest.0 in omega arith), neither (has_float d) (items_have_float (written_sections ys)) here.1 rest.1)
 
 mutual
-  whole_tree : (t : MapTree) (r : Tree) → IsRecordOf t r → IsWhole (written r)
-  whole_tree (leaf l) r is = whole_leaf l r is
-  whole_tree (index parts ss) r (xs, is, all) =
-      ap (λ r. has_float (written r)) is
-      ∙ whole_put_if (codes "sections") (Some (array (written_sections xs))) (written_fields (index_fields parts)) (whole_sections ss xs all) (whole_index parts)
+  -- an index has three levels of its own: itself, the list of its sections, and each of these
+  low_tree : (t : MapTree) (r : Tree) → IsRecordOf t r → IsLow (3 * levels t + 5) (written r)
+  low_tree (leaf l) r is = low_more 5 (3 * levels (leaf l) + 5) (written r) (omega arith) (low_leaf l r is)
+  low_tree (index parts ss) r (xs, is, all) =
+      let low = low_sections ss xs all (deepest ss) (omega arith) in
+      subst (λ r. IsLow (3 * levels (index parts ss) + 5) (written r)) (sym is)
+      (low_more (3 * deepest ss + 6 + 2) (3 * levels (index parts ss) + 5) (object (put_if (codes "sections") (Some (array (written_sections xs))) (written_fields (index_fields parts)))) (omega arith)
+      (low_index (3 * deepest ss + 6) parts xs low.0 low.1))
 
-  whole_sections : (ss : MapSections) (xs : Sections) → AreWrittenBy IsLeafRecord ss xs → items_have_float (written_sections xs) ≡ false
-  whole_sections no_sections xs is = ap (λ xs. items_have_float (written_sections xs)) is
-  whole_sections (hollow place rest) xs (ys, is, all) =
-      ap (λ xs. items_have_float (written_sections xs)) is
-      ∙ neither (has_float (written_section place null)) (items_have_float (written_sections ys)) (whole_section place null refl) (whole_sections rest ys all)
-  whole_sections (filled place t rest) xs (r, ys, is, of, all) =
-      ap (λ xs. items_have_float (written_sections xs)) is
-      ∙ neither (has_float (written_section place (written r))) (items_have_float (written_sections ys)) (whole_section place (written r) (whole_tree t r of)) (whole_sections rest ys all)
+  low_sections : (ss : MapSections) (xs : Sections) → AreWrittenBy IsLeafRecord ss xs → (n : ℕ) → deepest ss ≤ n
+      → AreLowItems n (written_sections xs)
+  low_sections no_sections xs is n upto = subst (AreLowItems n) (sym (ap written_sections is)) (omega arith, refl)
+  low_sections (hollow place rest) xs (ys, is, all) n upto =
+      let here = low_section (3 * n + 5) place null (omega arith) (omega arith, refl) in
+      subst (AreLowItems n) (sym (ap written_sections is)) (low_item n (written_section place null) ys here (low_sections rest ys all n upto))
+  low_sections (filled place t rest) xs (r, ys, is, of, all) n upto =
+      let inner = low_more (3 * levels t + 5) (3 * n + 5) (written r) (omega (arith, upto)) (low_tree t r of) in
+      let here = low_section (3 * n + 5) place (written r) (omega arith) inner in
+      subst (AreLowItems n) (sym (ap written_sections is)) (low_item n (written_section place (written r)) ys here (low_sections rest ys all n (omega (arith, upto))))
 
 -- no number in what a map is written as has a fraction
 pub whole_value : (t : MapTree) (d : Data) → IsValueOf t d → has_float d ≡ false
-whole_value t d (r, is, same) = ap has_float same ∙ whole_tree t r is
+whole_value t d (r, is, same) = ap has_float same ∙ (low_tree t r is).1
+
+-- what a map is written as has at most 127 levels where at most 40 indexes stand in one another
+pub shallow_within : (t : MapTree) → levels t ≤ 40 → IsShallow t
+shallow_within t few d (r, is, same) = subst (λ d. depth d ≤ max_depth) (sym same) (let low = (low_tree t r is).0 in omega (arith, few))
 
 value_once : (t : MapTree) (d e : Data) → IsValueOf t d → IsValueOf t e → d ≡ e
 value_once t d e (r, is, same) (r', is', same') = same ∙ ap written (tree_written_once t r r' is is') ∙ sym same'

@@ -1,11 +1,11 @@
 -- What a map of any kind answers by its kind, and which values and texts it is written as.
-use Rattle.std.specs.Prelude.{◌≡◌, ◌≤◌, ℕ, List, Option}
+use Rattle.std.specs.Prelude.{◌≡◌, ◌≤◌, ℕ, suc, max, List, Option}
 use Rattle.serde_json.specs.Data.{Data, depth}
 use Rattle.serde_json.specs.Read.{max_depth}
 use Rattle.serde_json.specs.Written.{compact_text}
 use Rattle.sourcemap_records.specs.Jsontypes.{Tree, written}
 use Rattle.sourcemap_trees.specs.Encode.{IsRecordOf}
-use Rattle.sourcemap_trees.specs.MapTree.{LeafMap, regular, hermes, held, MapTree, leaf, index}
+use Rattle.sourcemap_trees.specs.MapTree.{LeafMap, regular, hermes, held, MapTree, leaf, index, MapSections, no_sections, hollow, filled}
 
 -- the identifier that ties a map to its file
 abbrev pub debug_id_of : MapTree → Option (List ℕ)
@@ -28,6 +28,17 @@ IsValueOf t d = (r : Tree) × IsRecordOf t r × (d ≡ written r)
 abbrev pub IsTextOf : MapTree → List ℕ → Type 0
 IsTextOf t text = (d : Data) × IsValueOf t d × (text ≡ compact_text d)
 
--- what the map is written as has at most 127 levels, as a regular map's two and a Hermes map's five always are
+-- how many indexes stand in one another
+abbrev mutual
+  pub levels : MapTree → ℕ
+  levels (leaf l) = 0
+  levels (index parts ss) = suc (deepest ss)
+
+  pub deepest : MapSections → ℕ
+  deepest no_sections = 0
+  deepest (hollow place rest) = deepest rest
+  deepest (filled place t rest) = max (levels t) (deepest rest)
+
+-- what the map is written as has at most 127 levels: a regular map has two, a Hermes map five, and each index adds three
 abbrev pub IsShallow : MapTree → Type 0
 IsShallow t = (d : Data) → IsValueOf t d → depth d ≤ max_depth

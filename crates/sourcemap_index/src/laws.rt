@@ -1,5 +1,5 @@
 //! Laws of maps of any kind as they are stored.
-ghost use Rattle.std.specs.Prelude.{◌≡◌, false, List, Ok, ℕ, ◌↔◌};
+ghost use Rattle.std.specs.Prelude.{◌≡◌, ◌≤◌, false, List, Ok, ℕ, ◌↔◌};
 ghost use Rattle.serde_json.specs.Data.{Data};
 ghost use Rattle.serde_json.specs.Written.{has_float};
 ghost use Rattle.sourcemap_headers.specs.DataUrl.{Holds};
@@ -11,10 +11,10 @@ ghost use Rattle.sourcemap_regular.specs.Write.{IsEncoded};
 ghost use Rattle.sourcemap_trees.specs.Encode.{RecordAnswer, Restores};
 ghost use Rattle.sourcemap_hermes.specs.Decode.{OnlyHermesDecodes};
 ghost use Rattle.sourcemap_hermes.specs.Map.{HermesValue};
-ghost use Rattle.sourcemap_trees.specs.MapTree.{LeafMap, MapTree, hermes, leaf, regular};
+ghost use Rattle.sourcemap_trees.specs.MapTree.{MapTree, hermes, leaf, regular};
 ghost use Rattle.sourcemap_trees.specs.WellFormed.{IsWellFormed};
 ghost use Rattle.sourcemap_index.specs.Decode.{BytesDecode, UrlDecodes, ValueDecodes};
-ghost use Rattle.sourcemap_index.specs.DecodedMap.{IsShallow, IsTextOf, IsValueOf};
+ghost use Rattle.sourcemap_index.specs.DecodedMap.{IsShallow, IsTextOf, IsValueOf, levels};
 
 /// A law: a JSON value, bytes or a data URL stand for a regular map exactly if they stand for it as
 /// a map of any kind.
@@ -51,10 +51,10 @@ pub fn encoded_texts_are_compact()
     ensures { (t : MapTree) (text : List ℕ) → IsEncoded (RecordAnswer t) text → IsTextOf t text }
 {}
 
-/// A law: what a map that is no index is written as has few levels, and a reader of JSON takes
-/// them.
-pub fn maps_without_sections_are_shallow()
-    ensures { (l : LeafMap) → IsShallow (leaf l) }
+/// A law: what a map is written as has few levels, and a reader of JSON takes them, where at most
+/// 40 indexes stand in one another.
+pub fn maps_of_forty_levels_are_shallow()
+    ensures { (t : MapTree) → levels t ≤ 40 → IsShallow t }
 {}
 
 /// A law: the bytes that a well-formed map of any kind is written as, and a data URL of them, stand

@@ -35,7 +35,7 @@ given_to-other numbers contents id n k e apart = rw e (by_case (n == k) refl)
     by_case true same = absurd (apart (sym (eqb-true n k same)))
     by_case false _ = refl
 
-item_at-nothing : (count k : ℕ) → item_at (replicate count None) k ≡ None
+item_at-nothing : (count k : ℕ) → item_at {X = List ℕ} (replicate count None) k ≡ None
 item_at-nothing zero k = refl
 item_at-nothing (suc n) zero = refl
 item_at-nothing (suc n) (suc k) = item_at-nothing n k

@@ -14,4 +14,5 @@ pub mod naming;
 pub mod places;
 pub mod publishing;
 pub mod quick;
+pub mod saving;
 pub mod shrinking;

@@ -17,6 +17,7 @@ use sourcemap_uses::naming::{line_total, original_name, source_line};
 use sourcemap_uses::places::{frame_text, place_text};
 use sourcemap_uses::publishing::published;
 use sourcemap_uses::quick::quick_place;
+use sourcemap_uses::saving::saved;
 use sourcemap_uses::shrinking::{place_once_shrunk, shrunk};
 use std::alloc::Global;
 use std::process::Abort;
@@ -345,6 +346,22 @@ fn is_linked(index: &mut SourceMapIndex) -> Result<bool> {
 fn a_section_is_linked(rt: HostRuntime) -> std::result::Result<(), Fail> {
     let mut index = index_of(rt.alloc(), APART)?;
     assert!(rt; is_linked(&mut *index)?);
+    Ok(())
+}
+
+// What the map in a text says of a position, once it is saved and read again: source, line, column.
+fn place_once_saved(alloc: Global, text: &str, line: u32, col: u32) -> Result<Option<String>> {
+    let bytes = saved(alloc, &decode_slice(alloc, text.as_bytes())?)?;
+    place_text(alloc, bytes.as_slice(), line, col)
+}
+
+#[test]
+fn a_saved_index_says_what_it_said(rt: HostRuntime) -> std::result::Result<(), Fail> {
+    let alloc = rt.alloc();
+    for (line, col, want) in [(1, 3, "a.js:0:0"), (3, 7, ""), (4, 0, "b.js:0:0")].iter() {
+        let place = place_once_saved(alloc, LATE, *line, *col)?;
+        assert_eq!(rt; shown(alloc, place).as_str(), *want, "{line} {col}");
+    }
     Ok(())
 }
 

@@ -1,0 +1,29 @@
+//! A map of any kind in a file, so that it can be asked again.
+ghost use Rattle.std.specs.Prelude.{◌≤◌, IfOk, IsOkUnless};
+ghost use Rattle.sourcemap.specs.AnyMap.{levels, map_tree};
+ghost use Rattle.sourcemap.specs.Decoder.{BytesDecode};
+ghost use Rattle.sourcemap.specs.Encoder.{ReadsBack};
+ghost use Rattle.sourcemap.specs.TreeEncoder.{Restores};
+ghost use Rattle.sourcemap.specs.Trees.{IsWellFormed};
+ghost use Rattle.sourcemap.specs.declared.errors.Error.TheVariants.{OutOfMemory};
+
+use sourcemap::encoder::encode_to_vec;
+use sourcemap::laws::{encoded_texts_read_back, maps_of_forty_levels_are_shallow};
+use sourcemap::{DecodedMap, Result};
+use std::alloc::Global;
+
+/// The bytes of a map, for a file. If the map is well-formed and at most 40 indexes stand in one
+/// another in it, whoever reads them gets a map that means the same at every position, with all
+/// parts kept. Only want of memory refuses.
+pub fn saved(alloc: Global, map: &DecodedMap) -> Result<Vec<u8>>
+    ensures reads_back { IfOk result (λ text. IsWellFormed (map_tree map.now)
+        → levels (map_tree map.now) ≤ 40
+        → ReadsBack (BytesDecode text.items) (Restores (map_tree map.now))) }
+    ensures memory { IsOkUnless result OutOfMemory }
+{
+    encoded_texts_read_back();
+    maps_of_forty_levels_are_shallow();
+    // in two steps for the prover: what a call answers is known behind its `?`
+    let text = encode_to_vec(alloc, map)?;
+    Ok(text)
+}
