@@ -97,7 +97,7 @@ low_index : (n : ℕ) (parts : IndexParts) (xs : Sections) → items_depth (writ
 low_index n parts xs few whole =
     let last : List ℕ × Option Data = (codes "sections", Some (array (written_sections xs))) in
     let keys : EntriesAreLow (n + 1) (entries (index_fields parts)) =
-        subst (λ k. EntriesAreLow k (entries (index_fields parts))) (omega arith) (low_entries 1 n (entries (index_fields parts)) (index_low parts)) in
+    subst (λ k. EntriesAreLow k (entries (index_fields parts))) (omega arith) (low_entries 1 n (entries (index_fields parts)) (index_low parts)) in
     let low = low_object (n + 1) (entries (index_fields parts) ++ last ∷ []) (low-push (n + 1) (entries (index_fields parts)) last keys (((omega (arith, few)), whole), tt)) in
     let same = put_all-push (entries (index_fields parts)) last no_members in
     subst (λ ms. IsLow (n + 2) (object ms)) same (low_more (n + 1 + 1) (n + 2) (object (put_all (entries (index_fields parts) ++ last ∷ []) no_members)) (omega arith) low)
