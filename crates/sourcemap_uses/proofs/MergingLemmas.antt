@@ -4,7 +4,7 @@ use Rattle.std.proofs.lemmas.Bool.{ltb-false}
 use Rattle.sourcemap.specs.Answer.{Gives, UnlessMemory}
 use Rattle.sourcemap.specs.Builder.{BuilderValue, empty_builder, with_source, built}
 use Rattle.sourcemap.specs.Due.{Gives-given}
-use Rattle.sourcemap.specs.Interner.{id_for, source_place, with_text}
+use Rattle.sourcemap.specs.Interner.{id_for, id_of, with_text}
 use Rattle.sourcemap.specs.Rewrite.{kept_once}
 use Rattle.sourcemap.specs.Types.{MapValue, made_of, shown, shown_sources}
 use Rattle.sourcemap.specs.declared.errors.Error.{Error}
@@ -16,7 +16,7 @@ use Rattle.sourcemap_uses.proofs.RefusalLemmas.{unless_memory}
 
 -- a source that is added is shown as it was given
 shown_as_given : (b : BuilderValue) (text : List ℕ) → b.sources ≡ b.interned → (with_source b text).sources ≡ (with_source b text).interned
-shown_as_given b text same = ap (λ texts. cond (is_some (source_place text b.interned)) texts (texts ++ text ∷ [])) same
+shown_as_given b text same = ap (λ texts. cond (is_some (id_of text b.interned)) texts (texts ++ text ∷ [])) same
 
 -- nothing else is changed
 all_added : (b : BuilderValue) (texts : List (List ℕ)) → b.sources ≡ b.interned
@@ -74,13 +74,13 @@ more_or_same false texts text = omega (arith, length-append texts (text ∷ []))
 no_fewer : (texts more : List (List ℕ)) → length texts ≤ length (fold with_text texts more)
 no_fewer texts [] = omega arith
 no_fewer texts (text ∷ more) =
-    omega (arith, more_or_same (is_some (source_place text texts)) texts text, no_fewer (with_text texts text) more)
+    omega (arith, more_or_same (is_some (id_of text texts)) texts text, no_fewer (with_text texts text) more)
 
 too_many_more : (texts more : List (List ℕ)) (e : Error) → AreTooMany texts e → AreTooMany (fold with_text texts more) e
 too_many_more texts more e many = (many.0, omega (arith, many.1, no_fewer texts more))
 
 -- a text without an id is one too many
-without_id : (o : Option ℕ) (texts : List (List ℕ)) (text : List ℕ) (e : Error) → source_place text texts ≡ o
+without_id : (o : Option ℕ) (texts : List (List ℕ)) (text : List ℕ) (e : Error) → id_of text texts ≡ o
     → id_for texts text ≡ Err e → AreTooMany (with_text texts text) e
 without_id (Some id) texts text e known refused = absurd (let no : Ok id ≡ Err e = rw known at refused in cc)
 without_id None texts text e new refused =
@@ -94,7 +94,7 @@ pub stopped_at : (b : BuilderValue) (text : List ℕ) (texts : List (List ℕ)) 
     → UnlessMemory e (AreTooMany (fold with_source b (text ∷ texts)).interned e)
 stopped_at b text texts e h = unless_memory e (id_for b.interned text ≡ Err e) (AreTooMany (fold with_source b (text ∷ texts)).interned e)
     (λ refused. subst (λ all. AreTooMany all e) (sym (all_interned b (text ∷ texts)))
-    (too_many_more (with_text b.interned text) texts e (without_id (source_place text b.interned) b.interned text e refl refused)))
+    (too_many_more (with_text b.interned text) texts e (without_id (id_of text b.interned) b.interned text e refl refused)))
     h
 
 -- the sources of both maps are too many where those of the first are

@@ -55,12 +55,12 @@ pub(crate) fn place_at(alloc: Global, map: &SourceMap, line: u32, col: u32) -> R
 {
     match map.lookup_token(line, col) {
         None => Ok(None),
-        Some(token) => Ok(Some(source_place(alloc, &token)?)),
+        Some(token) => Ok(Some(place_of(alloc, &token)?)),
     }
 }
 
 // What a token says, copied.
-fn source_place(alloc: Global, token: &Token<'_>) -> std::result::Result<Place, AllocError>
+fn place_of(alloc: Global, token: &Token<'_>) -> std::result::Result<Place, AllocError>
     ensures { IfOk result (λ place. told place ≡ answers token.now) }
 {
     Ok(Place {
