@@ -4,6 +4,7 @@ pub use Rattle.sourcemap_errors.specs.Errors
 pub use Rattle.sourcemap_digits.specs.Bits
 pub use Rattle.sourcemap_digits.specs.Vlq
 pub use Rattle.sourcemap_lists.specs.Interner
+pub use Rattle.sourcemap_lists.specs.Items
 pub use Rattle.sourcemap_lists.specs.Search as Utils
 pub use Rattle.sourcemap_lists.specs.Tokens
 pub use Rattle.sourcemap_composition.specs.Stretches

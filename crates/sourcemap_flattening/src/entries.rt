@@ -1,5 +1,5 @@
 //! Texts of maps as entries that borrow them, and texts made of entries.
-ghost use Rattle.std.specs.Prelude.{◌≡◌, None, Ok, map, string_bytes};
+ghost use Rattle.std.specs.Prelude.{None, Ok, map, string_bytes};
 ghost use Rattle.sourcemap_errors.specs.Answer.{Gives};
 ghost use Rattle.sourcemap_texts.specs.Texts.{texts_of};
 ghost use Rattle.sourcemap_flattening.specs.Table.{entry_values};

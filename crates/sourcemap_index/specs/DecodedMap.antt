@@ -28,7 +28,7 @@ IsValueOf t d = (r : Tree) × IsRecordOf t r × (d ≡ written r)
 abbrev pub IsTextOf : MapTree → List ℕ → Type 0
 IsTextOf t text = (d : Data) × IsValueOf t d × (text ≡ compact_text d)
 
--- how many indexes stand in one another
+-- how many indexes stand in one another, which are not the levels of what they are written as
 abbrev mutual
   pub levels : MapTree → ℕ
   levels (leaf l) = 0
@@ -39,6 +39,7 @@ abbrev mutual
   deepest (hollow place rest) = deepest rest
   deepest (filled place t rest) = max (levels t) (deepest rest)
 
--- what the map is written as has at most 127 levels: a regular map has two, a Hermes map five, and each index adds three
+-- what the map is written as has at most 127 levels: a regular map has two, a Hermes map up to five, and an index three
+-- more than the deepest of its maps, or at most four where it has none
 abbrev pub IsShallow : MapTree → Type 0
 IsShallow t = (d : Data) → IsValueOf t d → depth d ≤ max_depth
