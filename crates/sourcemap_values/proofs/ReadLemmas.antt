@@ -1,6 +1,6 @@
 -- What was read of a text up to a place, step by step.
-use Rattle.std.proofs.Common.{◌≡◌, ℕ, zero, suc, ◌+◌, ◌-◌, ◌<◌, ◌≤◌, true, List, [], ◌∷◌, ◌++◌, length, take, drop, get_or, Some, refl, sym, ap, ap₂, ◌∙◌, subst, arith, lit<, append_assoc, length-append, take-take, length-take-le}
-use Rattle.std.proofs.lemmas.List.{drop-drop, drop_at, drop_more, take_at, take_rest, take-append-drop, take-append-le, get_or_default}
+use Rattle.std.proofs.Common.{◌≡◌, ℕ, ◌+◌, ◌-◌, ◌<◌, ◌≤◌, true, List, [], ◌∷◌, ◌++◌, length, take, drop, get_or, Some, refl, sym, ap, ap₂, ◌∙◌, subst, arith, lit<, append_assoc, take-take, length-take-le}
+use Rattle.std.proofs.lemmas.List.{drop-drop, drop_more, take_rest, take-append-drop, take-append-le, get_or_default}
 use Rattle.std.proofs.lemmas.Str.{IsUtf8-append}
 use Rattle.std.specs.List.{prefix_len}
 use Rattle.std.specs.Str.{IsUtf8}

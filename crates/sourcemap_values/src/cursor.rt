@@ -10,11 +10,12 @@ ghost use Rattle.sourcemap_values.specs.Cursor.{Closes, Leads, Opens, Passes, Ta
 ghost use Rattle.sourcemap_values.specs.Texts.{IsUtf8UpTo};
 
 use crate::bytes::{after_space, byte_at};
+use crate::filling::SLACK;
 use crate::stop::Stop;
 use crate::texts::read_text;
 use crate::words::{whole_number, word_end};
 use serde_json::Number;
-use std::alloc::Global;
+use std::alloc::{AllocError, Global};
 use std::marker::Model;
 
 /// What stands next in a JSON text.
@@ -84,20 +85,24 @@ impl<'a> Model for Cursor<'a> {
 }
 
 impl<'a> Cursor<'a> {
-    /// The start of a text.
-    pub(crate) fn new(alloc: Global, text: &'a [u8]) -> Cursor<'a>
-        ensures { result ≡ record { tokens = tokens text.now; bytes = text.now } }
+    /// The start of a text. The room for texts with escapes or characters past ASCII is asked for
+    /// here, once for all: each is put together at its front, and none says more bytes than the
+    /// JSON text has. Beside them there is room for what blocks bring along. Where no such text
+    /// comes no byte of it is touched.
+    pub(crate) fn new(alloc: Global, text: &'a [u8]) -> Result<Cursor<'a>, AllocError>
+        ensures { IfOk result
+            (λ cursor. cursor ≡ record { tokens = tokens text.now; bytes = text.now }) }
     {
+        let scratch = Vec::with_capacity(alloc, text.len() + 3 * SLACK)?;
         let spot = Spot {
             at: 0,
             place: Place::Fresh,
         };
-        let scratch = Vec::new(alloc);
-        Cursor {
+        Ok(Cursor {
             text,
             spot,
             scratch,
-        }
+        })
     }
 
     /// What stands next, behind which the cursor stands then.

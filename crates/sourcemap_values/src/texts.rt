@@ -16,7 +16,8 @@ use std::alloc::{AllocError, Global};
 use std::str::from_utf8_unchecked;
 
 /// The text that begins at `start`, behind its opening quote, and the place behind its closing one.
-/// What `scratch` holds is lost: a text with escapes is put together there.
+/// What `scratch` holds is lost: a text with escapes or characters past ASCII is put together
+/// there.
 pub(crate) fn read_text(
     alloc: Global,
     text: &[u8],
@@ -39,8 +40,7 @@ pub(crate) fn read_text(
 }
 
 /// The same of a text with escapes or characters past ASCII, which is tested where it is put
-/// together. The room for what it says is made once for all texts, since no
-/// text says more bytes than are left of the JSON text that spells it.
+/// together.
 #[inline(never)]
 fn read_escaped(
     alloc: Global,
@@ -55,8 +55,6 @@ fn read_escaped(
         (λ found. lex in_string (drop start text.now) ≡ lex between (drop found.1 text.now)) }
     ensures utf8 { IfOk result (λ found. IsUtf8UpTo text.now start found.1) }
 {
-    let wanted = text.len() - start + 3 * SLACK;
-    scratch.reserve(wanted.saturating_sub(scratch.len()))?;
     let (len, end) = unescape(scratch, text, start)?;
     let Ok(said) = from_utf8(&scratch[..len]) else {
         return Err(Stop::Unknown);
@@ -65,8 +63,8 @@ fn read_escaped(
 }
 
 /// Puts what the text says into the front of `room`, whose bytes before do not matter, and which
-/// grows by zeros where it is short. The answer is how many bytes it says, and the place behind its
-/// closing quote.
+/// grows by zeros where it is short, within what the cursor asked for. The answer is how many bytes
+/// it says, and the place behind its closing quote.
 #[inline(always)]
 fn unescape(room: &mut Vec<u8>, text: &[u8], start: usize) -> Result<(usize, usize), Stop>
     requires { start ≤ length text.now }
@@ -131,7 +129,8 @@ fn fill_rare(room: &mut [u8], to: usize, text: &[u8], at: usize) -> Option<(usiz
 #[inline(always)]
 fn bare_run(text: &[u8], from: usize) -> &str
     requires { from ≤ length text.now }
-    ensures says { IsSaidBetween (drop from text.now) result.now (drop (from + length result.now) text.now) }
+    ensures says { IsSaidBetween (drop from text.now) result.now
+        (drop (from + length result.now) text.now) }
     ensures utf8 { IsUtf8UpTo text.now from (from + length result.now) }
 {
     let end = bare_end(text, from);

@@ -39,7 +39,7 @@ fn known(alloc: Global, bytes: &[u8]) -> Result<Value, Stop>
     ensures utf8 { IfOk result (λ _. IsUtf8 bytes.now) }
     ensures value { IfOk result (λ v. read_text bytes.now ≡ Some (view v)) }
 {
-    let mut cursor = Cursor::new(alloc, bytes);
+    let mut cursor = Cursor::new(alloc, bytes)?;
     let first = cursor.next(alloc)?;
     let value = read(alloc, first, &mut cursor, MAX_DEPTH)?;
     match cursor.next(alloc)? {

@@ -1,4 +1,4 @@
-use Rattle.std.proofs.Common.{◌≡◌, ◌+◌, ◌<◌, drop, get_or, true, ◌∙◌, arith}
+use Rattle.std.proofs.Common.{◌≡◌, ◌+◌, drop, get_or, true, ◌∙◌, arith}
 use Rattle.json.specs.Word.{head, is_space}
 use Rattle.sourcemap_values.specs.Texts.{IsUtf8UpTo}
 use Rattle.sourcemap_values.proofs.Lexemes.{space_is_ascii, space_passed}

@@ -1,4 +1,4 @@
-use Rattle.std.proofs.Common.{◌≡◌, ◌+◌, ◌<◌, get_or, sym, ◌∙◌, arith}
+use Rattle.std.proofs.Common.{◌+◌, sym, ◌∙◌, arith}
 use Rattle.sourcemap_values.specs.Texts.{IsUtf8UpTo}
 use Rattle.sourcemap_values.proofs.Tokens.{IsTextAt, key_at, text_at}
 use Rattle.sourcemap_values.proofs.Heads.{head_inside, head_passed}

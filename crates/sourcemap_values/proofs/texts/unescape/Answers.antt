@@ -1,4 +1,4 @@
-use Rattle.std.proofs.Common.{◌≡◌, ◌<◌, length, take, get_or, Some, sym, ap, ◌∙◌, subst, arith}
+use Rattle.std.proofs.Common.{◌≡◌, take, get_or, Some, sym, ap, ◌∙◌, subst, arith}
 use Rattle.std.specs.Str.{IsUtf8}
 use Rattle.sourcemap_values.proofs.ReadLemmas.{front_kept, text_ends}
 use Rattle.sourcemap_values.proofs.texts.unescape.Goals as goal
