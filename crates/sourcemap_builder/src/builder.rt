@@ -1,8 +1,9 @@
 //! A map that is being built: texts are kept once each, and what is shown of a source may change.
-ghost use Rattle.std.specs.Prelude.{◌≡◌, ◌≤◌, ◌<◌, ◌⊎◌, ℕ, [], ◌∷◌, ◌++◌, Some, None, Ok, Err, length, slice_get, slice_set, map, List, Option, option_map, option_and_then, string_bytes, unwrap_or, vec_len, IfOk, OnOk, OnErr, is_some};
+ghost use Rattle.std.specs.Prelude.{◌≡◌, ◌≤◌, ◌<◌, ◌⊎◌, ℕ, [], ◌∷◌, ◌++◌, Some, None, Ok, Err, length, slice_get, slice_set, map, List, Option, option_map, string_bytes, unwrap_or, vec_len, IfOk, OnOk, OnErr, is_some};
 ghost use Rattle.std.specs.Option.{option_copied};
 ghost use Rattle.sourcemap_errors.specs.Answer.{Gives, Changes};
 ghost use Rattle.sourcemap_lists.specs.Interner.{id_for, with_text};
+ghost use Rattle.sourcemap_lists.specs.Items.{item_at};
 ghost use Rattle.sourcemap_lists.specs.Tokens.{no_id, AllWithin};
 ghost use Rattle.sourcemap_texts.specs.Prefixes.{cut_by};
 ghost use Rattle.sourcemap_texts.specs.Texts.{contents_in, texts_of};
@@ -392,8 +393,7 @@ fn name_if<'a>(token: &Token<'a>, with_name: bool) -> Option<&'a str>
 // The text at a place, if there is one.
 fn text_at(texts: &[Option<String>], place: usize) -> Option<&str>
     ensures { option_copied result
-        ≡ option_and_then (λ text. text)
-        (slice_get (map (option_map string_bytes) texts.now) place) }
+        ≡ item_at (map (option_map string_bytes) texts.now) place }
 {
     match texts.get(place) {
         Some(Some(text)) => Some(text.as_str()),

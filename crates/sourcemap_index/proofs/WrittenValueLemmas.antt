@@ -7,22 +7,16 @@ use Rattle.serde_json.specs.Written.{compact_text, has_float, items_have_float}
 use Rattle.sourcemap_headers.specs.DebugId.{debug_id_text}
 use Rattle.sourcemap_records.specs.Field.{written_number, written_or_null, written_list, put_if, put_all}
 use Rattle.sourcemap_records.specs.Jsontypes.{Tree, Sections, Place, entries, written, written_fields, written_sections, written_section, written_offset}
-use Rattle.sourcemap_regular.proofs.WriteLemmas.{IsLow, EntriesAreLow, low_object, low_list, low_or_null, low_if, low_string, low_entries, record-low as regular-low}
+use Rattle.sourcemap_regular.proofs.WriteLemmas.{IsLow, EntriesAreLow, low_object, low_list, low_or_null, low_if, low_number, low_string, low_entries, neither, record-low as regular-low}
 use Rattle.sourcemap_hermes.proofs.WriteLemmas.{record-low as hermes-low}
 use Rattle.sourcemap_trees.specs.Encode.{index_fields, AreWrittenBy, IsLeafRecord, IsRecordOf}
 use Rattle.sourcemap_trees.specs.MapTree.{LeafMap, regular, hermes, IndexParts, MapTree, leaf, index, MapSections, no_sections, hollow, filled}
 use Rattle.sourcemap_trees.proofs.EncodeLemmas.{tree_written_once}
 use Rattle.sourcemap_index.specs.DecodedMap.{levels, deepest, IsShallow, IsValueOf, IsTextOf}
 
-low_number : (n k : ℕ) → IsLow n (written_number k)
-low_number n k = (omega arith, refl)
-
 -- more levels do not matter
 low_more : (n m : ℕ) (d : Data) → n ≤ m → IsLow n d → IsLow m d
 low_more n m d upto low = ((let a = low.0 in omega (arith, upto)), low.1)
-
-neither : (r s : Bool) → r ≡ false → s ≡ false → r || s ≡ false
-neither r s p q = rw (p, q) refl
 
 -- An object with one key more.
 

@@ -1,4 +1,4 @@
-//! Lists of tokens and of texts: their order, the item closest to a place, ids for texts.
+//! Lists of tokens and texts: their order, the item closest to a place, items by id, ids for texts.
 #![tactic(auto)]
 
 pub mod interner;

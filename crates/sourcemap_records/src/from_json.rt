@@ -17,7 +17,8 @@ use std::alloc::Global;
 
 // Both keys are read, and the first wins.
 fn take_debug_id(alloc: Global, members: &mut Map<String, Value>) -> Result<Option<DebugId>>
-    ensures value { GivesReading (λ id. id) result (debug_id_in (members_view members.old.entries)) }
+    ensures value { GivesReading (λ id. id) result
+        (debug_id_in (members_view members.old.entries)) }
     ensures others { (other : List ℕ) → bytes_eq other (codes "debugId") ≡ false
         → bytes_eq other (codes "debug_id") ≡ false
         → get_member other (members_view members.new.entries)
@@ -29,7 +30,8 @@ fn take_debug_id(alloc: Global, members: &mut Map<String, Value>) -> Result<Opti
 }
 
 fn take_heading(alloc: Global, members: &mut Map<String, Value>) -> Result<RawHeading>
-    ensures value { GivesReading heading_view result (heading_in (members_view members.old.entries)) }
+    ensures value { GivesReading heading_view result
+        (heading_in (members_view members.old.entries)) }
     ensures others { OnOk result (KeepsBut heading_names
         (members_view members.old.entries) (members_view members.new.entries)) }
 {
@@ -46,7 +48,8 @@ fn take_heading(alloc: Global, members: &mut Map<String, Value>) -> Result<RawHe
 }
 
 fn take_content(alloc: Global, members: &mut Map<String, Value>) -> Result<RawContent>
-    ensures value { GivesReading content_view result (content_in (members_view members.old.entries)) }
+    ensures value { GivesReading content_view result
+        (content_in (members_view members.old.entries)) }
     ensures others { OnOk result (KeepsBut content_names
         (members_view members.old.entries) (members_view members.new.entries)) }
 {

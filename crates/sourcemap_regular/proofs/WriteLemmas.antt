@@ -37,7 +37,7 @@ abbrev pub EntriesAreLow : ℕ → List (List ℕ × Option Data) → Type 0
 EntriesAreLow n [] = Unit {0}
 EntriesAreLow n (e ∷ es) = IsLowIf n e.1 × EntriesAreLow n es
 
-neither : (r s : Bool) → r ≡ false → s ≡ false → r || s ≡ false
+pub neither : (r s : Bool) → r ≡ false → s ≡ false → r || s ≡ false
 neither r s p q = rw (p, q) refl
 
 fst_false : (r s : Bool) → r || s ≡ false → r ≡ false
@@ -120,7 +120,7 @@ module _ (n : ℕ) where
   pub low_string : (s : List ℕ) → IsLow n (string s)
   low_string s = (omega arith, refl)
 
-  low_number : (k : ℕ) → IsLow n (written_number k)
+  pub low_number : (k : ℕ) → IsLow n (written_number k)
   low_number k = (omega arith, refl)
 
 -- what a map is written as has lists of texts and numbers at most

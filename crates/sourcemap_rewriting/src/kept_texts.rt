@@ -10,7 +10,7 @@ use std::alloc::Global;
 use std::mem;
 
 // The text at a place, which is left without one.
-fn taken(alloc: Global, texts: &mut Vec<String>, id: usize) -> String
+fn text_taken(alloc: Global, texts: &mut Vec<String>, id: usize) -> String
     requires { id < vec_len texts.old }
     ensures taken { slice_get (texts_of texts.old) id ≡ Some (string_bytes result) }
     ensures left { texts_of texts.new ≡ slice_set (texts_of texts.old) id [] }
@@ -32,7 +32,7 @@ pub(crate) fn kept_texts(
     for id in &numbers.order {
         let id = *id as usize;
         if numbers.numbers[id] as usize == kept.len() {
-            kept.push(taken(alloc, &mut texts, id))?;
+            kept.push(text_taken(alloc, &mut texts, id))?;
         }
     }
     Ok(kept)

@@ -71,9 +71,11 @@ fn common_start<'a>(a: &'a str, b: &str) -> &'a str
 
 // How many bytes of the first text the common first parts of both take.
 fn common_length(a: &[u8], b: &[u8]) -> usize
-    ensures parts { path_parts (take result a.now) ≡ common_parts (path_parts a.now) (path_parts b.now) }
+    ensures parts { path_parts (take result a.now)
+        ≡ common_parts (path_parts a.now) (path_parts b.now) }
     ensures within { result ≤ length a.now }
-    ensures cut { 0 < result → result < length a.now → separates (slice_index a.now result) ≡ true }
+    ensures cut { 0 < result → result < length a.now
+        → separates (slice_index a.now result) ≡ true }
 {
     let mut at = 0;
     let mut kept = 0;

@@ -27,14 +27,14 @@ loop-id-preserved c =
     let many : length moved ≡ length c.loop-id.kept.items = length-map c.loop-id.kept.items (string_bytes {Z = Global}) in
     elim c.if-index-len.branch [
       | then-index-len+in_ok-push w ↦
-          let taken = string_bytes w.taken.result in
+          let taken = string_bytes w.text_taken.result in
           let next : number ≡ length moved = omega (arith, w.if-index-len.true, c.len.ensures, c.loop-id.kept.ok.0, many) in
           let pushed : texts_of c.if-index-len.kept ≡ moved ++ taken ∷ [] =
-          ap texts_of w.kept-is ∙ ap (map (string_bytes {Z = Global})) w.in_ok-push.ensures.items ∙ map_push (string_bytes {Z = Global}) c.loop-id.kept.items w.taken.result in
-          let left : texts_of c.if-index-len.texts ≡ slice_set now id [] = ap texts_of w.texts-is ∙ w.taken.ensures.left in
+          ap texts_of w.kept-is ∙ ap (map (string_bytes {Z = Global})) w.in_ok-push.ensures.items ∙ map_push (string_bytes {Z = Global}) c.loop-id.kept.items w.text_taken.result in
+          let left : texts_of c.if-index-len.texts ≡ slice_set now id [] = ap texts_of w.texts-is ∙ w.text_taken.ensures.left in
           record {
-            moved = moved-more T n c.requires i id number at numbered now moved so_far.there so_far.moved taken next w.taken.ensures.taken (texts_of c.if-index-len.kept) pushed;
-            there = there-more T n c.requires i id number at numbered now moved so_far.there so_far.moved taken next w.taken.ensures.taken (texts_of c.if-index-len.texts) left;
+            moved = moved-more T n c.requires i id number at numbered now moved so_far.there so_far.moved taken next w.text_taken.ensures.taken (texts_of c.if-index-len.kept) pushed;
+            there = there-more T n c.requires i id number at numbered now moved so_far.there so_far.moved taken next w.text_taken.ensures.taken (texts_of c.if-index-len.texts) left;
             many = ap length left ∙ length-set now id [] ∙ so_far.many;
           }
       | else-index-len w ↦

@@ -1,7 +1,7 @@
 use Rattle.std.proofs.Common.{string_bytes, slice_set, ap, ◌∙◌}
 use Rattle.std.proofs.lemmas.List.{map-set}
 use Rattle.sourcemap_texts.specs.Texts.{texts_of}
-use Rattle.sourcemap_rewriting.proofs.kept_texts.taken.Goals as goal
+use Rattle.sourcemap_rewriting.proofs.kept_texts.text_taken.Goals as goal
 
 pub returns-clause-left : goal.returns-clause-left
 returns-clause-left c =
