@@ -1,0 +1,12 @@
+-- What the search finds, so that a wrong body is refused fast.
+use Rattle.std.proofs.Common.{rules}
+use Rattle.sourcemap_composition.proofs.composition.column_without.Goals as goal
+
+pub returns-then-not-token : goal.returns-then-not-token
+returns-then-not-token c = search rules
+
+pub returns-then-token-eq-NO_ID : goal.returns-then-token-eq-NO_ID
+returns-then-token-eq-NO_ID c = search rules
+
+pub returns : goal.returns
+returns c = search rules

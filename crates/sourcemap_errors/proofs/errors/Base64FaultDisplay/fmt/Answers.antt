@@ -1,0 +1,9 @@
+-- What the search finds, so that a wrong body is refused fast.
+use Rattle.std.proofs.Common.{rules}
+use Rattle.sourcemap_errors.proofs.errors.Base64FaultDisplay.fmt.Goals as goal
+
+pub returns-clause-writes : goal.returns-clause-writes
+returns-clause-writes g c = search rules
+
+pub returns-clause-styled : goal.returns-clause-styled
+returns-clause-styled g c = search rules

@@ -1,0 +1,9 @@
+-- What the search finds, so that a wrong body is refused fast.
+use Rattle.std.proofs.Common.{rules}
+use Rattle.sourcemap_errors.proofs.errors.ErrorFromIoError.from.Goals as goal
+
+pub returns-then-eq : goal.returns-then-eq
+returns-then-eq c = search rules
+
+pub returns : goal.returns
+returns c = search rules

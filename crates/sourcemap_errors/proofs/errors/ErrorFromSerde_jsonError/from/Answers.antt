@@ -1,0 +1,9 @@
+-- What the search finds, so that a wrong body is refused fast.
+use Rattle.std.proofs.Common.{rules}
+use Rattle.sourcemap_errors.proofs.errors.ErrorFromSerde_jsonError.from.Goals as goal
+
+pub returns-in-Memory : goal.returns-in-Memory
+returns-in-Memory c = search rules
+
+pub returns-in_default : goal.returns-in_default
+returns-in_default c = search rules

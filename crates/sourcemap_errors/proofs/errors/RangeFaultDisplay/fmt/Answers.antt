@@ -1,0 +1,6 @@
+-- What the search finds, so that a wrong body is refused fast.
+use Rattle.std.proofs.Common.{rules}
+use Rattle.sourcemap_errors.proofs.errors.RangeFaultDisplay.fmt.Goals as goal
+
+pub returns-clause-styled : goal.returns-clause-styled
+returns-clause-styled g c = search rules

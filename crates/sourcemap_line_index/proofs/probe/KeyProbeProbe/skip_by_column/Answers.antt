@@ -1,0 +1,12 @@
+-- What the search finds, so that a wrong body is refused fast.
+use Rattle.std.proofs.Common.{rules}
+use Rattle.sourcemap_line_index.proofs.probe.KeyProbeProbe.skip_by_column.Goals as goal
+
+pub returns-clause-answer : goal.returns-clause-answer
+returns-clause-answer c = search rules
+
+pub returns-clause-kept : goal.returns-clause-kept
+returns-clause-kept c = search rules
+
+pub returns-clause-counted : goal.returns-clause-counted
+returns-clause-counted c = search rules
