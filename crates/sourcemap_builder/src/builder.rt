@@ -1,8 +1,8 @@
 //! A map that is being built: texts are kept once each, and what is shown of a source may change.
-ghost use Rattle.std.specs.Prelude.{◌≡◌, ◌≤◌, ◌<◌, ◌⊎◌, ℕ, [], ◌∷◌, ◌++◌, Some, None, Ok, Err, length, slice_get, slice_set, map, List, Option, option_map, string_bytes, unwrap_or, vec_len, IfOk, OnOk, OnErr, is_some};
+ghost use Rattle.std.specs.Prelude.{◌≡◌, ◌≤◌, ◌<◌, ◌⊎◌, ℕ, [], ◌∷◌, ◌++◌, Ok, length, slice_get, slice_set, map, List, Option, option_map, string_bytes, unwrap_or, vec_len, IfOk, OnOk, OnErr, is_some};
 ghost use Rattle.std.specs.Option.{option_copied};
 ghost use Rattle.sourcemap_errors.specs.Answer.{Gives, Changes};
-ghost use Rattle.sourcemap_lists.specs.Interner.{id_for, with_text};
+ghost use Rattle.sourcemap_lists.specs.Interner.{id_for};
 ghost use Rattle.sourcemap_lists.specs.Items.{item_at};
 ghost use Rattle.sourcemap_lists.specs.Tokens.{no_id, AllWithin};
 ghost use Rattle.sourcemap_texts.specs.Prefixes.{cut_by};

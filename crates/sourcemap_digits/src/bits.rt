@@ -56,6 +56,10 @@ pub fn test_digits(text: &[u8]) -> Result<()>
 pub fn has_bit(text: &[u8], place: usize) -> bool
     ensures { result ≡ bit_of text.now place }
 {
+    // most maps have no such text, and then nothing is divided
+    if text.is_empty() {
+        return false;
+    }
     let Some(byte) = text.get(place / 6) else {
         return false;
     };

@@ -1,6 +1,6 @@
 -- The value that a map of any kind is written as: there is one, no number in it has a fraction, and it has few levels
 -- where few indexes stand in one another.
-use Rattle.std.proofs.Common.{◌≡◌, ◌∙◌, ◌+◌, ◌*◌, ◌≤◌, ◌++◌, refl, sym, ap, subst, arith, ℕ, List, [], ◌∷◌, codes, Option, Some, Bool, false, ◌||◌}
+use Rattle.std.proofs.Common.{◌≡◌, ◌∙◌, ◌+◌, ◌*◌, ◌≤◌, ◌++◌, refl, sym, ap, subst, arith, ℕ, List, [], ◌∷◌, codes, Option, Some, false}
 use Rattle.serde_json.specs.Data.{Data, null, string, array, object, Members, no_members, Items, item, depth, items_depth}
 use Rattle.serde_json.specs.Read.{max_depth}
 use Rattle.serde_json.specs.Written.{compact_text, has_float, items_have_float}

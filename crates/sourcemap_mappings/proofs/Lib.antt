@@ -3,6 +3,7 @@ pub mod ReadAnswers
 pub mod ReadLemmas
 pub mod ReadOrder
 pub mod ReadTable
+pub mod ReadTaken
 pub mod SegmentLemmas
 pub mod WriteBytes
 pub mod WriteLaws

@@ -91,7 +91,7 @@ PartsRead-cons counts place before (c ∷ cs) parts (s ∷ ss) later h rest =
           (subst (λ zs. PartsRead counts (place + 1) (before ++ s ∷ zs) parts later) none rest),
     )
 
-PartsFault-here : (counts : Counts) (place : ℕ) (before : List Segment) (part : List ℕ) (parts : List (List ℕ)) (e : Error)
+pub PartsFault-here : (counts : Counts) (place : ℕ) (before : List Segment) (part : List ℕ) (parts : List (List ℕ)) (e : Error)
     → PartsFault counts place before (part ∷ []) e → PartsFault counts place before (part ∷ parts) e
 PartsFault-here counts place before [] parts e h = absurd h
 PartsFault-here counts place before (c ∷ cs) parts e (inl h) = inl h

@@ -60,6 +60,13 @@ pub record AreSums (before here : List Segment) (sums : Sums) : Type 0 where
   pub column : sums.column ≡ sum_at 0 here
   pub text : AreTextSums (before ++ here) sums
 
+-- a part with these numbers, so many and more than none, at this place of its line, and the sums up to it
+pub record IsSegmentRead (place : ℕ) (before here : List Segment) (part : List ℕ) (numbers : List ℤ) (count : ℕ) (sums : Sums) : Type 0 where
+  pub some : 0 < length numbers
+  pub count_is : count ≡ min (length numbers) 4294967295
+  pub reads : Reads part numbers
+  pub sums_to : AreSums before (here ++ record { place = place; numbers = numbers } ∷ []) sums
+
 -- the counts that a reader was given
 abbrev pub counts_of : Limits → Counts
 counts_of limits = record { sources = limits.sources; names = limits.names }

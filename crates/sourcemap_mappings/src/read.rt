@@ -7,13 +7,12 @@ ghost use Rattle.sourcemap_errors.specs.declared.errors.Error.TheVariants.{OutOf
 ghost use Rattle.sourcemap_lists.specs.declared.tokens.RawToken.{RawToken};
 ghost use Rattle.sourcemap_lists.specs.Tokens.{AreInOrder, AllWithin, in_order};
 ghost use Rattle.sourcemap_line_index.specs.LineIndex.{IsMadeFrom};
-ghost use Rattle.sourcemap_digits.specs.Vlq.{Reads};
 ghost use Rattle.sourcemap_mappings.specs.Segment.{Counts, Segment, parts_of};
-ghost use Rattle.sourcemap_mappings.specs.SegmentSteps.{AreSteps, AreTextSums, AreSums, counts_of};
+ghost use Rattle.sourcemap_mappings.specs.SegmentSteps.{AreTextSums, AreSums, IsSegmentRead, counts_of};
 ghost use Rattle.sourcemap_mappings.specs.Read.{Line, page_tokens, PartsFault, LineFault, LinesRead, LinesFault, beside, line_texts, MappingsAnswer, lines_of};
-ghost use Rattle.sourcemap_mappings.specs.ReadSteps.{AddsLine, AddsOnLine, AddsParts, AddsRow, AreInOrderTo, lines_left};
+ghost use Rattle.sourcemap_mappings.specs.ReadSteps.{AddsLine, AddsOnLine, AddsParts, AddsRow, AreInOrderTo, RiseFrom, TakesPart, lines_left};
 
-use crate::segment::{Limits, Numbers, Spot, Sums, advanced, check, read_numbers, token_at};
+use crate::segment::{Limits, Spot, Sums, advanced, any_part, check, token_at, usual_part};
 use sourcemap_digits::bits::test_digits;
 use sourcemap_errors::errors::{Error, Result};
 use sourcemap_line_index::line_index::LineIndex;
@@ -53,35 +52,58 @@ pub fn cut(text: &str) -> (&str, Option<&str>)
     }
 }
 
-// Adds the token of a part with these numbers, if it has any; the answer is the sums behind it.
-#[inline]
-fn add_part(
+// Adds the token of a part with so many numbers, of which there are some, with the sums up to it.
+#[inline(always)]
+fn add_token(
     tokens: &mut Vec<RawToken>,
-    read: &Numbers,
+    bits: &[u8],
+    spot: Spot,
+    count: u32,
+    sums: Sums,
+    limits: Limits,
+) -> Result<()>
+    ensures added { (before here : List Segment) (part : List ℕ) (numbers : List ℤ)
+        → IsSegmentRead spot.place before here part numbers count sums
+        → OnOk result (AddsParts (counts_of limits) spot bits.now before here (part ∷ [])
+        tokens.old.items tokens.new.items sums) }
+    ensures fault { (before here : List Segment) (part : List ℕ) (numbers : List ℤ)
+        → IsSegmentRead spot.place before here part numbers count sums
+        → IfErr result (λ e. UnlessMemory e
+        (PartsFault (counts_of limits) spot.place (before ++ here) (part ∷ []) e)) }
+    ensures order { (earlier : Sums) → AreInOrderTo spot.line earlier tokens.old.items
+        → RiseFrom earlier sums → OnOk result (AreInOrderTo spot.line sums tokens.new.items) }
+    ensures on_line { OnOk result (AddsOnLine spot.line tokens.old.items tokens.new.items) }
+{
+    check(count, sums, limits)?;
+    tokens.push(token_at(spot, bits, count, sums))?;
+    Ok(())
+}
+
+// Adds the token of a line's first part, if it has any numbers; the answer is the sums behind it,
+// and the line behind its `,` if there is one.
+#[cold]
+#[inline(never)]
+fn add_any_part<'a>(
+    tokens: &mut Vec<RawToken>,
+    text: &'a [u8],
     bits: &[u8],
     spot: Spot,
     sums: Sums,
     limits: Limits,
-) -> Result<Sums>
-    ensures added { (before here : List Segment) (part : List ℕ) (numbers : List ℤ)
-        → AreSums before here sums → Reads part numbers → AreSteps numbers read.now
-        → IfOk result (AddsParts (counts_of limits) spot bits.now before here (part ∷ [])
-        tokens.old.items tokens.new.items) }
-    ensures fault { (before here : List Segment) (part : List ℕ) (numbers : List ℤ)
-        → AreSums before here sums → Reads part numbers → AreSteps numbers read.now
+) -> Result<(Sums, Option<&'a [u8]>)>
+    ensures taken { IfOk result (λ taken. TakesPart (counts_of limits) spot bits.now text.now
+        sums taken.0 tokens.old.items tokens.new.items taken.1) }
+    ensures fault { (before here : List Segment) → AreSums before here sums
         → IfErr result (λ e. UnlessMemory e
-        (PartsFault (counts_of limits) spot.place (before ++ here) (part ∷ []) e)) }
-    ensures order { AreInOrderTo spot.line sums tokens.old.items
-        → IfOk result (λ after. AreInOrderTo spot.line after tokens.new.items) }
-    ensures on_line { OnOk result (AddsOnLine spot.line tokens.old.items tokens.new.items) }
+        (PartsFault (counts_of limits) spot.place (before ++ here) (parts_of text.now) e)) }
 {
+    let (read, later) = any_part(text)?;
     if read.count == 0 {
-        return Ok(sums);
+        return Ok((sums, later));
     }
-    let after = advanced(sums, read);
-    check(read.count, after, limits)?;
-    tokens.push(token_at(spot, bits, read.count, after))?;
-    Ok(after)
+    let after = advanced(sums, &read);
+    add_token(tokens, bits, spot, read.count, after, limits)?;
+    Ok((after, later))
 }
 
 // Adds the tokens of a line's parts; the answer is the sums behind them.
@@ -107,9 +129,19 @@ fn add_parts(
     let mut rest = text;
     let mut place = 0;
     loop {
-        let (read, later) = read_numbers(rest)?;
-        sums = add_part(tokens, &read, bits, Spot { line, place }, sums, limits)?;
-        let Some(later) = later else {
+        let spot = Spot { line, place };
+        // two ways: where one call answers the sums or a fault, the compiler takes the sums apart
+        // at each token
+        let taken = match usual_part(rest) {
+            Some((read, later)) => {
+                let after = advanced(sums, &read);
+                add_token(tokens, bits, spot, read.count, after, limits)?;
+                (after, later)
+            }
+            None => add_any_part(tokens, rest, bits, spot, sums, limits)?,
+        };
+        sums = taken.0;
+        let Some(later) = taken.1 else {
             return Ok(sums);
         };
         rest = later;

@@ -105,8 +105,9 @@ fn next_step(rest: &[u8]) -> Option<(u32, &[u8])>
 // The numbers of a line's first part, if there are one, four or five without a fault, and the line
 // behind it. Each number has its own place in the code, where it is mostly of one length.
 #[inline(always)]
-fn usual_part(line: &[u8]) -> Option<(Numbers, Option<&[u8]>)>
-    ensures { IfSome result (λ read. HasFirstPart line.now read.0 read.1) }
+pub(crate) fn usual_part(line: &[u8]) -> Option<(Numbers, Option<&[u8]>)>
+    ensures read { IfSome result (λ read. HasFirstPart line.now read.0 read.1) }
+    ensures some { IfSome result (λ read. 0 < read.0.count) }
 {
     let (column, rest) = next_step(line)?;
     if let Some(behind) = part_end(rest) {
@@ -124,19 +125,6 @@ fn usual_part(line: &[u8]) -> Option<(Numbers, Option<&[u8]>)>
     let behind = part_end(rest)?;
     let steps = [column, source, row, source_column, name];
     Some((Numbers { count: 5, steps }, behind))
-}
-
-// The numbers of a line's first part, and the line behind it if there is more; else the first
-// fault of that part's digits. An empty part has no numbers.
-#[inline(always)]
-pub(crate) fn read_numbers(line: &[u8]) -> Result<(Numbers, Option<&[u8]>)>
-    ensures read { IfOk result (λ read. HasFirstPart line.now read.0 read.1) }
-    ensures fault { IfErr result (λ e. HasPartFault line.now e) }
-{
-    match usual_part(line) {
-        Some(read) => Ok(read),
-        None => any_part(line),
-    }
 }
 
 /// The numbers of a line's first part, which may be any number of them, and the line behind its `,`

@@ -1,5 +1,5 @@
 -- What was read of a text up to a place, step by step.
-use Rattle.std.proofs.Common.{◌≡◌, ℕ, ◌+◌, ◌-◌, ◌<◌, ◌≤◌, true, List, [], ◌∷◌, ◌++◌, length, take, drop, get_or, Some, refl, sym, ap, ap₂, ◌∙◌, subst, arith, lit<, append_assoc, take-take, length-take-le}
+use Rattle.std.proofs.Common.{◌≡◌, ℕ, ◌+◌, ◌-◌, ◌<◌, ◌≤◌, true, List, [], ◌∷◌, ◌++◌, length, take, drop, get_or, Some, sym, ap, ap₂, ◌∙◌, subst, arith, lit<, append_assoc, take-take, length-take-le}
 use Rattle.std.proofs.lemmas.List.{drop-drop, drop_more, take_rest, take-append-drop, take-append-le, get_or_default}
 use Rattle.std.proofs.lemmas.Str.{IsUtf8-append}
 use Rattle.std.specs.List.{prefix_len}
@@ -13,9 +13,6 @@ use Rattle.sourcemap_values.proofs.EscapeLemmas.{escape_there, IsSaidBetween-esc
 use Rattle.sourcemap_values.proofs.RunLemmas.{cut_back}
 use Rattle.sourcemap_values.proofs.TextLemmas.{prepend-append, prepend-nil, quote_ends, IsSaidBetween-plain, IsSaidBetween-run}
 use Rattle.sourcemap_values.proofs.Utf8Lemmas.{cut_at_text, utf8_cons, utf8_one}
-
-pub nothing_read : (bytes text : List ℕ) (at : ℕ) → IsReadUpTo bytes text at bytes at
-nothing_read bytes text at = record { bytes = refl; goes_on = refl; utf8 = λ u. u }
 
 pub read_on : (a b c text : List ℕ) (i j k : ℕ) → IsReadUpTo a text i b j → IsReadUpTo b text j c k → IsReadUpTo a text i c k
 read_on a b c text i j k first second = record {

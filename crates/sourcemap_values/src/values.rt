@@ -1,6 +1,6 @@
 //! JSON values from their texts. The fast way goes along a cursor and keeps each text in the room
 //! that the cursor read it into. Where it gives up, the kit's reader answers.
-ghost use Rattle.std.specs.Prelude.{◌≡◌, ◌<◌, ◌≤◌, length, Some, None, IfOk, IfErr, IsUtf8};
+ghost use Rattle.std.specs.Prelude.{◌≡◌, ◌≤◌, length, Some, None, IfOk, IfErr, IsUtf8};
 ghost use Rattle.serde_json.specs.Data.{no_members, depth as nesting};
 ghost use Rattle.serde_json.specs.Errors.{IsMemory, IsOfText};
 ghost use Rattle.serde_json.specs.Read.{max_depth, read as read_text};
