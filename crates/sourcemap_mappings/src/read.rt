@@ -138,9 +138,14 @@ fn add_parts(
                 add_token(tokens, bits, spot, read.count, after, limits)?;
                 (after, later)
             }
-            None => add_any_part(tokens, rest, bits, spot, sums, limits)?,
+            None => {
+                // a copy for the call: sums that are lent to it would stay in memory
+                let earlier = Sums { ..sums };
+                add_any_part(tokens, rest, bits, spot, earlier, limits)?
+            }
         };
-        sums = taken.0;
+        // field by field, without the bytes between the fields
+        sums = Sums { ..taken.0 };
         let Some(later) = taken.1 else {
             return Ok(sums);
         };
