@@ -16,7 +16,7 @@ use Rattle.sourcemap.specs.declared.errors.Error.{Error}
 use Rattle.sourcemap.specs.declared.errors.Error.TheVariants.{BadJson, CannotFlatten, IncompatibleSourceMap, Io, OutOfMemory}
 use Rattle.sourcemap_index.specs.declared.family.DecodedMap.{DecodedMap}
 use Rattle.sourcemap_commands.specs.Command.{AskFor, IsSameCommand, TakesAdjustment}
-use Rattle.sourcemap_commands.specs.Program.{AskForNone, CommandAnswers, Ending, answered, misused, Ends, FileDecodes, MayBeRead, MayEnd, IsCutShort, IsReply, IsReplyOf, IsReplyTo, IsReported, IsRefusal, IsWriteFault, IsFoundLine, IsJsonLine, PrintsMap, Runs, Says, SaysWith, ShiftAnswer, WithFile, adjusted_by, file_read, found_text, newline, rewritten_leaf}
+use Rattle.sourcemap_commands.specs.Program.{AskForNone, CommandAnswers, Ending, answered, misused, Ends, FileDecodes, MayBeRead, MayEnd, IsCutShort, IsReply, IsReplyOf, IsReplyTo, IsReported, IsRefusal, IsWriteFault, IsFoundLine, IsJsonLine, IsNoIndex, OnlyAsks, PrintsMap, Runs, Says, SaysWith, ShiftAnswer, WithFile, adjusted_by, file_read, found_text, newline, rewritten_leaf}
 use Rattle.sourcemap_commands.specs.declared.command.Command.{Command}
 use Rattle.sourcemap_commands.specs.declared.command.Command.TheVariants.{Compose, Flatten, Lookup, Rewrite, Shift, Tokens}
 use Rattle.sourcemap_commands.specs.declared.program.Reply.{Reply}
@@ -124,6 +124,23 @@ says_shifted rows i t (Err e) left of h = no_memory e (Says (Shift rows) (index_
 pub says_no_shift : (rows : ℕ) (i : IndexValue) → ¬ HaveRowsLeft rows i.sections
     → Says (Shift rows) (index_tree i) None (Err IncompatibleSourceMap)
 says_no_shift rows i past = says_shift rows i (Err IncompatibleSourceMap) (inr (past, refl))
+
+-- of a map that is no index nothing flat is said
+pub no_index_flat : (t : MapTree) (e : Error) → (e ≡ IncompatibleSourceMap) × IsNoIndex t → UnlessMemory e (Says Flatten t None (Err e))
+no_index_flat (leaf l) e (is, other) = rw is refl
+no_index_flat (index parts ss) e (is, other) = absurd other
+
+-- nor is it shifted
+pub no_index_shift : (rows : ℕ) (t : MapTree) (e : Error) → (e ≡ IncompatibleSourceMap) × IsNoIndex t → UnlessMemory e (Says (Shift rows) t None (Err e))
+no_index_shift rows (leaf l) e (is, other) = rw is refl
+no_index_shift rows (index parts ss) e (is, other) = absurd other
+
+-- what makes no map only asks
+pub only_asks : (command : Command) → command ≢ Rewrite → command ≢ Flatten → ((rows : ℕ) → command ≢ Shift rows) → OnlyAsks command
+only_asks Rewrite rewrites flattens shifts = absurd (rewrites refl)
+only_asks Flatten rewrites flattens shifts = absurd (flattens refl)
+only_asks (Shift rows) rewrites flattens shifts = absurd (shifts rows refl)
+only_asks command rewrites flattens shifts = tt
 
 -- Facts of what a file gives.
 

@@ -67,6 +67,11 @@ abbrev pub IsOfOtherKind : MapTree → Type 0
 IsOfOtherKind (leaf (regular _)) = ⊥
 IsOfOtherKind _ = Unit {0}
 
+-- a map that is no index
+abbrev pub IsNoIndex : MapTree → Type 0
+IsNoIndex (index _ _) = ⊥
+IsNoIndex _ = Unit {0}
+
 -- a regular map adjusted by another one; maps of other kinds are refused
 abbrev pub adjusted_by : MapTree → Option MapTree → Result MapValue Error
 adjusted_by (leaf (regular m)) (Some (leaf (regular n))) = adjusted m n
@@ -76,6 +81,13 @@ adjusted_by _ _ = Err IncompatibleSourceMap
 abbrev pub rewritten_leaf : LeafMap → LeafMap
 rewritten_leaf (regular m) = regular (rewritten no_removal m)
 rewritten_leaf (hermes h) = hermes (hermes_rewritten no_removal h)
+
+-- a command that makes no map of the one that it is asked of alone
+abbrev pub OnlyAsks : Command → Type 0
+OnlyAsks Rewrite = ⊥
+OnlyAsks Flatten = ⊥
+OnlyAsks (Shift _) = ⊥
+OnlyAsks _ = Unit {0}
 
 -- what a command says of a map, and of a second one where it takes one: its text, or why it refuses, a
 -- map of the wrong kind before all else

@@ -2,23 +2,23 @@
 ghost use Rattle.std.specs.Prelude.{◌≡◌, ◌++◌, ◌⊎◌, ℕ, List, Result, None, Some, IfErr, IfOk, IfSome, MatchResult, map, option_map, string_bytes};
 ghost use Rattle.std.specs.Io.KnownBytes.{Appends};
 ghost use Rattle.sourcemap.specs.Answer.{IsAnswer};
-ghost use Rattle.sourcemap.specs.AnyMap.{index_value, map_tree};
+ghost use Rattle.sourcemap.specs.AnyMap.{map_tree};
 ghost use Rattle.sourcemap.specs.Decoder.{Reading};
 ghost use Rattle.sourcemap.specs.Token.{token_value};
 ghost use Rattle.sourcemap.specs.Hermes.{hermes_value};
-ghost use Rattle.sourcemap.specs.Trees.{hermes, index_tree, leaf, regular};
+ghost use Rattle.sourcemap.specs.Trees.{hermes, leaf, regular};
 ghost use Rattle.sourcemap.specs.declared.errors.Error.{Error};
 ghost use Rattle.sourcemap.specs.declared.errors.Error.TheVariants.{OutOfMemory};
 ghost use Rattle.sourcemap_commands.specs.Command.{TakesAdjustment};
 ghost use Rattle.sourcemap_commands.specs.declared.command.Command.TheVariants.{Compose, Flatten, Lookup, Rewrite, Shift, Tokens};
 ghost use Rattle.sourcemap_commands.specs.declared.program.Reply.{Reply};
-ghost use Rattle.sourcemap_commands.specs.Program.{AskForNone, CommandAnswers, Ending, Ends, FileDecodes, IsCutShort, IsJsonLine, IsRefusal, IsReply, IsReplyOf, IsReplyTo, IsReported, IsWriteFault, MayBeRead, PrintsRefusal, Runs, Says, SaysWith, WithFile, file_read, misused, range_mark, token_line};
+ghost use Rattle.sourcemap_commands.specs.Program.{AskForNone, CommandAnswers, Ending, Ends, FileDecodes, IsCutShort, IsJsonLine, IsRefusal, IsReply, IsReplyOf, IsReplyTo, IsReported, IsWriteFault, MayBeRead, OnlyAsks, PrintsRefusal, Runs, Says, SaysWith, WithFile, file_read, misused, range_mark, token_line};
 
 use crate::command::{Command, parse_words};
 use crate::hermes::rewritten_hermes;
-use crate::regular::{adjusted, flattened, rewritten};
+use crate::regular::{adjusted, flattened, index_of, rewritten};
 use sourcemap::decoder::decode_vec;
-use sourcemap::{DecodedMap, Error, Result, SourceMap, SourceMapHermes, SourceMapIndex, Token};
+use sourcemap::{DecodedMap, Error, Result, SourceMap, SourceMapHermes, Token};
 use sourcemap_printing::writing::value_to_string;
 use sourcemap_records::bytes::read_all;
 use std::alloc::Global;
@@ -70,68 +70,28 @@ pub fn apply<F: Files>(
     }
 }
 
-// What a command says of one map. One that takes two has been asked with both.
+// What a command says of one map. One that takes two has been asked with both. The map is let go at
+// one place, for the prover: each way out on which one is let go is followed part by part.
 fn said<F: Files>(rt: &F, alloc: Global, command: &Command, map: DecodedMap) -> Result<String>
     ensures { IsAnswer string_bytes (Says command.now (map_tree map) None) result }
 {
-    match map {
-        DecodedMap::Regular(map) => said_of_regular(rt, alloc, command, map),
-        DecodedMap::Hermes(map) => said_of_hermes(rt, alloc, command, map),
-        DecodedMap::Index(index) => said_of_index(alloc, command, index),
-    }
-}
-
-// What a command says of a regular map.
-fn said_of_regular<F: Files>(
-    rt: &F,
-    alloc: Global,
-    command: &Command,
-    map: SourceMap,
-) -> Result<String>
-    ensures { IsAnswer string_bytes (Says command.now (leaf (regular map)) None) result }
-{
     match command {
-        Command::Lookup(line, col) => lookup_text(alloc, &DecodedMap::Regular(map), *line, *col),
-        Command::Tokens => tokens_text(alloc, &map),
         Command::Rewrite => rewritten_text(rt, alloc, map),
-        Command::Flatten => Err(Error::IncompatibleSourceMap),
-        Command::Compose(_) => Err(Error::IncompatibleSourceMap),
-        Command::Shift(_) => Err(Error::IncompatibleSourceMap),
+        Command::Flatten => flat_text(alloc, map),
+        Command::Shift(rows) => shifted_text(alloc, map, *rows),
+        command => told(alloc, command, &map),
     }
 }
 
-// What a command says of a Hermes map.
-fn said_of_hermes<F: Files>(
-    rt: &F,
-    alloc: Global,
-    command: &Command,
-    map: SourceMapHermes,
-) -> Result<String>
-    ensures { IsAnswer string_bytes
-        (Says command.now (leaf (hermes (hermes_value map))) None) result }
+// What a command that only asks says of one map.
+fn told(alloc: Global, command: &Command, map: &DecodedMap) -> Result<String>
+    requires { OnlyAsks command.now }
+    ensures { IsAnswer string_bytes (Says command.now (map_tree map.now) None) result }
 {
     match command {
-        Command::Lookup(line, col) => lookup_text(alloc, &DecodedMap::Hermes(map), *line, *col),
-        Command::Tokens => tokens_text(alloc, &map),
-        Command::Rewrite => hermes_text(rt, alloc, map),
-        Command::Flatten => Err(Error::IncompatibleSourceMap),
-        Command::Compose(_) => Err(Error::IncompatibleSourceMap),
-        Command::Shift(_) => Err(Error::IncompatibleSourceMap),
-    }
-}
-
-// What a command says of an index.
-fn said_of_index(alloc: Global, command: &Command, index: SourceMapIndex) -> Result<String>
-    ensures { IsAnswer string_bytes
-        (Says command.now (index_tree (index_value index)) None) result }
-{
-    match command {
-        Command::Lookup(line, col) => lookup_text(alloc, &DecodedMap::Index(index), *line, *col),
-        Command::Tokens => Err(Error::IncompatibleSourceMap),
-        Command::Rewrite => Err(Error::IncompatibleSourceMap),
-        Command::Flatten => flat_text(alloc, index),
-        Command::Compose(_) => Err(Error::IncompatibleSourceMap),
-        Command::Shift(rows) => shifted_text(alloc, index, *rows),
+        Command::Lookup(line, col) => lookup_text(alloc, map, *line, *col),
+        Command::Tokens => tokens_told(alloc, map),
+        _ => Err(Error::IncompatibleSourceMap),
     }
 }
 
@@ -142,6 +102,17 @@ fn lookup_text(alloc: Global, map: &DecodedMap, line: u32, col: u32) -> Result<S
     match map.lookup_token(line, col) {
         Some(token) => Ok(format!(in alloc; "{token}\n")?),
         None => Ok(String::from_str(alloc, "none\n")?),
+    }
+}
+
+// The lines of all tokens of a map that has a list of them.
+fn tokens_told(alloc: Global, map: &DecodedMap) -> Result<String>
+    ensures { IsAnswer string_bytes (Says Tokens (map_tree map.now) None) result }
+{
+    match map {
+        DecodedMap::Regular(map) => tokens_text(alloc, map),
+        DecodedMap::Hermes(map) => tokens_text(alloc, map),
+        DecodedMap::Index(_) => Err(Error::IncompatibleSourceMap),
     }
 }
 
@@ -176,15 +147,26 @@ fn range_mark(token: &Token<'_>) -> &'static str
     if token.is_range() { " range" } else { "" }
 }
 
-// The JSON text of the map rewritten with default options.
-fn rewritten_text<F: Files>(rt: &F, alloc: Global, map: SourceMap) -> Result<String>
+// The JSON text of a map rewritten with default options.
+fn rewritten_text<F: Files>(rt: &F, alloc: Global, map: DecodedMap) -> Result<String>
+    ensures { IsAnswer string_bytes (Says Rewrite (map_tree map) None) result }
+{
+    match map {
+        DecodedMap::Regular(map) => regular_text(rt, alloc, map),
+        DecodedMap::Hermes(map) => hermes_text(rt, alloc, map),
+        DecodedMap::Index(_) => Err(Error::IncompatibleSourceMap),
+    }
+}
+
+// The same of a regular map.
+fn regular_text<F: Files>(rt: &F, alloc: Global, map: SourceMap) -> Result<String>
     ensures { IsAnswer string_bytes (Says Rewrite (leaf (regular map)) None) result }
 {
     let rewritten = rewritten(rt, map)?;
     json_line(alloc, DecodedMap::Regular(rewritten))
 }
 
-// The JSON text of the Hermes map rewritten with default options.
+// The same of a Hermes map.
 fn hermes_text<F: Files>(rt: &F, alloc: Global, map: SourceMapHermes) -> Result<String>
     ensures { IsAnswer string_bytes (Says Rewrite (leaf (hermes (hermes_value map))) None) result }
 {
@@ -193,9 +175,10 @@ fn hermes_text<F: Files>(rt: &F, alloc: Global, map: SourceMapHermes) -> Result<
 }
 
 // The JSON text of the regular map that an index is made flat to.
-fn flat_text(alloc: Global, index: SourceMapIndex) -> Result<String>
-    ensures { IsAnswer string_bytes (Says Flatten (index_tree (index_value index)) None) result }
+fn flat_text(alloc: Global, map: DecodedMap) -> Result<String>
+    ensures { IsAnswer string_bytes (Says Flatten (map_tree map) None) result }
 {
+    let index = index_of(map)?;
     let flat = flattened(index)?;
     json_line(alloc, DecodedMap::Regular(flat))
 }
@@ -210,10 +193,10 @@ fn composed_text(alloc: Global, map: DecodedMap, adjustment: DecodedMap) -> Resu
 }
 
 // The JSON text of an index with its sections so many rows further down.
-fn shifted_text(alloc: Global, mut index: SourceMapIndex, rows: u32) -> Result<String>
-    ensures { IsAnswer string_bytes
-        (Says (Shift rows) (index_tree (index_value index)) None) result }
+fn shifted_text(alloc: Global, map: DecodedMap, rows: u32) -> Result<String>
+    ensures { IsAnswer string_bytes (Says (Shift rows) (map_tree map) None) result }
 {
+    let mut index = index_of(map)?;
     if !index.adjust_sections_offset_rows(rows) {
         return Err(Error::IncompatibleSourceMap);
     }

@@ -1,5 +1,5 @@
-//! Regular maps that the program makes of maps: one rewritten by default, one of an index, and one
-//! adjusted by another.
+//! What kind a map is, and the regular maps that the program makes of maps: one rewritten by
+//! default, one of an index, and one adjusted by another.
 ghost use Rattle.std.specs.Prelude.{◌≡◌, MatchResult, Some};
 ghost use Rattle.sourcemap.specs.Adjust.{adjusted as adjusted_values};
 ghost use Rattle.sourcemap.specs.Answer.{Gives, IsAnswer};
@@ -8,7 +8,7 @@ ghost use Rattle.sourcemap.specs.Flat.{FlatAnswer};
 ghost use Rattle.sourcemap.specs.Rewrite.{no_removal, rewritten};
 ghost use Rattle.sourcemap.specs.Trees.{index_tree, leaf, regular};
 ghost use Rattle.sourcemap.specs.declared.errors.Error.TheVariants.{IncompatibleSourceMap, OutOfMemory};
-ghost use Rattle.sourcemap_commands.specs.Program.{IsOfOtherKind, adjusted_by};
+ghost use Rattle.sourcemap_commands.specs.Program.{IsNoIndex, IsOfOtherKind, adjusted_by};
 
 use sourcemap::{DecodedMap, Error, Result, RewriteOptions, SourceMap, SourceMapIndex};
 use std::rt::Files;
@@ -23,6 +23,30 @@ pub fn regular_of(map: DecodedMap) -> Result<SourceMap>
         DecodedMap::Regular(map) => Ok(map),
         DecodedMap::Index(_) => Err(Error::IncompatibleSourceMap),
         DecodedMap::Hermes(_) => Err(Error::IncompatibleSourceMap),
+    }
+}
+
+// The regular map that a map is, lent.
+fn regular_in(map: &DecodedMap) -> Result<&SourceMap>
+    ensures { MatchResult result
+        (λ m. map_tree map.now ≡ leaf (regular m.now))
+        (λ e. (e ≡ IncompatibleSourceMap) × IsOfOtherKind (map_tree map.now)) }
+{
+    match map {
+        DecodedMap::Regular(map) => Ok(map),
+        DecodedMap::Index(_) | DecodedMap::Hermes(_) => Err(Error::IncompatibleSourceMap),
+    }
+}
+
+/// The index that a map is; one of another kind is `IncompatibleSourceMap`.
+pub fn index_of(map: DecodedMap) -> Result<SourceMapIndex>
+    ensures { MatchResult result
+        (λ index. map_tree map ≡ index_tree (index_value index))
+        (λ e. (e ≡ IncompatibleSourceMap) × IsNoIndex (map_tree map)) }
+{
+    match map {
+        DecodedMap::Index(index) => Ok(index),
+        DecodedMap::Regular(_) | DecodedMap::Hermes(_) => Err(Error::IncompatibleSourceMap),
     }
 }
 
@@ -45,13 +69,20 @@ pub fn flattened(index: SourceMapIndex) -> Result<SourceMap>
 pub fn adjusted(map: DecodedMap, adjustment: DecodedMap) -> Result<SourceMap>
     ensures { Gives (λ m. m) result (adjusted_by (map_tree map) (Some (map_tree adjustment))) }
 {
+    adjusted_by_lent(map, &adjustment)
+}
+
+// The same by one that is lent, so that it is let go at one place.
+fn adjusted_by_lent(map: DecodedMap, adjustment: &DecodedMap) -> Result<SourceMap>
+    ensures { Gives (λ m. m) result (adjusted_by (map_tree map) (Some (map_tree adjustment.now))) }
+{
     let map = regular_of(map)?;
-    let adjustment = regular_of(adjustment)?;
-    adjusted_by_it(map, &adjustment)
+    let adjustment = regular_in(adjustment)?;
+    adjusted_by_regular(map, adjustment)
 }
 
 // A regular map adjusted by another one.
-fn adjusted_by_it(mut map: SourceMap, adjustment: &SourceMap) -> Result<SourceMap>
+fn adjusted_by_regular(mut map: SourceMap, adjustment: &SourceMap) -> Result<SourceMap>
     ensures { Gives (λ m. m) result (adjusted_values map adjustment.now) }
 {
     map.adjust_mappings(adjustment)?;

@@ -4,7 +4,7 @@ use Rattle.sourcemap.specs.Trees.{regular}
 use Rattle.sourcemap_index.proofs.FamilyLemmas.{regular_tree}
 use Rattle.sourcemap_index.specs.declared.family.DecodedMap.TheVariants.{Regular}
 use Rattle.sourcemap_commands.proofs.ProgramLemmas.{says_rewritten}
-use Rattle.sourcemap_commands.proofs.program.rewritten_text.Goals as goal
+use Rattle.sourcemap_commands.proofs.program.regular_text.Goals as goal
 
 pub returns : goal.returns
 returns g c =
