@@ -1,5 +1,5 @@
 -- Refusals that are passed on.
-use Rattle.std.proofs.Common.{◌≡◌, refl, Result, Ok, Err, IfErr}
+use Rattle.std.proofs.Common.{◌≡◌, refl, Result, Ok, Err, IfErr, IsOkUnless}
 use Rattle.sourcemap.specs.Answer.{Gives, UnlessMemory}
 use Rattle.sourcemap.specs.Encoder.{RecordAnswer}
 use Rattle.sourcemap.specs.Types.{MapValue}
@@ -29,3 +29,8 @@ unwritten m e P h = unless_memory e ⊥ P (λ never. absurd never) h
 pub memory_alone : (e : Error) → UnlessMemory e ⊥ → e ≡ OutOfMemory
 memory_alone OutOfMemory h = refl
 memory_alone _ h = absurd h
+
+-- what memory alone refuses is refused for nothing else
+pub memory_refused : {X : Type 0} (Q : Error → Type 0) (r : Result X Error) → IsOkUnless r OutOfMemory → IfErr r (λ e. UnlessMemory e (Q e))
+memory_refused Q (Ok x) h = tt
+memory_refused Q (Err e) h = rw h tt

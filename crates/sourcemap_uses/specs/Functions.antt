@@ -6,8 +6,10 @@ use Rattle.sourcemap.specs.HermesRewrite.{IsInOrderOf}
 use Rattle.sourcemap.specs.Reading.{BytesStandFor}
 use Rattle.sourcemap.specs.Types.{lookup}
 
--- the name that the Hermes map in these bytes has for a place, where the functions of its source stand in order
+-- the name that a Hermes map has for a place, where the functions of its source stand in order
+abbrev pub IsNameIn : HermesValue → ℕ → Option (List ℕ) → Type 0
+IsNameIn h offset name = IsInOrderOf h (lookup h.map (0, offset)) → name ≡ function_name h offset
+
+-- the same of the Hermes map in these bytes
 abbrev pub IsNameAt : (bytes : List ℕ) → ℕ → Option (List ℕ) → Type 0
-IsNameAt bytes offset name =
-    (h : HermesValue) × BytesStandFor OnlyHermesDecodes bytes (Ok h)
-    × (IsInOrderOf h (lookup h.map (0, offset)) → name ≡ function_name h offset)
+IsNameAt bytes offset name = (h : HermesValue) × BytesStandFor OnlyHermesDecodes bytes (Ok h) × IsNameIn h offset name

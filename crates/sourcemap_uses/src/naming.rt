@@ -1,10 +1,12 @@
 //! What stands in the sources behind a place in a bundle: a function's name, a line of text.
-ghost use Rattle.std.specs.Prelude.{◌≡◌, ◌+◌, Err, IfErr, IfOk, option_and_then, option_map, string_bytes};
+ghost use Rattle.std.specs.Prelude.{◌≡◌, ◌+◌, Err, IfErr, IfOk, IsOkUnless, option_and_then, option_map, string_bytes};
 ghost use Rattle.std.specs.Option.{option_copied};
 ghost use Rattle.sourcemap.specs.Answer.{UnlessMemory};
 ghost use Rattle.sourcemap.specs.Lines.{count_ends};
 ghost use Rattle.sourcemap.specs.Reading.{BytesStandFor, RegularDecodes};
+ghost use Rattle.sourcemap.specs.TokenWalk.{function_name};
 ghost use Rattle.sourcemap.specs.Types.{lookup};
+ghost use Rattle.sourcemap.specs.declared.errors.Error.TheVariants.{OutOfMemory};
 ghost use Rattle.sourcemap_uses.specs.Naming.{IsNameOf, line_behind};
 
 use sourcemap::laws::lines_make_their_text;
@@ -29,10 +31,25 @@ pub fn original_name(
         (λ e. UnlessMemory e (BytesStandFor RegularDecodes map.now (Err e))) }
 {
     // no `?` for the prover: which fault is passed on is known of a match
-    let map = match SourceMap::from_slice(alloc, map) {
-        Ok(map) => map,
-        Err(fault) => return Err(fault),
-    };
+    match SourceMap::from_slice(alloc, map) {
+        Ok(map) => name_in(alloc, &map, text, line, col, minified),
+        Err(fault) => Err(fault),
+    }
+}
+
+// The same of a map that is lent, so that it is let go at one place.
+fn name_in(
+    alloc: Global,
+    map: &SourceMap,
+    text: &str,
+    line: u32,
+    col: u32,
+    minified: &str,
+) -> Result<Option<String>>
+    ensures name { IfOk result (λ name. option_map string_bytes name
+        ≡ function_name map.now text.now minified.now (line, col)) }
+    ensures memory { IsOkUnless result OutOfMemory }
+{
     let view = SourceView::new(alloc, text)?;
     match map.get_original_function_name(line, col, minified, &view) {
         None => Ok(None),
