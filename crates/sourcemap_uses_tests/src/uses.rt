@@ -198,11 +198,16 @@ fn tokens_are_written_and_asked(rt: HostRuntime) -> std::result::Result<(), Fail
     Ok(())
 }
 
+fn holds_map(alloc: Global, reference: &str) -> Result<bool> {
+    let map = boxed(alloc, inline_map(alloc, reference))?;
+    Ok(map.is_some())
+}
+
 #[test]
 fn a_data_url_holds_its_map(rt: HostRuntime) -> std::result::Result<(), Fail> {
     let alloc = rt.alloc();
-    assert!(rt; inline_map(alloc, INLINE)?.is_some());
-    assert!(rt; inline_map(alloc, "out.js.map")?.is_none());
+    assert!(rt; holds_map(alloc, INLINE)?);
+    assert!(rt; !holds_map(alloc, "out.js.map")?);
     Ok(())
 }
 
