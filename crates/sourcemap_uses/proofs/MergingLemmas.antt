@@ -1,9 +1,8 @@
 -- A builder to which sources are added.
-use Rattle.std.proofs.Common.{◌≡◌, ◌∙◌, refl, sym, ap, subst, ℕ, ◌<◌, ◌≤◌, List, [], ◌∷◌, ◌++◌, append-nil, append_assoc, arith, cond, fold, is_some, length, length-append, map, nat_lt, Bool, true, false, Option, Some, None, Result, Ok, Err, IfOk}
+use Rattle.std.proofs.Common.{◌≡◌, ◌∙◌, refl, sym, ap, subst, ℕ, ◌≤◌, List, [], ◌∷◌, ◌++◌, append-nil, append_assoc, arith, cond, fold, is_some, length, length-append, map, nat_lt, Bool, true, false, Option, Some, None, Result, Ok, Err, IfOk}
 use Rattle.std.proofs.lemmas.Bool.{ltb-false}
 use Rattle.sourcemap.specs.Answer.{Gives, UnlessMemory}
 use Rattle.sourcemap.specs.Builder.{BuilderValue, empty_builder, with_source, built}
-use Rattle.sourcemap.specs.Due.{Gives-given}
 use Rattle.sourcemap.specs.Interner.{id_for, id_of, with_text}
 use Rattle.sourcemap.specs.Rewrite.{kept_once}
 use Rattle.sourcemap.specs.Types.{MapValue, made_of, shown, shown_sources}

@@ -1,5 +1,6 @@
 -- Refusals that are passed on.
 use Rattle.std.proofs.Common.{◌≡◌, refl, Result, Ok, Err, IfErr, IsOkUnless}
+use Rattle.std.proofs.lemmas.Result.{IfErr-weaker}
 use Rattle.sourcemap.specs.Answer.{Gives, UnlessMemory}
 use Rattle.sourcemap.specs.Encoder.{RecordAnswer}
 use Rattle.sourcemap.specs.Types.{MapValue}
@@ -32,5 +33,4 @@ memory_alone _ h = absurd h
 
 -- what memory alone refuses is refused for nothing else
 pub memory_refused : {X : Type 0} (Q : Error → Type 0) (r : Result X Error) → IsOkUnless r OutOfMemory → IfErr r (λ e. UnlessMemory e (Q e))
-memory_refused Q (Ok x) h = tt
-memory_refused Q (Err e) h = rw h tt
+memory_refused Q r h = IfErr-weaker r (λ e. e ≡ OutOfMemory) (λ e. UnlessMemory e (Q e)) (λ e is. rw is tt) h

@@ -1,5 +1,5 @@
 -- The law of written maps, at the map of these tokens.
-use Rattle.std.proofs.Common.{◌∙◌, ap, map, refl, string_bytes, [], ◌∷◌}
+use Rattle.std.proofs.Common.{◌∙◌, ap, map, string_bytes, [], ◌∷◌}
 use Rattle.sourcemap_uses.proofs.BuildingLemmas.{made, reads_back}
 use Rattle.sourcemap_uses.proofs.building.written.Goals as goal
 

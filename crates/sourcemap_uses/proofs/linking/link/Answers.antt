@@ -1,5 +1,5 @@
 -- What is written to one section stands in its place, and in no other.
-use Rattle.std.proofs.Common.{◌≡◌, ◌∙◌, ap, sym, slice_get, subst}
+use Rattle.std.proofs.Common.{◌≡◌, ◌∙◌, ap, slice_get, subst}
 use Rattle.std.specs.Option.{OnSome}
 use Rattle.sourcemap.specs.AnyMap.{index_value, section_value}
 use Rattle.sourcemap.specs.Index.{with_section}
