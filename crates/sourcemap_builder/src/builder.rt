@@ -32,7 +32,6 @@ use std::marker::Model;
 /// A map that is being built. Sources and names are kept once each and have ids from 0 on in the
 /// order in which they first came. A refused call leaves the builder as it was, but where a line
 /// says more.
-#[derive(Drop)]
 pub struct SourceMapBuilder {
     heading: Heading,
     root: Option<String>,
@@ -55,6 +54,21 @@ impl Model for SourceMapBuilder {
     ghost view = { built_of };
 
     ghost invariant = { IsBuilt };
+}
+
+// As of `SourceMap`: by hand, for the prover.
+impl Drop for SourceMapBuilder {
+    fn drop(self) {
+        let SourceMapBuilder {
+            heading: _,
+            root: _,
+            tokens: _,
+            names: _,
+            interned: _,
+            changed: _,
+            contents: _,
+        } = self;
+    }
 }
 
 impl SourceMapBuilder {

@@ -98,8 +98,8 @@ fn two_digits(text: &[u8]) -> Option<(i64, &[u8])>
     Some((number_from(raw), behind))
 }
 
-// The same for a number of any length. It stands inline, so that no room for its answer is made ready
-// where it is not called.
+// The same for a number of any length. It stands inline, so that no room for its answer is made
+// ready where it is not called.
 #[inline(always)]
 fn long_number(text: &[u8]) -> Result<(i64, &[u8])>
     ensures number { IfOk result (λ read. BeginsWith text.now read.0 read.1.now) }

@@ -64,18 +64,6 @@ AddsParts-segment counts spot bits before here (c ∷ cs) numbers token old new 
       sums_after = after;
     }
 
--- a part without numbers
-pub AddsParts-none : (counts : Counts) (spot : Spot) (bits : List ℕ) (before here : List Segment) (part : List ℕ) (numbers : List ℤ) (old : List RawToken) (sums : Sums)
-    → length numbers ≡ 0 → Reads part numbers → AreSums before here sums → AddsParts counts spot bits before here (part ∷ []) old old sums
-AddsParts-none counts spot bits before here [] numbers old sums none reads h = record {
-  segments = [];
-  read = refl;
-  tokens = sym (append-nil old);
-  sums_after = subst (λ zs. AreSums before zs sums) (sym (append-nil here)) h;
-}
-AddsParts-none counts spot bits before here (c ∷ cs) [] old sums none reads h = absurd (let e : c ∷ cs ≡ [] = reads in cc)
-AddsParts-none counts spot bits before here (c ∷ cs) (n ∷ ns) old sums none reads h = absurd (omega arith)
-
 -- one part, and the parts behind it
 PartsRead-cons : (counts : Counts) (place : ℕ) (before : List Segment) (part : List ℕ) (parts : List (List ℕ)) (ss later : List Segment)
     → PartsRead counts place before (part ∷ []) ss → PartsRead counts (place + 1) (before ++ ss) parts later → PartsRead counts place before (part ∷ parts) (ss ++ later)

@@ -12,11 +12,11 @@ impl SourceMap {
         ensures { Gives (λ m. m) result (Ok self.now) }
     {
         let alloc = *self.names.allocator();
-        let heading = self.heading.clone(alloc)?;
-        let tokens = self.tokens.clone()?;
         let names = copy_texts(alloc, self.names.as_slice())?;
-        let sources = self.sources.clone()?;
         let contents = self.contents.clone()?;
+        let tokens = self.tokens.clone()?;
+        let heading = self.heading.clone(alloc)?;
+        let sources = self.sources.clone()?;
         Ok(SourceMap {
             heading,
             tokens,

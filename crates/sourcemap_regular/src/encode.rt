@@ -73,27 +73,6 @@ impl SourceMap {
         let alloc = self.allocator();
         into_record(alloc, self.into_parts())
     }
-
-    // The parts of the map.
-    fn into_parts(self) -> Parts
-        ensures value { parts_view result ≡ parts_in self }
-        ensures few { vec_len result.names ≤ 4294967295 }
-    {
-        let SourceMap {
-            heading,
-            tokens,
-            names,
-            sources,
-            contents,
-        } = self;
-        Parts {
-            heading,
-            tokens,
-            names,
-            sources,
-            contents,
-        }
-    }
 }
 
 /// A law: a map is written as one record.

@@ -1,11 +1,13 @@
 //! A regular map over its parts: its getters, and the lookup of a position.
 ghost use Rattle.std.specs.Prelude.{◌≡◌, ◌==◌, not, ◌<◌, ◌≤◌, ◌+◌, ◌*◌, ◌^◌, [], IfOk, IfSome, Ok, Some, length, min, option_map, slice_get, unwrap_or, vec_len};
 ghost use Rattle.std.specs.Option.{option_copied, ForSome};
+ghost use Rattle.sourcemap_conversions.specs.Parts.{parts_view};
 ghost use Rattle.sourcemap_errors.specs.Answer.{Gives};
 ghost use Rattle.sourcemap_texts.specs.Texts.{texts_of, contents_in};
 ghost use Rattle.sourcemap_regular.specs.Map.{distance};
 
 use crate::token::Token;
+use sourcemap_conversions::parts::Parts;
 use sourcemap_errors::errors::Result;
 use sourcemap_line_index::token_list::TokenList;
 use sourcemap_lists::tokens::RawToken;
@@ -20,7 +22,7 @@ use std::marker::Model;
 
 /// A source map: tokens that tie places of a generated text to places in sources. Lines and columns
 /// count from 0, columns in UTF-16 units.
-#[derive(Debug, Drop)]
+#[derive(Debug)]
 pub struct SourceMap {
     pub(crate) heading: Heading,
     pub(crate) tokens: TokenList,
@@ -41,6 +43,20 @@ impl Model for SourceMap {
     ghost invariant = { HasFewNames };
 }
 
+// By hand, for the prover: letting a map go is one step of a function that owns one. Derived, each
+// field would be followed at each way out.
+impl Drop for SourceMap {
+    fn drop(self) {
+        let SourceMap {
+            heading: _,
+            tokens: _,
+            names: _,
+            sources: _,
+            contents: _,
+        } = self;
+    }
+}
+
 // How far a column stands behind a range token of its own line.
 fn distance(token: RawToken, line: u32, col: u32) -> u32
     ensures { result ≡ distance token (line, col) }
@@ -56,7 +72,7 @@ impl SourceMap {
     ghost use Rattle.sourcemap_lists.specs.Tokens.{AllWithin, closest_token};
     ghost use Rattle.sourcemap_line_index.specs.LineIndex.{binary_digits};
     ghost use Rattle.sourcemap_regular.specs.Map.{IsWellFormed, made_of, meaning, name_of, source_of, contents_of};
-    ghost use Rattle.sourcemap_regular.specs.MapStored.{map_over};
+    ghost use Rattle.sourcemap_regular.specs.MapStored.{map_over, parts_in};
     ghost use Rattle.sourcemap_regular.specs.Token.{answers, lookup, token_at, token_value};
 
     /// A map of these parts, its tokens sorted stably by line and column of the generated text.
@@ -82,11 +98,11 @@ impl SourceMap {
         ensures well_formed { AllWithin (vec_len sources) (vec_len names) tokens.items
             → IfOk result IsWellFormed }
     {
-        let file = owned(alloc, file)?;
+        let contents = contents_if(alloc, sources_content)?;
         let tokens = TokenList::sorted(tokens)?;
+        let file = owned(alloc, file)?;
         let heading = Heading::new(alloc, file);
         let sources = Sources::new(sources);
-        let contents = contents_if(alloc, sources_content)?;
         Ok(SourceMap::of_parts(heading, tokens, names, sources, contents))
     }
 
@@ -102,6 +118,27 @@ impl SourceMap {
         ensures { result ≡ map_over heading tokens (texts_of names) sources contents }
     {
         SourceMap {
+            heading,
+            tokens,
+            names,
+            sources,
+            contents,
+        }
+    }
+
+    // The parts of a map that is not needed any more.
+    pub(crate) fn into_parts(self) -> Parts
+        ensures value { parts_view result ≡ parts_in self }
+        ensures few { vec_len result.names ≤ 4294967295 }
+    {
+        let SourceMap {
+            heading,
+            tokens,
+            names,
+            sources,
+            contents,
+        } = self;
+        Parts {
             heading,
             tokens,
             names,

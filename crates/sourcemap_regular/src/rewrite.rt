@@ -8,6 +8,7 @@ ghost use Rattle.sourcemap_regular.specs.Map.{MapValue};
 ghost use Rattle.sourcemap_regular.specs.Rewrite.{IsFinal};
 
 use crate::map::SourceMap;
+use sourcemap_conversions::parts::Parts;
 use sourcemap_errors::errors::{Error, Result};
 use sourcemap_parts::contents::Contents;
 use sourcemap_parts::sources::Sources;
@@ -72,13 +73,13 @@ impl SourceMap {
         ensures ids { IfOk result (λ new. new.1.items ≡ first_ids self) }
     {
         let alloc = self.allocator();
-        let SourceMap {
+        let Parts {
             heading,
             tokens,
             names,
             sources,
             contents,
-        } = self;
+        } = self.into_parts();
         let names = names_if(alloc, names, options.with_names);
         let (sources, shown) = sources.into_lists();
         let contents = contents.into_views();

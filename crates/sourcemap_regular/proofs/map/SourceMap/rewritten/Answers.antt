@@ -2,8 +2,9 @@ use Rattle.std.proofs.Common.{◌≡◌, ◌≤◌, ℕ, Bool, true, false, List
 use Rattle.std.proofs.lemmas.List.{length-map}
 use Rattle.sourcemap_texts.specs.Texts.{texts_of}
 use Rattle.sourcemap_rewriting.specs.Rewritten.{AreRewritten, first_ids_used}
+use Rattle.sourcemap_conversions.specs.Parts.{parts_view}
 use Rattle.sourcemap_regular.specs.Map.{MapValue, shown_sources}
-use Rattle.sourcemap_regular.specs.MapStored.{map_over, value_of}
+use Rattle.sourcemap_regular.specs.MapStored.{map_in, map_over}
 use Rattle.sourcemap_regular.specs.Rewrite.{removal_of, first_ids, rewritten}
 use Rattle.sourcemap_regular.proofs.RewriteLemmas.{tokens-rewritten, names-rewritten, sources-rewritten, contents-rewritten}
 use Rattle.sourcemap_regular.proofs.map.SourceMap.rewritten.Goals as goal
@@ -14,13 +15,17 @@ few_if false names few = omega arith
 
 pub rewritten_parts-requires-clause-few_names : goal.rewritten_parts-requires-clause-few_names
 rewritten_parts-requires-clause-few_names c =
+    let names = c.into_parts-heading.result.names in
+    let of_map : vec_len names ≡ length (texts_of names) = rw length-map names.ok.0 in
+    let few = subst (λ n. n ≤ 4294967295) of_map c.into_parts-heading.ensures.few in
     let kept = c.names_if-names.result in
     let many : vec_len kept ≡ length (texts_of kept) = rw length-map kept.ok.0 in
-    subst (λ n. n ≤ 4294967295) (sym (many ∙ ap length c.names_if-names.ensures)) (few_if c.args.options.now.with_names (texts_of c.self.inside.names) c.self.invariant)
+    subst (λ n. n ≤ 4294967295) (sym (many ∙ ap length c.names_if-names.ensures)) (few_if c.args.options.now.with_names (texts_of names) few)
 
 pub returns-clause-value : goal.returns-clause-value
 returns-clause-value c =
-    let m : MapValue = value_of c.self.inside in
+    let m : MapValue = map_in (parts_view c.into_parts-heading.result) in
+    let is_self : m ≡ c.args.self = ap map_in c.into_parts-heading.ensures.value in
     let removal = removal_of c.args.options.now in
     let p = c.in_ok-parts.parts in
     let S : List (List ℕ) = texts_of (unwrap_or c.into_lists-sources.result.1 c.into_lists-sources.result.0) in
@@ -37,9 +42,9 @@ returns-clause-value c =
     (names-rewritten m removal p S N paths sources names given are i)
     ((c.new-sources.ensures ∙ (λ j. record { root = None; texts = sources-rewritten m removal p S N paths sources names given are j })) i)
     ((c.of_views-contents.ensures ∙ contents-rewritten m removal p S N paths sources names given are) i)) in
-    ap (λ v. Ok (rewritten removal v)) (sym c.self.view_is) ∙ ap Ok (sym is)
+    ap (λ v. Ok (rewritten removal v)) (sym is_self) ∙ ap Ok (sym is)
 
 pub returns-clause-ids : goal.returns-clause-ids
 returns-clause-ids c =
-    c.in_ok-parts.ensures.parts.first_ids_due ∙ ap (λ S. first_ids_used S c.self.inside.tokens) c.into_lists-sources.ensures.shown
-    ∙ ap first_ids c.self.view_is
+    c.in_ok-parts.ensures.parts.first_ids_due ∙ ap (λ S. first_ids_used S c.into_parts-heading.result.tokens) c.into_lists-sources.ensures.shown
+    ∙ ap (λ p. first_ids (map_in p)) c.into_parts-heading.ensures.value
