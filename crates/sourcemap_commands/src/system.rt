@@ -29,12 +29,12 @@ fn is_reader_gone(error: &Error) -> bool
 
 /// Tells a fault that kept a run from ending, on a writer for faults: its text and a newline, but
 /// nothing where whoever reads the output has gone away, since nobody is left to be told. The only
-/// error is a fault of that writer.
+/// error is a fault of that writer, and none comes where nothing is told.
 pub fn tell<W: Write>(error: &Error, faults: &mut W) -> Result<()>
     ensures told { OnOk result (¬ IsReaderGone error.now
         → IsTold error.now (W.contents faults.old) (W.contents faults.new)) }
     ensures quiet { IsReaderGone error.now → faults.new ≡ faults.old }
-    ensures fault { IfErr result IsWriteFault }
+    ensures fault { IfErr result (λ e. IsWriteFault e × ¬ IsReaderGone error.now) }
 {
     if is_reader_gone(error) {
         return Ok(());
