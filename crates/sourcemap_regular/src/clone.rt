@@ -12,6 +12,7 @@ impl SourceMap {
         ensures { Gives (λ m. m) result (Ok self.now) }
     {
         let alloc = *self.names.allocator();
+        // in this order for the prover: a step that fails lets go of as little as can be
         let names = copy_texts(alloc, self.names.as_slice())?;
         let contents = self.contents.clone()?;
         let tokens = self.tokens.clone()?;

@@ -98,6 +98,7 @@ impl SourceMap {
         ensures well_formed { AllWithin (vec_len sources) (vec_len names) tokens.items
             → IfOk result IsWellFormed }
     {
+        // in this order for the prover: a step that fails lets go of as little as can be
         let contents = contents_if(alloc, sources_content)?;
         let tokens = TokenList::sorted(tokens)?;
         let file = owned(alloc, file)?;
