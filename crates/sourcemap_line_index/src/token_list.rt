@@ -17,7 +17,7 @@ use std::marker::Model;
 
 /// Tokens in order of line and column of the generated text, beside the table of the lines that
 /// hold them, and samples of their columns if lines are long. No call parts them.
-#[derive(Debug, Drop)]
+#[derive(Debug)]
 pub struct TokenList {
     tokens: Vec<RawToken>,
     lines: LineIndex,
@@ -36,6 +36,17 @@ impl Model for TokenList {
 
     ghost invariant = { λ list. IsMadeFrom list.tokens.items list.lines
         × AreSamples list.tokens.items (length list.lines.lines) list.samples };
+}
+
+// By hand, for the prover: letting it go is one step of a function that owns one, not one a field.
+impl Drop for TokenList {
+    fn drop(self) {
+        let TokenList {
+            tokens: _,
+            lines: _,
+            samples: _,
+        } = self;
+    }
 }
 
 impl TokenList {
@@ -133,7 +144,11 @@ impl TokenList {
         ensures value { result.items ≡ self }
         ensures in_order { AreInOrder self }
     {
-        let TokenList { tokens, .. } = self;
+        let TokenList {
+            tokens,
+            lines: _lines,
+            samples: _samples,
+        } = self;
         tokens
     }
 

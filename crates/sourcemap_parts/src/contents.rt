@@ -17,7 +17,7 @@ use std::marker::Model;
 
 /// Contents by id of their source, each where there are some. The list may be shorter or longer
 /// than that of the sources; it has at most 4294967295 items. Views are made when texts are given.
-#[derive(Debug, Drop)]
+#[derive(Debug)]
 pub struct Contents {
     views: Vec<Option<SourceView>>,
 }
@@ -30,6 +30,13 @@ impl Model for Contents {
     ghost view = { λ a. a.views.items };
 
     ghost invariant = { λ a. length a.views.items ≤ 4294967295 };
+}
+
+// By hand, for the prover: letting it go is one step of a function that owns one, not one a field.
+impl Drop for Contents {
+    fn drop(self) {
+        let Contents { views: _ } = self;
+    }
 }
 
 impl Contents {
@@ -92,7 +99,8 @@ impl Contents {
         ensures views { result.items ≡ self }
         ensures few { vec_len result ≤ 4294967295 }
     {
-        self.views
+        let Contents { views } = self;
+        views
     }
 
     /// Copies of the texts. Only want of memory refuses.
@@ -106,7 +114,9 @@ impl Contents {
     pub fn into_texts(self) -> Result<Vec<Option<String>>>
         ensures { Gives contents_in result (Ok self) }
     {
-        moved_texts(self.allocator(), self.views)
+        let alloc = self.allocator();
+        let Contents { views } = self;
+        moved_texts(alloc, views)
     }
 
     /// Contents equal to these. Only want of memory refuses.

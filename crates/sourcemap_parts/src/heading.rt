@@ -20,7 +20,7 @@ use std::marker::Model;
 
 /// The name of the generated file, the ids of the sources that a debugger passes over, and the
 /// identifier that ties a map to its file.
-#[derive(Debug, Drop)]
+#[derive(Debug)]
 pub struct Heading {
     file: Option<String>,
     ignored: BTreeSet<u32>,
@@ -38,6 +38,17 @@ impl Model for Heading {
       ignored = a.ignored.keys;
       debug_id = a.debug_id;
     } };
+}
+
+// By hand, for the prover: letting it go is one step of a function that owns one, not one a field.
+impl Drop for Heading {
+    fn drop(self) {
+        let Heading {
+            file: _,
+            ignored: _,
+            debug_id: _,
+        } = self;
+    }
 }
 
 impl Heading {
@@ -125,10 +136,15 @@ impl Heading {
     pub fn without_ignored(self, alloc: Global) -> Heading
         ensures { result ≡ record self { ignored = [] } }
     {
+        let Heading {
+            file,
+            ignored: _ignored,
+            debug_id,
+        } = self;
         Heading {
-            file: self.file,
+            file,
             ignored: BTreeSet::new(alloc),
-            debug_id: self.debug_id,
+            debug_id,
         }
     }
 

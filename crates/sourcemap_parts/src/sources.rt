@@ -17,7 +17,7 @@ use std::marker::Model;
 
 /// Sources by id: their texts as they were given, and the root that stands before them where they
 /// are shown. There are at most 4294967295, so that id names nothing.
-#[derive(Debug, Drop)]
+#[derive(Debug)]
 pub struct Sources {
     root: Option<String>,
     texts: Vec<String>,
@@ -35,6 +35,17 @@ impl Model for Sources {
     ghost view = { sources_in };
 
     ghost invariant = { AreStored };
+}
+
+// By hand, for the prover: letting it go is one step of a function that owns one, not one a field.
+impl Drop for Sources {
+    fn drop(self) {
+        let Sources {
+            root: _,
+            texts: _,
+            shown: _,
+        } = self;
+    }
 }
 
 impl Sources {
@@ -146,7 +157,7 @@ impl Sources {
         ensures few_shown { vec_len (unwrap_or result.1 result.0) ≤ 4294967295 }
     {
         let Sources {
-            root: _,
+            root: _root,
             texts,
             shown,
         } = self;
@@ -162,7 +173,7 @@ impl Sources {
         let Sources {
             root,
             texts,
-            shown: _,
+            shown: _shown,
         } = self;
         (root, texts)
     }

@@ -7,10 +7,10 @@ use Rattle.sourcemap_regular.specs.Map.{IsWellFormed, MapValue, meaning}
 use Rattle.sourcemap_regular.specs.MapStored.{value_of}
 use Rattle.sourcemap_regular.proofs.AdjustLemmas.{adjusted_meaning}
 use Rattle.sourcemap_regular.proofs.map.SourceMap.adjust_mappings.Goals as goal
-use Rattle.sourcemap_regular.proofs.map.SourceMap.adjust_mappings.Goals.{After-drop-self-inside-4}
+use Rattle.sourcemap_regular.proofs.map.SourceMap.adjust_mappings.Goals.{After-drop-self-inside}
 
 -- the composition that was made, of the tokens of both maps as they are stored
-composed : (c : After-drop-self-inside-4) → composition c.self.inside.tokens c.adjustment.inside.tokens ≡ Ok c.in_ok-list.list
+composed : (c : After-drop-self-inside) → composition c.self.inside.tokens c.adjustment.inside.tokens ≡ Ok c.in_ok-list.list
 composed c =
     subst (λ tokens. composition tokens c.adjustment.inside.tokens ≡ Ok c.in_ok-list.list) c.as_slice.ensures.value
     (subst (λ tokens. composition c.as_slice.result.now tokens ≡ Ok c.in_ok-list.list) c.as_slice-2.ensures.value
