@@ -11,7 +11,7 @@ type Way = ((u32, u32), (u32, u32));
 
 // What a row is about, the originals, the adjustments, and the answer. Originals have source 3 and
 // name 4, adjustments source 9 and name 8, but for one that leads nowhere, to (NO_ID, NO_ID).
-const COMPOSED: [(&str, &[Way], &[Way], &str); 21] = [
+static COMPOSED: [(&str, &[Way], &[Way], &str); 21] = [
     (
         "one cut and one whole",
         &[((8, 28), (102, 35)), ((8, 40), (102, 50))],
@@ -131,7 +131,7 @@ const COMPOSED: [(&str, &[Way], &[Way], &str); 21] = [
 
 // What a row is about, an original, and the token that comes of it where columns from 10 on move to
 // line 5.
-const CUT: [(&str, Row, Row); 5] = [
+static CUT: [(&str, Row, Row); 5] = [
     (
         "ten columns of a range token fall away",
         ((0, 0), (3, 0, 7), NO_ID, true),

@@ -6,7 +6,7 @@ use sourcemap_core::vlq::{generate_vlq_segment, parse_vlq_segment};
 use std::alloc::Global;
 
 // What a row is about, a segment, and its numbers or its fault.
-const READ: [(&str, &str, &str); 12] = [
+static READ: [(&str, &str, &str); 12] = [
     ("four numbers", "AAAA", "[0, 0, 0, 0]"),
     ("five numbers", "GAAIA", "[3, 0, 0, 4, 0]"),
     ("a zero with a sign", "B", "[0]"),
@@ -60,7 +60,7 @@ fn reads_segments(rt: HostRuntime) {
 }
 
 // What a row is about, numbers, and their segment or their fault.
-const WRITTEN: [(&str, &[i64], &str); 5] = [
+static WRITTEN: [(&str, &[i64], &str); 5] = [
     ("four numbers", &[0, 0, 0, 0], "AAAA"),
     ("five numbers", &[3, 0, 0, 4, 0], "GAAIA"),
     ("no number", &[], ""),
@@ -91,7 +91,7 @@ fn writes_segments(rt: HostRuntime) {
 }
 
 // The places of the true bits among twenty, and their text.
-const BITS: [(&[usize], &str); 4] = [(&[12], "AAB"), (&[5], "g"), (&[0, 11], "Bg"), (&[], "")];
+static BITS: [(&[usize], &str); 4] = [(&[12], "AAB"), (&[5], "g"), (&[0, 11], "Bg"), (&[], "")];
 
 fn bits(alloc: Global, places: &[usize]) -> Result<Vec<bool>> {
     let mut bits = Vec::new(alloc);
@@ -114,7 +114,7 @@ fn writes_bits(rt: HostRuntime) {
 }
 
 // A text, the places of the true bits among twenty, and the text with theirs behind it.
-const PUSHED: [(&str, &[usize], &str); 3] = [
+static PUSHED: [(&str, &[usize], &str); 3] = [
     (";", &[12], ";AAB"),
     ("", &[5], "g"),
     ("AAB;", &[], "AAB;"),
@@ -140,7 +140,7 @@ fn writes_bits_behind_a_text(rt: HostRuntime) {
 
 // What a row is about, a text, and how many bits it has and the places of the true ones, or its
 // fault.
-const TEXTS: [(&str, &str, &str); 6] = [
+static TEXTS: [(&str, &str, &str); 6] = [
     ("the lowest bit of the third digit", "AAB", "18: 12"),
     ("the highest bit of a digit", "g", "6: 5"),
     ("the lowest bit and the highest", "Bg", "12: 0 11"),

@@ -47,7 +47,7 @@ fn found(
 
 // How many equal tokens there are, a place, how many comparisons it takes at least and at most, and
 // the token that stands closest.
-const AMONG_EQUALS: [(u32, (u32, u32), u32, u32, &str); 6] = [
+static AMONG_EQUALS: [(u32, (u32, u32), u32, u32, &str); 6] = [
     (0, (0, 0), 0, 2, "None true"),
     (1000, (0, 0), 1, 22, "Some(0) true"),
     (1000, (0, 1), 1, 22, "Some(999) true"),
@@ -76,7 +76,7 @@ fn finds_among_equals_by_few_comparisons(rt: HostRuntime) {
 }
 
 // Where tokens stand, in order; two of them are at one place, and line 3 holds none.
-const PLACES: [(u32, u32); 5] = [(0, 3), (2, 5), (2, 5), (2, 9), (4, 0)];
+static PLACES: [(u32, u32); 5] = [(0, 3), (2, 5), (2, 5), (2, 9), (4, 0)];
 
 // The tokens at these places, known by their numbers from 0.
 fn tokens_on_lines(alloc: Global) -> Result<TokenList> {
@@ -88,7 +88,7 @@ fn tokens_on_lines(alloc: Global) -> Result<TokenList> {
 }
 
 // What a row is about, a place, and the number of the token that stands closest.
-const BETWEEN_LINES: [(&str, (u32, u32), &str); 9] = [
+static BETWEEN_LINES: [(&str, (u32, u32), &str); 9] = [
     ("before all tokens", (0, 2), "None true"),
     ("at a token", (0, 3), "Some(0) true"),
     ("on a line without tokens", (1, 0), "Some(0) true"),
@@ -126,7 +126,7 @@ fn tokens_on_many_lines(alloc: Global, a_line: u32) -> Result<TokenList> {
 }
 
 // How many tokens stand on a line, a place, and the number of the token that stands closest.
-const ON_MANY_LINES: [(u32, (u32, u32), &str); 21] = [
+static ON_MANY_LINES: [(u32, (u32, u32), &str); 21] = [
     // Lines so short that their tokens are compared in turn; the odd lines hold none.
     (5, (0, 0), "Some(0) true"),
     (5, (0, 10), "Some(1) true"),
@@ -177,7 +177,7 @@ fn finds_on_many_lines_by_few_comparisons(rt: HostRuntime) {
 }
 
 // The lines that hold tokens, and the place of the first token of each.
-const ROWS: [(u32, usize); 3] = [(0, 0), (2, 1), (4, 4)];
+static ROWS: [(u32, usize); 3] = [(0, 0), (2, 1), (4, 4)];
 
 fn table_by_rows(alloc: Global) -> Result<LineIndex> {
     let mut table = LineIndex::of_none(alloc);

@@ -8,7 +8,7 @@ use sourcemap_line_index::token_list::TokenList;
 use std::alloc::Global;
 
 // Places, whose tokens are known by their column in the source: 0, 1, 2 and 3.
-const PLACES: [(u32, u32); 4] = [(2, 5), (0, 3), (2, 5), (0, 3)];
+static PLACES: [(u32, u32); 4] = [(2, 5), (0, 3), (2, 5), (0, 3)];
 
 fn tokens(alloc: Global) -> Result<Vec<RawToken>> {
     let mut tokens = Vec::new(alloc);
@@ -31,7 +31,7 @@ fn list(alloc: Global) -> Result<TokenList> {
 }
 
 // What a row is about, a line, a column, and the closest token and its index.
-const CLOSEST: [(&str, u32, u32, &str); 5] = [
+static CLOSEST: [(&str, u32, u32, &str); 5] = [
     ("before the tokens of its line", 2, 4, "3 at 1"),
     ("on a line without tokens", 1, 0, "3 at 1"),
     ("before all tokens", 0, 2, "none"),
@@ -110,10 +110,10 @@ fn compares_and_ends(rt: HostRuntime) {
     check(&rt, "list", ends(rt.alloc()), "(true, false) true true");
 }
 
-const PAIRS: [(u32, u32); 5] = [(1, 10), (1, 11), (1, 12), (1, 13), (1, 14)];
+static PAIRS: [(u32, u32); 5] = [(1, 10), (1, 11), (1, 12), (1, 13), (1, 14)];
 
 // How many of the pairs are searched, by what key, and the pair that is found and its index.
-const BOUNDS: [(usize, u32, &str); 15] = [
+static BOUNDS: [(usize, u32, &str); 15] = [
     (1, 0, "None"),
     (1, 1, "Some((0, (1, 10)))"),
     (1, 2, "Some((0, (1, 10)))"),
@@ -144,7 +144,7 @@ fn finds_first_at_and_last_before(rt: HostRuntime) {
     }
 }
 
-const TEXTS: [&str; 7] = ["b", "a", "b", "", "a", "B", ""];
+static TEXTS: [&str; 7] = ["b", "a", "b", "", "a", "B", ""];
 
 fn push_ids(told: &mut String, interner: &mut Interner) -> Result<()> {
     for text in TEXTS.iter() {

@@ -11,7 +11,7 @@ use std::alloc::Global;
 type Texts = (&'static str, &'static str, (u32, u32));
 
 // What a row is about, its texts and counts, and the tokens or the fault.
-const READ: [(&str, Texts, &str); 20] = [
+static READ: [(&str, Texts, &str); 20] = [
     (
         "a line of nine tokens, three of them with names",
         (
@@ -165,7 +165,7 @@ pub const BARE: (u32, u32, u32) = (NO_ID, NO_ID, NO_ID);
 
 // What a row is about, tokens, their mappings, and their range mappings if there are any. There are
 // two names.
-const WRITTEN: [(&str, &[Row], &str, Option<&str>); 8] = [
+static WRITTEN: [(&str, &[Row], &str, Option<&str>); 8] = [
     ("no token", &[], "", None),
     (
         "a range token on the second line",

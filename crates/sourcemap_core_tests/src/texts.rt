@@ -5,7 +5,7 @@ use sourcemap_core::utils::find_common_prefix;
 use std::alloc::Global;
 
 // What a row is about, paths, and what they have in common.
-const PREFIXES: [(&str, &[&str], &str); 11] = [
+static PREFIXES: [(&str, &[&str], &str); 11] = [
     (
         "a folder and a drive",
         &["/a/b", "C:/a/b", "/a/b/c"],

@@ -1,4 +1,4 @@
-//! Tests of Hermes maps, over JSON texts that they are read from.
+//! Tests of Hermes maps and of the scopes of their sources, over JSON texts that they are read from.
 #![tactic(auto)]
 
 #[cfg(test)]
@@ -7,3 +7,5 @@ mod checks;
 mod maps;
 #[cfg(test)]
 mod rewriting;
+#[cfg(test)]
+mod scopes;

@@ -27,7 +27,7 @@ fn name_at(alloc: Global, text: &str, offset: u32) -> Result<String> {
 }
 
 // A map, a place in the bytecode, and the name of the function there.
-const NAMES: [(&str, u32, &str); 13] = [
+static NAMES: [(&str, u32, &str); 13] = [
     (TWO_FUNCTIONS, 0, "<global>"),
     (TWO_FUNCTIONS, 4, "<global>"),
     (TWO_FUNCTIONS, 5, "foo"),
@@ -227,7 +227,7 @@ fn told(alloc: Global, text: &str) -> Result<String> {
 }
 
 // A record, and whether it is decoded as a Hermes map, and read as one.
-const KINDS: [(&str, &str); 3] = [
+static KINDS: [(&str, &str); 3] = [
     (r#"{"mappings":"","x_facebook_sources":[]}"#, "true true"),
     (r#"{"mappings":""}"#, "false false"),
     (r#"{"sections":[],"x_facebook_sources":[]}"#, "true false"),

@@ -44,7 +44,7 @@ const ROOTED: &str =
     r#"{"mappings":"ACAA","sourceRoot":"r","sources":["a.js","b.js"],"x_facebook_sources":[null,[{"mappings":"AAA","names":["g"]}]]}"#;
 
 // A map, and what it is written as when it is rewritten by default.
-const DEFAULT: [(&str, &str); 12] = [
+static DEFAULT: [(&str, &str); 12] = [
     (
         SECOND_SOURCE,
         r#"{"mappings":"AAAA","names":[],"sources":["b.js"],"version":3,"x_facebook_sources":[[{"mappings":"AAA","names":["f"]}]]}"#,
@@ -105,7 +105,7 @@ fn functions_go_along_with_sources(rt: HostRuntime) {
 
 // A map, the prefixes to be cut, and what it is written as. Sources that are cut to one text stay
 // apart, and so do their functions.
-const CUT: [(&str, &[&str], &str); 2] = [
+static CUT: [(&str, &[&str], &str); 2] = [
     (
         r#"{"mappings":"AAAA,CCAA","sources":["/x/a.js","/y/a.js"],"x_facebook_sources":[[{"mappings":"AAA","names":["f"]}],[{"mappings":"AAA","names":["g"]}]]}"#,
         &["/x", "/y"],
@@ -153,7 +153,7 @@ fn name_then<F: Files>(rt: &F, alloc: Global, text: &str, offset: u32) -> Result
 }
 
 // A map, a place in the bytecode, and the name of the function there once the map is rewritten.
-const NAMES: [(&str, u32, &str); 10] = [
+static NAMES: [(&str, u32, &str); 10] = [
     (TWO_FUNCTIONS, 0, "<global>"),
     (TWO_FUNCTIONS, 7, "foo"),
     (SECOND_SOURCE, 0, "f"),

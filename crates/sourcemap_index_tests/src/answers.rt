@@ -66,7 +66,7 @@ fn answer(alloc: Global, text: &str, question: Question) -> Result<String> {
 }
 
 // An index, a question, and the answer.
-const ANSWERS: [(&str, Question, &str); 13] = [
+static ANSWERS: [(&str, Question, &str); 13] = [
     (FULL, Question::Parts, r#"Some("out.js") (2, 2)"#),
     (
         FULL,

@@ -116,7 +116,7 @@ fn changed(alloc: Global, change: Change) -> Result<String> {
 }
 
 // A change, and what the index is afterwards.
-const CHANGES: [(Change, &str); 11] = [
+static CHANGES: [(Change, &str); 11] = [
     (
         Change::Nothing,
         r#"Some("test.js") 0:0 Some("v") no map;1:2 None a map; true"#,

@@ -35,7 +35,7 @@ const BOTH: &str =
     r#"{"sections":[],"debug_id":"11111111-1111-1111-1111-111111111111","debugId":"00000000-0000-0000-0000-000000000000"}"#;
 
 // The text of an index, and its debug id beside the text that it is written as, or the fault.
-const READ: [(&str, &str); 8] = [
+static READ: [(&str, &str); 8] = [
     (
         r#"{"sections":[]}"#,
         r#"none {"sections":[],"sources":null,"version":3}"#,
@@ -92,7 +92,7 @@ fn set(alloc: Global, text: &str, id: Option<&str>) -> Result<String> {
 
 // The text of an index, the debug id that it gets, and its debug id then beside the text that it is
 // written as. Neither key of the text counts any more.
-const SET: [(&str, Option<&str>, &str); 4] = [
+static SET: [(&str, Option<&str>, &str); 4] = [
     (
         r#"{"sections":[],"file":"test.js"}"#,
         Some(ID),

@@ -42,7 +42,7 @@ fn told(alloc: Global, answer: Result<DecodedMap>) -> Result<String> {
 }
 
 // A text, and the sections of its index or its fault.
-const TEXTS: [(&str, &str); 19] = [
+static TEXTS: [(&str, &str); 19] = [
     // Sections are put in order, those of one place as they stood.
     (
         r#"{"sections":[{"offset":{"line":10,"column":4},"url":"p"},{"offset":{"line":0,"column":7},"url":"q"},{"offset":{"line":10,"column":4},"url":"r"},{"offset":{"line":10,"column":3},"map":{"sections":[]}}]}"#,
@@ -141,7 +141,7 @@ fn index_told(alloc: Global, answer: Result<SourceMapIndex>) -> Result<String> {
 }
 
 // A text, and the sections of the index that it is, or why it is none.
-const INDEXES: [(&str, &str); 8] = [
+static INDEXES: [(&str, &str); 8] = [
     (
         r#"{"sections":[{"offset":{"line":3,"column":0},"url":"p"},{"offset":{"line":1,"column":2},"map":{"mappings":"A"}}]}"#,
         r#"1:2 None a map;3:0 Some("p") no map;"#,
@@ -181,7 +181,7 @@ fn indexes_alone_are_read(rt: HostRuntime) {
 }
 
 // A data URL, and the sections of its index or its fault.
-const URLS: [(&str, &str); 2] = [
+static URLS: [(&str, &str); 2] = [
     (
         "data:application/json;base64,eyJzZWN0aW9ucyI6W3sib2Zmc2V0Ijp7ImxpbmUiOjEsImNvbHVtbiI6Mn0sInVybCI6InUifV19",
         r#"1:2 Some("u") no map;"#,

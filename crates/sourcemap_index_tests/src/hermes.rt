@@ -54,7 +54,7 @@ fn name_at(alloc: Global, text: &str, offset: u32) -> Result<String> {
 }
 
 // A map, a place in the bytecode, and the name of the function there.
-const NAMES: [(&str, u32, &str); 8] = [
+static NAMES: [(&str, u32, &str); 8] = [
     (TWO_FUNCTIONS, 0, "<global>"),
     (TWO_FUNCTIONS, 7, "foo"),
     (IN_SECTION, 0, "<global>"),
@@ -121,7 +121,7 @@ fn kinds(alloc: Global, text: &str) -> Result<String> {
 }
 
 // A text, and why neither, one or the other takes it.
-const KINDS: [(&str, &str); 3] = [
+static KINDS: [(&str, &str); 3] = [
     (SHORT, "encountered incompatible sourcemap format; no fault"),
     (
         r#"{"mappings":""}"#,

@@ -42,7 +42,7 @@ const HERMES: &str =
     r#"{"sections":[{"offset":{"line":0,"column":0},"map":{"sources":["a.js"],"mappings":"AAAA"}},{"offset":{"line":1,"column":2},"map":{"sources":["b.js"],"mappings":"AAAO","rangeMappings":"B","x_facebook_sources":[[{"names":["f"],"mappings":"AAA"}]]}}]}"#;
 
 // An index, a line and a column, and what is printed there.
-const PLACES: [(&str, u32, u32, &str); 28] = [
+static PLACES: [(&str, u32, u32, &str); 28] = [
     (TWO, 0, 0, "a.js:0:0"),
     (TWO, 10, 3, "a.js:0:0"),
     (TWO, 10, 4, "b.js:0:0"),
@@ -107,7 +107,7 @@ fn positions_are_looked_up_in_the_closest_section(rt: HostRuntime) {
 
 // An index, a line and a column, and what is printed there by the index, and by its flat map. Where
 // the earlier section has a token behind the start of the later one, the flat map has it there.
-const FLAT_PLACES: [(&str, u32, u32, &str, &str); 4] = [
+static FLAT_PLACES: [(&str, u32, u32, &str, &str); 4] = [
     (TWO, 10, 4, "b.js:0:0", "b.js:0:0"),
     (TWO, 10, 9, "b.js:0:0", "b.js:0:0"),
     (TWO, 10, 3, "a.js:0:0", "a.js:0:0"),

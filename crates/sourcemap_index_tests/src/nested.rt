@@ -53,7 +53,7 @@ fn read(alloc: Global, depth: usize) -> Result<String> {
 
 // How many indexes there are in one another, and what a text of them is read as. Each is three levels
 // of the text, and the innermost map two.
-const TEXTS: [(usize, &str); 4] = [
+static TEXTS: [(usize, &str); 4] = [
     (20, "a.js:0:0"),
     (41, "a.js:0:0"),
     (42, "bad json: the text is not JSON"),
@@ -167,7 +167,7 @@ fn written(alloc: Global, depth: usize) -> Result<String> {
 
 // How many indexes there are in one another, and what is read of the text that they are written as:
 // what is written at any depth is no text for a reader past 127 levels.
-const WRITTEN: [(usize, &str); 4] = [
+static WRITTEN: [(usize, &str); 4] = [
     (20, "a.js:0:0 true"),
     (41, "a.js:0:0 true"),
     (42, "bad json: the text is not JSON"),

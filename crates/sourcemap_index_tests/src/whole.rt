@@ -52,7 +52,7 @@ fn flat(alloc: Global, text: &str) -> Result<String> {
 }
 
 // An index, and its flat map or the fault.
-const FLAT: [(&str, &str); 13] = [
+static FLAT: [(&str, &str); 13] = [
     (
         TWO,
         r#"{"mappings":"AAAA;;;;;;;;;;ICAA","names":[],"sources":["a.js","b.js"],"version":3}"#,
@@ -133,7 +133,7 @@ const UNUSED: &str =
 
 // An index, whether names are kept, whether contents are read from files, and its flat map rewritten
 // or the fault.
-const REWRITTEN: [(&str, bool, bool, &str); 6] = [
+static REWRITTEN: [(&str, bool, bool, &str); 6] = [
     (
         TWO,
         true,
@@ -208,7 +208,7 @@ const FOUR_ROWS: &str =
     r#"{"sections":[{"offset":{"line":0,"column":0}},{"offset":{"line":10,"column":0}},{"offset":{"line":20,"column":0}},{"offset":{"line":4294967295,"column":0}}]}"#;
 
 // An index, how many rows it moves down, whether it can, and its sections then.
-const MOVED: [(&str, u32, &str); 8] = [
+static MOVED: [(&str, u32, &str); 8] = [
     (TWO_ROWS, 0, "true 0:0 None no map;10:0 None no map;"),
     (
         TWO_ROWS,
@@ -275,7 +275,7 @@ fn moved_to(alloc: Global, text: &str, rows: u32, after: &str) -> Result<String>
 
 // An index, how many rows it moves down, the index that it is then in all its parts, and whether it
 // can.
-const MOVED_WHOLE: [(&str, u32, &str, &str); 4] = [
+static MOVED_WHOLE: [(&str, u32, &str, &str); 4] = [
     (FILED, 0, FILED, "true true"),
     (FILED, 4294967294, FILED_LOWER, "true true"),
     (FILED, 4294967295, FILED, "false true"),
@@ -331,7 +331,7 @@ fn index_written_to(alloc: Global, text: &str) -> Result<String> {
 }
 
 // An index, and the text that it is written as.
-const WRITTEN: [(&str, &str); 9] = [
+static WRITTEN: [(&str, &str); 9] = [
     (
         r#"{"sections":[],"debugId":"0123456789abcdef0123456789abcdef"}"#,
         r#"{"debugId":"01234567-89ab-cdef-0123-456789abcdef","sections":[],"sources":null,"version":3}"#,
@@ -403,7 +403,7 @@ fn compared(alloc: Global, text: &str, other: &str) -> Result<String> {
 }
 
 // Whether a copy of an index is equal to it, and the index to another map.
-const COMPARED: [(&str, &str, &str); 7] = [
+static COMPARED: [(&str, &str, &str); 7] = [
     (NESTED, NESTED, "true true"),
     (LINKED, NEITHER, "true false"),
     (BUNDLE, r#"{"sections":[]}"#, "true false"),

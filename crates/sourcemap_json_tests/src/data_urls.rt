@@ -8,7 +8,7 @@ use std::str;
 const TEXT: &str = r#"{"mappings":"A"}"#;
 
 // What a row is about, a data URL, and the text that it holds or its fault.
-const READ: [(&str, &str, &str); 9] = [
+static READ: [(&str, &str, &str); 9] = [
     (
         "no charset",
         "data:application/json;base64,eyJtYXBwaW5ncyI6IkEifQ==",

@@ -28,7 +28,7 @@ impl Read for OneByOne<'_> {
 }
 
 // What a row is about, bytes, and what stands behind their header, or the fault.
-const READ: [(&str, &[u8], &str); 6] = [
+static READ: [(&str, &[u8], &str); 6] = [
     (
         "a header up to the end of its line",
         b")]}garbage\r\n[1, 2, 3]",
@@ -66,7 +66,7 @@ fn drops_the_header(rt: HostRuntime) {
 }
 
 // What a row is about, bytes, and what a slice keeps of them, or the fault.
-const STRIPPED: [(&str, &[u8], &str); 3] = [
+static STRIPPED: [(&str, &[u8], &str); 3] = [
     ("a header without end", b")]}", ""),
     (
         "of a line end of two bytes the second stays",
@@ -96,7 +96,7 @@ fn strips_the_header(rt: HostRuntime) {
 
 // What a row is about, bytes, how much room each read has, and the byte that it gives: `.` for none,
 // `?` for invalid data, `~` for the fault of the inner reader.
-const FAULTY: [(&str, &[u8], [usize; 4], &str); 2] = [
+static FAULTY: [(&str, &[u8], [usize; 4], &str); 2] = [
     (
         "no room, then the same fault at each read",
         b")]}'\r[1, 2, 3]",

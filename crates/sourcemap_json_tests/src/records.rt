@@ -10,7 +10,7 @@ fn read(alloc: Global, text: &str) -> Result<RawSourceMap> {
 }
 
 // Each has one value of the wrong type, or a number or a debug id that is none.
-const WRONG: [&str; 15] = [
+static WRONG: [&str; 15] = [
     r#"[]"#,
     r#"null"#,
     r#"{"version":4294967296}"#,
@@ -42,7 +42,7 @@ fn wrong_shapes(rt: HostRuntime) {
 const NOTHING: &str = r#"{"sources":null,"version":null}"#;
 
 // What a row is about, a record, and what it is written as.
-const WRITTEN: [(&str, &str, &str); 5] = [
+static WRITTEN: [(&str, &str, &str); 5] = [
     ("no keys", "{}", NOTHING),
     (
         "nulls, and a key that is not known",
@@ -102,7 +102,7 @@ fn written_texts(rt: HostRuntime) {
 }
 
 // What a row is about, a text, and the debug id that it stands for.
-const IDS: [(&str, &str, &str); 4] = [
+static IDS: [(&str, &str, &str); 4] = [
     (
         "with hyphens",
         "00000000-0000-0000-0000-000000000000",

@@ -43,7 +43,7 @@ const BEHIND: [Row; 1] = [((5, 0), (0, 0, 10), NONE, false)];
 // The last column, from the first.
 const LAST: [Row; 1] = [((0, NONE), (0, 0, 0), NONE, false)];
 
-const NEIGHBOURS: [Row; 2] = [
+static NEIGHBOURS: [Row; 2] = [
     ((0, 0), (0, 1, 1), NONE, false),
     ((0, 1), (0, 1, 2), NONE, false),
 ];
@@ -77,7 +77,7 @@ const A_LINE_DOWN: [Row; 3] = [
 ];
 
 // The tokens of both maps, a place, and what is printed there.
-const ADJUSTED: [(&[Row], &[Row], (u32, u32), &str); 13] = [
+static ADJUSTED: [(&[Row], &[Row], (u32, u32), &str); 13] = [
     (&APART, &TOGETHER, (0, 0), "o.js:1:1"),
     (&APART, &TOGETHER, (0, 3), "o.js:2:2"),
     (&CUT, &MOVED, (17, 22), "none"),
@@ -124,7 +124,7 @@ fn adjusted_maps_are_looked_up(rt: HostRuntime) {
 // What a row is about, the tokens of both maps, and all those of the adjusted map, as in
 // `1:2=0:1:5#1+`: the place, the number of the source, the line and the column there, the number of
 // the name if there is one, and `+` for a range token.
-const LISTS: [(&str, &[Row], &[Row], &str); 23] = [
+static LISTS: [(&str, &[Row], &[Row], &str); 23] = [
     (
         "a token that is cut and one that is not, but none of the next line",
         &[
@@ -330,7 +330,7 @@ fn adjusted_maps_have_these_tokens_and_no_others(rt: HostRuntime) {
 // What a row is about, the tokens of both maps, a place of the later text, the one that is moved
 // there, and what the adjusted map says of the first and the map before it of the second, with `+`
 // where a range token says so.
-const ALIKE: [(&str, [&[Row]; 2], [(u32, u32); 2], &str); 9] = [
+static ALIKE: [(&str, [&[Row]; 2], [(u32, u32); 2], &str); 9] = [
     (
         "where a token was cut",
         [&CUT, &MOVED],
@@ -417,7 +417,7 @@ fn places_that_are_moved_mean_what_they_meant(rt: HostRuntime) {
 
 // Two tokens that are taken to one place, in the order in which they stood; then the tokens of
 // `AAAA,KAAK`, and of `EAAA`; then those of `AAAO` with ranges `B`, and of `EAAU`.
-const WRITTEN: [(&[Row], &[Row], &str); 3] = [
+static WRITTEN: [(&[Row], &[Row], &str); 3] = [
     (
         &APART,
         &TOGETHER,

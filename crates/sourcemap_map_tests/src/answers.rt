@@ -91,7 +91,7 @@ fn answer(alloc: Global, question: Question) -> Result<String> {
 }
 
 // The second token leads to the second source and has no name.
-const ANSWERS: [(Question, &str); 7] = [
+static ANSWERS: [(Question, &str); 7] = [
     (
         Question::Texts,
         r#"(Some("out.js"), Some("webpack:///")) (Some("webpack:///./bar.js"), Some("/b.js"), None) (Some("x"), None) (Some("foo"), None)"#,

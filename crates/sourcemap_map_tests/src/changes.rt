@@ -17,7 +17,7 @@ enum Change<'a> {
     NoNames,
 }
 
-const CHANGES: [Change<'static>; 10] = [
+static CHANGES: [Change<'static>; 10] = [
     Change::File("out.js"),
     Change::NoDebugId,
     Change::Root("root"),
@@ -177,7 +177,7 @@ fn lists_of(alloc: Global, map: Made) -> Result<String> {
 }
 
 // A root, and the lists of the map behind it.
-const SHOWN: [(&str, &str); 3] = [
+static SHOWN: [(&str, &str); 3] = [
     (
         "root",
         "root/a.js /a.js http:a https:a root/a.js | - - - - - | | n ",

@@ -1,9 +1,18 @@
 // How an answer is compared with the text that is wanted.
-use sourcemap::errors::Result;
+use sourcemap::Result;
+use std::alloc::Global;
 use std::process::Abort;
 
 /// Ends the test, and says at which row, unless the answer is the wanted text.
 pub fn check(rt: &impl Abort, row: &str, answer: Result<String>, want: &str) {
     let is_wanted = matches!(&answer, Ok(text) if text.as_str() == want);
     assert!(rt; is_wanted, "{row}: {answer:?}");
+}
+
+/// A text that may be missing, in brackets, so that an empty one is told from none.
+pub fn shown(alloc: Global, text: Option<&str>) -> Result<String> {
+    match text {
+        None => Ok(String::from_str(alloc, "none")?),
+        Some(text) => Ok(format!(in alloc; "[{text}]")?),
+    }
 }

@@ -9,7 +9,7 @@ use std::alloc::Global;
 // A place, and what is printed there.
 type Place = (u32, u32, &'static str);
 
-const README: [Place; 6] = [
+static README: [Place; 6] = [
     (0, 0, "coolstuff.js:0:0"),
     (0, 5, "coolstuff.js:0:4 name=x"),
     (0, 18, "coolstuff.js:2:2 name=alert"),
@@ -19,7 +19,7 @@ const README: [Place; 6] = [
 ];
 
 // A range token adds the distance of columns on its own line alone.
-const RANGED: [Place; 3] = [
+static RANGED: [Place; 3] = [
     (0, 4, "coolstuff.js:0:0"),
     (0, 9, "coolstuff.js:0:9"),
     (3, 9, "coolstuff.js:0:5"),

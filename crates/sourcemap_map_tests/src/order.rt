@@ -30,7 +30,7 @@ fn tokens_are_ordered_by_their_answers(rt: HostRuntime) {
 
 // What a row is about, a place, whether seeking it finds a token, and the place and source of the
 // token behind that.
-const SOUGHT: [(&str, u32, u32, &str); 5] = [
+static SOUGHT: [(&str, u32, u32, &str); 5] = [
     ("before all tokens", 0, 1, "false (0, 2) 0"),
     ("at the first of two tokens", 0, 2, "true (0, 2) 4"),
     ("behind both of them", 0, 4, "true (0, 5) 0"),
@@ -72,7 +72,7 @@ fn seeking_goes_on_behind_the_closest_token(rt: HostRuntime) {
 }
 
 // A place, and its token printed in short, in full and for whoever debugs.
-const PRINTED: [(u32, u32, &str); 4] = [
+static PRINTED: [(u32, u32, &str); 4] = [
     (0, 1, "none"),
     (0, 2, "a.js:0:0|a.js:0:0 (0:2)|<Token a.js:0:0 (0:2)>"),
     (

@@ -18,7 +18,7 @@ pub const NONE: u32 = u32::MAX;
 pub type Row = ((u32, u32), (u32, u32, u32), u32, bool);
 
 // The tokens of the map of the crate's documentation, the last of them first.
-const README: [Row; 9] = [
+static README: [Row; 9] = [
     ((0, 24), (0, 2, 8), NONE, false),
     ((0, 0), (0, 0, 0), NONE, false),
     ((0, 3), (0, 0, 4), 0, false),
@@ -31,7 +31,7 @@ const README: [Row; 9] = [
 ];
 
 // One token twice, then a range token.
-const RANGED: [Row; 3] = [
+static RANGED: [Row; 3] = [
     ((0, 0), (0, 0, 0), NONE, false),
     ((0, 0), (0, 0, 0), NONE, false),
     ((0, 5), (0, 0, 5), NONE, true),
@@ -39,7 +39,7 @@ const RANGED: [Row; 3] = [
 
 // Two tokens that only the numbers of their sources tell apart, since these have one text; a range
 // token; a token without a source.
-const MIXED: [Row; 4] = [
+static MIXED: [Row; 4] = [
     ((0, 2), (0, 0, 0), NONE, false),
     ((0, 2), (4, 0, 0), NONE, false),
     ((0, 5), (0, 1, 2), 0, true),
@@ -47,7 +47,7 @@ const MIXED: [Row; 4] = [
 ];
 
 // A range token, and one before it, both without a source.
-const BARE: [Row; 2] = [
+static BARE: [Row; 2] = [
     ((1, 0), (NONE, NONE, NONE), NONE, true),
     ((0, 0), (NONE, NONE, NONE), NONE, false),
 ];

@@ -32,7 +32,7 @@ fn equal_tokens(alloc: Global, count: u32) -> Made {
 }
 
 // Where two tokens stand.
-const PLACES: [(u32, u32); 2] = [(0, 3), (2, 5)];
+static PLACES: [(u32, u32); 2] = [(0, 3), (2, 5)];
 
 // A map of tokens at these places, known by their numbers from 0.
 fn two_lines(alloc: Global) -> Made {
@@ -76,30 +76,30 @@ fn told(alloc: Global, map: Made, row: &Counted) -> Result<String> {
     counted(alloc, &*map?, row)
 }
 
-const AMONG_NONE: [Counted; 2] = [
+static AMONG_NONE: [Counted; 2] = [
     ((0, 0), 0, 2, "None true"),
     ((NONE, NONE), 0, 2, "None true"),
 ];
 
-const AMONG_THOUSAND: [Counted; 3] = [
+static AMONG_THOUSAND: [Counted; 3] = [
     ((0, 0), 1, 22, "Some(0) true"),
     ((0, 1), 1, 22, "Some(999) true"),
     ((7, 0), 1, 22, "Some(999) true"),
 ];
 
-const AMONG_MILLION: [Counted; 2] = [
+static AMONG_MILLION: [Counted; 2] = [
     ((0, 0), 1, 42, "Some(0) true"),
     ((0, 1), 1, 42, "Some(999999) true"),
 ];
 
-const ON_TWO_LINES: [Counted; 4] = [
+static ON_TWO_LINES: [Counted; 4] = [
     ((2, 4), 1, 6, "Some(0) true"),
     ((1, 0), 1, 6, "Some(0) true"),
     ((0, 2), 1, 6, "None true"),
     ((2, 5), 1, 6, "Some(1) true"),
 ];
 
-const ON_A_LONG_LINE: [Counted; 13] = [
+static ON_A_LONG_LINE: [Counted; 13] = [
     ((0, 2), 1, 26, "Some(2) true"),
     ((1, 0), 1, 26, "Some(4) true"),
     ((2, 0), 1, 26, "Some(5) true"),

@@ -20,7 +20,7 @@ const BARE: Row = (
     r#"{"mappings":"A","names":[],"sources":[],"version":3}"#,
 );
 
-const WRITTEN: [Row; 11] = [
+static WRITTEN: [Row; 11] = [
     BARE,
     (
         "a token with a source before one without",
@@ -139,7 +139,7 @@ enum Call {
     AnyToWriter,
 }
 
-const CALLS: [Call; 5] = [
+static CALLS: [Call; 5] = [
     Call::Encode,
     Call::EncodeTo,
     Call::ToWriter,

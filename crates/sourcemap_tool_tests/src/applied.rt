@@ -10,7 +10,7 @@ const RANGED: &str = r#"{"sources":["a.js"],"mappings":"AAAO","rangeMappings":"B
 const RANGED_WITHOUT_SOURCE: &str = r#"{"mappings":"A","rangeMappings":"B"}"#;
 
 // A map, a line and a column, and what `lookup` says of it.
-const LOOKUPS: [(&str, (u32, u32), &str); 6] = [
+static LOOKUPS: [(&str, (u32, u32), &str); 6] = [
     (RANGED, (0, 5), "a.js:0:12\n"),
     (RANGED, (3, 5), "a.js:0:7\n"),
     (
@@ -61,7 +61,7 @@ fn flattened(rt: &HostRuntime, text: &str) -> Result<String, Error> {
 }
 
 // An index, and why it cannot be made flat.
-const REFUSED: [(&str, &str); 2] = [
+static REFUSED: [(&str, &str); 2] = [
     (
         r#"{"sections":[{"offset":{"line":4294967295,"column":0},"map":{"sources":["a.js"],"mappings":";AAAA"}}]}"#,
         "a position passes 4294967295",
@@ -90,7 +90,7 @@ fn flattening_is_applied(rt: HostRuntime) -> Result<(), Fail> {
 }
 
 // A map, the one that adjusts it, and what `compose` says of both.
-const COMPOSED: [(&str, &str, &str); 3] = [
+static COMPOSED: [(&str, &str, &str); 3] = [
     (
         r#"{"sources":["o.js"],"mappings":"AAAA,KAAK"}"#,
         r#"{"sources":["t.js"],"mappings":"EAAA"}"#,
@@ -116,7 +116,7 @@ const REGULAR: &str = r#"{"sources":["a.js"],"mappings":"AAAA"}"#;
 const HERMES: &str = r#"{"sources":["a.js"],"mappings":"AAAA","x_facebook_sources":[]}"#;
 
 // Maps of which one or both are not regular.
-const NOT_REGULAR: [(&str, &str); 5] = [
+static NOT_REGULAR: [(&str, &str); 5] = [
     (TWO, REGULAR),
     (REGULAR, TWO),
     (TWO, TWO),

@@ -142,7 +142,7 @@ const BEHIND: &str = r#"{"sources":["t.js"],"mappings":"EAAU"}"#;
 // A map and an adjustment, a place of the later text, and all that is behind it: what the map says of
 // the place that comes there, 0:18 and 0:19, and 0:13 of the range token; nothing before the first
 // place that something comes to.
-const BEHIND_PLACES: [(&str, &str, (u32, u32), &str); 5] = [
+static BEHIND_PLACES: [(&str, &str, (u32, u32), &str); 5] = [
     (
         MAP,
         LATER,
@@ -300,7 +300,7 @@ fn is_kept(alloc: Global, text: &str, line: u32, col: u32) -> Result<bool> {
 }
 
 // An index, a line and a column, and whether the flat map says the same there.
-const KEPT: [(&str, u32, u32, bool); 9] = [
+static KEPT: [(&str, u32, u32, bool); 9] = [
     (APART, 10, 9, true),
     (APART, 10, 3, true),
     (MIXED, 0, 4, true),

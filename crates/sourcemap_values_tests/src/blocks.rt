@@ -4,10 +4,10 @@ use serde_json::Result;
 use std::alloc::Global;
 use std::process::Abort;
 
-const LENGTHS: [usize; 8] = [0, 1, 31, 32, 33, 63, 64, 65];
+static LENGTHS: [usize; 8] = [0, 1, 31, 32, 33, 63, 64, 65];
 
 // An escape, and how its character is written compactly.
-const ESCAPES: [(&str, &str); 13] = [
+static ESCAPES: [(&str, &str); 13] = [
     (r#"\""#, r#"\""#),
     (r"\\", r"\\"),
     (r"\/", "/"),
@@ -24,14 +24,14 @@ const ESCAPES: [(&str, &str); 13] = [
 ];
 
 // Characters of two, three and four bytes, with an escape before and behind them.
-const WIDE: [(&str, &str); 3] = [
+static WIDE: [(&str, &str); 3] = [
     (r"\té\n", r"\té\n"),
     (r"\t€\n", r"\t€\n"),
     (r"\t😀\u0041", r"\t😀A"),
 ];
 
 // What may not stand in a text, or does not end it.
-const FAULTS: [&str; 7] = [
+static FAULTS: [&str; 7] = [
     r"\n",
     r"\",
     r"\u004",

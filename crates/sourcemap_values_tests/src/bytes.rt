@@ -4,7 +4,7 @@ use serde_json::Result;
 use std::alloc::{AllocError, Global};
 use std::result::Result as StdResult;
 
-const BYTES: [(&[u8], &str); 23] = [
+static BYTES: [(&[u8], &str); 23] = [
     (b"\"\xc3\xa9\"", "\"é\""),
     (b"\"\xe2\x82\xac\"", "\"€\""),
     (b"\"\xf0\x9f\x98\x80\"", "\"😀\""),
@@ -41,7 +41,7 @@ fn only_bytes_of_utf8_are_read(rt: HostRuntime) {
 }
 
 // What stands amid ASCII, and whether it is UTF-8 there.
-const AMID: [(&[u8], bool); 8] = [
+static AMID: [(&[u8], bool); 8] = [
     (b"\xc3\xa9", true),
     (b"\xf0\x9f\x98\x80", true),
     (b"\\n\xc3\xa9\\n", true),

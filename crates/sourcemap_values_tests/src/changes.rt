@@ -3,7 +3,7 @@ use crate::answers::{answer, check, kit_answer};
 use serde_json::Result;
 use std::alloc::Global;
 
-const TEXTS: [&str; 4] = [
+static TEXTS: [&str; 4] = [
     r#"{"version":3,"sources":["a.js",null],"names":["x\n\"y"],"mappings":"AAAA;CACA","b":{"c":[]}}"#,
     r#"["\u0041\ud83d\ude00",10,-1.5e+2,true,false,null,"é€😀",{"a" : 1 , "a":2}]"#,
     r#"{"a":[[],{"\\":{}},[0,1,2]],"\/\b\f\n\r\t":"plain text of more than thirty-two bytes\n"}"#,

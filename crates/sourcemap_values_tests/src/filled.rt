@@ -6,7 +6,7 @@ use std::alloc::Global;
 use std::process::Abort;
 
 // What stands in a text of JSON, and how it is written compactly.
-const SPELLED: [(&str, &str); 11] = [
+static SPELLED: [(&str, &str); 11] = [
     (r"\n", r"\n"),
     (r"\\", r"\\"),
     (r"\/", "/"),
@@ -21,10 +21,10 @@ const SPELLED: [(&str, &str); 11] = [
 ];
 
 // What may not stand in a text.
-const FAULTS: [&str; 6] = ["\t", r"\x", r"\u00g0", r"\ud83d\n", "\\\u{1}", r#"",,""#];
+static FAULTS: [&str; 6] = ["\t", r"\x", r"\u00g0", r"\ud83d\n", "\\\u{1}", r#"",,""#];
 
 // About the lengths of blocks and of their doubles, and those at which the first room ends.
-const PLACES: [(usize, usize); 2] = [(0, 140), (3900, 4110)];
+static PLACES: [(usize, usize); 2] = [(0, 140), (3900, 4110)];
 
 // A text with a plain run before and a byte behind, and another one of so many bytes.
 fn amid(alloc: Global, before: usize, inner: &str, rest: usize) -> Result<String> {

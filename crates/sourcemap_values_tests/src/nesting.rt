@@ -4,7 +4,7 @@ use serde_json::Result;
 use std::alloc::Global;
 
 // What opens a level and what closes it, how many levels there are, and what the innermost holds.
-const LEVELS: [(&str, &str, usize, &str); 7] = [
+static LEVELS: [(&str, &str, usize, &str); 7] = [
     ("[", "]", 1, "7"),
     ("[", "]", 127, ""),
     ("[", "]", 127, "7"),
@@ -14,7 +14,7 @@ const LEVELS: [(&str, &str, usize, &str); 7] = [
     (r#"{"a":["#, "]}", 63, ""),
 ];
 
-const TOO_MANY: [(&str, &str, usize, &str); 5] = [
+static TOO_MANY: [(&str, &str, usize, &str); 5] = [
     ("[", "]", 128, ""),
     ("[", "]", 127, "[]"),
     ("[", "]", 127, "{}"),
@@ -59,7 +59,7 @@ fn values_are_read_up_to_127_levels_deep(rt: HostRuntime) -> Result<()> {
 }
 
 // Between the quotes of a text, behind a run of plain bytes.
-const ENDS: [&str; 4] = ["", r"\n", r#"\"é"#, r"😀\\ab"];
+static ENDS: [&str; 4] = ["", r"\n", r#"\"é"#, r"😀\\ab"];
 
 fn padded(alloc: Global, length: usize, end: &str) -> Result<String> {
     let plain = "a".repeat(alloc, length)?;

@@ -2,7 +2,7 @@
 use crate::answers::{answer, check, kit_answer};
 
 // A JSON text, and its value written compactly, with the keys of an object in order.
-const ARRAYS: [(&str, &str); 20] = [
+static ARRAYS: [(&str, &str); 20] = [
     ("[]", "[]"),
     ("[ ]", "[]"),
     ("[[],[[]],{}]", "[[],[[]],{}]"),
@@ -28,7 +28,7 @@ const ARRAYS: [(&str, &str); 20] = [
     (r#"["a":1]"#, "none"),
 ];
 
-const OBJECTS: [(&str, &str); 34] = [
+static OBJECTS: [(&str, &str); 34] = [
     ("{}", "{}"),
     ("{\n}", "{}"),
     (r#"{"":0}"#, r#"{"":0}"#),
@@ -68,7 +68,7 @@ const OBJECTS: [(&str, &str); 34] = [
     (r#"{"a":1}}"#, "none"),
 ];
 
-const AROUND: [(&str, &str); 22] = [
+static AROUND: [(&str, &str); 22] = [
     (" 1 ", "1"),
     ("\t\"a\"\n", r#""a""#),
     ("\r\nnull\r\n", "null"),

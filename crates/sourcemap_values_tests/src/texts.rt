@@ -3,7 +3,7 @@ use crate::answers::{answer, check, kit_answer};
 use serde_json::Result;
 
 // A JSON text, and its value written compactly.
-const STRINGS: [(&str, &str); 36] = [
+static STRINGS: [(&str, &str); 36] = [
     (r#""""#, r#""""#),
     (r#""plain""#, r#""plain""#),
     (r#""\"\\\/\b\f\n\r\t""#, r#""\"\\/\b\f\n\r\t""#),
@@ -48,7 +48,7 @@ const STRINGS: [(&str, &str); 36] = [
     ("'a'", "none"),
 ];
 
-const NUMBERS: [(&str, &str); 34] = [
+static NUMBERS: [(&str, &str); 34] = [
     ("0", "0"),
     ("3", "3"),
     ("10", "10"),
@@ -86,13 +86,13 @@ const NUMBERS: [(&str, &str); 34] = [
 ];
 
 // Whole numbers of more than 64 bits are floats, and how those are written is the kit's affair.
-const FAR_NUMBERS: [&str; 3] = [
+static FAR_NUMBERS: [&str; 3] = [
     "18446744073709551616",
     "99999999999999999999",
     "-9223372036854775809",
 ];
 
-const LITERALS: [(&str, &str); 13] = [
+static LITERALS: [(&str, &str); 13] = [
     ("null", "null"),
     ("true", "true"),
     ("false", "false"),

@@ -8,7 +8,7 @@ use std::result::Result as StdResult;
 use std::str::from_utf8;
 
 // A text, and how it stands in JSON.
-const TEXTS: [(&str, &str); 14] = [
+static TEXTS: [(&str, &str); 14] = [
     ("", r#""""#),
     ("plain", r#""plain""#),
     ("\"", r#""\"""#),
@@ -35,7 +35,7 @@ const TEXTS: [(&str, &str); 14] = [
 ];
 
 // A JSON text, and how its value is written.
-const VALUES: [(&str, &str); 20] = [
+static VALUES: [(&str, &str); 20] = [
     ("null", "null"),
     ("true", "true"),
     ("false", "false"),
@@ -65,7 +65,7 @@ const VALUES: [(&str, &str); 20] = [
 ];
 
 // Lengths of runs about those of the blocks that are copied.
-const LENGTHS: [usize; 11] = [0, 1, 15, 31, 32, 33, 63, 64, 65, 1100, 5000];
+static LENGTHS: [usize; 11] = [0, 1, 15, 31, 32, 33, 63, 64, 65, 1100, 5000];
 
 fn written(alloc: Global, value: &Value) -> Result<String> {
     let bytes = value_to_vec(alloc, value)?;

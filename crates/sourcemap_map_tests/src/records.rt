@@ -6,7 +6,7 @@ use sourcemap::jsontypes::{RawSection, RawSourceMap};
 use std::alloc::Global;
 
 // Each differs from the empty record in one field.
-const ONE_FIELD: [&str; 14] = [
+static ONE_FIELD: [&str; 14] = [
     r#"{"version":3}"#,
     r#"{"file":"a"}"#,
     r#"{"sources":[]}"#,

@@ -23,7 +23,7 @@ impl<'a> WalkedToken for Chain<'a> {
     type Name = &'static str;
 
     ghost use Rattle.std.specs.Option.{option_copied};
-    ghost use Rattle.sourcemap_views_tests.specs.declared.walks.Spot.{Spot};
+    ghost use Rattle.sourcemap_map_tests.specs.declared.walks.Spot.{Spot};
 
     ghost Seen = { Spot };
 
@@ -55,7 +55,7 @@ impl<'a> WalkedToken for Chain<'a> {
 }
 
 // Texts, places from the last one on, and the identifiers at them.
-const WALKS: [(&str, &[(u32, u32)], &str); 9] = [
+static WALKS: [(&str, &[(u32, u32)], &str); 9] = [
     ("abc👌def", &[(0, 5), (0, 4), (0, 3)], " [def] [def] none"),
     ("abc👌def", &[(0, 3), (0, 4), (0, 5)], " none [def] [def]"),
     ("function b(){}", &[(0, 9), (0, 0)], " [b] [function]"),
@@ -125,7 +125,7 @@ fn walks_find_the_identifier_at_each_place(rt: HostRuntime) {
 type Walk = (u32, &'static [(u32, &'static str)]);
 
 // What a row is about, a name in that text, a walk, and the name that is guessed.
-const NAMES: [(&str, &str, Walk, &str); 10] = [
+static NAMES: [(&str, &str, Walk, &str); 10] = [
     (
         "the name behind the word",
         "b",

@@ -6,7 +6,7 @@ use std::alloc::Global;
 use std::process::Abort;
 
 // A text, how many lines it has, and where its first five lines stand.
-const TEXTS: [(&str, &str); 9] = [
+static TEXTS: [(&str, &str); 9] = [
     ("", "1: 0-0"),
     ("a", "1: 0-1"),
     ("\n", "2: 0-0 1-1"),
@@ -45,7 +45,7 @@ fn tables_hold_where_lines_begin_and_end(rt: HostRuntime) {
 
 // Texts of `a` alone, but for these ends from these places on, and how long the text is: blocks of
 // bytes are looked at at once, and these stand around their edges.
-const ENDS: [(&str, usize, usize); 27] = [
+static ENDS: [(&str, usize, usize); 27] = [
     ("\n", 30, 64),
     ("\n", 31, 64),
     ("\n", 32, 33),
@@ -134,7 +134,7 @@ fn line_ends_at_the_edges_of_blocks_are_found(rt: HostRuntime) -> Result<()> {
 }
 
 // A line, a column in UTF-16 units, and its place in bytes.
-const COLUMNS: [(&str, u64, &str); 14] = [
+static COLUMNS: [(&str, u64, &str); 14] = [
     ("abc", 0, "Some(0)"),
     ("abc", 3, "Some(3)"),
     ("abc", 4, "None"),

@@ -5,7 +5,7 @@ use sourcemap::js_identifiers::{get_javascript_token, is_valid_javascript_identi
 use std::alloc::Global;
 
 // A text, whether it is an identifier, and the one with which its first word starts.
-const TEXTS: [(&str, &str); 32] = [
+static TEXTS: [(&str, &str); 32] = [
     ("foo_$123", "true [foo_$123]"),
     (" foo", "false [foo]"),
     ("foo ", "false [foo]"),

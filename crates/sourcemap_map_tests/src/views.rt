@@ -9,7 +9,7 @@ const SMILES: &str = "abc👌def\nblah";
 const MIXED: &str = "\r\n\né👌👌x\r\n\r";
 
 // A text, and the part of a line from a column on, so many units long.
-const SLICES: [(&str, (u32, u32, u32), &str); 49] = [
+static SLICES: [(&str, (u32, u32, u32), &str); 49] = [
     // A slice that ends inside of a pair has all of it.
     (SMILES, (0, 0, 3), "[abc]"),
     (SMILES, (0, 3, 1), "[👌]"),
@@ -84,7 +84,7 @@ fn lines_are_sliced_by_utf16_columns(rt: HostRuntime) {
 }
 
 // A text, its count of lines, and its lines in turn.
-const LINES: [(&str, &str); 8] = [
+static LINES: [(&str, &str); 8] = [
     ("a\nb\nc", "3 [a] [b] [c]"),
     ("a\r\nb\r\nc", "3 [a] [b] [c]"),
     ("a\rb\rc", "3 [a] [b] [c]"),
@@ -119,7 +119,7 @@ fn lines_in_turn(rt: HostRuntime) {
 }
 
 // Lines of a view that are asked out of turn, and past its end.
-const ASKED: [(&str, u32, &str); 21] = [
+static ASKED: [(&str, u32, &str); 21] = [
     ("a\nb\nc", 0, "[a]"),
     ("a\nb\nc", 0, "[a]"),
     ("a\nb\nc", 2, "[c]"),
@@ -156,13 +156,25 @@ fn lines_out_of_turn(rt: HostRuntime) {
     }
 }
 
-fn copied(alloc: Global, text: &str, other: &str) -> Result<String> {
-    let view = SourceView::new(alloc, text)?;
-    let copy = view.clone()?;
-    let is_copy = copy == view;
-    let is_other = SourceView::new(alloc, other)? == view;
+fn is_view_of(alloc: Global, view: &SourceView, text: &str) -> Result<bool> {
+    let other = SourceView::new(alloc, text)?;
+    Ok(other == *view)
+}
+
+fn copy_told(alloc: Global, copy: &SourceView, is_copy: bool, is_other: bool) -> Result<String> {
     let source = copy.source();
     Ok(format!(in alloc; "{is_copy} {is_other} {source} {copy:?}")?)
+}
+
+fn compared(alloc: Global, view: &SourceView, is_other: bool) -> Result<String> {
+    let copy = view.clone()?;
+    copy_told(alloc, &copy, copy == *view, is_other)
+}
+
+fn copied(alloc: Global, text: &str, other: &str) -> Result<String> {
+    let view = SourceView::new(alloc, text)?;
+    let is_other = is_view_of(alloc, &view, other)?;
+    compared(alloc, &view, is_other)
 }
 
 #[test]

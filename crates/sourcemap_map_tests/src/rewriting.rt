@@ -32,7 +32,7 @@ const TWO_SOURCES: &str =
     r#"{"mappings":"ACAA","sources":["a.js","b.js"],"sourcesContent":["x","y"]}"#;
 
 // What a row is about, a map, and what it is written as when it is rewritten by default.
-const DEFAULT: [(&str, &str, &str); 4] = [
+static DEFAULT: [(&str, &str, &str); 4] = [
     (
         "a source that no token uses",
         TWO_SOURCES,
@@ -69,7 +69,7 @@ const PATHS: &str = r#"{"mappings":"AAAA,CCAA","sources":["/a/b/x.js","/a/b/y.js
 const UNDER_ROOT: &str = r#"{"mappings":"AAAA","sourceRoot":"/r","sources":["x.js"]}"#;
 
 // What a row is about, a map, the prefixes to be cut, and what it is written as.
-const CUT: [(&str, &str, &[&str], &str); 6] = [
+static CUT: [(&str, &str, &[&str], &str); 6] = [
     (
         "what the paths have in common",
         PATHS,
@@ -124,7 +124,7 @@ const TWO_NAMES: &str =
     r#"{"debug_id":"11111111-1111-1111-1111-111111111111","mappings":"ACAAA,CDAAC","names":["m","n"],"sources":["a.js","b.js"],"sourcesContent":["x","y"]}"#;
 
 // What a row is about, a map, whether names and contents are kept, and what it is written as.
-const LESS: [(&str, &str, (bool, bool), &str); 4] = [
+static LESS: [(&str, &str, (bool, bool), &str); 4] = [
     (
         "names go, and the debug id stays",
         r#"{"debugId":"00000000-0000-0000-0000-000000000000","mappings":"AAAA,GAAIA,GAAI,EACR,IAAIA,GAAK,EAAG,CACVC,MAAM","names":["x","alert"],"sources":["coolstuff.js"]}"#,
@@ -175,7 +175,7 @@ fn files_are_not_read(rt: HostRuntime) {
 }
 
 // What a row is about, a map, and the ids that the sources of the map rewritten by default had in it.
-const OLD_IDS: [(&str, &str, &str); 4] = [
+static OLD_IDS: [(&str, &str, &str); 4] = [
     ("the second source alone is used", TWO_SOURCES, "[1]"),
     ("the second source is used first", TWO_NAMES, "[1, 0]"),
     (

@@ -6,13 +6,13 @@ use std::alloc::Global;
 use std::io::ErrorKind;
 use std::{io, str};
 
-const KINDS: [(ErrorKind, &str); 3] = [
+static KINDS: [(ErrorKind, &str); 3] = [
     (ErrorKind::InvalidData, "invalid data"),
     (ErrorKind::BrokenPipe, "broken pipe"),
     (ErrorKind::OutOfMemory, "out of memory"),
 ];
 
-const NOT_UTF8: [(&[u8], &str); 2] = [
+static NOT_UTF8: [(&[u8], &str); 2] = [
     (b"a\xff", "invalid utf-8 sequence of 1 bytes from index 1"),
     (b"\xc3", "incomplete utf-8 byte sequence from index 0"),
 ];

@@ -42,7 +42,7 @@ fn asked_of_mappings(alloc: Global, mappings: &str, line: u32, col: u32) -> Resu
 }
 
 // Scope mappings, a line and a column of the source, and the name of its function.
-const MAPPINGS: [(&str, u32, u32, &str); 31] = [
+static MAPPINGS: [(&str, u32, u32, &str); 31] = [
     ("AAA,KCC", 0, 0, "a"),
     ("AAA,KCC", 1, 4, "a"),
     ("AAA,KCC", 1, 5, "b"),
@@ -92,7 +92,7 @@ fn names_of_functions(rt: HostRuntime) {
 }
 
 // Offsets in no order: some name of the source or none.
-const UNORDERED: [&str; 3] = ["KAA,LCA,UCA", "AAE;ACD", "UAA,FCA,FCA,UDA"];
+static UNORDERED: [&str; 3] = ["KAA,LCA,UCA", "AAE;ACD", "UAA,FCA,FCA,UDA"];
 
 fn is_some_name_or_none(alloc: Global, mappings: &str, col: u32) -> bool {
     match asked_of_mappings(alloc, mappings, 0, col) {
@@ -123,7 +123,7 @@ const LISTS: &str =
     r#"{"x_facebook_sources":[[],[{"names":["f"],"mappings":"!"},{"names":["g"],"mappings":"AAA"}],[{"names":["h"],"mappings":"AAA"},{"names":["i"],"mappings":"!"}],null]}"#;
 
 // Lists, a source, a line and a column of it, and the name of its function.
-const SOURCES: [(&str, u32, u32, u32, &str); 13] = [
+static SOURCES: [(&str, u32, u32, u32, &str); 13] = [
     (ROW, 0, 0, 0, "<global>"),
     (ROW, 0, 1, 5, "foo"),
     (ROW, 1, 0, 0, "none"),
@@ -163,7 +163,7 @@ fn picked_written(alloc: Global, text: &str, ids: &[u32]) -> Result<String> {
 }
 
 // What a row is about, lists, the ids that are picked, and what is written then.
-const PICKED: [(&str, &str, &[u32], &str); 5] = [
+static PICKED: [(&str, &str, &[u32], &str); 5] = [
     (
         "one of two",
         SECOND,
@@ -210,7 +210,7 @@ fn asked_when_picked(alloc: Global, text: &str, ids: &[u32], source: u32) -> Res
 
 // What a row is about, lists, the ids that are picked, a source by its new id, and the name at its
 // beginning.
-const MOVED: [(&str, &str, &[u32], u32, &str); 5] = [
+static MOVED: [(&str, &str, &[u32], u32, &str); 5] = [
     ("the one that is picked", SECOND, &[1], 0, "f"),
     ("the first of two that are turned", SECOND, &[1, 0], 0, "f"),
     (
@@ -275,7 +275,7 @@ fn copies_are_equal(rt: HostRuntime) {
 
 // Scope mappings, a line and a column of the source, and the index of the name of its function, or
 // that there are no functions.
-const FUNCTIONS: [(&str, u32, u32, &str); 5] = [
+static FUNCTIONS: [(&str, u32, u32, &str); 5] = [
     ("AAA,KCC", 0, 0, "Some(0) true"),
     ("AAA,KCC", 1, 5, "Some(1) true"),
     ("KAA", 0, 4, "None true"),

@@ -11,7 +11,7 @@ const README: &str =
     r#"{"version":3,"sources":["coolstuff.js"],"names":["x","alert"],"mappings":"AAAA,GAAIA,GAAI,EACR,IAAIA,GAAK,EAAG,CACVC,MAAM"}"#;
 
 // What a row is about, a text, and how many tokens its regular map has, or its fault.
-const REGULAR: [(&str, &str, &str); 7] = [
+static REGULAR: [(&str, &str, &str); 7] = [
     ("the map of the documentation", README, "9"),
     (
         "a map behind a junk header",
@@ -91,7 +91,7 @@ fn regular_maps_are_read_alone(rt: HostRuntime) {
 }
 
 // What a row is about, a text, and what its map prints for the place 0:0, or its fault.
-const ANY_KIND: [(&str, &str, &str); 5] = [
+static ANY_KIND: [(&str, &str, &str); 5] = [
     ("the map of the documentation", README, "coolstuff.js:0:0"),
     (
         "a map behind a junk header, whose token has no source",
@@ -176,7 +176,7 @@ fn maps_of_any_kind_are_copied(rt: HostRuntime) {
 }
 
 // What a row is about, a text, and the debug id of its map.
-const DEBUG_IDS: [(&str, &str, &str); 3] = [
+static DEBUG_IDS: [(&str, &str, &str); 3] = [
     ("no key", r#"{"mappings":""}"#, "none"),
     (
         "the older key",
@@ -212,7 +212,7 @@ fn of_two_debug_ids_the_newer_key_wins(rt: HostRuntime) {
 const WRITTEN: &str = r#"{"mappings":"A","names":[],"sources":[],"version":3}"#;
 
 // What a row is about, a data URL, and what its map is written as, or its fault.
-const URLS: [(&str, &str, &str); 3] = [
+static URLS: [(&str, &str, &str); 3] = [
     (
         "no charset",
         "data:application/json;base64,eyJtYXBwaW5ncyI6IkEifQ==",

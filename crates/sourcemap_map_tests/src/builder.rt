@@ -202,7 +202,7 @@ const OTHER: &str = r#"{"sources":["a.js"],"names":["x"],"mappings":"AAAOA","ran
 
 const RANGE: &str = r#"{"sources":["a.js"],"names":["n"],"mappings":"KACEA","rangeMappings":"B"}"#;
 
-const ROWS: [Row; 7] = [
+static ROWS: [Row; 7] = [
     Row {
         about: "a text that was first given keeps its id, whatever is shown",
         steps: &[
@@ -350,7 +350,7 @@ fn sources_are_shown_behind_the_root(rt: HostRuntime) {
 }
 
 // What a row is about, prefixes, a source, and what is left of it.
-const PREFIXES: [(&str, &[&str], &str, &str); 9] = [
+static PREFIXES: [(&str, &[&str], &str, &str); 9] = [
     ("with its slash", &["/a/"], "/a/x.js", "x.js"),
     ("no whole part", &["/a"], "/ab/x.js", "/ab/x.js"),
     ("all of the source, without a slash", &["/a"], "/a", "/a"),

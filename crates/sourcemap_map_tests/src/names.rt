@@ -18,7 +18,7 @@ const HERMES: &str =
     r#"{"sources":["a.js"],"names":[],"mappings":"AAAA,EAAC;AAAA","x_facebook_sources":[[{"names":["<global>","f"],"mappings":"AAA,CCA"}]]}"#;
 
 // A map, a line, a column, what a function is called in the text, and its name in the source.
-const NAMES: [(&str, (u32, u32), &str, &str); 17] = [
+static NAMES: [(&str, (u32, u32), &str, &str); 17] = [
     (MAP, (0, 9), "b", "foo"),
     // Behind the token, and on a later line.
     (MAP, (0, 13), "b", "foo"),
@@ -87,7 +87,7 @@ fn names_of_functions_are_guessed_by_maps(rt: HostRuntime) {
 }
 
 // A map, whether there is a name, whether there is a view, and the answer.
-const LESS: [(&str, bool, bool, &str); 9] = [
+static LESS: [(&str, bool, bool, &str); 9] = [
     (MAP, true, true, "foo"),
     (MAP, false, true, "none"),
     (MAP, true, false, "none"),
@@ -145,7 +145,7 @@ fn each_kind_of_map_names_functions(rt: HostRuntime) {
 
 // The column of the last token on the second line, where one without a source stands at each column
 // up to it, and the name of `b` at that one.
-const FAR: [(u32, &str); 4] = [(0, "foo"), (99, "foo"), (125, "foo"), (126, "none")];
+static FAR: [(u32, &str); 4] = [(0, "foo"), (99, "foo"), (125, "foo"), (126, "none")];
 
 // The map above, with these tokens on a second line.
 fn with_second_line(alloc: Global, last: u32) -> Result<String> {
@@ -176,7 +176,7 @@ const WITH_CONTENTS: &str =
     r#"{"version":3,"sources":["a.js","b.js","c.js"],"sourcesContent":["x\ny",null,"abc👌def\r\nblah"],"names":[],"mappings":"AAAA,CCAA,CCAA,C"}"#;
 
 // The id of a source, a line of its contents, and that line.
-const LINES: [(u32, u32, &str); 9] = [
+static LINES: [(u32, u32, &str); 9] = [
     (0, 0, "x"),
     (0, 1, "y"),
     (0, 2, "none"),
@@ -251,7 +251,7 @@ fn walked(alloc: Global, text: &str, last: usize) -> Result<String> {
 }
 
 // The index of a token, and the places and identifiers along the walk back from it.
-const WALKS: [(usize, &str); 4] = [
+static WALKS: [(usize, &str); 4] = [
     (2, "0:5 def; 0:4 def; 0:3 none; "),
     (1, "0:4 def; 0:3 none; "),
     (0, "0:3 none; "),
