@@ -75,6 +75,20 @@ const NO_TOKEN: &str =
 pub const NO_SOURCE: &str =
     r#"{"version":3,"sources":["a.js"],"mappings":"A","x_facebook_sources":[[{"names":["f"],"mappings":"AAA"}]]}"#;
 
+// Texts that are what their maps are written as.
+static WRITTEN: [&str; 4] = [SECOND_SOURCE, SHORT, LONG, BROKEN];
+
+// Texts of maps with functions of each kind.
+static MAPS: [&str; 7] = [
+    TWO_FUNCTIONS,
+    SECOND_SOURCE,
+    SHORT,
+    LONG,
+    BROKEN,
+    RANGE,
+    NO_SOURCE,
+];
+
 #[test]
 fn names_of_functions(rt: HostRuntime) {
     for (text, offset, want) in NAMES.iter() {
@@ -116,7 +130,7 @@ fn written(alloc: Global, text: &str) -> Result<String> {
 
 #[test]
 fn scopes_are_written_as_they_were_read(rt: HostRuntime) {
-    for text in [SECOND_SOURCE, SHORT, LONG, BROKEN].iter() {
+    for text in WRITTEN.iter() {
         check(&rt, text, written(rt.alloc(), text), text);
     }
 }
@@ -133,7 +147,7 @@ fn bytes_written(alloc: Global, text: &str) -> Result<String> {
 
 #[test]
 fn bytes_are_those_of_the_record(rt: HostRuntime) {
-    for text in [SECOND_SOURCE, SHORT, LONG, BROKEN].iter() {
+    for text in WRITTEN.iter() {
         check(&rt, text, bytes_written(rt.alloc(), text), text);
     }
 }
@@ -149,17 +163,7 @@ fn is_read_back(alloc: Global, text: &str) -> Result<String> {
 
 #[test]
 fn bytes_read_back(rt: HostRuntime) {
-    for text in [
-        TWO_FUNCTIONS,
-        SECOND_SOURCE,
-        SHORT,
-        LONG,
-        BROKEN,
-        RANGE,
-        NO_SOURCE,
-    ]
-    .iter()
-    {
+    for text in MAPS.iter() {
         check(&rt, text, is_read_back(rt.alloc(), text), "true");
     }
 }
@@ -185,17 +189,7 @@ fn copied(alloc: Global, text: &str) -> Result<String> {
 
 #[test]
 fn copies_and_maps_of_readers_are_equal(rt: HostRuntime) {
-    for text in [
-        TWO_FUNCTIONS,
-        SECOND_SOURCE,
-        SHORT,
-        LONG,
-        BROKEN,
-        RANGE,
-        NO_SOURCE,
-    ]
-    .iter()
-    {
+    for text in MAPS.iter() {
         check(&rt, text, copied(rt.alloc(), text), "true true");
     }
 }

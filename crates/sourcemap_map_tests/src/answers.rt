@@ -46,7 +46,8 @@ fn counts_told(alloc: Global, map: &SourceMap) -> Result<String> {
     Ok(format!(in alloc; "{counts:?} {items:?} {contents} {}", map.has_names())?)
 }
 
-fn id_told(alloc: Global, id: Option<DebugId>) -> Result<String> {
+/// A debug id, or that there is none.
+pub fn id_told(alloc: Global, id: Option<DebugId>) -> Result<String> {
     match id {
         None => Ok(String::from_str(alloc, "none")?),
         Some(id) => Ok(format!(in alloc; "{id}")?),

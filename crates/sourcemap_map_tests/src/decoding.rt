@@ -1,8 +1,8 @@
 // Bytes and data URLs that are read as maps, and what is refused.
+use crate::answers::id_told;
 use crate::checks::check;
+use crate::lookups::token_told;
 use sourcemap::errors::Result;
-use sourcemap::jsontypes::DebugId;
-use sourcemap::types::Token;
 use sourcemap::{DecodedMap, Error, SourceMap, decode, decode_data_url, decode_slice};
 use std::alloc::Global;
 
@@ -107,13 +107,6 @@ static ANY_KIND: [(&str, &str, &str); 5] = [
     ),
 ];
 
-fn token_told(alloc: Global, token: Option<Token<'_>>) -> Result<String> {
-    match token {
-        None => Ok(String::from_str(alloc, "none")?),
-        Some(token) => Ok(format!(in alloc; "{token}")?),
-    }
-}
-
 fn looked_up(alloc: Global, answer: Result<DecodedMap>) -> Result<String> {
     match answer {
         Ok(map) => token_told(alloc, map.lookup_token(0, 0)),
@@ -189,13 +182,6 @@ static DEBUG_IDS: [(&str, &str, &str); 3] = [
         "00000000-0000-0000-0000-000000000000",
     ),
 ];
-
-fn id_told(alloc: Global, id: Option<DebugId>) -> Result<String> {
-    match id {
-        None => Ok(String::from_str(alloc, "none")?),
-        Some(id) => Ok(format!(in alloc; "{id}")?),
-    }
-}
 
 fn debug_id(alloc: Global, text: &str) -> Result<String> {
     let map = decode_slice(alloc, text.as_bytes())?;

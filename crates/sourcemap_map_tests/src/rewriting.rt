@@ -1,7 +1,7 @@
 // Maps that are rewritten.
 use crate::checks::check;
+use crate::samples::record_written;
 use sourcemap::errors::{Error, Result};
-use sourcemap::jsontypes::RawSourceMap;
 use sourcemap::types::{RewriteOptions, SourceMap};
 use std::alloc::Global;
 use std::rt::Files;
@@ -22,10 +22,6 @@ fn written(alloc: Global, map: Result<SourceMap>) -> Result<String> {
         Err(Error::OutOfMemory) => Err(Error::OutOfMemory),
         Err(fault) => Ok(format!(in alloc; "{fault}")?),
     }
-}
-
-fn record_written(alloc: Global, record: Result<RawSourceMap>) -> Result<String> {
-    Ok(record?.into_value(alloc)?.to_string(alloc)?)
 }
 
 const TWO_SOURCES: &str =

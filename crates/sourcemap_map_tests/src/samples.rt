@@ -137,6 +137,7 @@ pub fn written(alloc: Global, map: Made) -> Result<String> {
     record_written(alloc, Box::into_inner(map?).into_raw_sourcemap())
 }
 
+/// The text of a record, which is given away.
 pub fn record_written(alloc: Global, record: Result<RawSourceMap>) -> Result<String> {
     value_written(alloc, record?.into_value(alloc))
 }
