@@ -1,5 +1,5 @@
 //! Texts that are kept once each, and found by their ids.
-ghost use Rattle.std.specs.Prelude.{◌≡◌, ℕ, List, [], ◌∷◌, ◌++◌, Some, Err, cond, is_ok, if◌then◌else◌, ◌==◌, map, length, IsOk, IsSome, IfOk, IfErr, OnOk, OnErr, IfSome, option_map, slice_get, string_bytes};
+ghost use Rattle.std.specs.Prelude.{◌≡◌, ◌≤◌, ℕ, List, [], ◌∷◌, ◌++◌, Some, Err, cond, is_ok, if◌then◌else◌, ◌==◌, map, length, IsOk, IsSome, IfOk, IfErr, OnOk, OnErr, IfSome, option_map, slice_get, string_bytes};
 ghost use Rattle.std.specs.HashMap.{get_by_text};
 ghost use Rattle.std.specs.Str.{bytes_eq};
 ghost use Rattle.sourcemap_errors.specs.Answer.{Gives};
@@ -98,6 +98,14 @@ impl Interner {
         ensures { result ≡ (length self.now == 0) }
     {
         self.texts.is_empty()
+    }
+
+    /// The texts in order of their ids.
+    pub fn as_slice(&self) -> &[String]
+        ensures texts { map string_bytes result.now ≡ self.now }
+        ensures few { length result.now ≤ 4294967295 }
+    {
+        self.texts.as_slice()
     }
 
     /// The texts in order of their ids, moved and not copied.
