@@ -16,6 +16,10 @@ pub use Rattle.sourcemap_mappings.specs.Segment
 pub use Rattle.sourcemap_mappings.specs.Read as Mappings
 pub use Rattle.sourcemap_mappings.specs.Write as MappingsWritten
 pub use Rattle.sourcemap_texts.specs.Paths
+pub use Rattle.sourcemap_places.specs.Urls
+pub use Rattle.sourcemap_places.specs.Places
+pub use Rattle.sourcemap_places.specs.RelativePaths
 pub use Rattle.sourcemap_views.specs.Columns
 pub use Rattle.sourcemap_views.specs.Identifiers
 pub use Rattle.sourcemap_views.specs.Lines
+pub use Rattle.sourcemap_bundle_bytes.specs.Bundle

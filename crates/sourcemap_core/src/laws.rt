@@ -10,4 +10,5 @@ pub use sourcemap_line_index::line_index::binary_digits_are_fewest;
 pub use sourcemap_lists::tokens::{one_stable_order, reduced_answers_alike};
 pub use sourcemap_mappings::read::mappings_determine_one_answer;
 pub use sourcemap_mappings::write::written_texts_are_determined;
+pub use sourcemap_places::relative_paths::relative_paths_lead_to_their_targets;
 pub use sourcemap_views::lines::lines_make_their_text;

@@ -1,13 +1,16 @@
-//! A door: what stands below records and maps, under the module names that users know. Behind it
-//! are the crates of faults, digits, lists, composition, tables of lines, mappings, texts, views.
+//! A facade: what stands below records and maps, under the module names that users know. It
+//! re-exports from the crates of errors, digits, lists, composition, tables of lines, mappings,
+//! texts, views, paths of files, and the bytes of bundles.
 #![tactic(auto)]
 
 pub mod compose;
 pub mod laws;
 pub mod mappings;
+pub mod places;
 pub mod utils;
 pub mod vlq;
 
+pub use sourcemap_bundle_bytes::bundle;
 pub use sourcemap_digits::bits;
 pub use sourcemap_errors::errors;
 pub use sourcemap_line_index::{line_index, probe};

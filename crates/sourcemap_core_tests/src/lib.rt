@@ -15,4 +15,6 @@ mod lists;
 #[cfg(test)]
 mod mappings;
 #[cfg(test)]
+mod places;
+#[cfg(test)]
 mod texts;

@@ -1,0 +1,103 @@
+//! Paths of files: as URLs and back, and from one file to another.
+use crate::checks::check;
+use sourcemap_core::errors::Result;
+use sourcemap_core::places::{path_url, url_path};
+use sourcemap_core::utils::make_relative_path;
+use std::alloc::Global;
+use url::Url;
+
+// A path, whether it is a folder, and its URL.
+static URLS: [(&str, bool, &str); 16] = [
+    ("/a b/c.js", false, "file:///a%20b/c.js"),
+    ("c.js", false, "none"),
+    ("", true, "none"),
+    ("\\a\\c.js", false, "none"),
+    ("/a b", true, "file:///a%20b/"),
+    ("/a/c.js/", false, "file:///a/c.js"),
+    ("/", false, "file:///"),
+    ("/", true, "file:///"),
+    ("/.//", false, "file:///"),
+    ("//a/.//b/./c.js", false, "file:///a/b/c.js"),
+    ("/a/b/../c.js", false, "file:///a/c.js"),
+    ("/../a", true, "file:///a/"),
+    ("/a%20b/c?d#e.js", false, "file:///a%2520b/c%3Fd%23e.js"),
+    ("/é/a\\b:~_-.js", false, "file:///%C3%A9/a%5Cb%3A~_-.js"),
+    ("/C:/a.js", false, "file:///C%3A/a.js"),
+    ("/a\nb", false, "file:///a%0Ab"),
+];
+
+// A URL, and its path.
+static PATHS: [(&str, &str); 11] = [
+    ("file:///a%20b/c.js", "/a b/c.js"),
+    ("file:///", "/"),
+    ("file:/a/../b/", "/b/"),
+    ("file:///%C3%A9%25.js", "/é%.js"),
+    ("file:///%zz%2", "/%zz%2"),
+    ("file:///a?b#c", "/a"),
+    ("file://localhost/a", "/a"),
+    ("file://host/a", "none"),
+    ("http://x.com/a", "none"),
+    ("file:///%ff", "none"),
+    ("data:a", "none"),
+];
+
+// A file, another one, and the path from the first to the second.
+static RELATIVE: [(&str, &str, &str); 14] = [
+    ("/foo/bar/baz.js", "/foo/baz.map", "../baz.map"),
+    ("/a/x.js", "/a/b/c.map", "b/c.map"),
+    ("/foo/bar/baz.js", "/foo/bar/baz.map", "baz.map"),
+    ("/foo/bar/.", "/foo/bar/baz.map", "baz.map"),
+    ("foo.txt", "foo.js", "foo.js"),
+    ("blah/foo.txt", "foo.js", "../foo.js"),
+    ("/a/b", "/", "../"),
+    ("/a/b", "/a", "."),
+    ("", "", "."),
+    ("/a/b/c/x.js", "/a/d/e/y.js", "../../d/e/y.js"),
+    ("C:\\a\\x.js", "C:/a\\é//y.js", "é/y.js"),
+    ("//a//b//", "a/c", "c"),
+    ("/ab/x", "/ac/x", "../ac/x"),
+    ("/a/b/c", "/a/b", "."),
+];
+
+fn url_of(alloc: Global, path: &str, folder: bool) -> Result<String> {
+    match path_url(alloc, path, folder)? {
+        None => Ok(String::from_str(alloc, "none")?),
+        Some(url) => Ok(String::from_str(alloc, url.as_str())?),
+    }
+}
+
+fn path_of(alloc: Global, text: &str) -> Result<String> {
+    let Ok(url) = Url::parse(alloc, text) else {
+        return Ok(String::from_str(alloc, "no URL")?);
+    };
+    match url_path(alloc, &url)? {
+        None => Ok(String::from_str(alloc, "none")?),
+        Some(path) => Ok(path),
+    }
+}
+
+#[test]
+fn urls_of_paths(rt: HostRuntime) {
+    for (path, folder, want) in URLS.iter() {
+        check(&rt, path, url_of(rt.alloc(), path, *folder), want);
+    }
+}
+
+#[test]
+fn paths_of_urls(rt: HostRuntime) {
+    for (url, want) in PATHS.iter() {
+        check(&rt, url, path_of(rt.alloc(), url), want);
+    }
+}
+
+#[test]
+fn relative_paths(rt: HostRuntime) {
+    for (base, target, want) in RELATIVE.iter() {
+        check(
+            &rt,
+            target,
+            make_relative_path(rt.alloc(), base, target),
+            want,
+        );
+    }
+}

@@ -1,0 +1,2 @@
+pub mod LeadsLemmas
+pub mod RelativePathsLemmas
