@@ -1,14 +1,18 @@
 //! Views of source texts: a text with the table of its lines.
-ghost use Rattle.std.specs.Prelude.{◌≡◌, ◌<◌, ◌≤◌, ◌^◌, Ok, drop, length, option_map, slice_get, string_bytes, take};
+ghost use Rattle.std.specs.Prelude.{◌≡◌, ◌<◌, ◌≤◌, ◌^◌, IsOkUnless, Ok, drop, length, option_map, slice_get, string_bytes, take};
 ghost use Rattle.std.specs.Bool.{Decides};
 ghost use Rattle.std.specs.Cmp.{partial_equiv_from_equiv};
 ghost use Rattle.sourcemap_errors.specs.Answer.{Gives};
+ghost use Rattle.sourcemap_errors.specs.declared.errors.Error.TheVariants.{OutOfMemory};
+ghost use Rattle.sourcemap_references.specs.Reference.{first_reference};
+ghost use Rattle.sourcemap_references.specs.References.{Locates};
 ghost use Rattle.sourcemap_views.specs.Lines.{line_bodies};
 ghost use Rattle.sourcemap_views.specs.Sourceview.{same_source, same_source_equiv, view_slice};
 
 use crate::columns::slice_at;
 use crate::lines::LineTable;
 use sourcemap_errors::errors::Result;
+use sourcemap_references::detector::{SourceMapRef, locate_in_text};
 use std::alloc::Global;
 use std::fmt;
 use std::marker::Model;
@@ -97,6 +101,15 @@ impl SourceView {
         ensures { result ≡ length (line_bodies self.now) }
     {
         self.lines.count()
+    }
+
+    /// The reference to a source map on the first line that starts with a mark, if one does. A line
+    /// ends at a newline here. Returns `OutOfMemory` only.
+    pub fn sourcemap_reference(&self) -> Result<Option<SourceMapRef>>
+        ensures value { Locates result (first_reference self.now) }
+        ensures memory { IsOkUnless result OutOfMemory }
+    {
+        locate_in_text(*self.source.allocator(), self.source())
     }
 
     /// The same view once more, with a text of its own. Only want of memory refuses.

@@ -1,0 +1,4 @@
+pub mod Lines
+pub mod Reference
+pub mod References
+pub mod Resolution

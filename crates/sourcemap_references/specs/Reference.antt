@@ -1,0 +1,42 @@
+-- What a line of a generated text says of its source map, and which line of a text counts.
+use Rattle.std.specs.Prelude.{ℕ, List, [], ◌∷◌, Option, None, Some, codes, drop, nat_eq, ◌==◌, if◌then◌else◌}
+use Rattle.std.specs.List.{slice_split, starts_with}
+use Rattle.std.specs.Str.{is_utf8, trim}
+
+-- the URL of a source map, and by which mark it stands in the text
+pub data Reference : Type 0 where
+  usual : List ℕ → Reference
+  legacy : List ℕ → Reference
+
+-- what follows a mark, without the white space around it
+abbrev pub url_after_mark : List ℕ → List ℕ
+url_after_mark line = trim (drop 21 line)
+
+-- the reference that a line starts with, if it does
+abbrev pub reference_on : List ℕ → Option Reference
+reference_on line =
+    if starts_with nat_eq line (codes "//# sourceMappingURL=") then Some (usual (url_after_mark line))
+    else if starts_with nat_eq line (codes "//@ sourceMappingURL=") then Some (legacy (url_after_mark line))
+    else None
+
+-- what a line says: the reference on it, if any; None where it is not UTF-8
+abbrev pub line_says : List ℕ → Option (Option Reference)
+line_says line = if is_utf8 line then Some (reference_on line) else None
+
+-- what a line says, or what later ones do where it is text without a reference
+abbrev pub or_later : Option (Option Reference) → Option (Option Reference) → Option (Option Reference)
+or_later (Some None) later = later
+or_later said later = said
+
+-- what the first line says that is no text without a reference
+abbrev pub first_on : List (List ℕ) → Option (Option Reference)
+first_on [] = Some None
+first_on (line ∷ lines) = or_later (line_says line) (first_on lines)
+
+-- the lines of a text, cut at each newline
+abbrev pub text_lines : List ℕ → List (List ℕ)
+text_lines = slice_split (λ b. b == 10)
+
+-- the reference on the first line that has one, if any; None where a line up to there is not UTF-8
+abbrev pub first_reference : List ℕ → Option (Option Reference)
+first_reference text = first_on (text_lines text)

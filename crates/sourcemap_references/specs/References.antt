@@ -1,0 +1,40 @@
+-- What a `SourceMapRef` says, and what the search for one answers.
+use Rattle.std.specs.Prelude.{◌≡◌, ℕ, List, Option, None, Some, Result, Ok, Err, IfSome, option_map, string_bytes}
+use Rattle.std.specs.IoError.{error_kind}
+use Rattle.std.specs.declared.io.ErrorKind.TheVariants.{InvalidData}
+use Rattle.sourcemap_errors.specs.Answer.{UnlessMemory}
+use Rattle.sourcemap_errors.specs.declared.errors.Error.{Error}
+use Rattle.sourcemap_errors.specs.declared.errors.Error.TheVariants.{Io}
+use Rattle.sourcemap_references.specs.Reference.{Reference, usual, legacy, first_reference}
+use Rattle.sourcemap_references.specs.declared.detector.SourceMapRef.{SourceMapRef}
+use Rattle.sourcemap_references.specs.declared.detector.SourceMapRef.TheVariants.{Ref, LegacyRef}
+
+-- its URL, with its mark
+abbrev pub reference : SourceMapRef → Reference
+reference (Ref url) = usual (string_bytes url)
+reference (LegacyRef url) = legacy (string_bytes url)
+
+-- its URL
+abbrev pub url_of : SourceMapRef → List ℕ
+url_of (Ref url) = string_bytes url
+url_of (LegacyRef url) = string_bytes url
+
+-- the error of bytes that are not UTF-8
+abbrev pub IsInvalidData : Error → Type 0
+IsInvalidData (Io cause) = error_kind cause ≡ InvalidData
+IsInvalidData _ = ⊥
+
+-- the reference that was found is the one that is due; where none is due, since a line is not UTF-8, the error says so
+abbrev pub Locates : Result (Option SourceMapRef) Error → Option (Option Reference) → Type 0
+Locates (Ok found) due = due ≡ Some (option_map reference found)
+Locates (Err e) due = UnlessMemory e ((due ≡ None) × IsInvalidData e)
+
+-- the error of a read, or of bytes that are not UTF-8
+abbrev pub IsReadError : Error → Type 0
+IsReadError (Io _) = Unit {0}
+IsReadError e = UnlessMemory e ⊥
+
+-- the reference that was found is that of the bytes which the reader had, where these are known
+abbrev pub LocatesRead : Option (List ℕ) → Result (Option SourceMapRef) Error → Type 0
+LocatesRead known (Ok found) = IfSome known (λ text. first_reference text ≡ Some (option_map reference found))
+LocatesRead known (Err e) = IsReadError e

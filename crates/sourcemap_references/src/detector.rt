@@ -1,0 +1,234 @@
+//! References to source maps.
+ghost use Rattle.std.specs.Prelude.{◌≡◌, ◌+◌, ℕ, Err, IsOkUnless, List, MatchResult, Ok, Option, Some, false, is_some, length, option_map, string_bytes, true};
+ghost use Rattle.std.specs.Io.BufRead.{strip_last};
+ghost use Rattle.std.specs.Io.Buffered.{reader_remaining};
+ghost use Rattle.std.specs.Result.{result_ok};
+ghost use Rattle.url.specs.Parser.{parse_url};
+ghost use Rattle.url.specs.Parts.{serialize};
+ghost use Rattle.sourcemap_errors.specs.Answer.{Gives, IsAnswer};
+ghost use Rattle.sourcemap_errors.specs.declared.errors.Error.{Error};
+ghost use Rattle.sourcemap_errors.specs.declared.errors.Error.TheVariants.{OutOfMemory};
+ghost use Rattle.sourcemap_places.specs.Places.{url_text};
+ghost use Rattle.sourcemap_places.specs.Urls.{IsLong};
+ghost use Rattle.sourcemap_references.specs.Lines.{ReadsLine};
+ghost use Rattle.sourcemap_references.specs.Reference.{first_reference, line_says, reference_on, url_after_mark};
+ghost use Rattle.sourcemap_references.specs.References.{IsInvalidData, IsReadError, Locates, LocatesRead, reference, url_of};
+ghost use Rattle.sourcemap_references.specs.declared.detector.SourceMapRef.{SourceMapRef};
+ghost use Rattle.sourcemap_references.specs.Resolution.{IsLongJoin, UnlessLong, is_data_url, resolved, resolved_path};
+
+use crate::lines::marked_line;
+use simdutf8::compat::from_utf8;
+use sourcemap_errors::errors::{Error, Result};
+use sourcemap_places::places::{named_path, path_url};
+use sourcemap_places::urls;
+use std::alloc::Global;
+use std::io;
+use std::io::{BufRead, BufReader, Read};
+use url::Url;
+
+/// A reference to a source map.
+#[derive(Debug, PartialEq, Eq, Drop)]
+pub enum SourceMapRef {
+    /// One with the usual mark, `//#`.
+    Ref(String),
+    /// One with the legacy mark, `//@`.
+    LegacyRef(String),
+}
+
+impl SourceMapRef {
+    /// The URL of the source map, as it stands in the text.
+    pub fn get_url(&self) -> &str
+        ensures { result.now ≡ url_of self.now }
+    {
+        self.url().as_str()
+    }
+
+    fn url(&self) -> &String
+        ensures { string_bytes result.now ≡ url_of self.now }
+    {
+        match self {
+            SourceMapRef::Ref(url) => url,
+            SourceMapRef::LegacyRef(url) => url,
+        }
+    }
+
+    fn is_data_url(&self) -> bool
+        ensures { result ≡ is_data_url (url_of self.now) }
+    {
+        self.get_url().as_bytes().starts_with(b"data:")
+    }
+
+    /// The URL of the source map, seen from the URL of the text that carries the reference. None
+    /// where the reference is a `data:` URL, where either is refused as a URL, and maybe where they
+    /// have 2^28 bytes or more. Returns `OutOfMemory` only.
+    pub fn resolve(&self, minified_url: &str) -> Result<Option<String>>
+        ensures { IsAnswer (option_map string_bytes)
+            (UnlessLong (resolved minified_url.now (url_of self.now))
+            (IsLongJoin minified_url.now (url_of self.now))) result }
+    {
+        if self.is_data_url() {
+            return Ok(None);
+        }
+        match urls::parse(*self.url().allocator(), minified_url)? {
+            Some(base) => joined_text(&base, self.get_url()),
+            None => Ok(None),
+        }
+    }
+
+    /// The path of the source map, seen from the path of the text that carries the reference. None
+    /// where the reference is a `data:` URL or leads to no path of a file, where that path does not
+    /// start with `/`, and maybe where they have 2^28 bytes or more. Returns `OutOfMemory` only.
+    pub fn resolve_path(&self, minified_path: &str) -> Result<Option<String>>
+        ensures { IsAnswer (option_map string_bytes)
+            (UnlessLong (resolved_path minified_path.now (url_of self.now))
+            (IsLongJoin (url_text minified_path.now false) (url_of self.now))) result }
+    {
+        if self.is_data_url() {
+            return Ok(None);
+        }
+        let alloc = *self.url().allocator();
+        match path_url(alloc, minified_path, false)? {
+            Some(base) => named_path(alloc, &base, self.get_url()),
+            None => Ok(None),
+        }
+    }
+}
+
+// The text of the URL that a reference stands for, seen from `base`.
+fn joined_text(base: &Url, reference: &str) -> Result<Option<String>>
+    ensures { IsAnswer (option_map string_bytes) (UnlessLong
+        (option_map serialize (result_ok (parse_url (Some base.now) reference.now)))
+        (IsLong (length (serialize base.now) + length reference.now))) result }
+{
+    match urls::join(base, reference)? {
+        Some(url) => Ok(Some(String::from(url))),
+        None => Ok(None),
+    }
+}
+
+/// The reference that a text carries, if it does, as `locate_sourcemap_reference_slice` finds it in
+/// bytes. Returns `OutOfMemory` only.
+pub fn locate_in_text(alloc: Global, text: &str) -> Result<Option<SourceMapRef>>
+    ensures value { Locates result (first_reference text.now) }
+    ensures memory { IsOkUnless result OutOfMemory }
+{
+    match marked_line(text.as_bytes()) {
+        Some(line) => reference_on_line(alloc, &text[..line.end][line.start..]),
+        None => Ok(None),
+    }
+}
+
+/// The reference on the first line that starts with `//# sourceMappingURL=`, or in legacy texts
+/// with `//@ sourceMappingURL=`: what follows on that line, without the white space around it.
+/// A line ends at a newline. Returns `Io` of kind `InvalidData` where a line up to there is not
+/// UTF-8, and `OutOfMemory`.
+pub fn locate_sourcemap_reference_slice(alloc: Global, bytes: &[u8]) -> Result<Option<SourceMapRef>>
+    ensures { Locates result (first_reference bytes.now) }
+{
+    let Some(line) = marked_line(bytes) else {
+        return match from_utf8(bytes) {
+            Ok(_) => Ok(None),
+            Err(_) => Err(no_text()),
+        };
+    };
+    match from_utf8(&bytes[..line.end]) {
+        Ok(text) => reference_on_line(alloc, &text[line.start..]),
+        Err(_) => Err(no_text()),
+    }
+}
+
+/// The reference in what a reader gives, as `locate_sourcemap_reference_slice` finds it in a slice.
+/// Reads up to the end of that line, and holds one line at most. Returns `Io` where a read fails or
+/// a line is not UTF-8, `Io` of kind `Other` after 2^64 - 1 lines, and `OutOfMemory`.
+pub fn locate_sourcemap_reference<R: Read + Drop>(
+    alloc: Global,
+    reader: R,
+) -> Result<Option<SourceMapRef>>
+    ensures { LocatesRead (R.remaining reader) result }
+{
+    let mut reader = BufReader::new(alloc, reader)?;
+    let mut line = Vec::new(alloc);
+    for _ in 0..u64::MAX {
+        if !read_line(&mut reader, &mut line)? {
+            return Ok(None);
+        }
+        if let Some(found) = reference_in_bytes(alloc, line.as_slice())? {
+            return Ok(Some(found));
+        }
+    }
+    Err(Error::Io(io::Error::from(io::ErrorKind::Other)))
+}
+
+/// A law: a reader and a slice of the same bytes find the same reference; and where the reader finds
+/// one, or none, only out of memory keeps the slice from it.
+pub fn readers_find_what_slices_do()
+    ensures found { (text : List ℕ) (read sliced : Option SourceMapRef)
+        → LocatesRead (Some text) (Ok read) → Locates (Ok sliced) (first_reference text)
+        → option_map reference read ≡ option_map reference sliced }
+    ensures refused { (text : List ℕ) (read : Option SourceMapRef) (e : Error)
+        → LocatesRead (Some text) (Ok read) → Locates (Err e) (first_reference text)
+        → e ≡ OutOfMemory }
+{}
+
+// Puts the next line in place of the last one, without its newline. False if there is none.
+fn read_line<R: Read + Drop>(reader: &mut BufReader<R>, line: &mut Vec<u8>) -> Result<bool>
+    ensures { MatchResult result
+        (λ more. ReadsLine (reader_remaining R.remaining reader.old)
+        (reader_remaining R.remaining reader.new) more line.new.items)
+        IsReadError }
+{
+    line.clear();
+    reader.read_until(b'\n', line)?;
+    if line.is_empty() {
+        return Ok(false);
+    }
+    strip_newline(line);
+    Ok(true)
+}
+
+// Takes the newline off the end of a line.
+fn strip_newline(line: &mut Vec<u8>)
+    ensures { line.new.items ≡ strip_last 10 line.old.items }
+{
+    if line.last() == Some(&b'\n') {
+        line.pop();
+    }
+}
+
+// The reference on a line of bytes, if it starts with a mark.
+fn reference_in_bytes(alloc: Global, line: &[u8]) -> Result<Option<SourceMapRef>>
+    ensures { Locates result (line_says line.now) }
+{
+    match from_utf8(line) {
+        Ok(text) => reference_on_line(alloc, text),
+        Err(_) => Err(no_text()),
+    }
+}
+
+// The error of bytes that are not UTF-8.
+fn no_text() -> Error
+    ensures { IsInvalidData result }
+{
+    Error::Io(io::Error::from(io::ErrorKind::InvalidData))
+}
+
+// The reference on a line, if it starts with a mark.
+fn reference_on_line(alloc: Global, line: &str) -> Result<Option<SourceMapRef>>
+    ensures { Gives (option_map reference) result (Ok (reference_on line.now)) }
+{
+    if line.as_bytes().starts_with(b"//# sourceMappingURL=") {
+        return Ok(Some(SourceMapRef::Ref(url_after_mark(alloc, line)?)));
+    }
+    if line.as_bytes().starts_with(b"//@ sourceMappingURL=") {
+        return Ok(Some(SourceMapRef::LegacyRef(url_after_mark(alloc, line)?)));
+    }
+    Ok(None)
+}
+
+// What follows the mark of a line, without the white space around it.
+fn url_after_mark(alloc: Global, line: &str) -> Result<String>
+    requires { is_some (reference_on line.now) ≡ true }
+    ensures { Gives string_bytes result (Ok (url_after_mark line.now)) }
+{
+    Ok(String::from_str(alloc, line[21..].trim())?)
+}
