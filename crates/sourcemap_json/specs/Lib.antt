@@ -1,6 +1,10 @@
+pub use Rattle.sourcemap_detection.specs.Detection
 pub use Rattle.sourcemap_headers.specs.DataUrl
 pub use Rattle.sourcemap_headers.specs.DebugId
 pub use Rattle.sourcemap_headers.specs.Header
 pub use Rattle.sourcemap_headers.specs.HeaderReader
 pub use Rattle.sourcemap_records.specs.Field
 pub use Rattle.sourcemap_records.specs.Jsontypes
+pub use Rattle.sourcemap_references.specs.Reference
+pub use Rattle.sourcemap_references.specs.References
+pub use Rattle.sourcemap_references.specs.Resolution

@@ -8,7 +8,7 @@ use std::{io, str};
 
 // Gives one byte a read, and a fault in place of the read of each `!`.
 #[derive(Drop)]
-struct OneByOne<'a>(&'a [u8]);
+pub struct OneByOne<'a>(pub &'a [u8]);
 
 impl Read for OneByOne<'_> {
     fn read(&mut self, buf: &mut [u8]) -> io::Result<usize> {

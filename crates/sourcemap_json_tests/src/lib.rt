@@ -1,4 +1,5 @@
-//! Tests of headers, data URLs and records, through the door that users of their JSON take.
+//! Tests of headers, data URLs, records, references and of which bytes hold a map, by the names that
+//! users of their JSON know.
 #![tactic(auto)]
 
 #[cfg(test)]
@@ -6,6 +7,10 @@ mod checks;
 #[cfg(test)]
 mod data_urls;
 #[cfg(test)]
+mod detection;
+#[cfg(test)]
 mod headers;
 #[cfg(test)]
 mod records;
+#[cfg(test)]
+mod references;

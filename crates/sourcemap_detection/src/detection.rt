@@ -1,0 +1,81 @@
+//! Whether bytes hold a source map: which keys their JSON value has, without a record of it.
+ghost use Rattle.std.specs.Prelude.{◌≡◌, ◌≢◌, ◌↔◌, IsTrue, IfOk, IfSome, IsOkUnless, MatchResult, false};
+ghost use Rattle.serde_json.specs.View.{view};
+ghost use Rattle.sourcemap_errors.specs.declared.errors.Error.TheVariants.{OutOfMemory};
+ghost use Rattle.sourcemap_detection.specs.Detection.{AreMap, has_map_keys, is_map};
+
+use serde_json::Value;
+use sourcemap_errors::errors::{Error, Result};
+use sourcemap_records::bytes::{read_all, read_json};
+use sourcemap_records::jsontypes::MinimalRawSourceMap;
+use std::alloc::Global;
+use std::io::Read;
+
+fn keys_are_of_map(keys: MinimalRawSourceMap) -> bool
+    ensures { result ≡ has_map_keys keys }
+{
+    let has_heading = keys.version.is_some() || keys.file;
+    let has_lists = keys.sources || keys.source_root || keys.sources_content || keys.names;
+    keys.sections || (has_heading && has_lists && keys.mappings)
+}
+
+fn value_is_map(value: &Value) -> bool
+    ensures { result ≡ is_map (view value.now) }
+{
+    match MinimalRawSourceMap::from_value(value) {
+        Ok(keys) => keys_are_of_map(keys),
+        Err(_) => false,
+    }
+}
+
+// Bytes with an error hold no map; out of memory nothing is known of them.
+fn no_map(error: Error) -> Result<bool>
+    ensures { MatchResult result
+        (λ is. (is ≡ false) × (error ≢ OutOfMemory))
+        (λ e. (e ≡ OutOfMemory) × (error ≡ OutOfMemory)) }
+{
+    match error {
+        Error::OutOfMemory => Err(Error::OutOfMemory),
+        _ => Ok(false),
+    }
+}
+
+/// Returns whether bytes hold a source map, behind a junk header or behind none: a JSON object that
+/// has `sections`, or `mappings` with `version` or `file` and with one of `sources`, `sourceRoot`,
+/// `sourcesContent` and `names`. A key that is null counts as missing, and the other values are not
+/// looked at, except that a version must be a `u32`. Bytes with an error, in their header or in
+/// their JSON, hold no map. Returns `OutOfMemory` only.
+pub fn is_sourcemap_slice(alloc: Global, bytes: &[u8]) -> Result<bool>
+    ensures answer { IfOk result (λ is. IsTrue is ↔ AreMap bytes.now) }
+    ensures err { IsOkUnless result OutOfMemory }
+{
+    match read_json(alloc, bytes) {
+        Ok(value) => Ok(value_is_map(&value)),
+        Err(error) => no_map(error),
+    }
+}
+
+// Whether the bytes that were read hold a map; none do where a read failed.
+fn read_is_map(alloc: Global, read: Result<Vec<u8>>) -> Result<bool>
+    ensures answer { MatchResult read
+        (λ bytes. IfOk result (λ is. IsTrue is ↔ AreMap bytes.items))
+        (λ _. IfOk result (λ is. is ≡ false)) }
+    ensures err { IsOkUnless result OutOfMemory }
+{
+    match read {
+        Ok(bytes) => is_sourcemap_slice(alloc, bytes.as_slice()),
+        Err(error) => no_map(error),
+    }
+}
+
+/// Returns whether a reader's bytes hold a source map, as by `is_sourcemap_slice`. The reader is
+/// read to its end first; where a read fails, the answer is false. Returns `OutOfMemory` only.
+pub fn is_sourcemap<R: Read + Drop>(alloc: Global, reader: R) -> Result<bool>
+    // no clause of a reader says when a read fails, so false may be the answer for any bytes
+    ensures answer { IfSome (R.remaining reader)
+        (λ bytes. IfOk result (λ is. IsTrue is → AreMap bytes)) }
+    ensures err { IsOkUnless result OutOfMemory }
+{
+    let read = read_all(alloc, reader);
+    read_is_map(alloc, read)
+}

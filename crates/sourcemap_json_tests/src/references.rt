@@ -1,0 +1,269 @@
+// References to source maps: where they stand in a text, and where they lead.
+ghost use Rattle.std.specs.Prelude.{◌≡◌};
+ghost use Rattle.std.specs.Bool.{Decides};
+ghost use Rattle.sourcemap_json.specs.References.{reference};
+
+use crate::checks::check;
+use sourcemap_errors::errors::Result;
+use sourcemap_json::detector::{
+    SourceMapRef, locate_sourcemap_reference, locate_sourcemap_reference_slice,
+};
+use sourcemap_views::sourceview::SourceView;
+use std::alloc::Global;
+use std::io::{ErrorKind, Read};
+use std::{io, str};
+
+// Gives a byte a read, and fails once so many reads were made.
+#[derive(Drop)]
+struct Narrow<'a> {
+    rest: &'a [u8],
+    reads: usize,
+}
+
+impl Read for Narrow<'_> {
+    fn read(&mut self, buf: &mut [u8]) -> io::Result<usize> {
+        if self.reads == 0 {
+            return Err(io::Error::from(ErrorKind::TimedOut));
+        }
+        self.reads -= 1;
+        match (self.rest, buf) {
+            ([byte, rest @ ..], [first, ..]) => {
+                self.rest = rest;
+                *first = *byte;
+                Ok(1)
+            }
+            _ => Ok(0),
+        }
+    }
+}
+
+// What a row is about, bytes, and their reference behind its mark, or the error.
+static LOCATED: [(&str, &[u8], &str); 18] = [
+    (
+        "the first of two, without the white space around it",
+        b"a\n//@ sourceMappingURL=x.map \n//# sourceMappingURL=y.map",
+        "@x.map",
+    ),
+    (
+        "the first of two, with the usual mark",
+        b"//# sourceMappingURL=y.map\n//@ sourceMappingURL=x.map",
+        "#y.map",
+    ),
+    (
+        "on the last line, which has no newline",
+        b"foo();\nbar();\n//# sourceMappingURL=foo.js",
+        "#foo.js",
+    ),
+    (
+        "a legacy one there",
+        b"foo();\nbar();\n//@ sourceMappingURL=foo.js",
+        "@foo.js",
+    ),
+    ("another comment", b"foo();\nbar();\n// whatever", "none"),
+    ("no text", b"", "none"),
+    (
+        "marks inside of lines",
+        b"x(); //# sourceMappingURL=a.map\n //# sourceMappingURL=b.map\n",
+        "none",
+    ),
+    (
+        "parts of a mark",
+        b"//# sourceMappingUR=a\n//#sourceMappingURL=b\n//# sourceMappingURL",
+        "none",
+    ),
+    ("a mark alone", b"//# sourceMappingURL=\na", "#"),
+    (
+        "lines that end with a return and a newline",
+        b"a\r\n//# sourceMappingURL=a.map\r\nb",
+        "#a.map",
+    ),
+    (
+        "a return alone ends no line",
+        b"a\r//# sourceMappingURL=a.map",
+        "none",
+    ),
+    (
+        "white space past ASCII",
+        b"//# sourceMappingURL=\xc2\xa0a b\xe3\x80\x80\n",
+        "#a b",
+    ),
+    (
+        "a data URL",
+        b"//# sourceMappingURL=data:application/json,{}\n",
+        "#data:application/json,{}",
+    ),
+    (
+        "a line before it is not UTF-8",
+        b"a\xffb\n//# sourceMappingURL=a.map",
+        "invalid data",
+    ),
+    (
+        "its own line is not UTF-8",
+        b"//# sourceMappingURL=a\xff.map",
+        "invalid data",
+    ),
+    (
+        "a line behind it is not UTF-8",
+        b"//# sourceMappingURL=a.map\n\xff",
+        "#a.map",
+    ),
+    (
+        "no reference, and not UTF-8",
+        b"a\n\xe2\x82",
+        "invalid data",
+    ),
+    (
+        "a character is cut by a newline",
+        b"\xe2\x82\n\xac\n//# sourceMappingURL=a.map",
+        "invalid data",
+    ),
+];
+
+fn shown(alloc: Global, found: Result<Option<SourceMapRef>>) -> Result<String> {
+    match found {
+        Ok(Some(SourceMapRef::Ref(url))) => Ok(format!(in alloc; "#{url}")?),
+        Ok(Some(SourceMapRef::LegacyRef(url))) => Ok(format!(in alloc; "@{url}")?),
+        Ok(None) => Ok(String::from_str(alloc, "none")?),
+        Err(error) => Ok(format!(in alloc; "{error}")?),
+    }
+}
+
+#[test]
+fn locates_in_slices(rt: HostRuntime) {
+    let alloc = rt.alloc();
+    for (about, bytes, want) in LOCATED.iter() {
+        let found = locate_sourcemap_reference_slice(alloc, bytes);
+        check(&rt, about, shown(alloc, found), want);
+    }
+}
+
+fn read(alloc: Global, bytes: &[u8], reads: usize) -> Result<String> {
+    let reader = Narrow { rest: bytes, reads };
+    shown(alloc, locate_sourcemap_reference(alloc, reader))
+}
+
+#[test]
+fn locates_in_readers(rt: HostRuntime) {
+    for (about, bytes, want) in LOCATED.iter() {
+        check(&rt, about, read(rt.alloc(), bytes, usize::MAX), want);
+    }
+}
+
+#[test]
+fn a_failed_read_is_no_reference(rt: HostRuntime) {
+    let bytes = b"a\n//# sourceMappingURL=a.map";
+    for reads in 0..29 {
+        check(
+            &rt,
+            "a read that fails",
+            read(rt.alloc(), bytes, reads),
+            "timed out",
+        );
+    }
+    check(
+        &rt,
+        "no read that fails",
+        read(rt.alloc(), bytes, 29),
+        "#a.map",
+    );
+}
+
+fn viewed(alloc: Global, bytes: &[u8]) -> Result<String> {
+    let view = SourceView::new(alloc, str::from_utf8(bytes)?)?;
+    shown(alloc, view.sourcemap_reference())
+}
+
+#[test]
+fn views_have_the_same_reference(rt: HostRuntime) {
+    for (about, bytes, want) in LOCATED[..13].iter() {
+        check(&rt, about, viewed(rt.alloc(), bytes), want);
+    }
+}
+
+// A reference, the URL of its text, and where it leads.
+static RESOLVED: [(&str, &str, &str); 7] = [
+    ("a.js.map", "http://x.com/m/a.js", "http://x.com/m/a.js.map"),
+    ("a.js.map", "a.js", "none"),
+    (
+        "//cdn.com/x.map",
+        "https://x.com/m/a.js",
+        "https://cdn.com/x.map",
+    ),
+    ("?q#f", "http://x.com/m/a.js", "http://x.com/m/a.js?q#f"),
+    ("", "http://x.com/m/a.js#f", "http://x.com/m/a.js"),
+    ("http://[", "http://x.com/m/a.js", "none"),
+    ("data:application/json,{}", "http://x.com/m/a.js", "none"),
+];
+
+fn or_none(alloc: Global, text: Option<String>) -> Result<String> {
+    match text {
+        Some(text) => Ok(text),
+        None => Ok(String::from_str(alloc, "none")?),
+    }
+}
+
+fn resolved(alloc: Global, url: &str, base: &str) -> Result<String> {
+    let reference = SourceMapRef::Ref(String::from_str(alloc, url)?);
+    or_none(alloc, reference.resolve(base)?)
+}
+
+#[test]
+fn leads_to_urls(rt: HostRuntime) {
+    for (url, base, want) in RESOLVED.iter() {
+        check(&rt, url, resolved(rt.alloc(), url, base), want);
+    }
+}
+
+// A reference, the path of its text, and where it leads.
+static PATHS: [(&str, &str, &str); 6] = [
+    ("../m/a.js.map", "/x/y/a.js", "/x/m/a.js.map"),
+    ("a%20b.map", "/c d/a.js", "/c d/a b.map"),
+    ("a.js.map", "x/a.js", "none"),
+    ("http://x.com/a.js.map", "/x/a.js", "none"),
+    ("file://host/a.js.map", "/x/a.js", "none"),
+    ("data:application/json,{}", "/x/a.js", "none"),
+];
+
+fn resolved_path(alloc: Global, url: &str, base: &str) -> Result<String> {
+    let reference = SourceMapRef::LegacyRef(String::from_str(alloc, url)?);
+    or_none(alloc, reference.resolve_path(base)?)
+}
+
+#[test]
+fn leads_to_paths(rt: HostRuntime) {
+    for (url, base, want) in PATHS.iter() {
+        check(&rt, url, resolved_path(rt.alloc(), url, base), want);
+    }
+}
+
+fn are_equal(a: &SourceMapRef, b: &SourceMapRef) -> bool
+    ensures { Decides result (reference a.now ≡ reference b.now) }
+{
+    a == b
+}
+
+fn compared(alloc: Global, a: &str, b: &str) -> Result<String> {
+    let usual = SourceMapRef::Ref(String::from_str(alloc, a)?);
+    let legacy = SourceMapRef::LegacyRef(String::from_str(alloc, a)?);
+    let other = SourceMapRef::Ref(String::from_str(alloc, b)?);
+    let same = are_equal(&usual, &other);
+    let mixed = are_equal(&legacy, &other);
+    let url = usual.get_url();
+    Ok(format!(in alloc; "{url} {same} {mixed}")?)
+}
+
+#[test]
+fn equal_by_mark_and_text(rt: HostRuntime) {
+    check(
+        &rt,
+        "one text",
+        compared(rt.alloc(), "a", "a"),
+        "a true false",
+    );
+    check(
+        &rt,
+        "two texts",
+        compared(rt.alloc(), "a", "b"),
+        "a false false",
+    );
+}
