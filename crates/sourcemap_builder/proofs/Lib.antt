@@ -1,1 +1,2 @@
 pub mod BuilderLemmas
+pub mod LoadedLemmas

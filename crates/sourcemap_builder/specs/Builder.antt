@@ -4,6 +4,8 @@ use Rattle.sourcemap_errors.specs.declared.errors.Error.{Error}
 use Rattle.sourcemap_lists.specs.declared.tokens.RawToken.{RawToken}
 use Rattle.sourcemap_lists.specs.Tokens.{in_order, no_id}
 use Rattle.sourcemap_lists.specs.Interner.{id_of, with_text, id_for}
+use Rattle.sourcemap_parts.specs.Contents.{fitted}
+use Rattle.sourcemap_files.specs.Loading.{Fills}
 use Rattle.sourcemap_regular.specs.Map.{MapValue, Meaning}
 
 -- all that a builder holds: `interned` are the texts of sources by which ids are found,
@@ -100,6 +102,10 @@ HasSource sources source token = IsPlaceIf sources source token.src_id
 -- with a token at the end
 abbrev pub with_token : BuilderValue → RawToken → BuilderValue
 with_token b token = record b { tokens = b.tokens ++ token ∷ [] }
+
+-- contents were loaded from files below the folder, into a list as long as that of the sources
+abbrev pub Loads : (folder : List ℕ) → (old new : BuilderValue) → Type 0
+Loads folder old new = Fills folder old.interned (fitted (length old.sources) old.contents) new.contents
 
 -- the map that is built
 abbrev pub built : BuilderValue → MapValue

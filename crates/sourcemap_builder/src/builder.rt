@@ -1,5 +1,5 @@
 //! A map that is being built: texts are kept once each, and what is shown of a source may change.
-ghost use Rattle.std.specs.Prelude.{◌≡◌, ◌≤◌, ◌<◌, ◌⊎◌, ℕ, [], ◌∷◌, ◌++◌, Ok, length, slice_get, slice_set, map, List, Option, option_map, string_bytes, unwrap_or, vec_len, IfOk, OnOk, OnErr, is_some};
+ghost use Rattle.std.specs.Prelude.{◌≡◌, ◌≤◌, ◌<◌, ◌⊎◌, ℕ, [], ◌∷◌, ◌++◌, Ok, length, slice_get, slice_set, map, List, Option, option_map, string_bytes, unwrap_or, vec_len, None, IsSome, IsSomeAnd, IfErr, IfOk, IsOkUnless, OnOk, OnErr, is_some};
 ghost use Rattle.std.specs.Option.{option_copied};
 ghost use Rattle.sourcemap_errors.specs.Answer.{Gives, Changes};
 ghost use Rattle.sourcemap_lists.specs.Interner.{id_for};
@@ -10,14 +10,17 @@ ghost use Rattle.sourcemap_texts.specs.Texts.{contents_in, texts_of};
 ghost use Rattle.sourcemap_parts.specs.Contents.{fitted};
 ghost use Rattle.sourcemap_regular.specs.Map.{contents_of, IsWellFormed};
 ghost use Rattle.sourcemap_regular.specs.Token.{answers, token_value};
+ghost use Rattle.sourcemap_errors.specs.declared.errors.Error.TheVariants.{OutOfMemory};
+ghost use Rattle.sourcemap_files.specs.Loading.{folder_of, newly, Fills, IsNoFolder};
 ghost use Rattle.sourcemap_builder.specs.Builder.{changed_to, name_if, id_if};
 
 use sourcemap_errors::errors::Result;
+use sourcemap_files::loading::{check_folder, load_contents};
 use sourcemap_line_index::token_list::TokenList;
 use sourcemap_lists::interner::Interner;
 use sourcemap_lists::tokens::{NO_ID, RawToken};
 use sourcemap_parts::contents::Contents;
-use sourcemap_parts::fitting::put;
+use sourcemap_parts::fitting::{fit, put};
 use sourcemap_parts::heading::Heading;
 use sourcemap_parts::sources::Sources;
 use sourcemap_records::jsontypes::DebugId;
@@ -25,9 +28,12 @@ use sourcemap_regular::map::SourceMap;
 use sourcemap_regular::token::Token;
 use sourcemap_texts::copies::owned;
 use sourcemap_texts::prefixes::cut_text;
+use sourcemap_views::sourceview::SourceView;
 use std::alloc::Global;
 use std::convert::AsStr;
 use std::marker::Model;
+use std::mem;
+use std::rt::Files;
 
 /// A map that is being built. Sources and names are kept once each and have ids from 0 on in the
 /// order in which they first came. A refused call leaves the builder as it was, but where a line
@@ -74,7 +80,7 @@ impl Drop for SourceMapBuilder {
 impl SourceMapBuilder {
     ghost use Rattle.std.specs.BTreeSet.{insert_key};
     ghost use Rattle.std.specs.Ordering.{nat_cmp};
-    ghost use Rattle.sourcemap_builder.specs.Builder.{empty_builder, with_source, with_name, with_source_if, with_name_if, with_texts, with_token, placed, token_due, built, IsPlaceIf, HasSource};
+    ghost use Rattle.sourcemap_builder.specs.Builder.{empty_builder, with_source, with_name, with_source_if, with_name_if, with_texts, with_token, placed, token_due, built, IsPlaceIf, HasSource, Loads};
 
     /// A builder of nothing but the name of the generated file. Only want of memory refuses.
     pub fn new(alloc: Global, file: Option<&str>) -> Result<Self>
@@ -238,6 +244,40 @@ impl SourceMapBuilder {
         self.get_source_contents(id).is_some()
     }
 
+    /// Reads the contents of each source that has none from the file that it names, by the text that
+    /// was first given for it, and returns how many were read. A source without such a file, and one
+    /// whose file can't be read or is not UTF-8, is skipped. The folder is `base_path`, or where
+    /// that is not absolute the one below `current_dir`. The list of contents is then as long as
+    /// that of the sources. Returns `Io` of kind `InvalidInput` if neither path is absolute, else
+    /// only `OutOfMemory`, and then what was read before stays.
+    pub fn load_local_source_contents<F: Files>(
+        &mut self,
+        rt: &F,
+        current_dir: &str,
+        base_path: Option<&str>,
+    ) -> Result<usize>
+        ensures rest { record self.new { contents = self.old.contents } ≡ self.old }
+        ensures loads { OnOk result
+            (IsSomeAnd (folder_of current_dir.now (option_copied base_path.entry)) (λ folder.
+            Loads folder self.old self.new)) }
+        ensures count { IfOk result (λ n.
+            n ≡ newly (length self.old.sources) self.old.contents self.new.contents) }
+        ensures err { IfErr result (λ e. ((e ≡ OutOfMemory) × ((self.new ≡ self.old)
+            ⊎ IsSomeAnd (folder_of current_dir.now (option_copied base_path.entry)) (λ folder.
+            Loads folder self.old self.new)))
+            ⊎ (IsNoFolder e × (self.new ≡ self.old)
+            × (folder_of current_dir.now (option_copied base_path.entry) ≡ None))) }
+    {
+        check_folder(current_dir, base_path)?;
+        let alloc = *self.tokens.allocator();
+        let contents = mem::replace(&mut self.contents, Contents::new(alloc));
+        let mut views = contents.into_views();
+        let sources = self.interned.as_slice();
+        let loaded = load_fitted(rt, alloc, current_dir, base_path, sources, &mut views);
+        self.contents = Contents::of_views(views);
+        loaded
+    }
+
     /// Adds a token by ids as they are given, [`NO_ID`] for none, and answers it. Only want
     /// of memory refuses.
     pub fn add_raw(
@@ -395,6 +435,34 @@ impl SourceMapBuilder {
         let tokens = TokenList::sorted(tokens)?;
         Ok(SourceMap::of_parts(heading, tokens, names.into_texts(), sources, contents))
     }
+}
+
+// Loads contents into a list that is first cut or filled up to the sources, in a folder that is there.
+fn load_fitted<F: Files>(
+    rt: &F,
+    alloc: Global,
+    current_dir: &str,
+    base_path: Option<&str>,
+    sources: &[String],
+    contents: &mut Vec<Option<SourceView>>,
+) -> Result<usize>
+    requires { IsSome (folder_of current_dir.now (option_copied base_path)) }
+    ensures ok { OnOk result
+        (IsSomeAnd (folder_of current_dir.now (option_copied base_path.entry)) (λ folder.
+        Fills folder (map string_bytes sources.now)
+        (fitted (length sources.now) contents.old.items) contents.new.items)) }
+    ensures count { IfOk result (λ n. n ≡ newly (length sources.now)
+        (fitted (length sources.now) contents.old.items) contents.new.items) }
+    ensures err { OnErr result ((contents.new.items ≡ contents.old.items)
+        ⊎ IsSomeAnd (folder_of current_dir.now (option_copied base_path.entry)) (λ folder.
+        Fills folder (map string_bytes sources.now)
+        (fitted (length sources.now) contents.old.items) contents.new.items)) }
+    ensures memory { IsOkUnless result OutOfMemory }
+    ensures few { (vec_len contents.new ≡ vec_len contents.old)
+        ⊎ (vec_len contents.new ≡ length sources.now) }
+{
+    fit(contents, sources.len())?;
+    load_contents(rt, alloc, current_dir, base_path, sources, contents)
 }
 
 // The name of a token, if it is asked for.

@@ -1,9 +1,8 @@
 -- Rewritten, a Hermes map stays well-formed, and its tokens keep their scopes.
-use Rattle.std.proofs.Common.{◌≡◌, refl, sym, ap, subst, ◌∙◌, ℕ, zero, suc, ◌≤◌, List, [], ◌∷◌, length, map, Some, None, Option, Bool, true, false, Ok, Err, if◌then◌else◌, inl, inr, ◌⊎◌, arith, slice_get, option_map, option_and_then, IfSome}
+use Rattle.std.proofs.Common.{◌≡◌, refl, sym, ap, subst, ◌∙◌, ℕ, zero, suc, ◌≤◌, List, [], ◌∷◌, length, map, Some, None, Option, Ok, inl, inr, ◌⊎◌, arith, slice_get, option_map, option_and_then, IfSome}
 use Rattle.std.specs.List.{AllByRecursion, AllZip}
 use Rattle.std.proofs.lemmas.List.{length-map}
 use Rattle.std.proofs.lemmas.Option.{slice_get-map, slice_get_past}
-use Rattle.sourcemap_errors.specs.declared.errors.Error.TheVariants.{IncompatibleSourceMap}
 use Rattle.sourcemap_lists.specs.Interner.{id_of}
 use Rattle.sourcemap_lists.specs.declared.tokens.RawToken.{RawToken}
 use Rattle.sourcemap_lists.specs.Tokens.{destination, position_cmp, closest_token, IsWithin}
@@ -16,18 +15,18 @@ use Rattle.sourcemap_rewriting.specs.Numbering.{HasPlace, kept_of}
 use Rattle.sourcemap_rewriting.specs.declared.options.RewriteOptions.{RewriteOptions}
 use Rattle.sourcemap_rewriting.proofs.FirstIdsLemmas.{first_names}
 use Rattle.sourcemap_regular.specs.Map.{MapValue, IsWellFormed as IsWellFormedRegular, shown_sources, source_of, lookup, column_behind, distance}
-use Rattle.sourcemap_regular.specs.Rewrite.{Removal, removal_of, used_sources, number_in, first_ids, renumbered, rewritten as map_rewritten, rewrite_due as map_rewrite_due}
+use Rattle.sourcemap_regular.specs.Rewrite.{Removal, removal_of, used_sources, number_in, first_ids, renumbered, rewritten as map_rewritten}
 use Rattle.sourcemap_regular.specs.Token.{TokenValue, token_at}
-use Rattle.sourcemap_regular.proofs.RewriteLemmas.{sources_used, few_used_sources}
+use Rattle.sourcemap_regular.proofs.RewriteLemmas.{sources_used, few_used_sources, but_contents}
 use Rattle.sourcemap_regular.proofs.RewriteMeaning.{IsKept, all_tokens_kept}
 use Rattle.sourcemap_lists.specs.Items.{item_at}
 use Rattle.sourcemap_scopes.specs.Picks.{items_at}
 use Rattle.sourcemap_scopes.specs.ScopeLists.{EntryStandsFor, names_of}
-use Rattle.sourcemap_scopes.specs.SourceScopes.{SourceScopesValue, IsInOrderAt, scope_at, picked_scopes}
+use Rattle.sourcemap_scopes.specs.SourceScopes.{IsInOrderAt, scope_at}
 use Rattle.sourcemap_scopes.specs.FunctionMap.{AreOffsetsInOrder, closest_offset}
 use Rattle.sourcemap_scopes.proofs.SourceScopesLemmas.{picked_of_entries}
 use Rattle.sourcemap_hermes.specs.Map.{HermesValue, IsWellFormed, token_scope, function_name}
-use Rattle.sourcemap_hermes.specs.Rewrite.{rewritten, HasDistinctSources, scope_behind, IsInOrderOf, KeepsScopes}
+use Rattle.sourcemap_hermes.specs.Rewrite.{rewritten, Rewrites, HasDistinctSources, scope_behind, IsInOrderOf, KeepsScopes}
 
 -- Items that were picked.
 
@@ -218,15 +217,68 @@ module _ (removal : Removal) (h : HermesValue) (few : length h.map.sources ≤ 4
       in_order_at = stays_in_order_at;
     }
 
--- the map that a call answers, which rewrites the regular map and picks the scopes of first ids
-pub is-rewritten : (options : RewriteOptions) (h : HermesValue) (m : MapValue) (scopes : SourceScopesValue) (ids : List ℕ)
-    → map_rewrite_due options h.map ≡ Ok m → ids ≡ first_ids h.map → scopes ≡ picked_scopes h.scopes ids
-    → rewritten (removal_of options) h ≡ record { map = m; scopes = scopes }
-is-rewritten options h m scopes ids due are picked = by_case options.load_local_source_contents due
-  where
-    by_case : (b : Bool) → (if b then Err IncompatibleSourceMap else Ok (map_rewritten (removal_of options) h.map)) ≡ Ok m
-        → rewritten (removal_of options) h ≡ record { map = m; scopes = scopes }
-    by_case true due = cc
-    by_case false due =
-        let map : map_rewritten (removal_of options) h.map ≡ m = cc in
-        λ i. record { map = map i; scopes = (sym (picked ∙ ap (picked_scopes h.scopes) are)) i }
+-- With contents loaded.
+
+-- tokens have the same scopes whatever the contents are
+module _ (old new : HermesValue) (contents : List (Option (List ℕ))) where
+  abbrev other : HermesValue
+  other = record new { map = record new.map { contents = contents } }
+
+  same_scope_behind : (index behind : ℕ) → scope_behind new index behind ≡ scope_behind other index behind
+  same_scope_behind index behind = by_case (slice_get new.map.tokens index)
+    where
+      by_case : (o : Option RawToken)
+          → option_and_then (λ (t : TokenValue). token_scope new.scopes (record t { behind = behind })) (option_map (λ raw. record { map_of = new.map; raw = raw; index = index; behind = 0 }) o)
+          ≡ option_and_then (λ (t : TokenValue). token_scope new.scopes (record t { behind = behind })) (option_map (λ raw. record { map_of = other.map; raw = raw; index = index; behind = 0 }) o)
+      by_case None = refl
+      by_case (Some t) = refl
+
+  same_name : (offset : ℕ) → function_name new offset ≡ function_name other offset
+  same_name offset = by_case (closest_token new.map.tokens (0, offset))
+    where
+      by_case : (o : Option (ℕ × RawToken))
+          → option_and_then (token_scope new.scopes) (option_map (λ found. record { map_of = new.map; raw = found.1; index = found.0; behind = distance found.1 (0, offset) }) o)
+          ≡ option_and_then (token_scope new.scopes) (option_map (λ found. record { map_of = other.map; raw = found.1; index = found.0; behind = distance found.1 (0, offset) }) o)
+      by_case None = refl
+      by_case (Some found) = refl
+
+  in_order_too : (index : ℕ) → IsInOrderOf other (token_at other.map index) → IsInOrderOf new (token_at new.map index)
+  in_order_too index = by_case (slice_get new.map.tokens index)
+    where
+      by_case : (o : Option RawToken) → IsInOrderOf other (option_map (λ raw. record { map_of = other.map; raw = raw; index = index; behind = 0 }) o)
+          → IsInOrderOf new (option_map (λ raw. record { map_of = new.map; raw = raw; index = index; behind = 0 }) o)
+      by_case None is = tt
+      by_case (Some t) is = is
+
+  in_order_at_too : (p : ℕ × ℕ) → IsInOrderOf other (lookup other.map p) → IsInOrderOf new (lookup new.map p)
+  in_order_at_too p = by_case (closest_token new.map.tokens p)
+    where
+      by_case : (o : Option (ℕ × RawToken))
+          → IsInOrderOf other (option_map (λ found. record { map_of = other.map; raw = found.1; index = found.0; behind = distance found.1 p }) o)
+          → IsInOrderOf new (option_map (λ found. record { map_of = new.map; raw = found.1; index = found.0; behind = distance found.1 p }) o)
+      by_case None is = tt
+      by_case (Some found) is = is
+
+  scopes_whatever : KeepsScopes old other → KeepsScopes old new
+  scopes_whatever keeps = record {
+    scopes = λ index behind. same_scope_behind index behind ∙ keeps.scopes index behind;
+    names = λ offset. same_name offset ∙ keeps.names offset;
+    in_order = λ index is. in_order_too index (keeps.in_order index is);
+    in_order_at = λ p is. in_order_at_too p (keeps.in_order_at p is);
+  }
+
+module _ (options : RewriteOptions) (h new : HermesValue) (few : length h.map.sources ≤ 4294967295) (is : Rewrites options h (Ok new)) where
+  others : record new { map = record new.map { contents = (map_rewritten (removal_of options) h.map).contents } } ≡ rewritten (removal_of options) h
+  others = λ i. record { map = but_contents options h.map new.map is.0 i; scopes = is.1 i }
+
+  pub answer_well_formed : IsWellFormed h → IsWellFormedRegular new.map → IsWellFormed new
+  answer_well_formed well map_well =
+      let due : IsWellFormed (rewritten (removal_of options) h) =
+      well_rewritten (removal_of options) h few well (subst IsWellFormedRegular (but_contents options h.map new.map is.0) map_well) in
+      let back : IsWellFormed (record new { map = record new.map { contents = (map_rewritten (removal_of options) h.map).contents } }) = subst IsWellFormed (sym others) due in
+      record { map = map_well; few = back.few; of_entries = back.of_entries }
+
+  pub answer_keeps_scopes : IsWellFormed h → HasDistinctSources h → KeepsScopes h new
+  answer_keeps_scopes well distinct =
+      scopes_whatever h new (map_rewritten (removal_of options) h.map).contents
+      (subst (KeepsScopes h) (sym others) (keeps-scopes (removal_of options) h few well distinct))

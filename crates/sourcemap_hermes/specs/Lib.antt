@@ -3,3 +3,4 @@ pub mod Encode
 pub mod Equality
 pub mod Map
 pub mod Rewrite
+pub mod WithoutLoading

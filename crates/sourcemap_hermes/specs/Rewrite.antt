@@ -1,11 +1,10 @@
 -- A Hermes map rewritten: the regular map is, and the functions of sources go along.
-use Rattle.std.specs.Prelude.{◌≡◌, ℕ, List, Option, option_and_then, IfSome, Result, Ok, Err, if◌then◌else◌}
+use Rattle.std.specs.Prelude.{◌≡◌, ℕ, List, Option, option_and_then, IfSome, Result, Ok, Err}
 use Rattle.sourcemap_errors.specs.declared.errors.Error.{Error}
-use Rattle.sourcemap_errors.specs.declared.errors.Error.TheVariants.{IncompatibleSourceMap}
 use Rattle.sourcemap_lists.specs.Interner.{AreDistinct}
 use Rattle.sourcemap_rewriting.specs.declared.options.RewriteOptions.{RewriteOptions}
 use Rattle.sourcemap_regular.specs.Map.{TokenValue, shown_sources, lookup}
-use Rattle.sourcemap_regular.specs.Rewrite.{Removal, removal_of, first_ids, rewritten as map_rewritten}
+use Rattle.sourcemap_regular.specs.Rewrite.{Removal, LacksFolder, first_ids, rewritten as map_rewritten, Rewrites as MapRewrites}
 use Rattle.sourcemap_regular.specs.Token.{token_at}
 use Rattle.sourcemap_scopes.specs.SourceScopes.{IsInOrderAt, picked_scopes}
 use Rattle.sourcemap_hermes.specs.Map.{HermesValue, token_scope, function_name}
@@ -17,10 +16,10 @@ rewritten removal h = record {
   scopes = picked_scopes h.scopes (first_ids h.map);
 }
 
--- the map rewritten; options that ask for contents from files are refused
-abbrev pub rewrite_due : RewriteOptions → HermesValue → Result HermesValue Error
-rewrite_due options h =
-    if options.load_local_source_contents then Err IncompatibleSourceMap else Ok (rewritten (removal_of options) h)
+-- what a rewriting answers: its regular map is what a rewriting of the regular map answers, the scopes are as above
+abbrev pub Rewrites : RewriteOptions → HermesValue → Result HermesValue Error → Type 0
+Rewrites options h (Ok new) = MapRewrites options h.map (Ok new.map) × (new.scopes ≡ picked_scopes h.scopes (first_ids h.map))
+Rewrites options h (Err e) = LacksFolder options e
 
 -- no two sources are shown as one text
 abbrev pub HasDistinctSources : HermesValue → Type 0

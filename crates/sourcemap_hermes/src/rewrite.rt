@@ -1,11 +1,11 @@
 //! A Hermes map rewritten with what its tokens use alone.
 ghost use Rattle.std.specs.Prelude.{◌≡◌, ◌≤◌, IfOk, length};
-ghost use Rattle.sourcemap_errors.specs.Answer.{Gives};
+ghost use Rattle.sourcemap_errors.specs.Answer.{IsAnswer};
 ghost use Rattle.sourcemap_rewriting.specs.Options.{Removal, no_removal, removal_of};
 ghost use Rattle.sourcemap_regular.specs.Map.{MeansTheSame};
 ghost use Rattle.sourcemap_regular.specs.Rewrite.{LeavesMeaning, MeansLess, SaysLess};
 ghost use Rattle.sourcemap_hermes.specs.Map.{HermesValue, IsWellFormed, hermes_value};
-ghost use Rattle.sourcemap_hermes.specs.Rewrite.{HasDistinctSources, KeepsScopes, rewrite_due, rewritten};
+ghost use Rattle.sourcemap_hermes.specs.Rewrite.{HasDistinctSources, KeepsScopes, Rewrites, rewritten};
 
 use crate::map::SourceMapHermes;
 use sourcemap_errors::errors::Result;
@@ -16,10 +16,13 @@ impl SourceMapHermes {
     /// The map with each source and each name that a token uses once, as by `rewrite` of its
     /// regular map. A source has the scopes that stood by the first of its old ids, in the order
     /// in which tokens use them, and none where that id had none; they are moved. Where no two
-    /// sources were shown as one text, each token keeps its scope. `IncompatibleSourceMap` if
-    /// contents are to be read from files, else only `OutOfMemory`.
+    /// sources were shown as one text, each token keeps its scope.
+    ///
+    /// With `load_local_source_contents`, sources that have no contents then are read from files,
+    /// as by `rewrite` of the regular map. Returns `Io` of kind `InvalidInput` if the folder is not
+    /// absolute, else `OutOfMemory` only.
     pub fn rewrite<F: Files>(self, rt: &F, options: &RewriteOptions<'_>) -> Result<SourceMapHermes>
-        ensures value { Gives hermes_value result (rewrite_due options.now (hermes_value self)) }
+        ensures value { IsAnswer hermes_value (Rewrites options.now (hermes_value self)) result }
         // It answers at each position as before, less what the options take away.
         ensures meaning { IfOk result (λ h. MeansLess (removal_of options.now)
             (hermes_value self).map (hermes_value h).map) }

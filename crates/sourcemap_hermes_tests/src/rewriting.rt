@@ -130,12 +130,12 @@ fn functions_stay_where_prefixes_are_cut(rt: HostRuntime) {
 }
 
 #[test]
-fn files_are_not_read(rt: HostRuntime) {
+fn a_folder_is_needed_to_load_contents(rt: HostRuntime) {
     let options = RewriteOptions {
         load_local_source_contents: true,
         ..RewriteOptions::default()
     };
-    let want = "encountered incompatible sourcemap format";
+    let want = "invalid input parameter";
     check(
         &rt,
         want,

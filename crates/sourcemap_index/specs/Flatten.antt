@@ -3,7 +3,7 @@ use Rattle.std.specs.Prelude.{◌≡◌, ℕ, List, Option, Some, None, IfSome, 
 use Rattle.sourcemap_errors.specs.declared.errors.Error.{Error}
 use Rattle.sourcemap_records.specs.Jsontypes.{Place}
 use Rattle.sourcemap_regular.specs.Map.{MapValue, meaning as meaning_regular}
-use Rattle.sourcemap_regular.specs.Rewrite.{Removal, rewrite_due, taken_away, SaysLess}
+use Rattle.sourcemap_regular.specs.Rewrite.{Removal, Rewrites, taken_away, SaysLess}
 use Rattle.sourcemap_trees.specs.Decode.{Then}
 use Rattle.sourcemap_trees.specs.MapTree.{MapTree, MapSection, offset_of}
 use Rattle.sourcemap_trees.specs.Meaning.{meaning}
@@ -40,9 +40,9 @@ IsSectionInOrder s = IfSome s.map HasTokensInOrder
 
 -- Made flat, and then rewritten.
 
--- the fault of the one, or what the other makes of the flat map
+-- the error of the one, or what a rewriting of the flat map answers
 abbrev pub RewriteAnswer : RewriteOptions → MapTree → Result MapValue Error → Type 0
-RewriteAnswer options t answer = Then (FlatAnswer t) (λ m a. a ≡ rewrite_due options m) answer
+RewriteAnswer options t answer = Then (FlatAnswer t) (λ m a. Rewrites options m a) answer
 
 -- token by token the map says what the flat map says, less what is taken away
 abbrev pub SaysFlatLess : Removal → MapTree → MapValue → Type 0

@@ -43,8 +43,10 @@ impl SourceMapIndex {
         flat.into_map(self.alloc, self.get_file())
     }
 
-    /// The flat map, rewritten: as by `flatten`, and then as by `SourceMap::rewrite`. The faults of
-    /// `flatten` come first, then those of `rewrite`.
+    /// The flat map, rewritten: as by `flatten`, and then as by `SourceMap::rewrite`, which with
+    /// `load_local_source_contents` reads sources that have no contents then from files. Returns
+    /// the errors of `flatten` first, then those of `rewrite`: `Io` of kind `InvalidInput` if
+    /// contents are to be loaded and the folder is not absolute, else `OutOfMemory` only.
     pub fn flatten_and_rewrite<F: Files>(
         self,
         rt: &F,

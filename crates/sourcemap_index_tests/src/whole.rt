@@ -131,8 +131,8 @@ fn flat_rewritten<F: Files>(
 const UNUSED: &str =
     r#"{"sections":[{"offset":{"line":0,"column":0},"map":{"sources":["x.js","a.js"],"sourcesContent":["x","y"],"mappings":"ACAA"}}]}"#;
 
-// An index, whether names are kept, whether contents are read from files, and its flat map rewritten
-// or the fault.
+// An index, whether names are kept, whether contents are loaded from files, and its flat map
+// rewritten or the error.
 static REWRITTEN: [(&str, bool, bool, &str); 6] = [
     (
         TWO,
@@ -158,14 +158,14 @@ static REWRITTEN: [(&str, bool, bool, &str); 6] = [
         false,
         r#"{"file":"f","mappings":";;IAAA;AAAA","names":[],"sources":["r/a.js"],"sourcesContent":["x"],"version":3}"#,
     ),
-    // A fault of the flat map comes before that of the options.
+    // The error of the flat map comes before that of the options.
     (
         LINKED,
         true,
         true,
         "cannot flatten the indexed sourcemap: Section has an unresolved sourcemap: u",
     ),
-    (TWO, true, true, "encountered incompatible sourcemap format"),
+    (TWO, true, true, "invalid input parameter"),
 ];
 
 #[test]

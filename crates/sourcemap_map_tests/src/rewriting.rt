@@ -160,14 +160,25 @@ fn names_and_contents_are_left_out(rt: HostRuntime) {
     }
 }
 
+// A current directory and a base path that make no absolute folder.
+static RELATIVE: [(Option<&str>, Option<&str>); 3] = [
+    (None, None),
+    (None, Some("src")),
+    (Some("work"), Some("./src")),
+];
+
 #[test]
-fn files_are_not_read(rt: HostRuntime) {
-    let options = RewriteOptions {
-        load_local_source_contents: true,
-        ..RewriteOptions::default()
-    };
-    let want = "encountered incompatible sourcemap format";
-    check(&rt, want, rewritten(&rt, rt.alloc(), PATHS, &options), want);
+fn contents_are_loaded_from_absolute_folders_alone(rt: HostRuntime) {
+    let want = "invalid input parameter";
+    for (current_dir, base_path) in RELATIVE.iter() {
+        let options = RewriteOptions {
+            load_local_source_contents: true,
+            current_dir: *current_dir,
+            base_path: *base_path,
+            ..RewriteOptions::default()
+        };
+        check(&rt, want, rewritten(&rt, rt.alloc(), PATHS, &options), want);
+    }
 }
 
 // What a row is about, a map, and the ids that the sources of the map rewritten by default had in it.

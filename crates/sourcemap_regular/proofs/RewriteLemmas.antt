@@ -1,5 +1,5 @@
 -- The parts of a map that is rewritten, as its definition has them.
-use Rattle.std.proofs.Common.{◌≡◌, refl, ap, subst, ◌∙◌, ℕ, ◌≤◌, List, [], ◌∷◌, length, map, Bool, true, false, cond, Some, None, Option, arith, slice_get}
+use Rattle.std.proofs.Common.{◌≡◌, refl, sym, ap, subst, ◌∙◌, ℕ, ◌≤◌, List, [], ◌∷◌, length, map, Bool, true, false, cond, MatchBool, Ok, Some, None, Option, arith, slice_get}
 use Rattle.std.proofs.lemmas.List.{length-map}
 use Rattle.sourcemap_lists.specs.declared.tokens.RawToken.{RawToken}
 use Rattle.sourcemap_parts.specs.Sources.{shown}
@@ -10,7 +10,8 @@ use Rattle.sourcemap_rewriting.specs.Rewritten.{AreRewritten}
 use Rattle.sourcemap_rewriting.specs.declared.rewritten.RewrittenParts.{RewrittenParts}
 use Rattle.sourcemap_rewriting.proofs.NumberingLemmas.{kept_once-few}
 use Rattle.sourcemap_regular.specs.Map.{MapValue, shown_sources, source_of}
-use Rattle.sourcemap_regular.specs.Rewrite.{Removal, present, kept_once, number_in, used_sources, used_names, kept_names, contents_for, cuts, renumbered, rewritten}
+use Rattle.sourcemap_rewriting.specs.declared.options.RewriteOptions.{RewriteOptions}
+use Rattle.sourcemap_regular.specs.Rewrite.{Removal, removal_of, present, kept_once, number_in, used_sources, used_names, kept_names, contents_for, contents_before, cuts, renumbered, rewritten, AreLoaded, IsLoaded, Rewrites, SameButContents}
 
 -- The parts as the definition has them.
 
@@ -63,21 +64,50 @@ module _ (m : MapValue) (removal : Removal) where
         ∙ number_in-if removal.with_names (used_names m) m.names t.name_id) i;
   }
 
-  module _ (p : RewrittenParts) (S N paths : List (List ℕ)) (same_sources : S ≡ shown_sources m) (same_names : N ≡ cond removal.with_names m.names [])
-      (same_paths : paths ≡ m.sources) (are : AreRewritten S N paths m.contents removal m.tokens p) where
-    due : AreRewritten (shown_sources m) (cond removal.with_names m.names []) m.sources m.contents removal m.tokens p
-    due = subst (λ xs. AreRewritten (shown_sources m) (cond removal.with_names m.names []) xs m.contents removal m.tokens p) same_paths
-        (subst (λ xs. AreRewritten (shown_sources m) xs paths m.contents removal m.tokens p) same_names
-        (subst (λ xs. AreRewritten xs N paths m.contents removal m.tokens p) same_sources are))
+module _ (m : MapValue) (options : RewriteOptions) where
+  module _ (p : RewrittenParts) (S N paths : List (List ℕ)) (same_sources : S ≡ shown_sources m) (same_names : N ≡ cond options.with_names m.names [])
+      (same_paths : paths ≡ m.sources) (are : AreRewritten S N paths m.contents options m.tokens p) where
+    due : AreRewritten (shown_sources m) (cond options.with_names m.names []) m.sources m.contents options m.tokens p
+    due = subst (λ xs. AreRewritten (shown_sources m) (cond options.with_names m.names []) xs m.contents options m.tokens p) same_paths
+        (subst (λ xs. AreRewritten (shown_sources m) xs paths m.contents options m.tokens p) same_names
+        (subst (λ xs. AreRewritten xs N paths m.contents options m.tokens p) same_sources are))
 
-    pub tokens-rewritten : p.tokens ≡ (rewritten removal m).tokens
-    tokens-rewritten = due.tokens_due ∙ (λ i. map (λ t. same_numbers t i) m.tokens)
+    pub tokens-rewritten : p.tokens ≡ (rewritten (removal_of options) m).tokens
+    tokens-rewritten = due.tokens_due ∙ (λ i. map (λ t. same_numbers m (removal_of options) t i) m.tokens)
 
-    pub names-rewritten : texts_of p.names ≡ (rewritten removal m).names
-    names-rewritten = due.names_due ∙ names_kept
+    pub names-rewritten : texts_of p.names ≡ (rewritten (removal_of options) m).names
+    names-rewritten = due.names_due ∙ names_kept m (removal_of options)
 
-    pub sources-rewritten : texts_of p.sources ≡ (rewritten removal m).sources
-    sources-rewritten = due.sources_due ∙ ap (map (cut_by (cuts removal m))) sources_used
+    pub sources-rewritten : texts_of p.sources ≡ (rewritten (removal_of options) m).sources
+    sources-rewritten = due.sources_due ∙ ap (map (cut_by (cuts (removal_of options) m))) (sources_used m (removal_of options))
 
-    pub contents-rewritten : p.contents.items ≡ (rewritten removal m).contents
-    contents-rewritten = due.contents_kept ∙ ap (λ kept. cond removal.with_contents (map (contents_for m) kept) []) sources_used
+    contents-due : MatchBool options.load_local_source_contents
+        (AreLoaded options (used_sources m) (contents_before (removal_of options) m) p.contents.items)
+        (p.contents.items ≡ (rewritten (removal_of options) m).contents)
+    contents-due = subst (λ used. MatchBool options.load_local_source_contents
+        (AreLoaded options used (map (λ text. cond options.with_source_contents (contents_for m text) None) used) p.contents.items)
+        (p.contents.items ≡ cond options.with_source_contents (map (contents_for m) used) []))
+        (sources_used m (removal_of options)) due.contents_given
+
+    -- the map of these parts is the one rewritten, or differs from it in the contents that were loaded
+    pub is-rewritten : (new : MapValue) → new.contents ≡ p.contents.items → SameButContents new (rewritten (removal_of options) m)
+        → Rewrites options m (Ok new)
+    is-rewritten new given others =
+        by_case options.load_local_source_contents
+        (subst (λ contents. MatchBool options.load_local_source_contents
+        (AreLoaded options (used_sources m) (contents_before (removal_of options) m) contents)
+        (contents ≡ (rewritten (removal_of options) m).contents)) (sym given) contents-due)
+      where
+        by_case : (b : Bool) → MatchBool b (AreLoaded options (used_sources m) (contents_before (removal_of options) m) new.contents)
+            (new.contents ≡ (rewritten (removal_of options) m).contents)
+            → MatchBool b (IsLoaded options m new) (new ≡ rewritten (removal_of options) m)
+        by_case true loaded = record { others = others; contents = loaded }
+        by_case false same = (λ i. record new { contents = same i }) ∙ others
+
+-- the answer differs from the map rewritten in contents alone
+pub but_contents : (options : RewriteOptions) (m new : MapValue) → Rewrites options m (Ok new) → SameButContents new (rewritten (removal_of options) m)
+but_contents options m new = by_case options.load_local_source_contents
+  where
+    by_case : (b : Bool) → MatchBool b (IsLoaded options m new) (new ≡ rewritten (removal_of options) m) → SameButContents new (rewritten (removal_of options) m)
+    by_case true is = is.others
+    by_case false is = (λ i. record new { contents = ap (λ (n : MapValue). n.contents) (sym is) i }) ∙ is

@@ -1,5 +1,5 @@
 -- What a map that is rewritten means.
-use Rattle.std.proofs.Common.{◌≡◌, refl, sym, ap, subst, ◌∙◌, ℕ, zero, suc, ◌≤◌, List, [], ◌∷◌, length, map, Bool, true, false, cond, Some, None, Option, arith, slice_get, option_map, find}
+use Rattle.std.proofs.Common.{Ok, ◌≡◌, refl, sym, ap, subst, ◌∙◌, ℕ, zero, suc, ◌≤◌, List, [], ◌∷◌, length, map, Bool, true, false, cond, Some, None, Option, arith, slice_get, option_map, find}
 use Rattle.std.specs.List.{AllByRecursion}
 use Rattle.std.specs.Option.{option_or}
 use Rattle.std.specs.Ordering.{is_lt, is_eq}
@@ -16,11 +16,12 @@ use Rattle.sourcemap_texts.specs.Prefixes.{cut_by}
 use Rattle.sourcemap_regular.specs.Map.{MapValue, Meaning, IsWellFormed, shown_sources, source_of, name_of, meaning, meaning_of, MeansTheSame, distance, column_behind}
 use Rattle.sourcemap_parts.specs.Sources.{shown}
 use Rattle.sourcemap_rewriting.specs.Numbering.{HasPlace}
-use Rattle.sourcemap_regular.specs.Rewrite.{Removal, number_in, used_sources, used_names, kept_names, cuts, renumbered, rewritten, taken_away, all_prefixes, LeavesMeaning, MeansLess, SaysLess}
+use Rattle.sourcemap_rewriting.specs.declared.options.RewriteOptions.{RewriteOptions}
+use Rattle.sourcemap_regular.specs.Rewrite.{Removal, removal_of, number_in, used_sources, used_names, kept_names, cuts, renumbered, rewritten, taken_away, all_prefixes, LeavesMeaning, MeansLess, Rewrites, SameButContents, SaysLess}
 use Rattle.sourcemap_parts.proofs.SourcesLemmas.{map-shown_behind_nothing}
 use Rattle.sourcemap_rewriting.proofs.NumberingLemmas.{used-kept, slice_get-number_in}
 use Rattle.sourcemap_regular.proofs.MapLemmas.{of_item, meaning-item}
-use Rattle.sourcemap_regular.proofs.RewriteLemmas.{few_used_sources, few_used_names}
+use Rattle.sourcemap_regular.proofs.RewriteLemmas.{few_used_sources, few_used_names, but_contents}
 
 -- a token whose texts are kept
 abbrev pub IsKept : MapValue → RawToken → Type 0
@@ -183,3 +184,26 @@ nothing-taken removal m (names, prefixes) (Some says) = ap Some (λ i. record {
 
 pub means_the_same : (m new : MapValue) (removal : Removal) → LeavesMeaning removal → MeansLess removal m new → MeansTheSame new m
 means_the_same m new removal leaves less p = less p ∙ nothing-taken removal m leaves (meaning m p)
+
+-- With contents loaded.
+
+-- a map means the same with other contents
+with_contents : (m : MapValue) (contents : List (Option (List ℕ))) (p : ℕ × ℕ) → meaning (record m { contents = contents }) p ≡ meaning m p
+unfolding of_item
+with_contents m contents p = meaning-item (record m { contents = contents }) p ∙ sym (meaning-item m p)
+
+module _ (options : RewriteOptions) (m new : MapValue) (few_sources : length m.sources ≤ 4294967295) (few_names : length m.names ≤ 4294967295)
+    (is : Rewrites options m (Ok new)) where
+  others : SameButContents new (rewritten (removal_of options) m)
+  others = but_contents options m new is
+
+  pub answer_means_less : MeansLess (removal_of options) m new
+  answer_means_less p =
+      sym (with_contents new (rewritten (removal_of options) m).contents p)
+      ∙ ap (λ n. meaning n p) others ∙ means_less m (removal_of options) few_sources few_names p
+
+  pub answer_says_less : SaysLess (removal_of options) m new
+  answer_says_less = subst (SaysLess (removal_of options) m) (sym others) (all_say_less m (removal_of options) few_sources few_names)
+
+  pub answer_well_formed : IsWellFormed m → IsWellFormed new
+  answer_well_formed well = subst IsWellFormed (sym others) (well_rewritten m (removal_of options) few_sources few_names well)

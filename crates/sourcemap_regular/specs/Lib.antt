@@ -11,3 +11,4 @@ pub mod Token
 pub mod TokenOrder
 pub mod Write
 pub mod Walk
+pub mod WithoutLoading

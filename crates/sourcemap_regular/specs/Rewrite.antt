@@ -1,9 +1,8 @@
 -- A map rewritten: what no token uses falls away, with the root and the ignore list, and what the
--- options take.
-use Rattle.std.specs.Prelude.{length, ◌≤◌, ◌≡◌, ℕ, true, cond, List, [], map, slice_get, Option, None, option_map, option_and_then, Result, Ok, Err, if◌then◌else◌}
+-- options take. Sources without contents may get those of files.
+use Rattle.std.specs.Prelude.{length, ◌≤◌, ◌≡◌, ℕ, true, cond, MatchBool, List, [], map, slice_get, Option, None, option_map, option_and_then, Result, Ok, Err}
 use Rattle.std.specs.Str.{bytes_eq}
 use Rattle.sourcemap_errors.specs.declared.errors.Error.{Error}
-use Rattle.sourcemap_errors.specs.declared.errors.Error.TheVariants.{IncompatibleSourceMap}
 use Rattle.sourcemap_lists.specs.declared.tokens.RawToken.{RawToken}
 use Rattle.sourcemap_lists.specs.Tokens.{destination}
 use Rattle.sourcemap_texts.specs.Prefixes.{cut_by}
@@ -12,7 +11,8 @@ use Rattle.sourcemap_regular.specs.Map.{MapValue, Meaning, shown_sources, source
 pub use Rattle.sourcemap_rewriting.specs.CutSources.{common_if, all_prefixes}
 pub use Rattle.sourcemap_rewriting.specs.FirstIds.{firsts_of}
 pub use Rattle.sourcemap_rewriting.specs.Kept.{present, kept_once, number_in}
-pub use Rattle.sourcemap_rewriting.specs.Options.{Removal, removal_of, IsDefault, no_removal}
+pub use Rattle.sourcemap_rewriting.specs.Loaded.{AreLoaded, LacksFolder}
+pub use Rattle.sourcemap_rewriting.specs.Options.{Removal, removal_of, IsDefault, no_removal, folder_asked}
 
 -- What is kept.
 
@@ -63,10 +63,26 @@ rewritten removal m = record {
   debug_id = m.debug_id;
 }
 
--- the map rewritten; options that ask for contents from files are refused
-abbrev pub rewrite_due : RewriteOptions → MapValue → Result MapValue Error
-rewrite_due options m =
-    if options.load_local_source_contents then Err IncompatibleSourceMap else Ok (rewritten (removal_of options) m)
+-- What a rewriting answers.
+
+-- two maps differ in contents alone, if at all
+abbrev pub SameButContents : (m n : MapValue) → Type 0
+SameButContents m n = record m { contents = n.contents } ≡ n
+
+-- the contents of the sources in use before any are loaded: those that are kept, and none for the other sources
+abbrev pub contents_before : Removal → MapValue → List (Option (List ℕ))
+contents_before removal m = map (λ text. cond removal.with_contents (contents_for m text) None) (used_sources m)
+
+-- the map rewritten, in which only sources without contents may have got those of a file
+pub record IsLoaded (options : RewriteOptions) (m new : MapValue) : Type 0 where
+  pub others : SameButContents new (rewritten (removal_of options) m)
+  pub contents : AreLoaded options (used_sources m) (contents_before (removal_of options) m) new.contents
+
+-- the map rewritten, with contents loaded if that is asked; an error if they are to be loaded and there is no folder
+abbrev pub Rewrites : RewriteOptions → MapValue → Result MapValue Error → Type 0
+Rewrites options m (Ok new) =
+    MatchBool options.load_local_source_contents (IsLoaded options m new) (new ≡ rewritten (removal_of options) m)
+Rewrites options m (Err e) = LacksFolder options e
 
 -- What it means.
 

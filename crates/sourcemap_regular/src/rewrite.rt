@@ -1,7 +1,7 @@
 //! A map rewritten with what its tokens use alone.
-ghost use Rattle.std.specs.Prelude.{◌≡◌, Ok, IfOk, nat_eq};
+ghost use Rattle.std.specs.Prelude.{◌≡◌, IfOk, nat_eq};
 ghost use Rattle.std.specs.List.{IsDistinct};
-ghost use Rattle.sourcemap_errors.specs.Answer.{Gives};
+ghost use Rattle.sourcemap_errors.specs.Answer.{IsAnswer};
 ghost use Rattle.sourcemap_rewriting.specs.Options.{IsDefault, no_removal, removal_of};
 ghost use Rattle.sourcemap_rewriting.specs.declared.options.RewriteOptions.{RewriteOptions};
 ghost use Rattle.sourcemap_regular.specs.Map.{MapValue};
@@ -9,7 +9,7 @@ ghost use Rattle.sourcemap_regular.specs.Rewrite.{IsFinal};
 
 use crate::map::SourceMap;
 use sourcemap_conversions::parts::Parts;
-use sourcemap_errors::errors::{Error, Result};
+use sourcemap_errors::errors::Result;
 use sourcemap_parts::contents::Contents;
 use sourcemap_parts::sources::Sources;
 pub use sourcemap_rewriting::options::RewriteOptions;
@@ -18,16 +18,21 @@ use std::rt::Files;
 
 impl SourceMap {
     ghost use Rattle.sourcemap_regular.specs.Map.{IsWellFormed, MeansTheSame};
-    ghost use Rattle.sourcemap_regular.specs.Rewrite.{first_ids, rewrite_due, rewritten, LeavesMeaning, MeansLess, SaysLess};
+    ghost use Rattle.sourcemap_regular.specs.Rewrite.{first_ids, LeavesMeaning, MeansLess, Rewrites, SaysLess};
 
     /// The map with each source and each name that a token uses once, in the order in which tokens
     /// first use them. Sources are as they are shown behind the root, and the map has no root then.
     /// A source has the contents of the first token whose source has this text and some contents.
-    /// The file and the debug id stay, and no source is passed over. Names and contents are left
-    /// out, and prefixes of sources cut, as the options say. `IncompatibleSourceMap` if contents
-    /// are to be read from files, else only `OutOfMemory`.
+    /// The file and the debug id stay, and the ignore list is empty. Names and contents are left
+    /// out, and prefixes of sources cut, as the options say.
+    ///
+    /// With `load_local_source_contents`, sources that have no contents then are read from files:
+    /// the text of a source, before any prefix is cut, is resolved against the URL of the folder,
+    /// which is `base_path` after `current_dir`; an absolute `base_path` replaces that. Files that
+    /// cannot be read or are not UTF-8 are skipped. Returns `Io` of kind `InvalidInput` if the
+    /// folder is not absolute, else `OutOfMemory` only.
     pub fn rewrite<F: Files>(self, rt: &F, options: &RewriteOptions<'_>) -> Result<SourceMap>
-        ensures value { Gives (λ m. m) result (rewrite_due options.now self) }
+        ensures value { IsAnswer (λ m. m) (Rewrites options.now self) result }
         // It answers at each position as before, less what the options take away.
         ensures meaning { IfOk result (λ m. MeansLess (removal_of options.now) self m) }
         ensures tokens { IfOk result (λ m. SaysLess (removal_of options.now) self m) }
@@ -42,13 +47,13 @@ impl SourceMap {
     }
 
     /// The same map, and by id of its sources the ids that these had: of each the one by which a
-    /// token first uses its text. The faults are those of `rewrite`.
+    /// token first uses its text. The errors are those of `rewrite`.
     pub fn rewrite_with_ids<F: Files>(
         self,
-        _rt: &F,
+        rt: &F,
         options: &RewriteOptions<'_>,
     ) -> Result<(SourceMap, Vec<u32>)>
-        ensures value { Gives (λ new. new.0) result (rewrite_due options.now self) }
+        ensures value { IsAnswer (λ new. new.0) (Rewrites options.now self) result }
         ensures ids { IfOk result (λ new. new.1.items ≡ first_ids self) }
         ensures distinct { IfOk result (λ new. IsDistinct nat_eq new.1.items) }
         ensures meaning { IfOk result (λ new. MeansLess (removal_of options.now) self new.0) }
@@ -59,17 +64,18 @@ impl SourceMap {
     {
         // for the prover: there are at most 4294967295 sources
         let _ = self.sources.len();
-        if options.load_local_source_contents {
-            return Err(Error::IncompatibleSourceMap);
-        }
         // in two steps for the prover: what a call answers is known behind its `?`
-        let new = self.rewritten(options)?;
+        let new = self.rewritten(rt, options)?;
         Ok(new)
     }
 
-    // The map rewritten, without contents from files, and the ids that its sources had.
-    fn rewritten(self, options: &RewriteOptions<'_>) -> Result<(SourceMap, Vec<u32>)>
-        ensures value { Gives (λ new. new.0) result (Ok (rewritten (removal_of options.now) self)) }
+    // The map rewritten, and the ids that its sources had.
+    fn rewritten<F: Files>(
+        self,
+        rt: &F,
+        options: &RewriteOptions<'_>,
+    ) -> Result<(SourceMap, Vec<u32>)>
+        ensures value { IsAnswer (λ new. new.0) (Rewrites options.now self) result }
         ensures ids { IfOk result (λ new. new.1.items ≡ first_ids self) }
     {
         let alloc = self.allocator();
@@ -83,7 +89,7 @@ impl SourceMap {
         let names = names_if(alloc, names, options.with_names);
         let (sources, shown) = sources.into_lists();
         let contents = contents.into_views();
-        let parts = rewritten_parts(alloc, tokens, sources, shown, names, contents, options)?;
+        let parts = rewritten_parts(rt, alloc, tokens, sources, shown, names, contents, options)?;
         let RewrittenParts {
             tokens,
             names,

@@ -1,7 +1,7 @@
 -- The parts of a map that is rewritten.
-use Rattle.std.proofs.Common.{◌≡◌, ◌≢◌, refl, sym, ap, ◌∙◌, ℕ, suc, ◌<◌, ◌≤◌, ◌==◌, List, [], ◌∷◌, length, map, get_or, Bool, true, false, cond, Some, None, Option, arith, inl, inr, ◌⊎◌, slice_get, eqb-true, eq-eqb, option_map, option_and_then, MatchBool, Result, Ok, string_bytes, String, Vec, vec_len, subst}
+use Rattle.std.proofs.Common.{◌≡◌, ◌≢◌, refl, sym, ap, ◌∙◌, ℕ, suc, ◌<◌, ◌≤◌, ◌==◌, List, [], ◌∷◌, length, map, get_or, Bool, true, false, cond, Some, None, Option, arith, inl, inr, ◌⊎◌, slice_get, eqb-true, eq-eqb, option_map, option_and_then, MatchBool, replicate, Result, Ok, string_bytes, String, Vec, vec_len, subst}
 use Rattle.std.specs.List.{AllByRecursion}
-use Rattle.std.specs.Option.{option_or}
+use Rattle.std.specs.Option.{option_or, IsSomeAnd}
 use Rattle.std.specs.Str.{bytes_eq}
 use Rattle.std.specs.declared.alloc.Global.{Global}
 use Rattle.std.proofs.lemmas.Bool.{cases_eq}
@@ -9,18 +9,21 @@ use Rattle.std.proofs.lemmas.List.{length-map}
 use Rattle.std.proofs.lemmas.Option.{slice_get-map, slice_get-get_or, slice_get_within}
 use Rattle.std.proofs.lemmas.Slice.Eq.{bytes_eq-Decides}
 use Rattle.sourcemap_errors.specs.declared.errors.Error.{Error}
+use Rattle.sourcemap_files.specs.Loading.{Fills}
 use Rattle.sourcemap_lists.specs.declared.tokens.RawToken.{RawToken}
 use Rattle.sourcemap_lists.specs.Interner.{id_of, AreDistinct}
 use Rattle.sourcemap_lists.proofs.InternerLemmas.{slice_get-id_of}
 use Rattle.sourcemap_texts.specs.Texts.{texts_of}
 use Rattle.sourcemap_texts.specs.Prefixes.{cut_by}
 use Rattle.sourcemap_rewriting.specs.CutSources.{all_prefixes}
-use Rattle.sourcemap_rewriting.specs.Options.{Removal}
+use Rattle.sourcemap_rewriting.specs.Options.{removal_of, folder_asked}
+use Rattle.sourcemap_rewriting.specs.Loaded.{AreLoaded, AreGiven, AreGivenAndLoaded}
 use Rattle.sourcemap_rewriting.specs.Kept.{present}
 use Rattle.sourcemap_rewriting.specs.Numbering.{first_some, met_texts, IsMet, AreNumbered, AreMet}
 use Rattle.sourcemap_lists.specs.Items.{item_at}
 use Rattle.sourcemap_rewriting.specs.KeptContents.{given_to, IsPlaced, AreKept}
-use Rattle.sourcemap_rewriting.specs.Rewritten.{contents_among, contents_due, sources_used, names_used, AreFew, AreRewritten}
+use Rattle.sourcemap_rewriting.specs.Rewritten.{contents_among, contents_due, contents_before, AreContentsDue, sources_used, names_used, AreFew, AreRewritten}
+use Rattle.sourcemap_rewriting.specs.declared.options.RewriteOptions.{RewriteOptions}
 use Rattle.sourcemap_rewriting.specs.declared.rewritten.RewrittenParts.{RewrittenParts}
 use Rattle.sourcemap_rewriting.specs.declared.numbering.NewNumbers.{NewNumbers}
 use Rattle.sourcemap_lists.proofs.AllLemmas.{All-weaker}
@@ -116,11 +119,51 @@ contents-kept S N ts s n contents kept met numbered are =
         ∙ sym (first_present (contents_among S contents text) ts)
         ∙ sym due
 
-pub contents-kept_if : (b : Bool) (S N : List (List ℕ)) (ts : List RawToken) (s n : NewNumbers) (contents kept : List (Option (List ℕ)))
+contents-kept_if : (b : Bool) (S N : List (List ℕ)) (ts : List RawToken) (s n : NewNumbers) (contents kept : List (Option (List ℕ)))
     → AreMet S N ts s n → AreNumbered S s → MatchBool b (AreKept s.numbers.items s.order.items contents (length (met_texts S s)) kept) (kept ≡ [])
     → kept ≡ cond b (map (contents_due S contents ts) (met_texts S s)) []
 contents-kept_if true S N ts s n contents kept met numbered are = contents-kept S N ts s n contents kept met numbered are
 contents-kept_if false S N ts s n contents kept met numbered none = none
+
+-- Before any contents are loaded.
+
+nothing-each : (f : List ℕ → Option (List ℕ)) (texts : List (List ℕ)) → replicate (length texts) None ≡ map (λ text. cond false (f text) None) texts
+nothing-each f [] = refl
+nothing-each f (text ∷ texts) = ap (λ rest. None ∷ rest) (nothing-each f texts)
+
+given-each : (b : Bool) (S N : List (List ℕ)) (ts : List RawToken) (s n : NewNumbers) (contents given : List (Option (List ℕ)))
+    → AreMet S N ts s n → AreNumbered S s → AreGiven b s.numbers.items s.order.items contents (length (met_texts S s)) given
+    → given ≡ map (λ text. cond b (contents_due S contents ts text) None) (met_texts S s)
+given-each true S N ts s n contents given met numbered are = contents-kept S N ts s n contents given met numbered are
+given-each false S N ts s n contents given met numbered none = none ∙ nothing-each (contents_due S contents ts) (met_texts S s)
+
+-- what a call answers for texts that were met
+abbrev AreAnswered : RewriteOptions → NewNumbers → List (Option (List ℕ)) → List (List ℕ) → ℕ → (after : List (Option (List ℕ))) → Type 0
+AreAnswered options s contents texts count after =
+    MatchBool options.load_local_source_contents
+    (AreGivenAndLoaded options texts s.numbers.items s.order.items contents count after)
+    (MatchBool options.with_source_contents (AreKept s.numbers.items s.order.items contents count after) (after ≡ []))
+
+pub contents-given : (options : RewriteOptions) (S N : List (List ℕ)) (ts : List RawToken) (s n : NewNumbers) (contents : List (Option (List ℕ))) (texts : List (List ℕ))
+    (count : ℕ) (after : List (Option (List ℕ))) → AreMet S N ts s n → AreNumbered S s → texts ≡ met_texts S s → count ≡ length (met_texts S s)
+    → AreAnswered options s contents texts count after → AreContentsDue options S contents ts after
+contents-given options S N ts s n contents texts count after met numbered same many answered =
+    by_case options.load_local_source_contents
+    (subst (λ k. AreAnswered options s contents (met_texts S s) k after) many
+    (subst (λ xs. AreAnswered options s contents xs count after) same answered))
+  where
+    by_case : (b : Bool)
+        → MatchBool b (AreGivenAndLoaded options (met_texts S s) s.numbers.items s.order.items contents (length (met_texts S s)) after)
+        (MatchBool options.with_source_contents (AreKept s.numbers.items s.order.items contents (length (met_texts S s)) after) (after ≡ []))
+        → MatchBool b (AreLoaded options (sources_used S ts) (contents_before (removal_of options) S contents ts) after)
+        (after ≡ cond options.with_source_contents (map (contents_due S contents ts) (sources_used S ts)) [])
+    by_case true is =
+        subst (λ used. AreLoaded options used (map (λ text. cond options.with_source_contents (contents_due S contents ts text) None) used) after) met.kept_sources
+        (subst (λ before. AreLoaded options (met_texts S s) before after)
+        (given-each options.with_source_contents S N ts s n contents is.before met numbered is.given) is.loaded)
+    by_case false is =
+        contents-kept_if options.with_source_contents S N ts s n contents after met numbered is
+        ∙ ap (λ used. cond options.with_source_contents (map (contents_due S contents ts) used) []) met.kept_sources
 
 pub same_Ok : {X : Type 0} (x y : X) → ◌≡◌ {A = Result X Error} (Ok x) (Ok y) → x ≡ y
 same_Ok x y e = cc
@@ -131,22 +174,41 @@ few_contents_if : (w : Bool) (contents : List (Option (List ℕ))) → length co
 few_contents_if true contents few = few
 few_contents_if false contents few = omega arith
 
-pub few-rewritten : (S N paths : List (List ℕ)) (contents : List (Option (List ℕ))) (removal : Removal) (tokens : List RawToken) (p : RewrittenParts)
-    → length S ≤ 4294967295 → length N ≤ 4294967295 → AreRewritten S N paths contents removal tokens p → AreFew p
-few-rewritten S N paths contents removal tokens p few_s few_n are =
+loaded-many : (folder : Option (List ℕ)) (sources : List (List ℕ)) (before after : List (Option (List ℕ)))
+    → IsSomeAnd folder (λ folder. Fills folder sources before after) → length after ≡ length before
+loaded-many None sources before after none = absurd none
+loaded-many (Some folder) sources before after fills = fills.many
+
+few_contents : (options : RewriteOptions) (S : List (List ℕ)) (contents : List (Option (List ℕ))) (tokens : List RawToken) (after : List (Option (List ℕ)))
+    → length (sources_used S tokens) ≤ 4294967295 → AreContentsDue options S contents tokens after → length after ≤ 4294967295
+few_contents options S contents tokens after few = by_case options.load_local_source_contents
+  where
+    by_case : (b : Bool) → MatchBool b (AreLoaded options (sources_used S tokens) (contents_before (removal_of options) S contents tokens) after)
+        (after ≡ cond options.with_source_contents (map (contents_due S contents tokens) (sources_used S tokens)) [])
+        → length after ≤ 4294967295
+    by_case true loaded =
+        let many = loaded-many (folder_asked options) (sources_used S tokens) (contents_before (removal_of options) S contents tokens) after loaded in
+        let each = length-map (sources_used S tokens) (λ text. cond options.with_source_contents (contents_due S contents tokens text) None) in
+        omega (arith, many, each, few)
+    by_case false is =
+        let each = length-map (sources_used S tokens) (contents_due S contents tokens) in
+        let kept : length (cond options.with_source_contents (map (contents_due S contents tokens) (sources_used S tokens)) []) ≤ 4294967295 =
+        few_contents_if options.with_source_contents (map (contents_due S contents tokens) (sources_used S tokens)) (omega (arith, each, few)) in
+        subst (λ list. length list ≤ 4294967295) (sym is) kept
+
+pub few-rewritten : (S N paths : List (List ℕ)) (contents : List (Option (List ℕ))) (options : RewriteOptions) (tokens : List RawToken) (p : RewrittenParts)
+    → length S ≤ 4294967295 → length N ≤ 4294967295 → AreRewritten S N paths contents options tokens p → AreFew p
+few-rewritten S N paths contents options tokens p few_s few_n are =
     let some_sources : length (sources_used S tokens) ≤ length S = kept_once-few S (map (λ t. t.src_id) tokens) in
     let some_names : length (names_used N tokens) ≤ length N = kept_once-few N (map (λ t. t.name_id) tokens) in
     let names : length (texts_of p.names) ≡ length p.names.items = length-map p.names.items string_bytes in
     let names_due : length (texts_of p.names) ≡ length (names_used N tokens) = ap length are.names_due in
     let sources : length (texts_of p.sources) ≡ length p.sources.items = length-map p.sources.items string_bytes in
     let sources_due : length (texts_of p.sources) ≡ length (sources_used S tokens) =
-    ap length are.sources_due ∙ length-map (sources_used S tokens) (cut_by (all_prefixes removal.prefixes paths)) in
-    let due : List (Option (List ℕ)) = map (contents_due S contents tokens) (sources_used S tokens) in
-    let many : length due ≡ length (sources_used S tokens) = length-map (sources_used S tokens) (contents_due S contents tokens) in
-    let few : length (cond removal.with_contents due []) ≤ 4294967295 = few_contents_if removal.with_contents due (omega (arith, many, some_sources, few_s)) in
-    let kept_due : length p.contents.items ≡ length (cond removal.with_contents due []) = ap length are.contents_kept in
+    ap length are.sources_due ∙ length-map (sources_used S tokens) (cut_by (all_prefixes (removal_of options).prefixes paths)) in
+    let contents_few : length p.contents.items ≤ 4294967295 = few_contents options S contents tokens p.contents.items (omega (arith, some_sources, few_s)) are.contents_given in
     record {
       names = omega (arith, p.names.ok.0, names, names_due, some_names, few_n);
       sources = omega (arith, p.sources.ok.0, sources, sources_due, some_sources, few_s);
-      contents = omega (arith, p.contents.ok.0, kept_due, few);
+      contents = omega (arith, p.contents.ok.0, contents_few);
     }

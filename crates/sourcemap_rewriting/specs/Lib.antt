@@ -2,6 +2,7 @@ pub mod CutSources
 pub mod FirstIds
 pub mod Kept
 pub mod KeptContents
+pub mod Loaded
 pub mod Numbering
 pub mod Options
 pub mod Renumbering

@@ -1,5 +1,7 @@
 -- What the options of a rewriting say.
-use Rattle.std.specs.Prelude.{◌≡◌, ℕ, Bool, true, false, List, [], map, None}
+use Rattle.std.specs.Prelude.{◌≡◌, ℕ, Bool, true, false, List, [], map, Option, None, unwrap_or}
+use Rattle.std.specs.Option.{option_copied}
+use Rattle.sourcemap_files.specs.Loading.{folder_of}
 use Rattle.sourcemap_rewriting.specs.declared.options.RewriteOptions.{RewriteOptions}
 
 -- what a rewriting keeps, and which prefixes of sources it takes away
@@ -26,3 +28,7 @@ pub record IsDefault (options : RewriteOptions) : Type 0 where
 
 abbrev pub no_removal : Removal
 no_removal = record { with_names = true; with_contents = true; prefixes = [] }
+
+-- the folder in which the sources are: the base path after the current directory, which is empty where none is given
+abbrev pub folder_asked : RewriteOptions → Option (List ℕ)
+folder_asked options = folder_of (unwrap_or (option_copied options.current_dir) []) (option_copied options.base_path)

@@ -30,7 +30,7 @@ fn give(
 }
 
 // A list of so many sources that have no contents.
-fn without_contents(alloc: Global, count: usize) -> Result<Vec<Option<SourceView>>>
+pub(crate) fn without_contents(alloc: Global, count: usize) -> Result<Vec<Option<SourceView>>>
     ensures ok { IfOk result (λ list. list.items ≡ replicate count None) }
     ensures memory { IsOkUnless result OutOfMemory }
 {

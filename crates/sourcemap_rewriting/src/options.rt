@@ -7,16 +7,18 @@ pub struct RewriteOptions<'a> {
     pub with_names: bool,
     /// Whether contents of sources are kept.
     pub with_source_contents: bool,
-    /// Whether contents that the map does not have are read from files. So far a map that is
-    /// rewritten so is refused.
+    /// Whether sources that have no contents then are read from files. The text of a source,
+    /// before any prefix is cut, is resolved against the URL of the folder that `current_dir` and
+    /// `base_path` make. A file that cannot be read or is not UTF-8 is skipped. If the folder is
+    /// not absolute, the call returns `Io` of kind `InvalidInput`.
     pub load_local_source_contents: bool,
-    /// The folder that sources are looked for in, behind `current_dir`.
+    /// The folder of the sources. It is appended to `current_dir`; an absolute one replaces it.
     pub base_path: Option<&'a str>,
     /// Texts that are cut from the front of sources, each with a `/` at its end: of those that a
     /// source starts with, the first. A `~` stands for what the paths among the sources have in
     /// common, and comes last.
     pub strip_prefixes: &'a [&'a str],
-    /// The folder that `base_path` is looked for in.
+    /// The folder that a relative `base_path` starts from. None is the empty text.
     pub current_dir: Option<&'a str>,
 }
 

@@ -5,8 +5,8 @@ use Rattle.sourcemap_rewriting.specs.Rewritten.{AreRewritten, first_ids_used}
 use Rattle.sourcemap_conversions.specs.Parts.{parts_view}
 use Rattle.sourcemap_regular.specs.Map.{MapValue, shown_sources}
 use Rattle.sourcemap_regular.specs.MapStored.{map_in, map_over}
-use Rattle.sourcemap_regular.specs.Rewrite.{removal_of, first_ids, rewritten}
-use Rattle.sourcemap_regular.proofs.RewriteLemmas.{tokens-rewritten, names-rewritten, sources-rewritten, contents-rewritten}
+use Rattle.sourcemap_regular.specs.Rewrite.{removal_of, first_ids, rewritten, Rewrites, SameButContents}
+use Rattle.sourcemap_regular.proofs.RewriteLemmas.{tokens-rewritten, names-rewritten, sources-rewritten, is-rewritten}
 use Rattle.sourcemap_regular.proofs.map.SourceMap.rewritten.Goals as goal
 
 few_if : (is_kept : Bool) (names : List (List ℕ)) → length names ≤ 4294967295 → length (cond is_kept names []) ≤ 4294967295
@@ -14,7 +14,7 @@ few_if true names few = few
 few_if false names few = omega arith
 
 pub rewritten_parts-requires-clause-few_names : goal.rewritten_parts-requires-clause-few_names
-rewritten_parts-requires-clause-few_names c =
+rewritten_parts-requires-clause-few_names g c =
     let names = c.into_parts-heading.result.names in
     let of_map : vec_len names ≡ length (texts_of names) = rw length-map names.ok.0 in
     let few = subst (λ n. n ≤ 4294967295) of_map c.into_parts-heading.ensures.few in
@@ -23,28 +23,32 @@ rewritten_parts-requires-clause-few_names c =
     subst (λ n. n ≤ 4294967295) (sym (many ∙ ap length c.names_if-names.ensures)) (few_if c.args.options.now.with_names (texts_of names) few)
 
 pub returns-clause-value : goal.returns-clause-value
-returns-clause-value c =
+returns-clause-value g c =
     let m : MapValue = map_in (parts_view c.into_parts-heading.result) in
     let is_self : m ≡ c.args.self = ap map_in c.into_parts-heading.ensures.value in
-    let removal = removal_of c.args.options.now in
+    let options = c.args.options.now in
+    let due : MapValue = rewritten (removal_of options) m in
     let p = c.in_ok-parts.parts in
+    let new : MapValue = c.of_parts-map.result in
     let S : List (List ℕ) = texts_of (unwrap_or c.into_lists-sources.result.1 c.into_lists-sources.result.0) in
     let N : List (List ℕ) = texts_of c.names_if-names.result in
     let paths : List (List ℕ) = texts_of c.into_lists-sources.result.0 in
     let sources : S ≡ shown_sources m = c.into_lists-sources.ensures.shown in
-    let names : N ≡ cond removal.with_names m.names [] = c.names_if-names.ensures in
+    let names : N ≡ cond options.with_names m.names [] = c.names_if-names.ensures in
     let given : paths ≡ m.sources = c.into_lists-sources.ensures.given in
-    let are : AreRewritten S N paths m.contents removal m.tokens p =
-    subst (λ contents. AreRewritten S N paths contents removal m.tokens p) c.into_views-contents.ensures.views c.in_ok-parts.ensures.parts in
-    let is : c.of_parts-map.result ≡ rewritten removal m =
-    c.of_parts-map.ensures ∙ (λ i. map_over (c.without_ignored-heading.ensures i)
-    (tokens-rewritten m removal p S N paths sources names given are i)
-    (names-rewritten m removal p S N paths sources names given are i)
-    ((c.new-sources.ensures ∙ (λ j. record { root = None; texts = sources-rewritten m removal p S N paths sources names given are j })) i)
-    ((c.of_views-contents.ensures ∙ contents-rewritten m removal p S N paths sources names given are) i)) in
-    ap (λ v. Ok (rewritten removal v)) (sym is_self) ∙ ap Ok (sym is)
+    let are : AreRewritten S N paths m.contents options m.tokens p =
+    subst (λ contents. AreRewritten S N paths contents options m.tokens p) c.into_views-contents.ensures.views c.in_ok-parts.ensures.parts in
+    let contents : new.contents ≡ p.contents.items = ap (λ (n : MapValue). n.contents) c.of_parts-map.ensures ∙ c.of_views-contents.ensures in
+    let others : SameButContents new due =
+    (λ i. record (c.of_parts-map.ensures i) { contents = due.contents })
+    ∙ (λ i. map_over (c.without_ignored-heading.ensures i)
+    (tokens-rewritten m options p S N paths sources names given are i)
+    (names-rewritten m options p S N paths sources names given are i)
+    ((c.new-sources.ensures ∙ (λ j. record { root = None; texts = sources-rewritten m options p S N paths sources names given are j })) i)
+    due.contents) in
+    subst (λ v. Rewrites options v (Ok new)) is_self (is-rewritten m options p S N paths sources names given are new contents others)
 
 pub returns-clause-ids : goal.returns-clause-ids
-returns-clause-ids c =
+returns-clause-ids g c =
     c.in_ok-parts.ensures.parts.first_ids_due ∙ ap (λ S. first_ids_used S c.into_parts-heading.result.tokens) c.into_lists-sources.ensures.shown
     ∙ ap (λ p. first_ids (map_in p)) c.into_parts-heading.ensures.value

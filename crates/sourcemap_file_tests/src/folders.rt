@@ -1,0 +1,87 @@
+// Folders that tests write to, and what they compare.
+use sourcemap::{Error, Result};
+use std::alloc::Global;
+use std::os::unix::fs::symlink;
+use std::process::Abort;
+use std::rt::{Env, Files};
+use std::{env, fs, io};
+
+/// A new folder of this name in the current one, by its absolute path.
+pub fn folder<R: Files + Env + AllocGlobal>(rt: &R, name: &str) -> io::Result<String> {
+    let _ = fs::remove_dir_all(rt, name);
+    fs::create_dir(rt, name)?;
+    let current = env::current_dir(rt)?.into_string();
+    Ok(format!(in rt.alloc(); "{current}/{name}")?)
+}
+
+// The files of a folder, and what they hold.
+static FILES: [(&str, &[u8]); 7] = [
+    ("a.js", b"x"),
+    ("b.js", b"\xff"),
+    ("empty.js", b""),
+    ("kept.js", b"new"),
+    ("a b.js", b"s"),
+    ("\u{fc}.js", b"\xc3\xbc"),
+    ("sub/c.js", b"c"),
+];
+
+/// A new folder of this name with a few files in it, by its absolute path.
+pub fn fill<R: Files + Env + AllocGlobal>(rt: &R, name: &str) -> io::Result<String> {
+    let folder = folder(rt, name)?;
+    let sub = format!(in rt.alloc(); "{name}/sub")?;
+    fs::create_dir(rt, sub.as_str())?;
+    for (path, bytes) in FILES.iter() {
+        put(rt, name, path, bytes)?;
+    }
+    link(rt, name, "link.js", "a.js")?;
+    link(rt, name, "lost.js", "gone.js")?;
+    Ok(folder)
+}
+
+fn put<R: Files + AllocGlobal>(rt: &R, folder: &str, path: &str, bytes: &[u8]) -> io::Result<()> {
+    let path = format!(in rt.alloc(); "{folder}/{path}")?;
+    fs::write(rt, path.as_str(), bytes)
+}
+
+fn link<R: Files + AllocGlobal>(rt: &R, folder: &str, path: &str, to: &str) -> io::Result<()> {
+    let path = format!(in rt.alloc(); "{folder}/{path}")?;
+    symlink(rt, to, path.as_str())
+}
+
+/// A text in which `@` at the start stands for the path of a folder.
+pub fn placed(alloc: Global, folder: &str, text: &str) -> Result<String> {
+    match text.strip_prefix('@') {
+        Some(rest) => Ok(format!(in alloc; "{folder}{rest}")?),
+        None => Ok(String::from_str(alloc, text)?),
+    }
+}
+
+/// Ends the test, and says at which row, unless the answer is the wanted text.
+pub fn check(rt: &impl Abort, row: &str, answer: Result<String>, want: &str) {
+    let is_wanted = matches!(&answer, Ok(text) if text.as_str() == want);
+    assert!(rt; is_wanted, "{row}: {answer:?}");
+}
+
+/// Adds a text that may be missing, in brackets, so that an empty one is told from none.
+pub fn push_shown(out: &mut String, text: Option<&str>) -> Result<()> {
+    match text {
+        None => out.push_str(" none")?,
+        Some(text) => {
+            out.push_str(" [")?;
+            out.push_str(text)?;
+            out.push_str("]")?;
+        }
+    }
+    Ok(())
+}
+
+/// How many were loaded, or the kind of the refusal.
+pub fn count_shown(alloc: Global, loaded: Result<usize>) -> Result<String> {
+    match loaded {
+        Ok(count) => Ok(format!(in alloc; "{count}")?),
+        Err(Error::Io(cause)) if cause.kind() == io::ErrorKind::InvalidInput => {
+            Ok(String::from_str(alloc, "invalid input")?)
+        }
+        Err(fault) => Ok(format!(in alloc; "{fault}")?),
+    }
+}

@@ -1,0 +1,276 @@
+// Contents that a builder loads.
+use crate::folders::{check, count_shown, fill, folder, placed, push_shown};
+use sourcemap::{Result, SourceMapBuilder};
+use std::alloc::Global;
+use std::rt::Files;
+use std::{fs, io};
+
+// A builder with these sources, of which the first has contents if they are given.
+fn builder(
+    alloc: Global,
+    folder: &str,
+    sources: &[&str],
+    contents: Option<&str>,
+) -> Result<SourceMapBuilder> {
+    let mut builder = SourceMapBuilder::new(alloc, None)?;
+    for source in sources {
+        let source = placed(alloc, folder, source)?;
+        let id = builder.add_source(source.as_str())?;
+        if id == 0 {
+            set_contents(&mut builder, contents)?;
+        }
+    }
+    Ok(builder)
+}
+
+fn set_contents(builder: &mut SourceMapBuilder, contents: Option<&str>) -> Result<()> {
+    if builder.get_source(0).is_none() || contents.is_none() {
+        return Ok(());
+    }
+    builder.set_source_contents(0, contents)
+}
+
+// How many contents are loaded, the contents then, and how many a second call loads.
+fn loaded<F: Files>(
+    rt: &F,
+    alloc: Global,
+    builder: &mut SourceMapBuilder,
+    current: &str,
+    base: Option<&str>,
+    count: u32,
+) -> Result<String> {
+    let mut out = count_shown(alloc, builder.load_local_source_contents(rt, current, base))?;
+    for id in 0..count {
+        push_shown(&mut out, builder.get_source_contents(id))?;
+    }
+    let again = count_shown(alloc, builder.load_local_source_contents(rt, current, base))?;
+    out.push_str(" ")?;
+    out.push_str(again.as_str())?;
+    Ok(out)
+}
+
+// What a row is about, the sources, the contents of the first, the current directory, the base
+// path, and what is shown. `@` stands for the path of the folder.
+struct Row {
+    about: &'static str,
+    sources: &'static [&'static str],
+    contents: Option<&'static str>,
+    current: &'static str,
+    base: Option<&'static str>,
+    want: &'static str,
+}
+
+fn answer<F: Files>(rt: &F, alloc: Global, folder: &str, row: &Row) -> Result<String> {
+    let current = placed(alloc, folder, row.current)?;
+    let base = match row.base {
+        Some(base) => Some(placed(alloc, folder, base)?),
+        None => None,
+    };
+    let mut builder = builder(alloc, folder, row.sources, row.contents)?;
+    let count = row.sources.len().min(100) as u32;
+    loaded(
+        rt,
+        alloc,
+        &mut builder,
+        current.as_str(),
+        base.as_ref().map(|base| base.as_str()),
+        count,
+    )
+}
+
+static ROWS: [Row; 20] = [
+    Row {
+        about: "a file, one that is not UTF-8, and one that is not there",
+        sources: &["a.js", "b.js", "gone.js"],
+        contents: None,
+        current: "@",
+        base: None,
+        want: "1 [x] none none 0",
+    },
+    Row {
+        about: "a base path below the current directory",
+        sources: &["c.js", "a.js"],
+        contents: None,
+        current: "@",
+        base: Some("sub"),
+        want: "1 [c] none 0",
+    },
+    Row {
+        about: "an absolute base path",
+        sources: &["a.js"],
+        contents: None,
+        current: "nowhere",
+        base: Some("@/"),
+        want: "1 [x] 0",
+    },
+    Row {
+        about: "an empty base path, and a current directory that ends with a slash",
+        sources: &["a.js"],
+        contents: None,
+        current: "@/",
+        base: Some(""),
+        want: "1 [x] 0",
+    },
+    Row {
+        about: "a base path that goes up",
+        sources: &["a.js"],
+        contents: None,
+        current: "@",
+        base: Some("./sub/../."),
+        want: "1 [x] 0",
+    },
+    Row {
+        about: "a source that goes up",
+        sources: &["../a.js", "./c.js"],
+        contents: None,
+        current: "@/sub",
+        base: None,
+        want: "2 [x] [c] 0",
+    },
+    Row {
+        about: "a source that is an absolute path",
+        sources: &["@/sub/c.js", "/gone.js"],
+        contents: None,
+        current: "@",
+        base: None,
+        want: "1 [c] none 0",
+    },
+    Row {
+        about: "a path of several components",
+        sources: &["sub/c.js"],
+        contents: None,
+        current: "@",
+        base: None,
+        want: "1 [c] 0",
+    },
+    Row {
+        about: "contents that are there stay",
+        sources: &["a.js", "sub/c.js"],
+        contents: Some("kept"),
+        current: "@",
+        base: None,
+        want: "1 [kept] [c] 0",
+    },
+    Row {
+        about: "empty contents are there",
+        sources: &["a.js"],
+        contents: Some(""),
+        current: "@",
+        base: None,
+        want: "0 [] 0",
+    },
+    Row {
+        about: "an empty file",
+        sources: &["empty.js"],
+        contents: None,
+        current: "@",
+        base: None,
+        want: "1 [] 0",
+    },
+    Row {
+        about: "a folder that is named like a file",
+        sources: &["sub", "sub/", "", "a.js/c.js"],
+        contents: None,
+        current: "@",
+        base: None,
+        want: "0 none none none none 0",
+    },
+    Row {
+        about: "a link, and one that leads nowhere",
+        sources: &["link.js", "lost.js"],
+        contents: None,
+        current: "@",
+        base: None,
+        want: "1 [x] none 0",
+    },
+    Row {
+        about: "a blank and its escape",
+        sources: &["a b.js", "a%20b.js"],
+        contents: None,
+        current: "@",
+        base: None,
+        want: "2 [s] [s] 0",
+    },
+    Row {
+        about: "a letter past ASCII",
+        sources: &["ü.js", "%FF.js"],
+        contents: None,
+        current: "@",
+        base: None,
+        want: "1 [ü] none 0",
+    },
+    Row {
+        about: "URLs that are no files of this machine",
+        sources: &[
+            "http://x.com/a.js",
+            "webpack:///a.js",
+            "//x.com/a.js",
+            "data:,a",
+        ],
+        contents: None,
+        current: "@",
+        base: None,
+        want: "0 none none none none 0",
+    },
+    Row {
+        about: "no sources",
+        sources: &[],
+        contents: None,
+        current: "@",
+        base: None,
+        want: "0 0",
+    },
+    Row {
+        about: "a current directory that is not absolute",
+        sources: &["a.js"],
+        contents: None,
+        current: "tmp",
+        base: None,
+        want: "invalid input none invalid input",
+    },
+    Row {
+        about: "neither path is absolute",
+        sources: &["a.js"],
+        contents: Some("kept"),
+        current: "",
+        base: Some("sub"),
+        want: "invalid input [kept] invalid input",
+    },
+    Row {
+        about: "a folder that is not there",
+        sources: &["a.js", "../a.js"],
+        contents: None,
+        current: "@/gone",
+        base: None,
+        want: "1 none [x] 0",
+    },
+];
+
+#[test]
+fn contents_are_loaded(rt: HostRuntime) -> io::Result<()> {
+    let folder = fill(&rt, "contents_are_loaded")?;
+    for row in ROWS.iter() {
+        let answer = answer(&rt, rt.alloc(), folder.as_str(), row);
+        check(&rt, row.about, answer, row.want);
+    }
+    fs::remove_dir_all(&rt, "contents_are_loaded")
+}
+
+// How many bytes of a long file are loaded, all of them `y`.
+fn long_loaded<F: Files>(rt: &F, alloc: Global, folder: &str) -> Result<String> {
+    let mut builder = builder(alloc, folder, &["long.js"], None)?;
+    let count = builder.load_local_source_contents(rt, folder, None)?;
+    let contents = builder.get_source_contents(0).unwrap_or("");
+    let same = contents.bytes().filter(|byte| *byte == b'y').count();
+    Ok(format!(in alloc; "{count} {} {same}", contents.len())?)
+}
+
+#[test]
+fn a_long_file_is_loaded_whole(rt: HostRuntime) -> io::Result<()> {
+    let folder = folder(&rt, "a_long_file_is_loaded_whole")?;
+    let bytes = vec![in rt.alloc(); b'y'; 1_000_003]?;
+    fs::write(&rt, "a_long_file_is_loaded_whole/long.js", bytes.as_slice())?;
+    let answer = long_loaded(&rt, rt.alloc(), folder.as_str());
+    check(&rt, "a long file", answer, "1 1000003 1000003");
+    fs::remove_dir_all(&rt, "a_long_file_is_loaded_whole")
+}

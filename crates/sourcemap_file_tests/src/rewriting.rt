@@ -1,0 +1,186 @@
+// Contents that rewriting loads, by maps of each kind.
+use crate::folders::{check, fill, push_shown};
+use sourcemap::types::{RewriteOptions, SourceMap, SourceMapIndex};
+use sourcemap::{Result, SourceMapHermes};
+use std::alloc::Global;
+use std::process::Abort;
+use std::rt::Files;
+use std::{fs, io};
+
+// Each source of a map, and its contents.
+fn shown(alloc: Global, map: &SourceMap) -> Result<String> {
+    let mut out = String::new(alloc);
+    for id in 0..map.get_source_count() {
+        out.push_str(map.get_source(id).unwrap_or("none"))?;
+        push_shown(&mut out, map.get_source_contents(id))?;
+        out.push_str(";")?;
+    }
+    Ok(out)
+}
+
+fn rewritten<F: Files>(
+    rt: &F,
+    alloc: Global,
+    text: &str,
+    options: &RewriteOptions<'_>,
+) -> Result<String> {
+    let map = SourceMap::from_slice(alloc, text.as_bytes())?;
+    shown(alloc, &map.rewrite(rt, options)?)
+}
+
+const FOUR: &str =
+    r#"{"mappings":"AAAA,CCAA,CCAA,CCAA","sources":["a.js","b.js","gone.js","kept.js"],"sourcesContent":[null,null,null,"old"]}"#;
+
+const ROOT: &str = r#"{"mappings":"ACAA","sourceRoot":"sub","sources":["a.js","c.js"]}"#;
+
+// What a row is about, a map, whether contents are kept and loaded, the base path, the prefixes
+// to be cut, and the sources with their contents.
+struct Row {
+    about: &'static str,
+    text: &'static str,
+    keep: bool,
+    load: bool,
+    base: Option<&'static str>,
+    prefixes: &'static [&'static str],
+    want: &'static str,
+}
+
+static ROWS: [Row; 6] = [
+    Row {
+        about: "contents that are kept stay, others are loaded",
+        text: FOUR,
+        keep: true,
+        load: true,
+        base: None,
+        prefixes: &[],
+        want: "a.js [x];b.js none;gone.js none;kept.js [old];",
+    },
+    Row {
+        about: "where none are kept all are loaded",
+        text: FOUR,
+        keep: false,
+        load: true,
+        base: None,
+        prefixes: &[],
+        want: "a.js [x];b.js none;gone.js none;kept.js [new];",
+    },
+    Row {
+        about: "none are loaded unless that is asked for",
+        text: FOUR,
+        keep: true,
+        load: false,
+        base: None,
+        prefixes: &[],
+        want: "a.js none;b.js none;gone.js none;kept.js [old];",
+    },
+    Row {
+        about: "a source is read by its text with the root, if a token uses it",
+        text: ROOT,
+        keep: true,
+        load: true,
+        base: None,
+        prefixes: &[],
+        want: "sub/c.js [c];",
+    },
+    Row {
+        about: "files are read before prefixes are cut",
+        text: ROOT,
+        keep: true,
+        load: true,
+        base: None,
+        prefixes: &["sub"],
+        want: "c.js [c];",
+    },
+    Row {
+        about: "a base path",
+        text: r#"{"mappings":"AAAA","sources":["c.js"]}"#,
+        keep: true,
+        load: true,
+        base: Some("sub"),
+        prefixes: &["~"],
+        want: "c.js [c];",
+    },
+];
+
+fn options<'a>(row: &'a Row, folder: &'a str) -> RewriteOptions<'a> {
+    RewriteOptions {
+        with_names: true,
+        with_source_contents: row.keep,
+        load_local_source_contents: row.load,
+        base_path: row.base,
+        strip_prefixes: row.prefixes,
+        current_dir: Some(folder),
+    }
+}
+
+fn rewritten_row<'a, F: Files>(
+    rt: &F,
+    alloc: Global,
+    folder: &'a str,
+    row: &'a Row,
+) -> Result<String> {
+    let options = options(row, folder);
+    rewritten(rt, alloc, row.text, &options)
+}
+
+// Whether the row at this index, if there is one, is answered as it says.
+fn check_row<R: Files + AllocGlobal + Abort>(rt: &R, folder: &str, at: usize) {
+    if let Some(row) = ROWS.get(at) {
+        let answer = rewritten_row(rt, rt.alloc(), folder, row);
+        check(rt, row.about, answer, row.want);
+    }
+}
+
+#[test]
+fn a_rewritten_map_has_what_files_hold(rt: HostRuntime) -> io::Result<()> {
+    let folder = fill(&rt, "a_rewritten_map_has_what_files_hold")?;
+    for at in 0..ROWS.len() {
+        check_row(&rt, folder.as_str(), at);
+    }
+    fs::remove_dir_all(&rt, "a_rewritten_map_has_what_files_hold")
+}
+
+const HERMES: &str =
+    r#"{"mappings":"ACAA","sources":["b.js","a.js"],"x_facebook_sources":[null,[{"mappings":"AAA","names":["f"]}]]}"#;
+
+fn hermes_rewritten<F: Files>(
+    rt: &F,
+    alloc: Global,
+    text: &str,
+    options: &RewriteOptions<'_>,
+) -> Result<String> {
+    let map = SourceMapHermes::from_slice(alloc, text.as_bytes())?;
+    let map = Box::new(alloc, map.rewrite(rt, options)?)?;
+    let mut out = shown(alloc, &map)?;
+    out.push_str(map.get_original_function_name(0).unwrap_or("none"))?;
+    Ok(out)
+}
+
+const INDEX: &str =
+    r#"{"sections":[{"map":{"mappings":"AAAA","sources":["a.js"]},"offset":{"column":0,"line":0}},{"map":{"mappings":"AAAA","sourceRoot":"sub","sources":["c.js"]},"offset":{"column":0,"line":1}}]}"#;
+
+fn flat_rewritten<F: Files>(
+    rt: &F,
+    alloc: Global,
+    text: &str,
+    options: &RewriteOptions<'_>,
+) -> Result<String> {
+    let index = SourceMapIndex::from_slice(alloc, text.as_bytes())?;
+    shown(alloc, &index.flatten_and_rewrite(rt, options)?)
+}
+
+#[test]
+fn rewritten_maps_of_other_kinds_have_what_files_hold(rt: HostRuntime) -> io::Result<()> {
+    let name = "rewritten_maps_of_other_kinds_have_what_files_hold";
+    let folder = fill(&rt, name)?;
+    let options = RewriteOptions {
+        load_local_source_contents: true,
+        base_path: Some(folder.as_str()),
+        ..RewriteOptions::default()
+    };
+    let answer = hermes_rewritten(&rt, rt.alloc(), HERMES, &options);
+    check(&rt, "a Hermes map", answer, "a.js [x];f");
+    let answer = flat_rewritten(&rt, rt.alloc(), INDEX, &options);
+    check(&rt, "an index", answer, "a.js [x];sub/c.js [c];");
+    fs::remove_dir_all(&rt, name)
+}

@@ -1,0 +1,127 @@
+//! Contents of sources that are kept, and contents that are loaded from files.
+ghost use Rattle.std.specs.Prelude.{◌≡◌, [], true, IfErr, IfOk, IsOkUnless, MatchBool, length, map, string_bytes, vec_len};
+ghost use Rattle.std.specs.List.{AllByRecursion};
+ghost use Rattle.sourcemap_errors.specs.Answer.{UnlessMemory};
+ghost use Rattle.sourcemap_errors.specs.declared.errors.Error.TheVariants.{OutOfMemory};
+ghost use Rattle.sourcemap_rewriting.specs.KeptContents.{AreKept, IsPlaced};
+ghost use Rattle.sourcemap_rewriting.specs.Loaded.{AreGiven, AreGivenAndLoaded, LacksFolder};
+
+use crate::kept_contents::{kept_contents, without_contents};
+use crate::numbering::NewNumbers;
+use crate::options::RewriteOptions;
+use sourcemap_errors::errors::Result;
+use sourcemap_files::loading::load_contents;
+use sourcemap_views::sourceview::SourceView;
+use std::alloc::Global;
+use std::rt::Files;
+
+// The contents of so many sources, by new number, if they are kept.
+fn contents_if(
+    alloc: Global,
+    contents: Vec<Option<SourceView>>,
+    numbers: &NewNumbers,
+    count: usize,
+    with_contents: bool,
+) -> Result<Vec<Option<SourceView>>>
+    requires { AllByRecursion (IsPlaced numbers.now.numbers.items count) numbers.now.order.items }
+    ensures ok { IfOk result (λ kept. MatchBool with_contents
+        (AreKept numbers.now.numbers.items numbers.now.order.items contents.items count kept.items)
+        (kept.items ≡ [])) }
+    ensures memory { IsOkUnless result OutOfMemory }
+{
+    if !with_contents {
+        return Ok(Vec::new(alloc));
+    }
+    let order = numbers.order.as_slice();
+    let numbers = numbers.numbers.as_slice();
+    // in two steps for the prover: what a call answers is known behind its `?`
+    let kept = kept_contents(alloc, contents, order, numbers, count)?;
+    Ok(kept)
+}
+
+// The same with an item for each source, also where contents are not kept.
+fn contents_given(
+    alloc: Global,
+    contents: Vec<Option<SourceView>>,
+    numbers: &NewNumbers,
+    count: usize,
+    with_contents: bool,
+) -> Result<Vec<Option<SourceView>>>
+    requires { AllByRecursion (IsPlaced numbers.now.numbers.items count) numbers.now.order.items }
+    ensures ok { IfOk result (λ given. AreGiven with_contents
+        numbers.now.numbers.items numbers.now.order.items contents.items count given.items) }
+    ensures many { IfOk result (λ given. vec_len given ≡ count) }
+    ensures memory { IsOkUnless result OutOfMemory }
+{
+    if !with_contents {
+        // in two steps for the prover: what a call answers is known behind its `?`
+        let none = without_contents(alloc, count)?;
+        return Ok(none);
+    }
+    let order = numbers.order.as_slice();
+    let numbers = numbers.numbers.as_slice();
+    let kept = kept_contents(alloc, contents, order, numbers, count)?;
+    Ok(kept)
+}
+
+// The same, and then the contents of files for sources that have none.
+fn contents_loaded<F: Files>(
+    rt: &F,
+    alloc: Global,
+    contents: Vec<Option<SourceView>>,
+    numbers: &NewNumbers,
+    sources: &[String],
+    options: &RewriteOptions<'_>,
+) -> Result<Vec<Option<SourceView>>>
+    requires placed { AllByRecursion
+        (IsPlaced numbers.now.numbers.items (length sources.now)) numbers.now.order.items }
+    requires asked { options.now.load_local_source_contents ≡ true }
+    ensures ok { IfOk result (λ after. AreGivenAndLoaded options.now (map string_bytes sources.now)
+        numbers.now.numbers.items numbers.now.order.items contents.items (length sources.now)
+        after.items) }
+    ensures err { IfErr result (λ e. UnlessMemory e (LacksFolder options.now e)) }
+{
+    let with_contents = options.with_source_contents;
+    let mut contents = contents_given(alloc, contents, numbers, sources.len(), with_contents)?;
+    let current_dir = options.current_dir.unwrap_or("");
+    load_contents(
+        rt,
+        alloc,
+        current_dir,
+        options.base_path,
+        sources,
+        &mut contents,
+    )?;
+    Ok(contents)
+}
+
+// The contents of these sources, by new number: those that are kept, if they are, and those of
+// files, if they are to be loaded.
+pub(crate) fn contents_due<F: Files>(
+    rt: &F,
+    alloc: Global,
+    contents: Vec<Option<SourceView>>,
+    numbers: &NewNumbers,
+    sources: &[String],
+    options: &RewriteOptions<'_>,
+) -> Result<Vec<Option<SourceView>>>
+    requires { AllByRecursion
+        (IsPlaced numbers.now.numbers.items (length sources.now)) numbers.now.order.items }
+    ensures ok { IfOk result (λ after. MatchBool options.now.load_local_source_contents
+        (AreGivenAndLoaded options.now (map string_bytes sources.now)
+        numbers.now.numbers.items numbers.now.order.items contents.items (length sources.now)
+        after.items)
+        (MatchBool options.now.with_source_contents
+        (AreKept numbers.now.numbers.items numbers.now.order.items contents.items
+        (length sources.now) after.items)
+        (after.items ≡ []))) }
+    ensures err { IfErr result (λ e. UnlessMemory e (LacksFolder options.now e)) }
+{
+    if options.load_local_source_contents {
+        let loaded = contents_loaded(rt, alloc, contents, numbers, sources, options)?;
+        return Ok(loaded);
+    }
+    let with_contents = options.with_source_contents;
+    let kept = contents_if(alloc, contents, numbers, sources.len(), with_contents)?;
+    Ok(kept)
+}
