@@ -1,0 +1,47 @@
+-- What the bytes of an indexed bundle say: its header, the entries of its modules, and ranges of bytes.
+use Rattle.std.specs.Prelude.{◌≡◌, ℕ, ◌+◌, ◌*◌, nat_le, if◌then◌else◌, List, length, take, drop, Result, Ok, Err}
+use Rattle.byteorder.specs.Endian.{little_number}
+use Rattle.sourcemap_errors.specs.declared.errors.RangeFault.{RangeFault}
+use Rattle.sourcemap_errors.specs.declared.errors.Error.{Error}
+use Rattle.sourcemap_errors.specs.declared.errors.Error.TheVariants.{Scroll}
+use Rattle.sourcemap_bundle_bytes.specs.declared.bundle.ModuleEntry.{ModuleEntry}
+use Rattle.sourcemap_bundle_bytes.specs.declared.bundle.RamBundleHeader.{RamBundleHeader}
+
+-- a call that takes no memory returned exactly what was due, where `view` sees its value
+abbrev pub Returns : {X Y : Type 0} → (X → Y) → Result X Error → Result Y Error → Type 0
+Returns view (Ok x) due = due ≡ Ok (view x)
+Returns view (Err e) due = due ≡ Err e
+
+-- what comes of a value; an error stays
+abbrev pub then_make : {X Y : Type 0} → (X → Result Y Error) → Result X Error → Result Y Error
+then_make make (Ok x) = make x
+then_make make (Err e) = Err e
+
+-- the bytes of a range; its end may be the end of the bytes, and not pass it
+abbrev pub range_of : List ℕ → ℕ → ℕ → Result (List ℕ) Error
+range_of bytes start size =
+    if nat_le (start + size) (length bytes) then Ok (take size (drop start bytes))
+    else Err (Scroll (record { start = start; size = size; len = length bytes }))
+
+-- the number of 32 bits, lowest byte first, after the first so many bytes
+abbrev pub number_after : ℕ → List ℕ → ℕ
+number_after count bytes = little_number 4 (drop count bytes)
+
+-- the number that an indexed bundle begins with
+abbrev pub bundle_magic : ℕ
+bundle_magic = 0xFB0BD1E5
+
+-- the first 12 bytes, as three numbers
+abbrev pub header_of : List ℕ → Result RamBundleHeader Error
+header_of bytes = then_make (λ header. Ok (record {
+  magic = number_after 0 header;
+  module_count = number_after 4 header;
+  startup_code_size = number_after 8 header;
+})) (range_of bytes 0 12)
+
+-- the 8 bytes of a module, after the header and the entries of those before it, as two numbers
+abbrev pub entry_of : List ℕ → ℕ → Result ModuleEntry Error
+entry_of bytes id = then_make (λ entry. Ok (record {
+  offset = number_after 0 entry;
+  length = number_after 4 entry;
+})) (range_of bytes (12 + 8 * id) 8)

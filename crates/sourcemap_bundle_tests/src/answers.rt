@@ -1,0 +1,54 @@
+// Bundles as texts.
+use sourcemap_bundles::ram_bundle::{RamBundle, RamBundleModule};
+use sourcemap_errors::errors::{Error, Result};
+use std::alloc::Global;
+
+/// Returns what an error prints, and `io` for each of a file system.
+pub fn error_text(alloc: Global, error: Error) -> Result<String> {
+    match error {
+        Error::OutOfMemory => Err(Error::OutOfMemory),
+        Error::Io(_) => Ok(String::from_str(alloc, "io")?),
+        other => Ok(format!(in alloc; "{other}")?),
+    }
+}
+
+/// Returns bytes as a text, and an error as what it prints.
+pub fn bytes_text(alloc: Global, answer: Result<&[u8]>) -> Result<String> {
+    match answer {
+        Ok(bytes) => Ok(String::from_utf8_lossy(alloc, bytes)?),
+        Err(error) => error_text(alloc, error),
+    }
+}
+
+/// Returns the number and the bytes of a module, as `0=xyz`.
+pub fn module_text(alloc: Global, answer: Result<RamBundleModule<'_>>) -> Result<String> {
+    match answer {
+        Ok(found) => {
+            let id = found.id();
+            let text = String::from_utf8_lossy(alloc, found.data())?;
+            Ok(format!(in alloc; "{id}={text}")?)
+        },
+        Err(error) => error_text(alloc, error),
+    }
+}
+
+/// Returns all that a bundle answers: its type, count, startup code and modules in turn.
+pub fn bundle_text(alloc: Global, bundle: &RamBundle<'_>) -> Result<String> {
+    let kind = bundle.bundle_type();
+    let count = bundle.module_count();
+    let startup = bytes_text(alloc, bundle.startup_code())?;
+    let mut text = format!(in alloc; "{kind:?} {count} [{startup}]")?;
+    for item in bundle.iter_modules() {
+        text.push(' ')?;
+        text.push_str(module_text(alloc, item)?.as_str())?;
+    }
+    Ok(text)
+}
+
+/// Returns the same of a bundle, or what its error prints.
+pub fn parsed_text(alloc: Global, parsed: Result<RamBundle<'_>>) -> Result<String> {
+    match parsed {
+        Ok(bundle) => bundle_text(alloc, &bundle),
+        Err(error) => error_text(alloc, error),
+    }
+}

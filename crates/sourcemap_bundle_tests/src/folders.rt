@@ -1,0 +1,166 @@
+// File bundles in folders that the tests make and remove.
+use crate::answers::{error_text, parsed_text};
+use crate::checks::check;
+use sourcemap_bundles::ram_bundle::{RamBundle, is_unbundle_path};
+use sourcemap_errors::errors::Result;
+use std::alloc::Global;
+use std::fs;
+use std::rt::Files;
+
+static MAGIC: [u8; 5] = [0xe5, 0xd1, 0x0b, 0xfb, 0];
+
+// What a row is about, names in `js-modules`, where a slash at the end is a folder's and a file
+// holds its own name, whether that is a bundle, and all that the bundle answers.
+static FOLDERS: [(&str, &[&str], &str); 16] = [
+    (
+        "two modules",
+        &["UNBUNDLE", "0.js", "2.js"],
+        "true Unbundle 3 [main] 0=0.js 2=2.js",
+    ),
+    (
+        "a sign",
+        &["UNBUNDLE", "0.js", "2.js", "+1.js"],
+        "true invalid module index in ram bundle",
+    ),
+    (
+        "another sign",
+        &["UNBUNDLE", "-1.js"],
+        "true invalid module index in ram bundle",
+    ),
+    ("no module", &["UNBUNDLE"], "true Unbundle 1 [main]"),
+    ("no marker", &["0.js"], "false not a ram bundle"),
+    ("nothing", &[], "false not a ram bundle"),
+    (
+        "a marker without its magic number",
+        &["UNBUNDLE-", "0.js"],
+        "false not a ram bundle",
+    ),
+    (
+        "a marker that is a folder",
+        &["UNBUNDLE/", "0.js"],
+        "false not a ram bundle",
+    ),
+    (
+        "a folder with a module's name",
+        &["UNBUNDLE", "3.js/", "1.js"],
+        "true Unbundle 2 [main] 1=1.js",
+    ),
+    (
+        "the later of two",
+        &["UNBUNDLE", "1.js", "01.js"],
+        "true Unbundle 2 [main] 1=1.js",
+    ),
+    (
+        "zeros before a number",
+        &["UNBUNDLE", "007.js"],
+        "true Unbundle 8 [main] 7=007.js",
+    ),
+    (
+        "no number",
+        &["UNBUNDLE", ".js"],
+        "true invalid module index in ram bundle",
+    ),
+    (
+        "a number alone",
+        &["UNBUNDLE", "1"],
+        "true invalid module index in ram bundle",
+    ),
+    (
+        "another ending",
+        &["UNBUNDLE", "1.js.map"],
+        "true invalid module index in ram bundle",
+    ),
+    (
+        "a number without a successor",
+        &["UNBUNDLE", "18446744073709551615.js"],
+        "true invalid module index in ram bundle",
+    ),
+    (
+        "a number past the greatest",
+        &["UNBUNDLE", "18446744073709551616.js"],
+        "true invalid module index in ram bundle",
+    ),
+];
+
+// Makes a file or a folder of `js-modules`.
+fn make_one<F: Files>(rt: &F, alloc: Global, name: &str) -> Result<()> {
+    let path = format!(in alloc; "bundle_made/js-modules/{name}")?;
+    if name == "UNBUNDLE" {
+        fs::write(rt, path, MAGIC.as_slice())?;
+    } else if name == "UNBUNDLE-" {
+        fs::write(rt, "bundle_made/js-modules/UNBUNDLE", &MAGIC[..3])?;
+    } else if name.ends_with('/') {
+        fs::create_dir(rt, path)?;
+    } else {
+        fs::write(rt, path, name)?;
+    }
+    Ok(())
+}
+
+// Makes a bundle's folder, and nothing else is in it.
+fn make<F: Files>(rt: &F, alloc: Global, names: &[&str]) -> Result<()> {
+    let _ = fs::remove_dir_all(&(rt, alloc), "bundle_made");
+    fs::create_dir_all(rt, "bundle_made/js-modules")?;
+    fs::write(rt, "bundle_made/main.js", "main")?;
+    for name in names {
+        make_one(rt, alloc, name)?;
+    }
+    Ok(())
+}
+
+fn asked<F: Files>(rt: &F, alloc: Global, path: &str) -> Result<String> {
+    let is_bundle = is_unbundle_path(rt, alloc, path)?;
+    let answer = parsed_text(alloc, RamBundle::parse_unbundle_from_path(rt, alloc, path))?;
+    Ok(format!(in alloc; "{is_bundle} {answer}")?)
+}
+
+fn made_and_asked<F: Files>(rt: &F, alloc: Global, names: &[&str]) -> Result<String> {
+    make(rt, alloc, names)?;
+    let answer = asked(rt, alloc, "bundle_made/main.js")?;
+    fs::remove_dir_all(&(rt, alloc), "bundle_made")?;
+    Ok(answer)
+}
+
+fn indexed_file<F: Files>(rt: &F, alloc: Global, path: &str) -> Result<String> {
+    match RamBundle::parse_indexed_from_path(rt, alloc, path) {
+        Ok(_) => Ok(String::from_str(alloc, "a bundle")?),
+        Err(error) => error_text(alloc, error),
+    }
+}
+
+// A file with no module.
+fn written_and_asked<F: Files>(rt: &F, alloc: Global) -> Result<String> {
+    let bytes = [0xe5u8, 0xd1, 0x0b, 0xfb, 0, 0, 0, 0, 0, 0, 0, 0];
+    fs::write(rt, "bundle_file", bytes.as_slice())?;
+    let parsed = RamBundle::parse_indexed_from_path(rt, alloc, "bundle_file");
+    let answer = parsed_text(alloc, parsed)?;
+    fs::remove_file(rt, "bundle_file")?;
+    Ok(answer)
+}
+
+#[test]
+fn folders(rt: HostRuntime) {
+    let alloc = rt.alloc();
+    for (row, names, want) in &FOLDERS {
+        check(&rt, row, made_and_asked(&rt, alloc, names), want);
+    }
+}
+
+#[test]
+fn paths(rt: HostRuntime) {
+    let alloc = rt.alloc();
+    let missing = "no_such_folder/main.js";
+    check(
+        &rt,
+        "a missing file bundle",
+        asked(&rt, alloc, missing),
+        "false not a ram bundle",
+    );
+    check(
+        &rt,
+        "a missing file",
+        indexed_file(&rt, alloc, missing),
+        "io",
+    );
+    check(&rt, "a file", written_and_asked(&rt, alloc), "Indexed 0 []");
+}

@@ -1,0 +1,164 @@
+// Indexed bundles that were made by hand.
+use crate::answers::{bundle_text, bytes_text, module_text, parsed_text};
+use crate::checks::check;
+use sourcemap_bundle_bytes::bundle::{ModuleEntry, RAM_BUNDLE_MAGIC, RamBundleHeader, byte_range};
+use sourcemap_bundles::ram_bundle::{RamBundle, RamBundleType, is_ram_bundle_slice};
+use sourcemap_errors::errors::Result;
+use std::alloc::Global;
+
+// One module, `xyz`, behind the startup code `ab`.
+static ONE: [u8; 26] = [
+    0xe5, 0xd1, 0x0b, 0xfb, 1, 0, 0, 0, 2, 0, 0, 0, 2, 0, 0, 0, 4, 0, 0, 0, 97, 98, 120, 121, 122,
+    0,
+];
+
+// How many bytes of it there are, its startup code, its module 0.
+static CUTS: [(usize, &str, &str); 11] = [
+    (0, "parse error: 0+12 past 0", "parse error: 0+12 past 0"),
+    (11, "parse error: 0+12 past 11", "parse error: 0+12 past 11"),
+    (12, "parse error: 20+2 past 12", "parse error: 12+8 past 12"),
+    (19, "parse error: 20+2 past 19", "parse error: 12+8 past 19"),
+    (20, "parse error: 20+2 past 20", "parse error: 22+3 past 20"),
+    (21, "parse error: 20+2 past 21", "parse error: 22+3 past 21"),
+    (22, "ab", "parse error: 22+3 past 22"),
+    (23, "ab", "parse error: 22+3 past 23"),
+    (24, "ab", "parse error: 22+3 past 24"),
+    (25, "ab", "0=xyz"),
+    (26, "ab", "0=xyz"),
+];
+
+// The numbers of a header and an entry, in bytes behind one another.
+static HUGE: [u8; 12] = [0xe5, 0xd1, 0x0b, 0xfb, 255, 255, 255, 255, 2, 0, 0, 0];
+
+// What a row is about, the bytes, and all that the bundle answers.
+static WHOLE: [(&str, &[u8], &str); 4] = [
+    (
+        "another magic number",
+        &[0xfb, 0x0b, 0xd1, 0xe5, 0, 0, 0, 0, 0, 0, 0, 0],
+        "invalid magic number for ram bundle",
+    ),
+    (
+        "no module, and a startup code of nothing at the end",
+        &[0xe5, 0xd1, 0x0b, 0xfb, 0, 0, 0, 0, 0, 0, 0, 0],
+        "Indexed 0 []",
+    ),
+    (
+        "an empty entry, a length of 0 alone, a module, one past the end, one of a zero byte alone",
+        &[
+            0xe5, 0xd1, 0x0b, 0xfb, 5, 0, 0, 0, 1, 0, 0, 0, 0, 0, 0, 0, 0, 0, 0, 0, 3, 0, 0, 0, 0,
+            0, 0, 0, 0, 0, 0, 0, 3, 0, 0, 0, 1, 0, 0, 0, 4, 0, 0, 0, 3, 0, 0, 0, 1, 0, 0, 0, 112,
+            113, 0,
+        ],
+        "Indexed 5 [p] invalid ram bundle module entry 2=pq parse error: 53+3 past 55 4=",
+    ),
+    (
+        "two modules that overlap",
+        &[
+            0xe5, 0xd1, 0x0b, 0xfb, 2, 0, 0, 0, 0, 0, 0, 0, 0, 0, 0, 0, 3, 0, 0, 0, 1, 0, 0, 0, 3,
+            0, 0, 0, 97, 98, 99, 0,
+        ],
+        "Indexed 2 [] 0=ab 1=bc",
+    ),
+];
+
+fn startup(alloc: Global, bytes: &[u8]) -> Result<String> {
+    match RamBundle::parse_indexed_from_slice(bytes) {
+        Ok(bundle) => bytes_text(alloc, bundle.startup_code()),
+        Err(error) => bytes_text(alloc, Err(error)),
+    }
+}
+
+fn module_at(alloc: Global, bytes: &[u8], id: usize) -> Result<String> {
+    match RamBundle::parse_indexed_from_slice(bytes) {
+        Ok(bundle) => match bundle.get_module(id).transpose() {
+            Some(answer) => module_text(alloc, answer),
+            None => Ok(String::from_str(alloc, "none")?),
+        },
+        Err(error) => bytes_text(alloc, Err(error)),
+    }
+}
+
+// Of a copy of a bundle that owns its bytes.
+fn copied(alloc: Global, bytes: &[u8]) -> Result<String> {
+    let bundle = RamBundle::parse_indexed_from_vec(Vec::from_slice(alloc, bytes)?)?;
+    let copy = bundle.clone()?;
+    bundle_text(alloc, &copy)
+}
+
+// The source of a module's view.
+fn viewed(alloc: Global, bytes: &[u8]) -> Result<String> {
+    let bundle = RamBundle::parse_indexed_from_slice(bytes)?;
+    match bundle.get_module(0)? {
+        Some(found) => Ok(String::from_str(alloc, found.source_view(alloc)?.source())?),
+        None => Ok(String::new(alloc)),
+    }
+}
+
+// The numbers of a header and of its first entry.
+fn numbers(alloc: Global, bytes: &[u8]) -> Result<String> {
+    let header = RamBundleHeader::read(bytes)?;
+    let entry = ModuleEntry::read(bytes, 0)?;
+    let last = bytes_text(alloc, byte_range(bytes, 25, 1))?;
+    let is_valid = header.is_valid_magic() && header.magic == RAM_BUNDLE_MAGIC;
+    let (count, size) = (header.module_count, header.startup_code_size);
+    let (offset, length, is_empty) = (entry.offset, entry.length, entry.is_empty());
+    Ok(format!(in alloc; "{is_valid} {count} {size} {offset} {length} {is_empty} {last:?}")?)
+}
+
+#[test]
+fn bundles_that_are_cut(rt: HostRuntime) {
+    let alloc = rt.alloc();
+    for (length, want_startup, want_module) in &CUTS {
+        let bytes = ONE.get(..*length).unwrap_or(&[]);
+        check(&rt, "startup code", startup(alloc, bytes), want_startup);
+        check(&rt, "module 0", module_at(alloc, bytes, 0), want_module);
+    }
+}
+
+#[test]
+fn whole_bundles(rt: HostRuntime) {
+    let alloc = rt.alloc();
+    for (row, bytes, want) in &WHOLE {
+        let parsed = RamBundle::parse_indexed_from_slice(bytes);
+        check(&rt, row, parsed_text(alloc, parsed), want);
+    }
+}
+
+#[test]
+fn one_bundle(rt: HostRuntime) {
+    let alloc = rt.alloc();
+    let past = "invalid module index in ram bundle";
+    check(
+        &rt,
+        "a number past the count",
+        module_at(alloc, &ONE, 1),
+        past,
+    );
+    check(&rt, "the same, cut", module_at(alloc, &ONE[..12], 1), past);
+    let range = "parse error: 34359738372+2 past 12";
+    check(&rt, "a huge table", startup(alloc, &HUGE), range);
+    let entry = "parse error: 34359738364+8 past 12";
+    check(
+        &rt,
+        "its last entry",
+        module_at(alloc, &HUGE, 4294967294),
+        entry,
+    );
+    check(&rt, "a copy", copied(alloc, &ONE), "Indexed 1 [ab] 0=xyz");
+    check(&rt, "a view", viewed(alloc, &ONE), "xyz");
+    check(
+        &rt,
+        "numbers",
+        numbers(alloc, &ONE),
+        r#"true 1 2 2 4 false "\0""#,
+    );
+}
+
+#[test]
+fn tests_of_bytes(rt: HostRuntime) {
+    assert!(rt; is_ram_bundle_slice(&ONE));
+    assert!(rt; is_ram_bundle_slice(&ONE[..12]));
+    assert!(rt; !is_ram_bundle_slice(&ONE[..11]));
+    assert!(rt; !is_ram_bundle_slice(&ONE[4..]));
+    assert!(rt; RamBundleType::Indexed < RamBundleType::Unbundle);
+}

@@ -1,0 +1,2 @@
+pub mod FolderLemmas
+pub mod ModulesLemmas

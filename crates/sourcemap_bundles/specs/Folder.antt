@@ -1,0 +1,56 @@
+-- The files of a file bundle: which names they have, and what comes of them.
+use Rattle.std.specs.Prelude.{◌≡◌, ◌<◌, ℕ, ◌+◌, ◌^◌, max, List, [], ◌++◌, codes, map, fold, string_bytes}
+use Rattle.std.specs.BTreeMap.{insert_entry}
+use Rattle.std.specs.List.{AllZip}
+use Rattle.std.specs.List.Sorted.{IsSorted}
+use Rattle.std.specs.Ordering.{nat_cmp}
+use Rattle.std.specs.Str.Parse.{IsNumeral, digits_value}
+use Rattle.std.specs.String.{string_cmp}
+use Rattle.std.specs.declared.alloc.Global.{Global}
+use Rattle.std.specs.declared.string.String.{String}
+use Rattle.sourcemap_errors.specs.declared.errors.Error.{Error}
+use Rattle.sourcemap_errors.specs.declared.errors.Error.TheVariants.{Io, InvalidRamBundleIndex, NotARamBundle, OutOfMemory}
+use Rattle.sourcemap_bundles.specs.Modules.{BundleValue, FilesValue, files, indexed}
+
+-- why a file bundle is refused
+abbrev pub IsFileFault : Error → Type 0
+IsFileFault OutOfMemory = Unit {0}
+IsFileFault (Io _) = Unit {0}
+IsFileFault NotARamBundle = Unit {0}
+IsFileFault InvalidRamBundleIndex = Unit {0}
+IsFileFault _ = ⊥
+
+-- a file's name has this number: ASCII digits and `.js`, and the number is not the greatest of 64 bits
+abbrev pub IsNumbered : List ℕ → ℕ → Type 0
+IsNumbered name id = (digits : List ℕ) × (name ≡ digits ++ codes ".js") × IsNumeral 10 digits
+    × (id ≡ digits_value 10 digits) × (id + 1 < 2 ^ 64)
+
+-- one more than the greatest number, or 1
+abbrev pub count_of : List (ℕ × List ℕ) → ℕ
+count_of found = fold (λ count file. max count (file.0 + 1)) 1 found
+
+-- files by their numbers: of two with one number the later counts
+abbrev pub modules_by_number : List (ℕ × List ℕ) → List (ℕ × List ℕ)
+modules_by_number found = fold (λ entries file. insert_entry nat_cmp entries file.0 file.1) [] found
+
+-- the startup code, and files with their numbers
+abbrev pub folder_of : List ℕ → List (ℕ × List ℕ) → FilesValue
+folder_of startup found = record { startup = startup; count = count_of found; modules = modules_by_number found }
+
+-- files of these names, each with its number
+abbrev pub AreNumbered : List (List ℕ) → List (ℕ × List ℕ) → Type 0
+AreNumbered names found = AllZip (λ name file. IsNumbered name file.0) names found
+
+-- what was read of files of these names, whatever they hold
+abbrev pub IsReadBy : List (List ℕ) → List ℕ → FilesValue → Type 0
+IsReadBy names startup folder = (found : List (ℕ × List ℕ)) × AreNumbered names found × (folder ≡ folder_of startup found)
+
+-- what was read of files in the order of the bytes of their names
+abbrev pub IsFolder : FilesValue → Type 0
+IsFolder folder = (names : List (String Global)) × (startup : List ℕ)
+    × IsSorted string_cmp names × IsReadBy (map string_bytes names) startup folder
+
+-- a bundle that was read of such files
+abbrev pub IsFileBundle : BundleValue → Type 0
+IsFileBundle (indexed header bytes) = ⊥
+IsFileBundle (files folder) = IsFolder folder

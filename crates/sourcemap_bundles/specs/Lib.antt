@@ -1,0 +1,4 @@
+pub mod Folder
+pub mod Iterators
+pub mod Modules
+pub mod Stored

@@ -1,0 +1,102 @@
+-- Bundles as values: which modules and which startup code they have.
+use Rattle.std.specs.Prelude.{◌≡◌, ◌≤◌, ℕ, zero, suc, ◌+◌, ◌-◌, ◌*◌, ◌==◌, ◌&&◌, nat_lt, if◌then◌else◌, List, [], ◌∷◌, length, Option, Some, None, option_map, Result, Ok, Err}
+use Rattle.std.specs.Ordering.{is_eq, nat_cmp}
+use Rattle.std.specs.Map.{lookup}
+use Rattle.std.specs.Str.{IsUtf8}
+use Rattle.sourcemap_errors.specs.Answer.{UnlessMemory}
+use Rattle.sourcemap_errors.specs.declared.errors.Error.{Error}
+use Rattle.sourcemap_errors.specs.declared.errors.Error.TheVariants.{Io, InvalidRamBundleEntry, InvalidRamBundleIndex, InvalidRamBundleMagic, OutOfMemory, Utf8}
+use Rattle.sourcemap_bundle_bytes.specs.Bundle.{bundle_magic, entry_of, header_of, number_after, range_of, then_make}
+use Rattle.sourcemap_bundle_bytes.specs.declared.bundle.ModuleEntry.{ModuleEntry}
+use Rattle.sourcemap_bundle_bytes.specs.declared.bundle.RamBundleHeader.{RamBundleHeader}
+
+-- a module: its number, and its text in bytes
+pub record ModuleValue : Type 0 where
+  pub id : ℕ
+  pub text : List ℕ
+
+-- what a file bundle holds: its startup code, how many numbers modules may have, and the modules by their numbers
+pub record FilesValue : Type 0 where
+  pub startup : List ℕ
+  pub count : ℕ
+  pub modules : List (ℕ × List ℕ)
+
+-- a bundle: the bytes of one behind the numbers of its header, or files
+pub data BundleValue : Type 0 where
+  indexed : RamBundleHeader → List ℕ → BundleValue
+  files : FilesValue → BundleValue
+
+-- bytes that begin with the header of a bundle
+abbrev pub IsBundle : List ℕ → Type 0
+IsBundle bytes = (12 ≤ length bytes) × (number_after 0 bytes ≡ bundle_magic)
+
+-- the indexed bundle that bytes are
+abbrev pub indexed_bundle : List ℕ → Result BundleValue Error
+indexed_bundle bytes = then_make (λ header.
+    if header.magic == bundle_magic then Ok (indexed header bytes) else Err InvalidRamBundleMagic) (header_of bytes)
+
+-- where the table of modules ends: there the startup code begins, and offsets of modules count from there
+abbrev pub code_start : RamBundleHeader → ℕ
+code_start header = 12 + 8 * header.module_count
+
+abbrev pub indexed_startup : RamBundleHeader → List ℕ → Result (List ℕ) Error
+indexed_startup header bytes = range_of bytes (code_start header) header.startup_code_size
+
+-- the module of an entry: the zero byte at its end is no part of its text
+abbrev pub module_of_entry : RamBundleHeader → List ℕ → ℕ → ModuleEntry → Result (Option ModuleValue) Error
+module_of_entry header bytes id entry =
+    if entry.length == 0 then (if entry.offset == 0 then Ok None else Err InvalidRamBundleEntry)
+    else then_make (λ text. Ok (Some (record { id = id; text = text })))
+    (range_of bytes (code_start header + entry.offset) (entry.length - 1))
+
+abbrev pub indexed_module : RamBundleHeader → List ℕ → ℕ → Result (Option ModuleValue) Error
+indexed_module header bytes id =
+    if nat_lt id header.module_count then then_make (module_of_entry header bytes id) (entry_of bytes id)
+    else Err InvalidRamBundleIndex
+
+abbrev pub file_module : FilesValue → ℕ → Option ModuleValue
+file_module folder id =
+    option_map (λ text. record { id = id; text = text }) (lookup (λ k. is_eq (nat_cmp id k)) folder.modules)
+
+-- how many numbers modules may have
+abbrev pub bundle_count : BundleValue → ℕ
+bundle_count (indexed header bytes) = header.module_count
+bundle_count (files folder) = folder.count
+
+abbrev pub bundle_startup : BundleValue → Result (List ℕ) Error
+bundle_startup (indexed header bytes) = indexed_startup header bytes
+bundle_startup (files folder) = Ok folder.startup
+
+-- the module of a number, none where the number has no module
+abbrev pub bundle_module : BundleValue → ℕ → Result (Option ModuleValue) Error
+bundle_module (indexed header bytes) id = indexed_module header bytes id
+bundle_module (files folder) id = Ok (file_module folder id)
+
+-- one item more, if there is one
+abbrev pub with_item : Result (Option ModuleValue) Error → List (Result ModuleValue Error) → List (Result ModuleValue Error)
+with_item (Ok None) items = items
+with_item (Ok (Some found)) items = Ok found ∷ items
+with_item (Err e) items = Err e ∷ items
+
+-- the modules of so many numbers from `id` on, and the errors of those that are refused
+abbrev pub modules_from : BundleValue → ℕ → ℕ → List (Result ModuleValue Error)
+modules_from bundle zero id = []
+modules_from bundle (suc left) id = with_item (bundle_module bundle id) (modules_from bundle left (id + 1))
+
+-- those of all numbers
+abbrev pub modules_of : BundleValue → List (Result ModuleValue Error)
+modules_of bundle = modules_from bundle (bundle_count bundle) 0
+
+-- a view of a text in bytes, which is refused exactly where they are not UTF-8
+abbrev pub IsViewOf : List ℕ → Result (List ℕ) Error → Type 0
+IsViewOf text (Ok view) = (view ≡ text) × IsUtf8 text
+IsViewOf text (Err OutOfMemory) = Unit {0}
+IsViewOf text (Err (Utf8 _)) = ¬ IsUtf8 text
+IsViewOf text (Err _) = ⊥
+
+-- what comes of a file: the bundle that some bytes are, or why they are none, unless the read fails
+abbrev pub IsOfFile : Result BundleValue Error → Type 0
+IsOfFile (Ok bundle) = (bytes : List ℕ) × (indexed_bundle bytes ≡ Ok bundle)
+IsOfFile (Err OutOfMemory) = Unit {0}
+IsOfFile (Err (Io _)) = Unit {0}
+IsOfFile (Err e) = (bytes : List ℕ) × (indexed_bundle bytes ≡ Err e)

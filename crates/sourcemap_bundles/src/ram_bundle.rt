@@ -1,0 +1,218 @@
+//! Bundles of either kind, and the modules of one in turn.
+ghost use Rattle.std.specs.Prelude.{◌≡◌, ◌≤◌, ◌↔◌, IfErr, IfOk, IsTrue, Ok, length, option_map};
+ghost use Rattle.sourcemap_errors.specs.Answer.{Gives};
+ghost use Rattle.sourcemap_bundle_bytes.specs.Bundle.{Returns};
+ghost use Rattle.sourcemap_bundles.specs.Modules.{IsBundle, IsOfFile, bundle_count, bundle_module, bundle_startup, indexed_bundle, modules_of};
+ghost use Rattle.sourcemap_bundles.specs.Folder.{IsFileBundle, IsFileFault};
+ghost use Rattle.sourcemap_bundles.specs.Stored.{module_value, type_of};
+
+use crate::indexed::IndexedRamBundle;
+pub use crate::modules::RamBundleModule;
+use crate::unbundle::UnbundleRamBundle;
+pub use crate::unbundle::is_unbundle_path;
+use sourcemap_bundle_bytes::bundle::RamBundleHeader;
+use sourcemap_errors::errors::{Error, Result};
+use std::alloc::Global;
+use std::borrow::CowSlice;
+use std::fs;
+use std::marker::Model;
+use std::rt::Files;
+
+/// How a bundle is laid out.
+#[derive(Clone, Copy, Debug, PartialEq, Eq, PartialOrd, Ord, Hash)]
+pub enum RamBundleType {
+    /// One file with a table of its modules.
+    Indexed,
+    /// A file for each module.
+    Unbundle,
+}
+
+#[derive(Debug, Drop)]
+enum RamBundleImpl<'a> {
+    Indexed(IndexedRamBundle<'a>),
+    Unbundle(UnbundleRamBundle),
+}
+
+/// A bundle of modules with numbers, and startup code.
+#[derive(Debug)]
+pub struct RamBundle<'a> {
+    repr: RamBundleImpl<'a>,
+}
+
+impl<'a> Model for RamBundle<'a> {
+    ghost use Rattle.sourcemap_bundles.specs.Modules.{BundleValue};
+    ghost use Rattle.sourcemap_bundles.specs.Stored.{bundle_value};
+
+    ghost Value = { BundleValue };
+
+    ghost view = { λ bundle. bundle_value bundle.repr };
+}
+
+// By hand, for the prover: a drop is one step of a function that owns one, not one a field.
+impl Drop for RamBundle<'_> {
+    fn drop(self) {
+        let RamBundle { repr: _ } = self;
+    }
+}
+
+impl<'a> RamBundle<'a> {
+    ghost use Rattle.sourcemap_bundles.specs.Iterators.{modules_left};
+
+    /// Returns the indexed bundle that these bytes are, which it borrows. The header alone is read:
+    /// fewer than 12 bytes are `Scroll`, another magic number is `InvalidRamBundleMagic`.
+    pub fn parse_indexed_from_slice(bytes: &'a [u8]) -> Result<Self>
+        ensures { Returns (λ bundle. bundle) result (indexed_bundle bytes.now) }
+    {
+        let indexed = IndexedRamBundle::parse(CowSlice::Borrowed(bytes))?;
+        Ok(RamBundle {
+            repr: RamBundleImpl::Indexed(indexed),
+        })
+    }
+
+    /// Returns the same of bytes that it owns.
+    pub fn parse_indexed_from_vec(bytes: Vec<u8>) -> Result<Self>
+        ensures { Returns (λ bundle. bundle) result (indexed_bundle bytes.items) }
+    {
+        let indexed = IndexedRamBundle::parse(CowSlice::Owned(bytes))?;
+        Ok(RamBundle {
+            repr: RamBundleImpl::Indexed(indexed),
+        })
+    }
+
+    /// Reads a file, and returns the indexed bundle that its bytes are. A failed read is `Io`.
+    pub fn parse_indexed_from_path<F: Files>(rt: &F, alloc: Global, path: &str) -> Result<Self>
+        ensures { IsOfFile result }
+    {
+        RamBundle::parse_indexed_from_vec(fs::read(&(rt, alloc), path)?)
+    }
+
+    /// Reads the file bundle with the startup code at `path`: the plain files of the folder
+    /// `js-modules` beside it, but for `UNBUNDLE`, each named by ASCII digits and `.js`. Of two with
+    /// one number that with the later name counts, in the order of bytes. No bundle there, by
+    /// `is_unbundle_path`, is `NotARamBundle`; another name, or a number without a successor in
+    /// `usize`, is `InvalidRamBundleIndex`; a failed read or listing is `Io`.
+    pub fn parse_unbundle_from_path<F: Files>(rt: &F, alloc: Global, path: &str) -> Result<Self>
+        ensures files { IfOk result IsFileBundle }
+        ensures refused { IfErr result IsFileFault }
+    {
+        let files = UnbundleRamBundle::parse(rt, alloc, path)?;
+        Ok(RamBundle {
+            repr: RamBundleImpl::Unbundle(files),
+        })
+    }
+
+    /// Returns how the bundle is laid out.
+    pub fn bundle_type(&self) -> RamBundleType
+        ensures { result ≡ type_of self.now }
+    {
+        match &self.repr {
+            RamBundleImpl::Indexed(_) => RamBundleType::Indexed,
+            RamBundleImpl::Unbundle(_) => RamBundleType::Unbundle,
+        }
+    }
+
+    /// Returns the module of that number, or none. In an indexed bundle a number that is not below
+    /// the count is `InvalidRamBundleIndex`, an entry of length 0 with an offset is
+    /// `InvalidRamBundleEntry`, and an entry or a module past the end of the bytes is `Scroll`, in
+    /// this order. It takes no memory.
+    pub fn get_module(&self, id: usize) -> Result<Option<RamBundleModule<'_>>>
+        ensures { Returns (option_map module_value) result (bundle_module self.now id) }
+    {
+        match &self.repr {
+            RamBundleImpl::Indexed(indexed) => indexed.get_module(id),
+            RamBundleImpl::Unbundle(files) => Ok(files.get_module(id)),
+        }
+    }
+
+    /// Returns the count in the header of an indexed bundle, and one more than the greatest number
+    /// of a module of a file bundle, or 1.
+    pub fn module_count(&self) -> usize
+        ensures { result ≡ bundle_count self.now }
+    {
+        match &self.repr {
+            RamBundleImpl::Indexed(indexed) => indexed.module_count(),
+            RamBundleImpl::Unbundle(files) => files.module_count(),
+        }
+    }
+
+    /// Returns the startup code. In an indexed bundle it is `Scroll` past the end of the bytes.
+    pub fn startup_code(&self) -> Result<&[u8]>
+        ensures { Returns (λ code. code.now) result (bundle_startup self.now) }
+    {
+        match &self.repr {
+            RamBundleImpl::Indexed(indexed) => indexed.startup_code(),
+            RamBundleImpl::Unbundle(files) => Ok(files.startup_code()),
+        }
+    }
+
+    /// Returns the modules in turn, by rising number. A number without a module gives no item, one
+    /// that is refused gives its error.
+    #[tactic(auto, using(crate::proofs::ModulesLemmas::modules_length))]
+    pub fn iter_modules(&self) -> RamBundleModuleIter<'_>
+        ensures left { modules_left result ≡ modules_of self.now }
+        ensures bound { length (modules_left result) ≤ bundle_count self.now }
+    {
+        RamBundleModuleIter {
+            bundle: self,
+            next: 0,
+            end: self.module_count(),
+        }
+    }
+
+    /// Returns a copy. Bytes that the bundle borrows are borrowed again. Returns `OutOfMemory` only.
+    pub fn clone(&self) -> Result<Self>
+        ensures { Gives (λ bundle. bundle) result (Ok self.now) }
+    {
+        let repr = match &self.repr {
+            RamBundleImpl::Indexed(indexed) => RamBundleImpl::Indexed(indexed.clone()?),
+            RamBundleImpl::Unbundle(files) => RamBundleImpl::Unbundle(files.clone()?),
+        };
+        Ok(RamBundle { repr })
+    }
+}
+
+/// The modules of a bundle that are still to come.
+#[derive(Drop)]
+pub struct RamBundleModuleIter<'a> {
+    bundle: &'a RamBundle<'a>,
+    next: usize,
+    end: usize,
+}
+
+impl<'a> Iterator for RamBundleModuleIter<'a> {
+    type Item = Result<RamBundleModule<'a>>;
+
+    ghost use Rattle.std.specs.Iterator.{YieldsFirstBy, item_count};
+    ghost use Rattle.sourcemap_bundles.specs.Iterators.{modules_left};
+    ghost use Rattle.sourcemap_bundles.specs.Stored.{item_value};
+
+    ghost next_gives = { YieldsFirstBy item_value modules_left };
+
+    ghost remaining = { item_count modules_left };
+
+    #[tactic(auto, using(crate::proofs::ModulesLemmas::modules_next, crate::proofs::ModulesLemmas::modules_end))]
+    fn next(&mut self) -> Option<Result<RamBundleModule<'a>>> {
+        let bundle = self.bundle;
+        let end = self.end;
+        for id in self.next..end {
+            self.next = id + 1;
+            match bundle.get_module(id) {
+                Ok(None) => {}
+                Ok(Some(found)) => return Some(Ok(found)),
+                Err(e) => return Some(Err(e)),
+            }
+        }
+        None
+    }
+}
+
+/// Whether these bytes are an indexed bundle: there are at least 12, and they begin with its magic
+/// number.
+pub fn is_ram_bundle_slice(bytes: &[u8]) -> bool
+    ensures { IsTrue result ↔ IsBundle bytes.now }
+{
+    match RamBundleHeader::read(bytes) {
+        Ok(header) => header.is_valid_magic(),
+        Err(_) => false,
+    }
+}

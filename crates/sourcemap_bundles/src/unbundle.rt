@@ -1,0 +1,208 @@
+//! A file bundle: a folder with a file for each module, beside the file of the startup code.
+ghost use Rattle.std.specs.Prelude.{◌≡◌, ◌<◌, ◌+◌, ◌^◌, ℕ, Ok, IfErr, IfOk, IsOkUnless, map, option_map, string_bytes};
+ghost use Rattle.std.specs.List.Sorted.{IsSorted};
+ghost use Rattle.std.specs.Option.{SomeIff};
+ghost use Rattle.std.specs.String.{string_cmp};
+ghost use Rattle.std.specs.Str.Parse.{IsNumeral, digits_value};
+ghost use Rattle.sourcemap_errors.specs.Answer.{Gives};
+ghost use Rattle.sourcemap_errors.specs.declared.errors.Error.TheVariants.{InvalidRamBundleIndex, OutOfMemory};
+ghost use Rattle.sourcemap_bundles.specs.Folder.{IsFileFault, IsFolder, IsNumbered, IsReadBy};
+ghost use Rattle.sourcemap_bundles.specs.Modules.{file_module};
+ghost use Rattle.sourcemap_bundles.specs.Stored.{files_value, module_value};
+
+use crate::modules::RamBundleModule;
+use sourcemap_bundle_bytes::bundle::RAM_BUNDLE_MAGIC;
+use sourcemap_errors::errors::{Error, Result};
+use std::alloc::Global;
+use std::collections::BTreeMap;
+use std::io::Read;
+use std::path::{Path, PathBuf};
+use std::rt::Files;
+use std::{fs, io};
+
+const MARKER: &str = "UNBUNDLE";
+
+/// What was read of the files of a bundle.
+#[derive(Debug, Drop)]
+pub(crate) struct UnbundleRamBundle {
+    startup_code: Vec<u8>,
+    module_count: usize,
+    modules: BTreeMap<usize, Vec<u8>>,
+}
+
+impl UnbundleRamBundle {
+    /// Reads the startup code at `path` and the modules beside it.
+    pub(crate) fn parse<F: Files>(rt: &F, alloc: Global, path: &str) -> Result<Self>
+        ensures files { IfOk result (λ bundle. IsFolder (files_value bundle)) }
+        ensures refused { IfErr result IsFileFault }
+    {
+        if !is_unbundle_path(rt, alloc, path)? {
+            return Err(Error::NotARamBundle);
+        }
+        let startup_code = fs::read(&(rt, alloc), path)?;
+        let folder = modules_folder(alloc, path)?;
+        let names = file_names(rt, alloc, folder.as_path())?;
+        read_modules(rt, alloc, folder.as_path(), startup_code, &names)
+    }
+
+    /// Returns one more than the greatest number of a module, or 1.
+    pub(crate) fn module_count(&self) -> usize
+        ensures { result ≡ self.now.module_count }
+    {
+        self.module_count
+    }
+
+    /// Returns the startup code.
+    pub(crate) fn startup_code(&self) -> &[u8]
+        ensures { result.now ≡ self.now.startup_code.items }
+    {
+        self.startup_code.as_slice()
+    }
+
+    /// Returns the module of that number, or none where no file has it.
+    #[tactic(auto, using(crate::proofs::FolderLemmas::found_by_number))]
+    pub(crate) fn get_module(&self, id: usize) -> Option<RamBundleModule<'_>>
+        ensures { option_map module_value result ≡ file_module (files_value self.now) id }
+    {
+        let text = self.modules.get(&id)?;
+        Some(RamBundleModule {
+            id,
+            text: text.as_slice(),
+        })
+    }
+
+    /// Returns a copy.
+    pub(crate) fn clone(&self) -> Result<Self>
+        ensures { Gives files_value result (Ok (files_value self.now)) }
+    {
+        let startup_code = self.startup_code.clone()?;
+        let modules = self.modules.clone()?;
+        Ok(UnbundleRamBundle {
+            startup_code,
+            module_count: self.module_count,
+            modules,
+        })
+    }
+}
+
+/// Whether `path` is the startup code of a file bundle: it is a file, and beside it
+/// `js-modules/UNBUNDLE` is a file that can be read and begins with the magic number of indexed
+/// bundles. Returns `OutOfMemory` only.
+pub fn is_unbundle_path<F: Files>(rt: &F, alloc: Global, path: &str) -> Result<bool>
+    ensures { IsOkUnless result OutOfMemory }
+{
+    if !is_file(rt, path)? {
+        return Ok(false);
+    }
+    let marker = modules_folder(alloc, path)?.join(alloc, MARKER)?;
+    let marker = marker.as_path();
+    Ok(is_file(rt, marker.as_str())? && begins_with_magic(rt, marker.as_str())?)
+}
+
+/// Returns the folder of the modules, beside the startup code.
+fn modules_folder(alloc: Global, path: &str) -> Result<PathBuf>
+    ensures { IsOkUnless result OutOfMemory }
+{
+    let beside = Path::new(path).parent().unwrap_or(Path::new(""));
+    Ok(beside.join(alloc, "js-modules")?)
+}
+
+fn is_file<F: Files>(rt: &F, path: &str) -> Result<bool>
+    ensures { IsOkUnless result OutOfMemory }
+{
+    match fs::metadata(rt, path) {
+        Ok(metadata) => Ok(metadata.is_file()),
+        Err(cause) => false_unless_memory(cause),
+    }
+}
+
+fn begins_with_magic<F: Files>(rt: &F, path: &str) -> Result<bool>
+    ensures { IsOkUnless result OutOfMemory }
+{
+    let mut file = match fs::open(rt, path) {
+        Ok(file) => file,
+        Err(cause) => return false_unless_memory(cause),
+    };
+    let mut magic = [0u8; 4];
+    match file.read_exact(&mut magic) {
+        Ok(()) => Ok(magic == RAM_BUNDLE_MAGIC.to_le_bytes()),
+        Err(cause) => false_unless_memory(cause),
+    }
+}
+
+/// What a failed look at a file comes to: false, but for memory.
+fn false_unless_memory(cause: io::Error) -> Result<bool>
+    ensures { IsOkUnless result OutOfMemory }
+{
+    if cause.kind() == io::ErrorKind::OutOfMemory {
+        return Err(Error::OutOfMemory);
+    }
+    Ok(false)
+}
+
+/// Returns the names of the plain files of a folder but the marker's, in the order of their bytes. A
+/// link is none.
+fn file_names<F: Files>(rt: &F, alloc: Global, folder: Path<'_>) -> Result<Vec<String>>
+    ensures sorted { IfOk result (λ names. IsSorted string_cmp names.items) }
+    ensures refused { IfErr result IsFileFault }
+{
+    let mut names = Vec::new(alloc);
+    for entry in fs::read_dir(&(rt, alloc), folder)? {
+        let entry = entry?;
+        if entry.file_type()?.is_file() && entry.file_name() != MARKER {
+            names.push(String::from_str(alloc, entry.file_name())?)?;
+        }
+    }
+    names.sort()?;
+    Ok(names)
+}
+
+/// Reads the modules that these names stand for: of two with one number the later counts.
+fn read_modules<F: Files>(
+    rt: &F,
+    alloc: Global,
+    folder: Path<'_>,
+    startup_code: Vec<u8>,
+    names: &[String],
+) -> Result<UnbundleRamBundle>
+    ensures files { IfOk result (λ bundle. IsReadBy (map string_bytes names.now) startup_code.items (files_value bundle)) }
+    ensures refused { IfErr result IsFileFault }
+{
+    let mut modules = BTreeMap::new(alloc);
+    let mut module_count = 1usize;
+    for name in names {
+        let id = module_number(name.as_str())?;
+        let text = fs::read(&(rt, alloc), folder.join(alloc, name.as_str())?)?;
+        modules.insert(id, text)?;
+        module_count = module_count.max(id + 1);
+    }
+    Ok(UnbundleRamBundle {
+        startup_code,
+        module_count,
+        modules,
+    })
+}
+
+/// Returns the number of the module that a file's name stands for: ASCII digits and `.js`.
+fn module_number(name: &str) -> Result<usize>
+    ensures number { IfOk result (λ id. IsNumbered name.now id) }
+    ensures refused { IfErr result (λ e. (e ≡ InvalidRamBundleIndex) × ((id : ℕ) → ¬ IsNumbered name.now id)) }
+{
+    let digits = name
+        .strip_suffix(".js")
+        .ok_or(Error::InvalidRamBundleIndex)?;
+    number_with_successor(digits).ok_or(Error::InvalidRamBundleIndex)
+}
+
+/// Returns the number that digits stand for, if it is not the greatest one.
+fn number_with_successor(digits: &str) -> Option<usize>
+    ensures { SomeIff result (IsNumeral 10 digits.now × (digits_value 10 digits.now + 1 < 2 ^ 64)) (digits_value 10 digits.now) }
+{
+    if digits.starts_with('+') {
+        return None;
+    }
+    match digits.parse::<usize>() {
+        Ok(id) if id < usize::MAX => Some(id),
+        _ => None,
+    }
+}

@@ -1,0 +1,3 @@
+pub mod ClosestLemmas
+pub mod NumberLemmas
+pub mod MeaningLemmas
