@@ -33,6 +33,7 @@ pub mod Reading
 pub mod Encoder
 pub use Rattle.sourcemap_regular.specs.Write as Written
 pub mod Rewrite
+pub use Rattle.sourcemap_files.specs.Loading
 pub use Rattle.sourcemap_builder.specs.Builder
 pub use Rattle.sourcemap_scopes.specs.FunctionMap
 pub use Rattle.sourcemap_scopes.specs.Offsets as ScopeOffsets
@@ -44,6 +45,7 @@ pub use Rattle.sourcemap_hermes.specs.Decode as HermesDecoder
 pub use Rattle.sourcemap_hermes.specs.Encode as HermesEncoder
 pub use Rattle.sourcemap_hermes.specs.Equality as HermesEquality
 pub use Rattle.sourcemap_hermes.specs.Rewrite as HermesRewrite
+pub use Rattle.sourcemap_hermes.specs.WithoutLoading as HermesWithoutLoading
 pub mod Trees
 pub use Rattle.sourcemap_trees.specs.FlatList
 pub use Rattle.sourcemap_trees.specs.Flat
@@ -66,3 +68,16 @@ pub use Rattle.sourcemap_views.specs.Views
 pub use Rattle.sourcemap_views.specs.Walk
 pub use Rattle.sourcemap_views.specs.Walks
 pub use Rattle.sourcemap_regular.specs.Walk as TokenWalk
+pub use Rattle.sourcemap_places.specs.Places
+pub use Rattle.sourcemap_places.specs.RelativePaths
+pub use Rattle.sourcemap_places.specs.Urls
+pub use Rattle.sourcemap_references.specs.Reference
+pub use Rattle.sourcemap_references.specs.References
+pub use Rattle.sourcemap_references.specs.Resolution
+pub use Rattle.sourcemap_detection.specs.Detection
+pub use Rattle.sourcemap_embedding.specs.Embedded
+pub use Rattle.sourcemap_bundle_bytes.specs.Bundle
+pub use Rattle.sourcemap_bundles.specs.Folder as BundleFolder
+pub use Rattle.sourcemap_bundles.specs.Iterators as BundleIterators
+pub use Rattle.sourcemap_bundles.specs.Modules as BundleModules
+pub use Rattle.sourcemap_bundles.specs.Stored as BundlesStored

@@ -4,7 +4,8 @@
 pub use sourcemap_core::laws::{
     binary_digits_are_fewest, bits_are_determined, composed_tokens_stay_within,
     lines_make_their_text, mappings_determine_one_answer, moved_positions_answer_as_before,
-    one_stable_order, reduced_answers_alike, segments_are_determined, written_texts_are_determined,
+    one_stable_order, reduced_answers_alike, relative_paths_lead_to_their_targets,
+    segments_are_determined, written_texts_are_determined,
 };
 pub use sourcemap_headers::data_url::data_urls_have_one_answer;
 pub use sourcemap_hermes::encode::{
@@ -18,6 +19,7 @@ pub use sourcemap_index::laws::{
     encoded_texts_are_compact, encoded_texts_read_back, hermes_maps_are_of_a_kind,
     maps_of_forty_levels_are_shallow, regular_maps_are_of_a_kind, written_values_have_one_text,
 };
+pub use sourcemap_references::detector::readers_find_what_slices_do;
 pub use sourcemap_regular::encode::written_records_are_determined;
 pub use sourcemap_regular::rewrite::default_rewriting_is_final;
 pub use sourcemap_regular::write::{written_maps_are_compact, written_maps_read_back};

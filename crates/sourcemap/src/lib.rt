@@ -1,14 +1,21 @@
-//! A door: source maps, read, asked, changed and written. All that users call is here, under the
-//! names that they know; behind it are crates of one subject each, told in docs/MAP.md.
+//! A facade: source maps, read, asked, changed and written. All that users call is here, under the
+//! names that they know. It re-exports from crates of one subject each, which docs/MAP.md lists.
 #![tactic(auto)]
 
 pub mod decoder;
+pub mod detector;
 pub mod hermes;
 pub mod laws;
+pub mod ram_bundle;
 pub mod types;
 
 pub use decoder::{decode, decode_data_url, decode_slice};
+pub use detector::{
+    SourceMapRef, is_sourcemap, is_sourcemap_slice, locate_sourcemap_reference,
+    locate_sourcemap_reference_slice,
+};
 pub use hermes::SourceMapHermes;
+pub use sourcemap_core::utils::make_relative_path;
 pub use sourcemap_core::{compose, errors, js_identifiers, utils, vlq};
 pub use sourcemap_errors::errors::{Error, Result};
 pub use sourcemap_maps::builder::SourceMapBuilder;

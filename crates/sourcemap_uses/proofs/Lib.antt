@@ -1,5 +1,6 @@
 pub mod BuildingLemmas
 pub mod DataUrlsLemmas
+pub mod FindingLemmas
 pub mod FlatteningLemmas
 pub mod LinkingLemmas
 pub mod MergingLemmas

@@ -1,15 +1,16 @@
 -- What a rewriting leaves that takes names and contents away, and one by default.
-use Rattle.std.proofs.Common.{◌≡◌, ◌∙◌, refl, sym, ap, subst, ℕ, ◌<◌, List, [], ◌∷◌, map, length, false, Option, Some, None, option_map, Result, Ok, Err, IfOk}
-use Rattle.sourcemap.specs.Answer.{Gives, UnlessMemory}
+use Rattle.std.proofs.Common.{◌≡◌, ◌∙◌, refl, sym, ap, subst, ℕ, ◌<◌, List, [], ◌∷◌, map, length, false, Option, Some, None, option_map, Result, Ok, Err, IfOk, IsOkUnless}
+use Rattle.sourcemap.specs.Answer.{Gives, IsAnswer, UnlessMemory}
 use Rattle.sourcemap.specs.Due.{Gives-given}
 use Rattle.sourcemap.specs.Encoder.{ReadsBack, Restores}
 use Rattle.sourcemap.specs.Prefixes.{cut_by}
 use Rattle.sourcemap.specs.Reading.{BytesStandFor, RegularDecodes}
-use Rattle.sourcemap.specs.Rewrite.{IsDefault, MeansLess, no_removal, removal_of, rewrite_due, rewritten, taken_away, used_sources}
+use Rattle.sourcemap.specs.Rewrite.{IsDefault, LacksFolder, MeansLess, no_removal, removal_of, rewritten, taken_away, used_sources, Gives-rewritten, Rewrites, lacks_none, without_loading}
 use Rattle.sourcemap.specs.Types.{MapValue, Meaning, contents_of, meaning}
 use Rattle.sourcemap.specs.declared.errors.Error.{Error}
+use Rattle.sourcemap.specs.declared.errors.Error.TheVariants.{OutOfMemory}
 use Rattle.sourcemap.specs.declared.types.RewriteOptions.{RewriteOptions}
-use Rattle.sourcemap_uses.proofs.RefusalLemmas.{never_due, unless_memory}
+use Rattle.sourcemap_uses.proofs.RefusalLemmas.{memory_alone, unless_memory}
 use Rattle.sourcemap_uses.specs.Publishing.{Publishes, without_name, no_details}
 
 whole : (source : Option (List ℕ)) → option_map (cut_by []) source ≡ source
@@ -38,11 +39,9 @@ details options names contents prefixes = λ i. record {
 
 pub bare_due : (options : RewriteOptions) (m bare : MapValue) → options.with_names ≡ false → options.with_source_contents ≡ false
     → options.load_local_source_contents ≡ false → options.strip_prefixes.now ≡ []
-    → rewrite_due options m ≡ Ok bare → bare ≡ rewritten no_details m
-bare_due options m bare names contents no_files prefixes due =
-    let made : Ok (rewritten (removal_of options) m) ≡ Ok bare = rw no_files at due in
-    let e : rewritten (removal_of options) m ≡ bare = cc in
-    sym e ∙ ap (λ removal. rewritten removal m) (details options names contents prefixes)
+    → Rewrites options m (Ok bare) → bare ≡ rewritten no_details m
+bare_due options m bare names contents no_files prefixes is =
+    without_loading options m bare no_files is ∙ ap (λ removal. rewritten removal m) (details options names contents prefixes)
 
 pub but_details : (options : RewriteOptions) (m bare : MapValue) → options.with_names ≡ false → options.with_source_contents ≡ false
     → options.strip_prefixes.now ≡ [] → MeansLess (removal_of options) m bare → MeansLess no_details m bare
@@ -65,23 +64,23 @@ published_as m bare bytes text stands is less (back, reads, restored) = (
   },
 )
 
--- options that ask for no files are refused for want of memory alone
-pub bare_refused : (options : RewriteOptions) (m : MapValue) (e : Error) (P : Type 0) → options.load_local_source_contents ≡ false
-    → UnlessMemory e (rewrite_due options m ≡ Err e) → UnlessMemory e P
-bare_refused options m e P no_files h =
-    unless_memory e (rewrite_due options m ≡ Err e) P (λ refused. never_due (rewritten (removal_of options) m) e P (rw no_files at refused)) h
+-- options that load no contents are refused by memory alone
+pub bare_refused : (options : RewriteOptions) (e : Error) (P : Type 0) → options.load_local_source_contents ≡ false
+    → UnlessMemory e (LacksFolder options e) → UnlessMemory e P
+bare_refused options e P no_files = unless_memory e (LacksFolder options e) P (λ lacks. absurd (lacks_none options e no_files lacks))
 
 -- By default.
 
-default_due : (options : RewriteOptions) (m : MapValue) → options.load_local_source_contents ≡ false → removal_of options ≡ no_removal
-    → rewrite_due options m ≡ Ok (rewritten no_removal m)
-default_due options m no_files removal = rw no_files (ap (λ removal. Ok (rewritten removal m)) removal)
-
 pub default_whole : (options : RewriteOptions) (m : MapValue) (r : Result MapValue Error) → IsDefault options → removal_of options ≡ no_removal
-    → Gives (λ m. m) r (rewrite_due options m) → IfOk r (λ small. small ≡ rewritten no_removal m)
-default_whole options m r defaults removal gave =
+    → IsAnswer (λ m. m) (Rewrites options m) r → IfOk r (λ small. small ≡ rewritten no_removal m)
+default_whole options m r defaults removal answered =
     Gives-given (λ m. m) (rewritten no_removal m) r
-    (subst (λ due. Gives (λ m. m) r due) (default_due options m defaults.no_files removal) gave)
+    (subst (λ removal. Gives (λ m. m) r (Ok (rewritten removal m))) removal (Gives-rewritten (λ m. m) options m r defaults.no_files answered))
+
+pub default_memory : (options : RewriteOptions) (m : MapValue) (r : Result MapValue Error) → IsDefault options
+    → IsAnswer (λ m. m) (Rewrites options m) r → IsOkUnless r OutOfMemory
+default_memory options m (Ok small) defaults answered = tt
+default_memory options m (Err e) defaults answered = memory_alone e (bare_refused options e ⊥ defaults.no_files answered)
 
 pub whole_so : (P : MapValue → Type 0) (r : Result MapValue Error) (due : MapValue) → IfOk r (λ small. small ≡ due) → P due → IfOk r P
 whole_so P (Ok small) due is holds = subst P (sym is) holds

@@ -2,6 +2,7 @@ pub mod Adjusting
 pub mod Building
 pub mod DataUrls
 pub mod Faults
+pub mod Finding
 pub mod Flattening
 pub mod Functions
 pub mod Linking

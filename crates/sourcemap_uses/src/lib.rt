@@ -6,6 +6,7 @@ pub mod adjusting;
 pub mod building;
 pub mod data_urls;
 pub mod faults;
+pub mod finding;
 pub mod flattening;
 pub mod functions;
 pub mod linking;

@@ -9,6 +9,7 @@ use sourcemap_uses::adjusting::place_behind;
 use sourcemap_uses::building::place_once_written;
 use sourcemap_uses::data_urls::inline_map;
 use sourcemap_uses::faults::{Advice, advise, exit_status};
+use sourcemap_uses::finding::{FoundMap, find_map};
 use sourcemap_uses::flattening::is_kept_flat;
 use sourcemap_uses::functions::function_at;
 use sourcemap_uses::linking::link;
@@ -208,6 +209,43 @@ fn a_data_url_holds_its_map(rt: HostRuntime) -> std::result::Result<(), Fail> {
     let alloc = rt.alloc();
     assert!(rt; holds_map(alloc, INLINE)?);
     assert!(rt; !holds_map(alloc, "out.js.map")?);
+    Ok(())
+}
+
+// The end of a generated text, and where its map is, seen from `/out/a.js`.
+static FOUND: [(&str, &str); 4] = [
+    (
+        "x()\n//# sourceMappingURL=data:application/json;base64,eyJtYXBwaW5ncyI6IkFBQUEiLCJzb3VyY2VzIjpbImEuanMiXX0=\n",
+        "in the text",
+    ),
+    ("//@ sourceMappingURL=../maps/a%20b.map", "/maps/a b.map"),
+    ("x()", "nowhere"),
+    (
+        "//# sourceMappingURL=data:,",
+        "the provided data URL is invalid",
+    ),
+];
+
+fn found_told(alloc: Global, found: &FoundMap) -> Result<String> {
+    match found {
+        FoundMap::Embedded(_) => Ok(String::from_str(alloc, "in the text")?),
+        FoundMap::File(path) => Ok(String::from_str(alloc, path.as_str())?),
+        FoundMap::Nowhere => Ok(String::from_str(alloc, "nowhere")?),
+    }
+}
+
+fn map_found(alloc: Global, text: &str) -> Result<String> {
+    match boxed(alloc, find_map(alloc, text.as_bytes(), "/out/a.js")) {
+        Ok(found) => found_told(alloc, &*found),
+        Err(error) => Ok(format!(in alloc; "{error}")?),
+    }
+}
+
+#[test]
+fn a_text_leads_to_its_map(rt: HostRuntime) -> std::result::Result<(), Fail> {
+    for (text, want) in FOUND.iter() {
+        assert_eq!(rt; map_found(rt.alloc(), text)?.as_str(), *want);
+    }
     Ok(())
 }
 

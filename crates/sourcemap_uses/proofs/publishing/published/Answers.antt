@@ -28,7 +28,7 @@ returns-in_err-bare-clause-fault g c =
     let options = record c.default.result { with_names = false; with_source_contents = false } in
     let e = c.in_err-bare.field-0.0 in
     let p = err_from_is_err_and c.from_residual-in_err-bare.result c.from_residual-in_err-bare.ensures.1 in
-    rw (p.1, p.2) (bare_refused options c.in_ok-map.map e (BytesStandFor RegularDecodes c.args.bytes.now (Err e)) c.default.ensures.no_files c.in_err-bare.ensures.value)
+    rw (p.1, p.2) (bare_refused options e (BytesStandFor RegularDecodes c.args.bytes.now (Err e)) c.default.ensures.no_files c.in_err-bare.ensures.value)
 
 pub returns-in_err-text-clause-fault : goal.returns-in_err-text-clause-fault
 returns-in_err-text-clause-fault g c =

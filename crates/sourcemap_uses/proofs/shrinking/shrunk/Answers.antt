@@ -1,7 +1,7 @@
 -- A rewriting by default, part by part.
 use Rattle.std.proofs.Common.{◌≡◌, refl, None, arith}
 use Rattle.sourcemap.specs.Rewrite.{no_removal, rewritten, used_names, used_sources}
-use Rattle.sourcemap_uses.proofs.RewritingLemmas.{default_whole, sources_uncut, whole_so}
+use Rattle.sourcemap_uses.proofs.RewritingLemmas.{default_memory, default_whole, sources_uncut, whole_so}
 use Rattle.sourcemap_uses.proofs.shrinking.shrunk.Goals as goal
 
 pub returns-clause-whole : goal.returns-clause-whole
@@ -24,3 +24,6 @@ pub returns-clause-last : goal.returns-clause-last
 returns-clause-last g c =
     whole_so (λ small. rewritten no_removal small ≡ small) c.rewrite.result (rewritten no_removal c.args.map) (returns-clause-whole g c)
     (c.default_rewriting_is_final.ensures.twice c.args.map (omega arith) (omega arith))
+
+pub returns-clause-memory : goal.returns-clause-memory
+returns-clause-memory g c = default_memory c.default.result c.args.map c.rewrite.result c.default.ensures c.rewrite.ensures.value

@@ -1,0 +1,8 @@
+//! References to source maps in generated texts, maps that stand in them, and whether bytes hold a
+//! map.
+
+pub use sourcemap_detection::detection::{is_sourcemap, is_sourcemap_slice};
+pub use sourcemap_embedding::embedded::EmbeddedSourceMap;
+pub use sourcemap_references::detector::{
+    SourceMapRef, locate_sourcemap_reference, locate_sourcemap_reference_slice,
+};

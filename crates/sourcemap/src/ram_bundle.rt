@@ -1,0 +1,9 @@
+//! RAM bundles: the numbers at their head, and their modules.
+
+pub use sourcemap_bundle_bytes::bundle::{
+    ModuleEntry, RAM_BUNDLE_MAGIC, RamBundleHeader, byte_range,
+};
+pub use sourcemap_bundles::ram_bundle::{
+    RamBundle, RamBundleModule, RamBundleModuleIter, RamBundleType, is_ram_bundle_slice,
+    is_unbundle_path,
+};

@@ -1,0 +1,4 @@
+//! Maps that stand, as data URLs, in the references to them.
+#![tactic(auto)]
+
+pub mod embedded;

@@ -1,0 +1,49 @@
+-- Where the map of a generated text is, by the reference in the text and the path of the text.
+use Rattle.std.specs.Prelude.{◌≡◌, ℕ, false, List, Option, Some, None, string_bytes, MatchOption, Result, Ok, IsErrAnd}
+use Rattle.sourcemap.specs.AnyMap.{map_tree}
+use Rattle.sourcemap.specs.Embedded.{EmbeddedAnswer}
+use Rattle.sourcemap.specs.Places.{url_text}
+use Rattle.sourcemap.specs.Reference.{Reference, usual, legacy}
+use Rattle.sourcemap.specs.References.{IsInvalidData}
+use Rattle.sourcemap.specs.Resolution.{IsLongJoin, UnlessLong, resolved_path}
+use Rattle.sourcemap.specs.TreeDecoder.{Then}
+use Rattle.sourcemap.specs.Trees.{MapTree}
+use Rattle.sourcemap.specs.declared.errors.Error.{Error}
+use Rattle.sourcemap_uses.specs.declared.finding.FoundMap.{FoundMap}
+use Rattle.sourcemap_uses.specs.declared.finding.FoundMap.TheVariants.{Embedded, File, Nowhere}
+
+-- a map in the text, the path of a file, or neither
+pub data FoundValue : Type 0 where
+  embedded : MapTree → FoundValue
+  file : List ℕ → FoundValue
+  nowhere : FoundValue
+
+abbrev pub found_value : FoundMap → FoundValue
+found_value (Embedded map) = embedded (map_tree map)
+found_value (File path) = file (string_bytes path)
+found_value Nowhere = nowhere
+
+abbrev pub file_at : Option (List ℕ) → FoundValue
+file_at (Some path) = file path
+file_at None = nowhere
+
+-- the file that a URL leads to, seen from the path of its text; where these are long it may be nowhere
+abbrev pub FileOfUrl : List ℕ → List ℕ → Result FoundValue Error → Type 0
+FileOfUrl url path answer =
+    Then (UnlessLong (resolved_path path url) (IsLongJoin (url_text path false) url)) (λ found a. a ≡ Ok (file_at found)) answer
+
+-- the map that the URL holds itself, or the file that it leads to
+abbrev pub MapOfUrl : List ℕ → List ℕ → Result FoundValue Error → Type 0
+MapOfUrl url path answer =
+    Then (EmbeddedAnswer url) (λ held a. MatchOption held (FileOfUrl url path a) (λ m. a ≡ Ok (embedded m))) answer
+
+abbrev pub url_in : Reference → List ℕ
+url_in (usual url) = url
+url_in (legacy url) = url
+
+-- where a text at this path has its map, by the reference that it carries, if it carries one; where none
+-- can be said, since a line is not UTF-8, the error says so
+abbrev pub MapByReference : Option (Option Reference) → List ℕ → Result FoundValue Error → Type 0
+MapByReference None path answer = IsErrAnd answer IsInvalidData
+MapByReference (Some None) path answer = answer ≡ Ok nowhere
+MapByReference (Some (Some reference)) path answer = MapOfUrl (url_in reference) path answer

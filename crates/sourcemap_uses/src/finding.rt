@@ -1,0 +1,55 @@
+//! The map of a generated text: in the text itself, or in a file that the text names.
+ghost use Rattle.sourcemap.specs.Answer.{IsAnswer};
+ghost use Rattle.sourcemap.specs.Reference.{first_reference};
+ghost use Rattle.sourcemap.specs.References.{url_of};
+ghost use Rattle.sourcemap_uses.specs.Finding.{FileOfUrl, MapByReference, MapOfUrl, found_value};
+
+use sourcemap::detector::EmbeddedSourceMap;
+use sourcemap::{DecodedMap, Result, SourceMapRef, locate_sourcemap_reference_slice};
+use std::alloc::Global;
+
+/// Where the map of a generated text is.
+#[derive(Debug, Drop)]
+pub enum FoundMap {
+    /// In the text, as a data URL.
+    Embedded(DecodedMap),
+    /// In the file with this path.
+    File(String),
+    /// The text names no map, or none that leads to a file.
+    Nowhere,
+}
+
+/// Returns where the map of a generated text is, by the first line with a reference and the path of
+/// the text. Returns `Io` of kind `InvalidData` where a line up to there is not UTF-8, the errors of
+/// `decode_data_url` for a reference that starts with `data:`, and `OutOfMemory`.
+pub fn find_map(alloc: Global, text: &[u8], path: &str) -> Result<FoundMap>
+    ensures { IsAnswer found_value (MapByReference (first_reference text.now) path.now) result }
+{
+    match locate_sourcemap_reference_slice(alloc, text) {
+        Ok(Some(reference)) => map_of(&reference, path),
+        Ok(None) => Ok(FoundMap::Nowhere),
+        Err(error) => Err(error),
+    }
+}
+
+// Where the map is that a reference names.
+fn map_of(reference: &SourceMapRef, path: &str) -> Result<FoundMap>
+    ensures { IsAnswer found_value (MapOfUrl (url_of reference.now) path.now) result }
+{
+    match reference.get_embedded_sourcemap() {
+        Ok(Some(map)) => Ok(FoundMap::Embedded(map)),
+        Ok(None) => file_of(reference, path),
+        Err(error) => Err(error),
+    }
+}
+
+// The file that a reference leads to.
+fn file_of(reference: &SourceMapRef, path: &str) -> Result<FoundMap>
+    ensures { IsAnswer found_value (FileOfUrl (url_of reference.now) path.now) result }
+{
+    match reference.resolve_path(path) {
+        Ok(Some(path)) => Ok(FoundMap::File(path)),
+        Ok(None) => Ok(FoundMap::Nowhere),
+        Err(error) => Err(error),
+    }
+}
