@@ -1,7 +1,7 @@
 -- From what calls answered to the reply that is due, and from the reply to what a run printed.
 use Rattle.std.proofs.Common.{◌≡◌, ◌≢◌, ◌⊎◌, inl, inr, refl, sym, ap, subst, ◌∙◌, ℕ, List, [], ◌++◌, codes, Option, Some, None, Result, Ok, Err, IfSome, IsOkAnd, MatchOption, MatchResult, IfOk, string_bytes, String, Global, Vec}
 use Rattle.std.specs.declared.io.Error.{Error as IoError}
-use Rattle.sourcemap.specs.Answer.{UnlessMemory, IsAnswer}
+use Rattle.sourcemap.specs.Answer.{UnlessMemory, Gives, IsAnswer}
 use Rattle.sourcemap.specs.AnyMap.{map_tree}
 use Rattle.sourcemap.specs.Decoder.{AreSame, BytesDecode, Reading, UnlessRead}
 use Rattle.sourcemap.specs.Jsontypes.{Tree, record_of}
@@ -10,15 +10,16 @@ use Rattle.sourcemap.specs.Errors.{error_text, FromIo}
 use Rattle.sourcemap.specs.Flat.{FlatAnswer}
 use Rattle.sourcemap.specs.Shift.{HaveRowsLeft, shifted}
 use Rattle.sourcemap.specs.TreeDecoder.{Then, TreeDecodes}
-use Rattle.sourcemap.specs.Trees.{LeafMap, regular, hermes, MapTree, leaf, index, IndexParts, IndexValue, index_tree, MapSection, section_list, sections_from, IsInOrder}
+use Rattle.sourcemap.specs.Trees.{LeafMap, regular, hermes, MapTree, leaf, index, IndexParts, IndexValue, index_tree, MapSection, section_list, sections_from, meaning, IsInOrder}
 use Rattle.sourcemap.specs.Types.{MapValue}
 use Rattle.sourcemap.specs.declared.errors.Error.{Error}
 use Rattle.sourcemap.specs.declared.errors.Error.TheVariants.{BadJson, CannotFlatten, IncompatibleSourceMap, Io, OutOfMemory}
 use Rattle.sourcemap_index.specs.declared.family.DecodedMap.{DecodedMap}
-use Rattle.sourcemap_commands.specs.Command.{AskFor, IsSameCommand, TakesAdjustment}
-use Rattle.sourcemap_commands.specs.Program.{AskForNone, CommandAnswers, Ending, answered, misused, Ends, FileDecodes, MayBeRead, MayEnd, IsCutShort, IsReply, IsReplyOf, IsReplyTo, IsReported, IsRefusal, IsWriteFault, IsFoundLine, IsJsonLine, IsNoIndex, OnlyAsks, PrintsMap, Runs, Says, SaysWith, ShiftAnswer, WithFile, adjusted_by, file_read, found_text, newline, rewritten_leaf}
+use Rattle.sourcemap_trace.specs.Trace.{trace_of}
+use Rattle.sourcemap_commands.specs.Command.{AskFor, IsOfMaps, IsSameCommand, TakesAdjustment}
+use Rattle.sourcemap_commands.specs.Program.{AskForNone, CommandAnswers, Ending, answered, misused, Ends, FileDecodes, MayBeRead, MayEnd, IsCutShort, IsReply, IsReplyOf, IsReplyTo, IsReported, IsRefusal, IsWriteFault, IsFoundLine, IsJsonLine, IsNoIndex, OnlyAsks, PrintsMap, Runs, Says, SaysWith, ShiftAnswer, WithFile, adjusted_by, file_read, found_text, newline, rewritten_leaf, traced}
 use Rattle.sourcemap_commands.specs.declared.command.Command.{Command}
-use Rattle.sourcemap_commands.specs.declared.command.Command.TheVariants.{Compose, Flatten, Lookup, Rewrite, Shift, Tokens}
+use Rattle.sourcemap_commands.specs.declared.command.Command.TheVariants.{Compose, Flatten, Lookup, Rewrite, Shift, Tokens, Trace}
 use Rattle.sourcemap_commands.specs.declared.program.Reply.{Reply}
 use Rattle.sourcemap_errors.proofs.AnswerLemmas.{UnlessMemory-weaker, UnlessMemory-from}
 use Rattle.sourcemap_index.proofs.DecodeLemmas.{bytes_decode_once}
@@ -135,12 +136,19 @@ pub no_index_shift : (rows : ℕ) (t : MapTree) (e : Error) → (e ≡ Incompati
 no_index_shift rows (leaf l) e (is, other) = rw is refl
 no_index_shift rows (index parts ss) e (is, other) = absurd other
 
--- what makes no map only asks
-pub only_asks : (command : Command) → command ≢ Rewrite → command ≢ Flatten → ((rows : ℕ) → command ≢ Shift rows) → OnlyAsks command
-only_asks Rewrite rewrites flattens shifts = absurd (rewrites refl)
-only_asks Flatten rewrites flattens shifts = absurd (flattens refl)
-only_asks (Shift rows) rewrites flattens shifts = absurd (shifts rows refl)
-only_asks command rewrites flattens shifts = tt
+-- what makes no map and takes no positions only asks
+pub only_asks : (command : Command) → IsOfMaps command → command ≢ Rewrite → command ≢ Flatten
+    → ((rows : ℕ) → command ≢ Shift rows) → OnlyAsks command
+only_asks Rewrite of_maps rewrites flattens shifts = absurd (rewrites refl)
+only_asks Flatten of_maps rewrites flattens shifts = absurd (flattens refl)
+only_asks (Shift rows) of_maps rewrites flattens shifts = absurd (shifts rows refl)
+only_asks (Trace path) of_maps rewrites flattens shifts = of_maps
+only_asks command of_maps rewrites flattens shifts = tt
+
+-- what takes no positions is of maps
+pub of_maps : (command : Command) → ((path : String Global) → command ≢ Trace path) → IsOfMaps command
+of_maps (Trace path) other = absurd (other path refl)
+of_maps command other = tt
 
 -- Facts of what a file gives.
 
@@ -201,10 +209,41 @@ said_with_file held path t found r said of =
 
 -- what is said of one map, whatever is in a file
 pub said_of_one : (held : Option (Result (List ℕ) Error)) (command : Command) (t : MapTree) (r : Result (String Global) Error)
-    → ((path : String Global) → command ≢ Compose path) → IsAnswer string_bytes (Says command t None) r
+    → ((path : String Global) → command ≢ Compose path) → ((path : String Global) → command ≢ Trace path)
+    → IsAnswer string_bytes (Says command t None) r
     → WithFile held (λ file. IsAnswer string_bytes (SaysWith file command t) r)
-said_of_one held (Compose path) t r other h = absurd (other path refl)
-said_of_one held command t r other h = any_file held (λ file. IsAnswer string_bytes (SaysWith file command t) r) (λ file. h)
+said_of_one held (Compose path) t r other none h = absurd (other path refl)
+said_of_one held (Trace path) t r other none h = absurd (none path refl)
+said_of_one held command t r other none h = any_file held (λ file. IsAnswer string_bytes (SaysWith file command t) r) (λ file. h)
+
+-- what is said of a map in order and of positions in a file
+pub said_of_positions : (held : Option (Result (List ℕ) Error)) (path : String Global) (t : MapTree) (r : Result (String Global) Error)
+    → IsInOrder t → WithFile held (λ file. IsInOrder t → IsAnswer string_bytes (λ a. a ≡ traced t file) r)
+    → WithFile held (λ file. IsAnswer string_bytes (SaysWith file (Trace path) t) r)
+said_of_positions held path t r ordered h =
+    with_file held (λ file. IsInOrder t → IsAnswer string_bytes (λ a. a ≡ traced t file) r)
+    (λ file. IsAnswer string_bytes (SaysWith file (Trace path) t) r) (λ file says. says ordered) h
+
+-- the text of the answers to the positions that were read, or why they were not
+pub traced_read : (held : Option (Result (List ℕ) Error)) (positions : List ℕ) (t : MapTree) (r : Result (String Global) Error)
+    → WithFile held (λ file. Ok positions ≡ file)
+    → (IsInOrder t → Gives string_bytes r (Ok (trace_of (meaning t) positions)))
+    → WithFile held (λ file. IsInOrder t → IsAnswer string_bytes (λ a. a ≡ traced t file) r)
+traced_read held positions t r read h =
+    with_file held (λ file. Ok positions ≡ file) (λ file. IsInOrder t → IsAnswer string_bytes (λ a. a ≡ traced t file) r)
+    (λ file is. subst (λ x. IsInOrder t → IsAnswer string_bytes (λ a. a ≡ traced t x) r) is
+    (λ ordered. answers_due r (Ok (trace_of (meaning t) positions)) (h ordered))) read
+  where
+    answers_due : (r : Result (String Global) Error) (due : Result (List ℕ) Error) → Gives string_bytes r due
+        → IsAnswer string_bytes (λ a. a ≡ due) r
+    answers_due (Ok text) due h = sym h
+    answers_due (Err e) due h = UnlessMemory-weaker e (λ is. sym is) h
+
+pub traced_unread : (held : Option (Result (List ℕ) Error)) (t : MapTree) (e : Error)
+    → WithFile held (λ file. Err e ≡ file) → WithFile held (λ file. IsInOrder t → UnlessMemory e (Err e ≡ traced t file))
+traced_unread held t e read =
+    with_file held (λ file. Err e ≡ file) (λ file. IsInOrder t → UnlessMemory e (Err e ≡ traced t file))
+    (λ file is. subst (λ x. IsInOrder t → UnlessMemory e (Err e ≡ traced t x)) is (λ ordered. UnlessMemory-from e refl)) read
 
 -- what is said of the map that bytes hold
 pub answer_of_map : (held : Option (Result (List ℕ) Error)) (command : Command) (bytes : List ℕ) (m : MapTree) (r : Result (String Global) Error)
@@ -340,6 +379,7 @@ says_alike (Compose path) t other a b ordered p q =
     prints_alike (λ a. a ≡ adjusted_by t other) (λ a b h k. alike a b (h ∙ sym k)) a b p q
 says_alike (Shift rows) (leaf l) other a b ordered p q = alike a b (p ∙ sym q)
 says_alike (Shift rows) (index parts ss) other a b ordered p q = shift_alike rows parts (section_list ss) a b p q
+says_alike (Trace path) t other a b ordered p q = absurd p
 
 reply_alike : (a b : Result (List ℕ) Error) → PrintAlike a b → (reply : Reply) → IsReply (answered a) reply → IsReply (answered b) reply
 reply_alike (Ok a) (Ok b) same reply is = (is.0 ∙ same, is.1)
@@ -370,6 +410,7 @@ says_with_alike : (file : Result (List ℕ) Error) (command : Command) (t : MapT
 says_with_alike file (Compose path) t a b ordered p q =
     then_alike (FileDecodes file) (λ other a. Says (Compose path) t (Some other) a) (file_alike file)
     (λ other a b held p q. says_alike (Compose path) t (Some other) a b ordered p q) a b p q
+says_with_alike file (Trace path) t a b ordered p q = alike a b (p ∙ sym q)
 says_with_alike file command t a b ordered p q = says_alike command t None a b ordered p q
 
 -- a map that bytes stand for is in order
@@ -381,10 +422,11 @@ bytes_in_order bytes t (inl (d, holds, stands)) = of_record (record_of d) stands
     of_record (Some r) is = well_formed_in_order t (decoded_well r t is)
 bytes_in_order bytes t (inr none) = absurd none
 
--- a command with another room for its path answers the same
+-- a command with another buffer for its path answers the same
 same_command : (c d : Command) (bytes : List ℕ) (file a : Result (List ℕ) Error) → IsSameCommand c d
     → CommandAnswers c bytes file a → CommandAnswers d bytes file a
 same_command (Compose path) (Compose other) bytes file a same h = h
+same_command (Trace path) (Trace other) bytes file a same h = h
 same_command c d bytes file a same h = subst (λ x. CommandAnswers x bytes file a) same h
 
 pub replies_alike : (words : List (List ℕ)) (bytes : List ℕ) (file : Result (List ℕ) Error) (a b : Ending)

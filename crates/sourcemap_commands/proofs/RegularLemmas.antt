@@ -1,13 +1,14 @@
 -- A map rewritten with default options, and maps of which one cannot adjust the other.
-use Rattle.std.proofs.Common.{◌≡◌, refl, map, Some, Result, Ok, Err, MatchResult, ap}
-use Rattle.sourcemap.specs.Answer.{Gives, UnlessMemory}
+use Rattle.std.proofs.Common.{◌≡◌, refl, map, Some, Result, Ok, Err, MatchResult, subst}
+use Rattle.sourcemap.specs.Answer.{Gives, IsAnswer, UnlessMemory}
 use Rattle.sourcemap.specs.declared.errors.Error.{Error}
 use Rattle.sourcemap.specs.declared.errors.Error.TheVariants.{IncompatibleSourceMap, OutOfMemory}
 use Rattle.sourcemap.specs.Types.{MapValue}
-use Rattle.sourcemap.specs.Rewrite.{IsDefault, no_removal, removal_of, rewrite_due, rewritten}
+use Rattle.sourcemap.specs.Rewrite.{IsDefault, no_removal, removal_of, rewritten, Gives-rewritten, Rewrites}
 use Rattle.sourcemap.specs.Adjust.{adjusted}
 use Rattle.sourcemap.specs.Hermes.{HermesValue, hermes_value}
-use Rattle.sourcemap.specs.HermesRewrite.{rewrite_due as hermes_rewrite_due, rewritten as hermes_rewritten}
+use Rattle.sourcemap.specs.HermesRewrite.{rewritten as hermes_rewritten, Rewrites as HermesRewrites}
+use Rattle.sourcemap.specs.HermesWithoutLoading.{Gives-rewritten as hermes_Gives-rewritten}
 use Rattle.sourcemap.specs.Trees.{regular, hermes, MapTree, leaf, index}
 use Rattle.sourcemap_commands.specs.Program.{IsOfOtherKind, adjusted_by}
 use Rattle.sourcemap_rewriting.specs.declared.options.RewriteOptions.{RewriteOptions}
@@ -22,28 +23,24 @@ nothing_removed options is = λ i. record {
   prefixes = map (λ prefix. prefix.now) (is.no_prefixes i);
 }
 
-default_due : (options : RewriteOptions) (m : MapValue) → IsDefault options → rewrite_due options m ≡ Ok (rewritten no_removal m)
-default_due options m is =
-    let made : rewritten (removal_of options) m ≡ rewritten no_removal m = ap (λ r. rewritten r m) (nothing_removed options is) in
-    rw is.no_files (ap Ok made)
-
-hermes_default_due : (options : RewriteOptions) (h : HermesValue) → IsDefault options → hermes_rewrite_due options h ≡ Ok (hermes_rewritten no_removal h)
-hermes_default_due options h is =
-    let made : hermes_rewritten (removal_of options) h ≡ hermes_rewritten no_removal h = ap (λ r. hermes_rewritten r h) (nothing_removed options is) in
-    rw is.no_files (ap Ok made)
-
 only_memory : {X Y : Type 0} (view : X → Y) (r : Result X Error) (y : Y) → Gives view r (Ok y) → MatchResult r (λ x. view x ≡ y) (λ e. e ≡ OutOfMemory)
 only_memory view (Ok x) y gave = cc
 only_memory view (Err e) y gave = memory_alone e (Ok y ≡ Err e) (λ wrong. cc) gave
 
 -- what a rewriting with default options answers
 pub rewritten_by_default : (options : RewriteOptions) (m : MapValue) (r : Result MapValue Error) → IsDefault options
-    → Gives (λ m. m) r (rewrite_due options m) → MatchResult r (λ n. n ≡ rewritten no_removal m) (λ e. e ≡ OutOfMemory)
-rewritten_by_default options m r is gave = only_memory (λ m. m) r (rewritten no_removal m) (rw (default_due options m is) at gave)
+    → IsAnswer (λ m. m) (Rewrites options m) r → MatchResult r (λ n. n ≡ rewritten no_removal m) (λ e. e ≡ OutOfMemory)
+rewritten_by_default options m r is answered =
+    only_memory (λ m. m) r (rewritten no_removal m)
+    (subst (λ removal. Gives (λ m. m) r (Ok (rewritten removal m))) (nothing_removed options is)
+    (Gives-rewritten (λ m. m) options m r is.no_files answered))
 
 pub hermes_by_default : (options : RewriteOptions) (h : HermesValue) (r : Result SourceMapHermes Error) → IsDefault options
-    → Gives hermes_value r (hermes_rewrite_due options h) → MatchResult r (λ n. hermes_value n ≡ hermes_rewritten no_removal h) (λ e. e ≡ OutOfMemory)
-hermes_by_default options h r is gave = only_memory hermes_value r (hermes_rewritten no_removal h) (rw (hermes_default_due options h is) at gave)
+    → IsAnswer hermes_value (HermesRewrites options h) r → MatchResult r (λ n. hermes_value n ≡ hermes_rewritten no_removal h) (λ e. e ≡ OutOfMemory)
+hermes_by_default options h r is answered =
+    only_memory hermes_value r (hermes_rewritten no_removal h)
+    (subst (λ removal. Gives hermes_value r (Ok (hermes_rewritten removal h))) (nothing_removed options is)
+    (hermes_Gives-rewritten hermes_value options h r is.no_files answered))
 
 -- a map of another kind adjusts none
 pub refused_adjustment : (t u : MapTree) (m : MapValue) (e : Error) → t ≡ leaf (regular m) → (e ≡ IncompatibleSourceMap) × IsOfOtherKind u

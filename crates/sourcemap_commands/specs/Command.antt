@@ -2,7 +2,7 @@
 use Rattle.std.specs.Prelude.{◌≡◌, ℕ, ◌≤◌, List, [], ◌∷◌, codes, string_bytes, Option, IsSome, IsNone}
 use Rattle.std.specs.Str.Parse.{IsNumeral, digits_value}
 use Rattle.sourcemap_commands.specs.declared.command.Command.{Command}
-use Rattle.sourcemap_commands.specs.declared.command.Command.TheVariants.{Lookup, Tokens, Rewrite, Flatten, Compose, Shift}
+use Rattle.sourcemap_commands.specs.declared.command.Command.TheVariants.{Lookup, Tokens, Rewrite, Flatten, Compose, Shift, Trace}
 
 -- a word of one or more digits that is a number of 32 bits
 abbrev pub IsNumber : List ℕ → ℕ → Type 0
@@ -18,13 +18,20 @@ AskFor words Rewrite = words ≡ codes "rewrite" ∷ []
 AskFor words Flatten = words ≡ codes "flatten" ∷ []
 AskFor words (Compose path) = words ≡ codes "compose" ∷ string_bytes path ∷ []
 AskFor words (Shift rows) = (r : List ℕ) × (words ≡ codes "shift" ∷ r ∷ []) × IsNumber r rows
+AskFor words (Trace path) = words ≡ codes "trace" ∷ string_bytes path ∷ []
 
 -- two commands are one; a path in memory may have more room than another
 abbrev pub IsSameCommand : Command → Command → Type 0
 IsSameCommand (Compose path) (Compose other) = string_bytes path ≡ string_bytes other
+IsSameCommand (Trace path) (Trace other) = string_bytes path ≡ string_bytes other
 IsSameCommand a b = a ≡ b
 
 -- a second map, of which `compose` takes one and no other command does
 abbrev pub TakesAdjustment : {X : Type 0} → Command → Option X → Type 0
 TakesAdjustment (Compose _) adjustment = IsSome adjustment
 TakesAdjustment _ adjustment = IsNone adjustment
+
+-- a command that only maps answer: all but `trace`, whose answer is one to positions
+abbrev pub IsOfMaps : Command → Type 0
+IsOfMaps (Trace _) = ⊥
+IsOfMaps _ = Unit {0}

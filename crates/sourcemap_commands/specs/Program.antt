@@ -13,22 +13,23 @@ use Rattle.sourcemap.specs.Rewrite.{no_removal, rewritten}
 use Rattle.sourcemap.specs.Shift.{HaveRowsLeft, shifted}
 use Rattle.sourcemap.specs.Token.{token_text, tokens_from, says, TokenValue}
 use Rattle.sourcemap.specs.TreeDecoder.{Then}
-use Rattle.sourcemap.specs.Trees.{LeafMap, regular, hermes, held, MapTree, leaf, index, MapSection, IndexParts, section_list, sections_from, lookup, IsInOrder}
+use Rattle.sourcemap.specs.Trees.{LeafMap, regular, hermes, held, MapTree, leaf, index, MapSection, IndexParts, section_list, sections_from, lookup, meaning, IsInOrder}
 use Rattle.sourcemap.specs.Types.{MapValue}
 use Rattle.sourcemap.specs.declared.errors.Error.{Error}
 use Rattle.sourcemap.specs.declared.errors.Error.TheVariants.{IncompatibleSourceMap, OutOfMemory}
 use Rattle.std.specs.declared.alloc.Global.{Global}
 use Rattle.std.specs.declared.io.Error.{Error as IoError}
+use Rattle.sourcemap_trace.specs.Trace.{trace_of}
 use Rattle.sourcemap_commands.specs.Command.{AskFor}
 use Rattle.sourcemap_commands.specs.declared.command.Command.{Command}
-use Rattle.sourcemap_commands.specs.declared.command.Command.TheVariants.{Lookup, Tokens, Rewrite, Flatten, Compose, Shift}
+use Rattle.sourcemap_commands.specs.declared.command.Command.TheVariants.{Lookup, Tokens, Rewrite, Flatten, Compose, Shift, Trace}
 use Rattle.sourcemap_commands.specs.declared.program.Reply.{Reply}
 
 abbrev pub newline : List ℕ
 newline = 10 ∷ []
 
 abbrev pub usage_text : List ℕ
-usage_text = codes "usage: lookup LINE COL | tokens | rewrite | flatten | compose FILE | shift ROWS" ++ newline
+usage_text = codes "usage: lookup LINE COL | tokens | rewrite | flatten | compose FILE | shift ROWS | trace FILE" ++ newline
 
 -- a token's text, or that there is none
 abbrev pub found_text : Option TokenValue → List ℕ
@@ -82,15 +83,21 @@ abbrev pub rewritten_leaf : LeafMap → LeafMap
 rewritten_leaf (regular m) = regular (rewritten no_removal m)
 rewritten_leaf (hermes h) = hermes (hermes_rewritten no_removal h)
 
+-- the answers to the positions in a file, or why its bytes could not be read
+abbrev pub traced : MapTree → (file : Result (List ℕ) Error) → Result (List ℕ) Error
+traced t (Ok positions) = Ok (trace_of (meaning t) positions)
+traced t (Err e) = Err e
+
 -- a command that makes no map of the one that it is asked of alone
 abbrev pub OnlyAsks : Command → Type 0
 OnlyAsks Rewrite = ⊥
 OnlyAsks Flatten = ⊥
 OnlyAsks (Shift _) = ⊥
+OnlyAsks (Trace _) = ⊥
 OnlyAsks _ = Unit {0}
 
 -- what a command says of a map, and of a second one where it takes one: its text, or why it refuses, a
--- map of the wrong kind before all else
+-- map of the wrong kind before all else; what `trace` says is said of positions too, and not here
 abbrev pub Says : Command → MapTree → Option MapTree → Result (List ℕ) Error → Type 0
 Says (Lookup line col) t _ answer = IsOkAnd answer (IsFoundLine t (line, col))
 Says Tokens (leaf l) _ answer = answer ≡ Ok (flat_map token_line (tokens_from (held l) 0))
@@ -102,15 +109,17 @@ Says Flatten (index parts ss) _ answer = Then (FlatAnswer (index parts ss)) (λ 
 Says (Compose _) t adjustment answer = Then (λ a. a ≡ adjusted_by t adjustment) (λ m a. PrintsMap (leaf (regular m)) a) answer
 Says (Shift _) (leaf _) _ answer = answer ≡ Err IncompatibleSourceMap
 Says (Shift rows) (index parts ss) _ answer = ShiftAnswer rows parts (section_list ss) answer
+Says (Trace _) _ _ _ = ⊥
 
 -- the map in a file, given its bytes or why they could not be read; or why there is none
 abbrev pub FileDecodes : Result (List ℕ) Error → Result MapTree Error → Type 0
 FileDecodes (Ok bytes) held = BytesDecode bytes held
 FileDecodes (Err e) held = held ≡ Err e
 
--- what a command says of a map, and of the one in its file where it takes one
+-- what a command says of a map, and of the map or the positions in its file where it takes one
 abbrev pub SaysWith : Result (List ℕ) Error → Command → MapTree → Result (List ℕ) Error → Type 0
 SaysWith file (Compose path) t answer = Then (FileDecodes file) (λ other a. Says (Compose path) t (Some other) a) answer
+SaysWith file (Trace _) t answer = answer ≡ traced t file
 SaysWith file command t answer = Says command t None answer
 
 -- what a command says of the map that bytes stand for, or why they stand for none; that comes before
@@ -118,7 +127,8 @@ SaysWith file command t answer = Says command t None answer
 abbrev pub CommandAnswers : Command → (bytes : List ℕ) → (file : Result (List ℕ) Error) → Result (List ℕ) Error → Type 0
 CommandAnswers command bytes file answer = Then (BytesDecode bytes) (λ t a. SaysWith file command t a) answer
 
--- Runs: words, and bytes that hold a map; for `compose` also those of a file, or why they could not be read.
+-- Runs: words, and bytes that hold a map; for `compose` and `trace` also those of a file, or why they could
+-- not be read.
 
 -- words that ask for no command
 abbrev pub AskForNone : List (List ℕ) → Type 0

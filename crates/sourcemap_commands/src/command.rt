@@ -21,6 +21,8 @@ pub enum Command {
     Compose(String),
     /// `shift ROWS`: the index with each of its sections so many rows further down, as JSON text.
     Shift(u32),
+    /// `trace FILE`: the answers to the positions that the file of this path lists.
+    Trace(String),
 }
 
 // The number that a word of digits is. A sign, which `parse` would take, is none.
@@ -57,6 +59,16 @@ fn composed(alloc: Global, path: &str) -> Result<Command>
     Ok(Command::Compose(path))
 }
 
+// The command that answers the positions in the file of a path.
+fn traced(alloc: Global, path: &str) -> Result<Command>
+    ensures { MatchResult result
+        (AskFor (codes "trace" ∷ path.now ∷ []))
+        (λ e. e ≡ OutOfMemory) }
+{
+    let path = String::from_str(alloc, path)?;
+    Ok(Command::Trace(path))
+}
+
 // The command that is asked to move sections so many rows.
 fn shifted(rows: &str) -> Option<Command>
     ensures { MatchOption result
@@ -77,6 +89,7 @@ fn paired(alloc: Global, verb: &str, word: &str) -> Result<Option<Command>>
     match verb {
         "compose" => Ok(Some(composed(alloc, word)?)),
         "shift" => Ok(shifted(word)),
+        "trace" => Ok(Some(traced(alloc, word)?)),
         _ => Ok(None),
     }
 }

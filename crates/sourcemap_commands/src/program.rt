@@ -6,13 +6,13 @@ ghost use Rattle.sourcemap.specs.AnyMap.{map_tree};
 ghost use Rattle.sourcemap.specs.Decoder.{Reading};
 ghost use Rattle.sourcemap.specs.Token.{token_value};
 ghost use Rattle.sourcemap.specs.Hermes.{hermes_value};
-ghost use Rattle.sourcemap.specs.Trees.{hermes, leaf, regular};
+ghost use Rattle.sourcemap.specs.Trees.{IsInOrder, hermes, leaf, regular};
 ghost use Rattle.sourcemap.specs.declared.errors.Error.{Error};
 ghost use Rattle.sourcemap.specs.declared.errors.Error.TheVariants.{OutOfMemory};
-ghost use Rattle.sourcemap_commands.specs.Command.{TakesAdjustment};
-ghost use Rattle.sourcemap_commands.specs.declared.command.Command.TheVariants.{Compose, Flatten, Lookup, Rewrite, Shift, Tokens};
+ghost use Rattle.sourcemap_commands.specs.Command.{IsOfMaps, TakesAdjustment};
+ghost use Rattle.sourcemap_commands.specs.declared.command.Command.TheVariants.{Compose, Flatten, Lookup, Rewrite, Shift, Tokens, Trace};
 ghost use Rattle.sourcemap_commands.specs.declared.program.Reply.{Reply};
-ghost use Rattle.sourcemap_commands.specs.Program.{AskForNone, CommandAnswers, Ending, Ends, FileDecodes, IsCutShort, IsJsonLine, IsRefusal, IsReply, IsReplyOf, IsReplyTo, IsReported, IsWriteFault, MayBeRead, OnlyAsks, PrintsRefusal, Runs, Says, SaysWith, WithFile, file_read, misused, range_mark, token_line};
+ghost use Rattle.sourcemap_commands.specs.Program.{AskForNone, CommandAnswers, Ending, Ends, FileDecodes, IsCutShort, IsJsonLine, IsRefusal, IsReply, IsReplyOf, IsReplyTo, IsReported, IsWriteFault, MayBeRead, OnlyAsks, PrintsRefusal, Runs, Says, SaysWith, WithFile, file_read, misused, range_mark, token_line, traced};
 
 use crate::command::{Command, parse_words};
 use crate::hermes::rewritten_hermes;
@@ -21,13 +21,14 @@ use sourcemap::decoder::decode_vec;
 use sourcemap::{DecodedMap, Error, Result, SourceMap, SourceMapHermes, Token};
 use sourcemap_printing::writing::value_to_string;
 use sourcemap_records::bytes::read_all;
+use sourcemap_trace::trace_text;
 use std::alloc::Global;
 use std::fs;
 use std::io::{Read, Write};
 use std::rt::Files;
 
 const USAGE: &str =
-    "usage: lookup LINE COL | tokens | rewrite | flatten | compose FILE | shift ROWS\n";
+    "usage: lookup LINE COL | tokens | rewrite | flatten | compose FILE | shift ROWS | trace FILE\n";
 
 const NO_MEMORY: &str = "out of memory\n";
 
@@ -47,7 +48,7 @@ pub struct Reply {
 /// its sources, for `Flatten` that of the regular map that the index is made flat to, for `Compose`
 /// that of the map adjusted by the second one, for `Shift` that of the index with its sections so
 /// many rows further down, each with a newline. `Compose` takes a second map, and no other command
-/// does.
+/// does. `Trace` is no command of a map alone: `sourcemap_trace::trace_text` answers it.
 ///
 /// `IncompatibleSourceMap` for an index in `Tokens` and `Rewrite`, for a map that is no index in
 /// `Flatten` and `Shift`, for one that is not regular as either map of `Compose`, where `Compose`
@@ -60,7 +61,8 @@ pub fn apply<F: Files>(
     map: DecodedMap,
     adjustment: Option<DecodedMap>,
 ) -> Result<String>
-    requires { TakesAdjustment command.now adjustment }
+    requires adjustment { TakesAdjustment command.now adjustment }
+    requires of_maps { IsOfMaps command.now }
     ensures { IsAnswer string_bytes
         (Says command.now (map_tree map) (option_map map_tree adjustment)) result }
 {
@@ -73,6 +75,7 @@ pub fn apply<F: Files>(
 // What a command says of one map. One that takes two has been asked with both. The map is let go at
 // one place, for the prover: each way out on which one is let go is followed part by part.
 fn said<F: Files>(rt: &F, alloc: Global, command: &Command, map: DecodedMap) -> Result<String>
+    requires { IsOfMaps command.now }
     ensures { IsAnswer string_bytes (Says command.now (map_tree map) None) result }
 {
     match command {
@@ -275,7 +278,23 @@ fn composed_with(alloc: Global, map: DecodedMap, adjustment: Result<DecodedMap>)
     }
 }
 
-// What a command says of a map, and of the one in its file where it takes one.
+// The answers of a map to the positions in a file, or why they could not be read.
+fn traced_with<F: Files>(
+    rt: &F,
+    alloc: Global,
+    path: &str,
+    map: &DecodedMap,
+    at_hand: Option<Result<Vec<u8>>>,
+) -> Result<String>
+    ensures { WithFile (option_map file_read at_hand) (λ file. IsInOrder (map_tree map.now)
+        → IsAnswer string_bytes (λ a. a ≡ traced (map_tree map.now) file) result) }
+{
+    let positions = file_bytes(rt, alloc, path, at_hand)?;
+    trace_text(alloc, map, positions.as_slice())
+}
+
+// What a command says of a map in order, and of the map or the positions in its file where it takes
+// one.
 fn said_with<F: Files>(
     rt: &F,
     alloc: Global,
@@ -283,7 +302,7 @@ fn said_with<F: Files>(
     map: DecodedMap,
     at_hand: Option<Result<Vec<u8>>>,
 ) -> Result<String>
-    ensures { WithFile (option_map file_read at_hand)
+    ensures { IsInOrder (map_tree map) → WithFile (option_map file_read at_hand)
         (λ file. IsAnswer string_bytes (SaysWith file command.now (map_tree map)) result) }
 {
     match command {
@@ -291,6 +310,7 @@ fn said_with<F: Files>(
             let adjustment = file_map(rt, alloc, path.as_str(), at_hand);
             composed_with(alloc, map, adjustment)
         }
+        Command::Trace(path) => traced_with(rt, alloc, path.as_str(), &map, at_hand),
         command => apply(rt, alloc, command, map, None),
     }
 }
@@ -353,11 +373,12 @@ fn replied<F: Files>(
     }
 }
 
-/// The reply to words, on the bytes of a map. For `Compose` what was read of the file that it names
-/// counts too, its bytes or why there are none, and for no other words. With status 0 what the
-/// command that the words ask for says, as by `apply`. With status 1 the text of a refusal and a
-/// newline, that of the first of these: the bytes hold no map, as by `decode_slice`, which is `Io`
-/// for a faulty junk header alone; the file was not read; its bytes hold no map; `apply` refuses.
+/// The reply to words, on the bytes of a map. For `Compose` and `Trace` what was read of the file
+/// that they name counts too, its bytes or why there are none, and for no other words. With status 0
+/// what the command that the words ask for says, as by `apply`; for `Trace` the text of `trace_text`
+/// on the bytes of its file. With status 1 the text of a refusal and a newline, that of the first of
+/// these: the bytes hold no map, as by `decode_slice`, which is `Io` for a faulty junk header alone;
+/// the file was not read; for `Compose` its bytes hold no map; `apply` refuses.
 /// With status 2 the usage, whatever the bytes are, for words that ask for no command. Only want of
 /// memory refuses.
 pub fn reply_to<F: Files>(
@@ -458,8 +479,8 @@ fn report<W: Write>(alloc: Global, made: Result<Reply>, output: &mut W) -> Resul
 
 /// Prints the reply to words, on the map that an input gives, and answers its status: what
 /// `reply_to` makes of the words, of all bytes of the input, which is read only where the words ask
-/// for a command, and for `Compose` of what a reading of its file then gives. That is opened and
-/// read only once the input is decoded. A read's fault, and want of memory, are refused like a
+/// for a command, and for `Compose` and `Trace` of what a reading of their file then gives. That is
+/// opened and read only once the input is decoded. A read's fault, and want of memory, are refused like a
 /// faulty map, with status 1. All text is made before the first byte of it is written. The only
 /// error is a write's fault.
 pub fn run<F: Files, R: Read, W: Write>(

@@ -14,3 +14,5 @@ mod runs;
 mod shelves;
 #[cfg(test)]
 mod starts;
+#[cfg(test)]
+mod traces;

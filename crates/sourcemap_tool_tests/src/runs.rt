@@ -9,7 +9,7 @@ pub const MAP: &str =
     r#"{"version":3,"sources":["coolstuff.js"],"names":["x","alert"],"mappings":"AAAA,GAAIA,GAAI,EACR,IAAIA,GAAK,EAAG,CACVC,MAAM"}"#;
 
 pub const USAGE: &str =
-    "usage: lookup LINE COL | tokens | rewrite | flatten | compose FILE | shift ROWS\n";
+    "usage: lookup LINE COL | tokens | rewrite | flatten | compose FILE | shift ROWS | trace FILE\n";
 
 // Words, a map, and the status and text of the run.
 const RUNS: &str = r#"lookup 0 5|MAP|0 coolstuff.js:0:4 name=x
@@ -103,7 +103,10 @@ shift 4294967296
 shift 1 1
 compose
 compose a.map b.map
-Compose a.map";
+Compose a.map
+trace
+trace a.txt b.txt
+Trace a.txt";
 
 pub fn words_of(alloc: Global, line: &str) -> Result<Vec<String>, AllocError> {
     let mut words = Vec::new(alloc);
@@ -207,7 +210,7 @@ fn ask_for(alloc: Global, line: &str, command: Option<Command>) -> Result<bool, 
 // Whether a command that takes one map says this of the map.
 fn says(rt: &HostRuntime, command: &Command, want: &str) -> Result<bool, Fail> {
     match command {
-        Command::Compose(_) => Ok(false),
+        Command::Compose(_) | Command::Trace(_) => Ok(false),
         command => {
             let map = decode_slice(rt.alloc(), MAP.as_bytes())?;
             let text = apply(rt, rt.alloc(), command, map, None)?;
@@ -226,6 +229,8 @@ fn words_ask_for_commands(rt: HostRuntime) -> Result<(), Fail> {
     assert!(rt; ask_for(alloc, "shift 7", Some(Command::Shift(7)))?);
     let path = String::from_str(alloc, "a.map")?;
     assert!(rt; ask_for(alloc, "compose a.map", Some(Command::Compose(path)))?);
+    let path = String::from_str(alloc, "a.txt")?;
+    assert!(rt; ask_for(alloc, "trace a.txt", Some(Command::Trace(path)))?);
     assert!(rt; ask_for(alloc, "tokens tokens", None)?);
     Ok(())
 }

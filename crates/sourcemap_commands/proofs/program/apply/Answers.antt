@@ -7,4 +7,4 @@ pub returns-in-Some : goal.returns-in-Some
 returns-in-Some g c =
     rw c.in-Some.is
     (says_of_two c.in-Some.adjustment c.args.command.now (map_tree c.args.map) (map_tree c.in-Some.adjustment)
-    c.composed_text.result (rw c.in-Some.is at c.requires) c.composed_text.ensures)
+    c.composed_text.result (rw c.in-Some.is at c.requires.adjustment) c.composed_text.ensures)

@@ -1,0 +1,239 @@
+// Lists of positions, answered by the call and by runs of `trace FILE`.
+use crate::runs::{MAP, TWO, words_of};
+use crate::shelves::Shelf;
+use sourcemap::{Error, decode_slice};
+use sourcemap_commands::program::{reply_to, run};
+use sourcemap_trace::trace_text;
+use std::cell::Cell;
+use std::io;
+use std::io::ErrorKind;
+use std::test::Fail;
+
+// The flat map of `TWO`.
+const FLAT: &str = r#"{"sources":["a.js","b.js"],"mappings":"AAAA;;;;;;;;;;ICAA"}"#;
+
+const RANGED: &str = r#"{"sources":["a.js"],"mappings":"AAAO","rangeMappings":"B"}"#;
+
+const HERMES: &str = r#"{"sources":["a.js"],"mappings":"AAAA","x_facebook_sources":[]}"#;
+
+// Nothing stands before the section.
+const LATE: &str =
+    r#"{"sections":[{"offset":{"line":5,"column":0},"map":{"sources":["a.js"],"mappings":"AAAA"}}]}"#;
+
+// A map, a list of positions, and the answers.
+static TRACES: [(&str, &str, &str); 21] = [
+    (
+        MAP,
+        "0:5\n0:18\nx\n1:0\n",
+        "coolstuff.js:0:4 name=x\ncoolstuff.js:2:2 name=alert\nbad position\ncoolstuff.js:2:8\n",
+    ),
+    (MAP, "", ""),
+    (MAP, "0:4294967296\n0:5\r\n", "bad position\nbad position\n"),
+    (TWO, "9:0\n10:9\n", "a.js:0:0\nb.js:0:0\n"),
+    (FLAT, "9:0\n10:9\n", "a.js:0:0\nb.js:0:0\n"),
+    (
+        MAP,
+        "0:5\n0:18",
+        "coolstuff.js:0:4 name=x\ncoolstuff.js:2:2 name=alert\n",
+    ),
+    (MAP, "x", "bad position\n"),
+    (MAP, "\n", "bad position\n"),
+    (
+        MAP,
+        "\n\n0:5\n\n",
+        "bad position\nbad position\ncoolstuff.js:0:4 name=x\nbad position\n",
+    ),
+    (
+        MAP,
+        "+1:0\n-1:0\n1:+0",
+        "bad position\nbad position\nbad position\n",
+    ),
+    (
+        MAP,
+        "1:\n:1\n:\n1",
+        "bad position\nbad position\nbad position\nbad position\n",
+    ),
+    (
+        MAP,
+        "1:2:3\n1::2\n1:2:",
+        "bad position\nbad position\nbad position\n",
+    ),
+    (
+        MAP,
+        " 1:0\n1 :0\n1: 0\n1:0 ",
+        "bad position\nbad position\nbad position\nbad position\n",
+    ),
+    (
+        MAP,
+        "\u{661}:\u{665}\n0:\u{ff15}\n0:5\u{0}",
+        "bad position\nbad position\nbad position\n",
+    ),
+    (
+        MAP,
+        "4294967295:4294967295\n4294967296:0\n0:99999999999999999999999\n0:5",
+        "coolstuff.js:2:8\nbad position\nbad position\ncoolstuff.js:0:4 name=x\n",
+    ),
+    (
+        MAP,
+        "0:0000000000000000000000000000000000000000000000000000000000000000000000000000000000000000000000000005",
+        "coolstuff.js:0:4 name=x\n",
+    ),
+    (
+        MAP,
+        "0:9999999999999999999999999999999999999999999999999999999999999999999999999999999999999999999999999999",
+        "bad position\n",
+    ),
+    (RANGED, "0:5\n3:5\n", "a.js:0:12\na.js:0:7\n"),
+    (HERMES, "0:5\n", "a.js:0:0\n"),
+    (LATE, "4:9\n5:0\ny\n", "none\na.js:0:0\nbad position\n"),
+    (
+        r#"{"mappings":"A"}"#,
+        "0:5\n",
+        "<unknown>:4294967295:4294967295\n",
+    ),
+];
+
+fn traced(rt: &HostRuntime, map: &str, positions: &[u8]) -> Result<String, Error> {
+    let map = decode_slice(rt.alloc(), map.as_bytes())?;
+    trace_text(rt.alloc(), &map, positions)
+}
+
+// Whether a list of positions has these answers.
+fn is_traced(rt: &HostRuntime, map: &str, positions: &[u8], want: &str) -> Result<bool, Fail> {
+    Ok(traced(rt, map, positions)?.as_str() == want)
+}
+
+#[test]
+fn positions_are_answered(rt: HostRuntime) -> Result<(), Fail> {
+    for (map, positions, want) in TRACES.iter() {
+        assert!(rt;
+            is_traced(&rt, map, positions.as_bytes(), want)?,
+            "{map} {positions}"
+        );
+    }
+    assert!(rt;
+        is_traced(
+            &rt,
+            MAP,
+            b"\xff:5\n0:5",
+            "bad position\ncoolstuff.js:0:4 name=x\n"
+        )?
+    );
+    Ok(())
+}
+
+#[test]
+fn long_lines_and_many_are_answered(rt: HostRuntime) -> Result<(), Fail> {
+    let zeros = "0".repeat(rt.alloc(), 1_000_000)?;
+    let line = format!(in rt.alloc(); "{zeros}:5")?;
+    assert!(rt; is_traced(&rt, MAP, line.as_bytes(), "coolstuff.js:0:4 name=x\n")?);
+    assert!(rt; is_traced(&rt, MAP, zeros.as_bytes(), "bad position\n")?);
+    let newlines = "\n".repeat(rt.alloc(), 100_000)?;
+    let answers = "bad position\n".repeat(rt.alloc(), 100_000)?;
+    assert!(rt; is_traced(&rt, MAP, newlines.as_bytes(), answers.as_str())?);
+    Ok(())
+}
+
+// A file system that has these positions at `a.txt`.
+fn shelf(text: &str) -> Shelf<'_> {
+    Shelf {
+        path: "a.txt",
+        text,
+        left: None,
+        is_opened: Cell::new(false),
+    }
+}
+
+// Whether a run over these files prints this text, and ends with this status.
+fn is_run(
+    rt: &HostRuntime,
+    files: &Shelf<'_>,
+    words: &[String],
+    map: &str,
+    status: u8,
+    text: &str,
+) -> Result<bool, Fail> {
+    let mut output = Vec::new(rt.alloc());
+    let ended = run(files, rt.alloc(), words, &mut map.as_bytes(), &mut output)?;
+    Ok(ended == status && output.as_slice() == text.as_bytes())
+}
+
+// Whether the words are replied to with this text, on the bytes of a map and of the positions.
+fn is_replied(
+    rt: &HostRuntime,
+    words: &[String],
+    map: &str,
+    positions: &str,
+    text: &str,
+) -> Result<bool, Fail> {
+    let bytes = Vec::from_slice(rt.alloc(), map.as_bytes())?;
+    let file = Vec::from_slice(rt.alloc(), positions.as_bytes())?;
+    let reply = reply_to(rt, rt.alloc(), words, bytes, Ok(file))?;
+    Ok(reply.status == 0 && reply.text.as_str() == text)
+}
+
+#[test]
+fn runs_answer_positions(rt: HostRuntime) -> Result<(), Fail> {
+    let words = words_of(rt.alloc(), "trace a.txt")?;
+    for (map, positions, want) in TRACES.iter() {
+        let files = shelf(positions);
+        assert!(rt;
+            is_replied(&rt, words.as_slice(), map, positions, want)?,
+            "{map} {positions}"
+        );
+        assert!(rt;
+            is_run(&rt, &files, words.as_slice(), map, 0, want)?,
+            "{map} {positions}"
+        );
+        assert!(rt; files.is_opened.get());
+    }
+    Ok(())
+}
+
+// Whether a run whose file fails after so many bytes prints that it did, with status 1.
+fn is_refused(rt: &HostRuntime, words: &[String], left: usize) -> Result<bool, Fail> {
+    let mut files = shelf("0:5\nx");
+    files.left = Some(left);
+    is_run(rt, &files, words, MAP, 1, "broken pipe\n")
+}
+
+#[test]
+fn files_of_positions_may_fail(rt: HostRuntime) -> Result<(), Fail> {
+    let words = words_of(rt.alloc(), "trace a.txt")?;
+    for left in 0..=5 {
+        assert!(rt;
+            is_refused(&rt, words.as_slice(), left)?,
+            "after {left} bytes"
+        );
+    }
+    let other = words_of(rt.alloc(), "trace b.txt")?;
+    let files = shelf("0:5");
+    assert!(rt; is_run(&rt, &files, other.as_slice(), MAP, 1, "entity not found\n")?);
+    Ok(())
+}
+
+#[test]
+fn maps_are_decoded_before_positions_are_read(rt: HostRuntime) -> Result<(), Fail> {
+    let words = words_of(rt.alloc(), "trace a.txt")?;
+    let files = shelf("0:5");
+    let is_so = is_run(
+        &rt,
+        &files,
+        words.as_slice(),
+        "[]",
+        1,
+        "bad json: a field has the wrong type\n",
+    )?;
+    assert!(rt; is_so && !files.is_opened.get());
+    Ok(())
+}
+
+#[test]
+fn why_positions_were_not_read_is_replied(rt: HostRuntime) -> Result<(), Fail> {
+    let words = words_of(rt.alloc(), "trace a.txt")?;
+    let bytes = Vec::from_slice(rt.alloc(), MAP.as_bytes())?;
+    let fault = io::Error::from(ErrorKind::NotFound);
+    let reply = reply_to(&rt, rt.alloc(), words.as_slice(), bytes, Err(fault.into()))?;
+    assert!(rt; reply.status == 1 && reply.text.as_str() == "entity not found\n");
+    Ok(())
+}

@@ -1,0 +1,2 @@
+pub mod PositionsLemmas
+pub mod TraceLemmas

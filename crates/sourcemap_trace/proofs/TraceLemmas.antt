@@ -1,0 +1,51 @@
+-- Answers line by line, and maps that answer alike.
+use Rattle.std.proofs.Common.{◌≡◌, ◌≢◌, ◌<◌, ◌++◌, ℕ, List, Result, Ok, Option, Some, None, IfSome, codes, length, refl, ap, subst}
+use Rattle.std.specs.List.{after_first, before_first}
+use Rattle.std.proofs.lemmas.List.{append_assoc}
+use Rattle.sourcemap.specs.Encoder.{ReadsBack}
+use Rattle.sourcemap.specs.Flat.{AnswersLike}
+use Rattle.sourcemap.specs.TreeEncoder.{Restores}
+use Rattle.sourcemap.specs.Trees.{MapTree, MeansTheSame, leaf, meaning, regular}
+use Rattle.sourcemap.specs.Types.{MapValue, Meaning}
+use Rattle.sourcemap.specs.declared.errors.Error.{Error}
+use Rattle.sourcemap_trace.specs.Positions.{is_newline, position_of}
+use Rattle.sourcemap_trace.specs.Trace.{answer_at, answer_to, meaning_text, trace_of}
+use Rattle.sourcemap_trace.proofs.PositionsLemmas.{next_line}
+
+-- the first line is answered, and then the lines that are left
+pub one_more : (says : ℕ × ℕ → Option Meaning) (rest line later old new : List ℕ) → 0 < length rest
+    → line ≡ before_first is_newline rest → later ≡ after_first is_newline rest
+    → new ≡ old ++ (answer_to says line ++ codes "\n") → new ++ trace_of says later ≡ old ++ trace_of says rest
+one_more says rest line later old new some first others pushed =
+    let answers : trace_of says rest ≡ (answer_to says line ++ codes "\n") ++ trace_of says later =
+    rw (next_line rest some, first, others) refl in
+    rw (pushed, answers, append_assoc old (answer_to says line ++ codes "\n") (trace_of says later)) refl
+
+-- maps of one meaning answer alike
+pub alike : (s t : MapTree) (positions : List ℕ) → MeansTheSame s t → trace_of (meaning s) positions ≡ trace_of (meaning t) positions
+alike s t positions same =
+    let one : meaning s ≡ meaning t = λ i. λ p. same p i in
+    ap (λ says. trace_of says positions) one
+
+-- so does a map that is read back, where one map is
+pub back_alike : (t back : MapTree) (Stands : Result MapTree Error → Type 0) (positions : List ℕ)
+    → ((a b : Result MapTree Error) → Stands a → Stands b → a ≡ b) → ReadsBack Stands (Restores t) → Stands (Ok back)
+    → trace_of (meaning back) positions ≡ trace_of (meaning t) positions
+back_alike t back Stands positions once (read, stands, restored) stands' =
+    let same : read ≡ back = let both = once (Ok read) (Ok back) stands stands' in cc in
+    alike back t positions (subst (λ x. MeansTheSame x t) same restored.0)
+
+-- a flat map answers as its index where that does not answer `none`
+flat_at : (t : MapTree) (m : MapValue) (p : Option (ℕ × ℕ)) → AnswersLike t m → answer_at (meaning t) p ≢ codes "none"
+    → answer_at (meaning (leaf (regular m))) p ≡ answer_at (meaning t) p
+flat_at t m None like other = refl
+flat_at t m (Some p) like other = by_meaning (meaning t p) (like p) other
+  where
+    by_meaning : (says : Option Meaning) → IfSome says (λ it. meaning (leaf (regular m)) p ≡ Some it) → meaning_text says ≢ codes "none"
+        → meaning_text (meaning (leaf (regular m)) p) ≡ meaning_text says
+    by_meaning None like other = absurd (other refl)
+    by_meaning (Some it) like other = ap meaning_text like
+
+pub flat_alike : (t : MapTree) (m : MapValue) (line : List ℕ) → AnswersLike t m → answer_to (meaning t) line ≢ codes "none"
+    → answer_to (meaning (leaf (regular m))) line ≡ answer_to (meaning t) line
+flat_alike t m line like other = flat_at t m (position_of line) like other

@@ -1,0 +1,13 @@
+use Rattle.std.proofs.Common.{◌≡◌, ◌++◌, length, string_bytes}
+use Rattle.sourcemap.specs.AnyMap.{map_tree}
+use Rattle.sourcemap.specs.Trees.{IsInOrder, meaning}
+use Rattle.sourcemap_trace.specs.Trace.{trace_of}
+use Rattle.sourcemap_trace.proofs.trace.trace_text.Given as goal
+
+-- what was answered, and the answers to what is left
+abbrev pub invariant-loop-rest : goal.invariant-loop-rest
+invariant-loop-rest l = IsInOrder (map_tree l.map)
+    → string_bytes l.text ++ trace_of (meaning (map_tree l.map)) l.rest ≡ trace_of (meaning (map_tree l.map)) l.positions
+
+abbrev pub decreases-loop-rest : goal.decreases-loop-rest
+decreases-loop-rest l = length l.rest
