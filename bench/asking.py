@@ -1,6 +1,6 @@
 """What the scripts ask of the library where neither program of this repository has a word for it: a small program
-that calls it is written to a folder of its own and built by `rt try`, which proves nothing. All questions go to one
-run of it. The reference program has words for the same:
+that calls it is written to a folder of its own and built by `rt try`, which proves nothing. It is built once for all
+questions. The reference program has words for the same:
 
     names    the name of the function at a line, a column and a minified name, as JSON, for each question; in a text
              if there is one
@@ -13,16 +13,19 @@ run of it. The reference program has words for the same:
     refused  why a writer that takes nothing does not get the text of a map
     contents why a map is not rewritten where contents are to be read from files, or `none`
     built    the columns, and those in the source, of the tokens of a map that is built of such pairs
+    references
+             for each question what asking_references.py says
 """
-import collections, json, pathlib, shutil, subprocess, sys, tempfile
+import collections, json, pathlib, re, shutil, subprocess, sys, tempfile
+from asking_references import FUNCTIONS, USES
 from comparing import CRATES, answer
 
 PROGRAM = '''//! Answers questions about texts and maps, each in a line.
 #![tactic(auto)]
 
 use serde_json::Value;
-use sourcemap::{
-    DecodedMap, Result, RewriteOptions, SourceMap, SourceMapBuilder, SourceMapIndex, SourceView, decode_data_url, decode_slice,
+''' + USES + '''use sourcemap::{
+    DecodedMap, Error, Result, RewriteOptions, SourceMap, SourceMapBuilder, SourceMapIndex, SourceView, decode_data_url, decode_slice,
 };
 use std::alloc::Global;
 use std::io::{self, ErrorKind, Read, Write};
@@ -35,14 +38,8 @@ fn number(question: &Value, at: usize) -> u32 {
     }
 }
 
-fn print<W: io::Write>(alloc: Global, told: Option<&str>, output: &mut W) -> Result<()> {
-    match told {
-        None => output.write_all("null".as_bytes())?,
-        Some(text) => {
-            let text = Value::String(String::from_str(alloc, text)?).to_string(alloc)?;
-            output.write_all(text.as_str().as_bytes())?
-        }
-    }
+fn print<W: io::Write>(alloc: Global, text: Option<&str>, output: &mut W) -> Result<()> {
+    put_text(alloc, text, output)?;
     Ok(output.write_all("\\n".as_bytes())?)
 }
 
@@ -124,7 +121,7 @@ fn tell_built<W: io::Write>(alloc: Global, case: &Value, output: &mut W) -> Resu
     }
     Ok(output.write_all("\\n".as_bytes())?)
 }
-
+''' + FUNCTIONS + '''
 fn part<'a>(case: &'a Value, key: &str) -> Option<&'a str> {
     case.get(key).and_then(Value::as_str)
 }
@@ -158,6 +155,7 @@ fn tell<F: Files, W: io::Write>(rt: &F, alloc: Global, case: &Value, output: &mu
         "refused" => tell_fault(SourceMap::from_slice(alloc, bytes)?.to_writer(Refusing), output),
         "contents" => tell_contents(rt, SourceMap::from_slice(alloc, bytes)?, output),
         "built" => tell_built(alloc, case, output),
+        "references" => put_answers(rt, alloc, case, output),
         _ => tell_answers(alloc, case, map, text, output),
     }
 }
@@ -178,8 +176,13 @@ fn main(rt: HostRuntime) -> Result<()> {
 
 # one of the words above, a map or a text or both, with questions, and how many lines answer them
 Case = collections.namedtuple('Case', 'name word record text questions lines')
-# how many bytes `rt try` gives a program
-MOST = 64 << 20
+# the libraries that the program calls
+LIBRARIES = 'sourcemap sourcemap_index serde_json'
+# how many bytes `rt try` gives a program, and how many lines are asked for in one run of it, so that they have less
+# than the 1 MB that it may print
+MOST, MOST_LINES = 64 << 20, 1000
+# the name of a run's input, over what it prints
+RUN = re.compile('^== [0-9]{6}\n', re.M)
 
 
 def data_of(case):
@@ -193,37 +196,49 @@ def is_too_long(case):
 
 
 def inputs_of(cases):
-    """The cases as JSON, in so many parts as are needed, each with how many cases it has."""
-    part, size = [], 0
+    """The cases as JSON, in so many parts as are needed, each with how many lines answer each of its cases."""
+    part, counts, size = [], [], 0
     for case in cases:
         data = data_of(case)
-        if part and size + len(data) + 2 > MOST:
-            yield len(part), b'[' + b','.join(part) + b']'
-            part, size = [], 0
-        part, size = [*part, data], size + len(data) + 1
-    yield len(part), b'[' + b','.join(part) + b']'
+        if part and (size + len(data) + 2 > MOST or sum(counts) + case.lines > MOST_LINES):
+            yield b'[' + b','.join(part) + b']', counts
+            part, counts, size = [], [], 0
+        part.append(data)
+        counts.append(case.lines)
+        size += len(data) + 1
+    yield b'[' + b','.join(part) + b']', counts
+
+
+def printed_here(inputs, folder):
+    """What the program prints for each input. It is built in a folder, once for all of them."""
+    for path in CRATES.iterdir():
+        shutil.copytree(path, pathlib.Path(folder, 'crates', path.name), ignore=shutil.ignore_patterns('out', 'must-fail'))
+    source, given = pathlib.Path(folder, 'crates/asking/src'), pathlib.Path(folder, 'inputs')
+    source.mkdir(parents=True)
+    given.mkdir()
+    (source / 'main.rt').write_text(PROGRAM)
+    below = (CRATES.parent / 'crates.txt').read_text()
+    pathlib.Path(folder, 'crates.txt').write_text(f'{below}\nasking: {LIBRARIES}\n')
+    for number, data in enumerate(inputs):
+        (given / f'{number:06}').write_bytes(data)
+    ended = subprocess.run(['rt', 'try', '--seconds', '3000', '--steps', '100000000000', '--cases', str(given)], cwd=source.parent,
+                           stdin=subprocess.DEVNULL, stdout=subprocess.PIPE)
+    if ended.returncode:
+        sys.exit(ended.stdout[-3000:].decode(errors='replace'))
+    return RUN.split(ended.stdout.decode())[1:]
 
 
 def asked_here(cases):
     """The lines that this library answers to each case, by a program that is built for it."""
-    with tempfile.TemporaryDirectory() as room:
-        for path in CRATES.iterdir():
-            shutil.copytree(path, pathlib.Path(room, 'crates', path.name), ignore=shutil.ignore_patterns('out', 'must-fail'))
-        folder = pathlib.Path(room, 'crates/asking/src')
-        folder.mkdir(parents=True)
-        (folder / 'main.rt').write_text(PROGRAM)
-        below = (CRATES.parent / 'crates.txt').read_text()
-        pathlib.Path(room, 'crates.txt').write_text(below + '\nasking: sourcemap sourcemap_index serde_json\n')
-        answers = []
-        for count, data in inputs_of(cases):
-            told = subprocess.run(['rt', 'try', '--seconds', '3000', '--steps', '100000000000'], cwd=folder.parent, input=data,
-                                  stdout=subprocess.PIPE)
-            if told.returncode:
-                sys.exit(told.stdout[-3000:].decode())
-            # what JSON leaves as it is may end a line for Python, as U+2028 does
-            lines = iter(told.stdout.decode().split('\n'))
-            answers += [[next(lines) for _ in range(case.lines)] for case in cases[len(answers):len(answers) + count]]
-        return answers
+    inputs = list(inputs_of(cases))
+    with tempfile.TemporaryDirectory() as folder:
+        printed = printed_here([data for data, _ in inputs], folder)
+    answers = []
+    for (_, counts), text in zip(inputs, printed):
+        # what JSON leaves as it is may end a line for Python, as U+2028 does
+        lines = iter(text.split('\n'))
+        answers += [[next(lines) for _ in range(count)] for count in counts]
+    return answers
 
 
 def asked_there(reference, case):

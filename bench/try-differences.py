@@ -69,6 +69,11 @@ def asked(word, record=None, text=None, question=None):
     return Case(word, word, record, text, [question], 2 if word == 'slices' else 1)
 
 
+def referenced(*question):
+    """One question of those of asking_references.py."""
+    return Case('references', 'references', None, None, [list(question)], 1)
+
+
 def is_shuffled(here, there):
     """Whether there the same pairs stand by their first numbers, and some of one number in another order."""
     pairs = [[tuple(map(int, pair.split(':'))) for pair in line.split()] for line in (here, there)]
@@ -179,8 +184,31 @@ ASKED = {
         asked('sections', {'mappings': 'A!'}), 'encountered incompatible sourcemap format', 'leftover cur/shift in vlq decode'),
     'a writer that refuses': Asked(
         asked('refused', named('AAAA')), 'broken pipe', 'bad json: broken pipe'),
-    'contents to be read from files, by the options of a rewriting': Asked(
-        asked('contents', named('AAAA')), 'encountered incompatible sourcemap format', 'none'),
+    'reference `c` by the path `/a/../b.js`': Asked(referenced('path', 'c', '/a/../b.js'), '"/c"', '"/a/../c"'),
+    'reference `/c` by the path `/C:/b.js`': Asked(referenced('path', '/c', '/C:/b.js'), '"/c"', '"/C:/c"'),
+    'reference `http://localhost/c` by the path `/b.js`': Asked(referenced('path', 'http://localhost/c', '/b.js'), 'null', '"/c"'),
+    'reference `%ff` by the path `/b.js`': Asked(referenced('path', '%ff', '/b.js'), 'null', '"/\u00ff"'),
+    'reference `./c:` by the path `/b.js`': Asked(referenced('path', './c:', '/b.js'), '"/c:"', '"/c:/"'),
+    'reference `^` by `http://x.com/`': Asked(referenced('resolve', '^', 'http://x.com/'), '"http://x.com/%5E"', '"http://x.com/^"'),
+    'reference `///y.com` by `http://x.com/`': Asked(referenced('resolve', '///y.com', 'http://x.com/'), '"http://y.com/"', 'null'),
+    'reference `\\c` by `x:/a/b`': Asked(referenced('resolve', '\\c', 'x:/a/b'), '"x:/a/\\\\c"', '"x:/c"'),
+    'reference `file:////c` by `http://x.com/`': Asked(referenced('resolve', 'file:////c', 'http://x.com/'), '"file:////c"', '"file:///c"'),
+    'reference `/C:` by `file://y/b`': Asked(referenced('resolve', '/C:', 'file://y/b'), '"file://y/C:"', '"file:///C:"'),
+    'the way from `/a/b.js` to `/c/d.js`': Asked(referenced('relative', '/a/b.js', '/c/d.js'), '"../c/d.js"', '"../cd.js"'),
+    'whether `{"sections":[],"sections":[]}` is a map': Asked(
+        referenced('map', '{"sections":[],"sections":[]}'), '[true,true]', '[false,false]'),
+    'whether `{"sections":["\\ud800"]}` is a map': Asked(referenced('map', '{"sections":["\\ud800"]}'), '[false,false]', '[true,true]'),
+    'whether `[null,null,null,null,null,[],null,null]` is a map': Asked(
+        referenced('map', '[null,null,null,null,null,[],null,null]'), '[false,false]', '[true,true]'),
+    'contents loaded of the source `gone` from the folder `/`: their count': Asked(
+        referenced('load', '/', None, [['gone', None]]), '[0,null]', '[1,null]'),
+    'contents loaded of the source `dev/null` from `/`, with the base path `gone/..`': Asked(
+        referenced('load', '/', 'gone/..', [['dev/null', None]]), '[1,""]', '[1,null]'),
+    'contents to be read from files, by the options of a rewriting, without `current_dir`': Asked(
+        asked('contents', named('AAAA')), 'invalid input parameter', 'none'),
+    'what the paths `/a`, `C:/a`, `/a/b` have in common': Asked(
+        referenced('cut', None, None, [['/a', None], ['C:/a', None], ['/a/b', None]]),
+        '[["/a",null],["C:/a",null],["/a/b",null]]', '[["/a",null],["C:/a",null],["b",null]]'),
     BUILT: Asked(
         Case('built', 'built', None, None, [[1, 0], *([column, place] for place in range(1, 33, 2) for column in (0, 1))], 1),
         ' '.join([*(f'0:{place}' for place in range(1, 33, 2)), '1:0', *(f'1:{place}' for place in range(1, 33, 2))]) + ' ', is_shuffled),

@@ -1,6 +1,7 @@
 //! Answers, by the crate `sourcemap`, the words that the scripts in bench/ ask with.
 
 mod draws;
+mod references;
 mod repeat;
 mod views;
 
@@ -21,7 +22,7 @@ const USAGE: &str = "usage, with a map on standard input:
     [slice | stream] (lookup LINE COL | tokens | rewrite | flatten | compose FILE | shift ROWS)
     | roundtrip | stat | batch FILE | dst FILE | positions N SEED [wild] | bench OPERATION N
     | names QUESTIONS [TEXT] | regular | equal | sections | refused | contents
-or, with nothing there: slices QUESTIONS TEXT | url URL | built PAIRS
+or, with nothing there: slices QUESTIONS TEXT | references QUESTIONS | url URL | built PAIRS
 OPERATION: decode | decode-reader | lookup | tokens | encode | rewrite | flatten
     | compose, of two maps on standard input, each on a line
     | lines, of a text there
@@ -323,6 +324,8 @@ fn answer(form: Form, words: &[&str], output: &mut Output) -> Option<Result<()>>
         ["slices", questions, text] => view_of(text).and_then(|view| {
             Ok(views::write_slices(&view, &questions_in(questions)?, output)?)
         }),
+        ["references", questions] => questions_in(questions)
+            .and_then(|questions| Ok(references::write_answers(&questions, output)?)),
         ["regular"] => bytes()
             .map_err(Error::from)
             .and_then(|bytes| write_fault(SourceMap::from_slice(&bytes), output)),

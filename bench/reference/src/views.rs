@@ -11,7 +11,7 @@ fn number(question: &Value, at: usize) -> u32 {
 }
 
 /// An answer as JSON text, or `panic`.
-fn shown(answer: impl FnOnce() -> Value) -> String {
+pub fn as_line(answer: impl FnOnce() -> Value) -> String {
     panic::catch_unwind(AssertUnwindSafe(answer))
         .map_or_else(|_| "panic".to_owned(), |told| told.to_string())
 }
@@ -27,7 +27,7 @@ pub fn write_names(
     for question in questions {
         let (line, column, name) = (number(question, 0), number(question, 1), question[2].as_str());
         let told = || json!(map.get_original_function_name(line, column, name, view));
-        writeln!(output, "{}", shown(told))?;
+        writeln!(output, "{}", as_line(told))?;
     }
     Ok(())
 }
@@ -51,7 +51,7 @@ pub fn write_slices(view: &SourceView, questions: &[Value], output: &mut Output)
             true => json!(view.get_line(line).map(summed)),
             false => json!(view.get_line_slice(line, column, span)),
         };
-        writeln!(output, "{}", shown(told))?;
+        writeln!(output, "{}", as_line(told))?;
     }
     writeln!(output, "{}", view.line_count())
 }

@@ -1,0 +1,67 @@
+"""What compare-references.py and compare-loading.py share: questions that are asked of the library, of the reference
+program and of the rules, and reasons for differences, each of which has to lead to the reference's answer."""
+import collections, itertools, json, pathlib, sys, tempfile
+from asking import Case, asked_here
+from comparing import answer, noted, report
+
+MOST_SHOWN = 10
+# what is due where the rules leave it open
+OPEN = object()
+
+
+def answered_there(reference, questions):
+    """The answer of the reference program to each question."""
+    with tempfile.TemporaryDirectory() as folder:
+        file = pathlib.Path(folder, 'questions')
+        file.write_text(json.dumps(questions))
+        lines = answer([reference, 'references', str(file)], b'')[1].decode().split('\n')[:-1]
+    if len(lines) != len(questions):
+        sys.exit(f'the reference answers {lines[:3]}')
+    return lines
+
+
+def value_of(line):
+    return line if line == 'panic' else json.loads(line)
+
+
+def as_answer(value):
+    return 0, json.dumps(value, ensure_ascii=False).encode()
+
+
+def short(question):
+    text = json.dumps(question, ensure_ascii=False)
+    return text if len(text) < 240 else f'{text[:120]} .. {text[-100:]}'
+
+
+def notes_of(question, here, there, due, ways):
+    """An answer beside what is due by the rules, and beside the reference's. The reason for a difference is `panic`, or
+    the fewest ways that lead to the reference's answer."""
+    own, other, right = value_of(here), value_of(there), due(question, ())
+
+    def reason():
+        if right is OPEN or own != right:
+            return None
+        chosen = (some for count in range(1, len(ways) + 1) for some in itertools.combinations(ways, count))
+        return 'panic' if other == 'panic' else next((', '.join(some) for some in chosen if due(question, some) == other), None)
+
+    if right is not OPEN:
+        yield noted(f'{short(question)}, by the rules', as_answer(own), as_answer(right), lambda: None)
+    yield noted(short(question), as_answer(own), as_answer(other), reason)
+
+
+def compare_answers(reference, questions, due, ways_of):
+    """Asks all questions, prints unexplained differences, the first of each reason and all counts, and ends the run.
+    `due` says what is due for a question if the reference goes some ways, and `ways_of` which it may go."""
+    there = answered_there(reference, questions)
+    here = asked_here([Case(question[0], 'references', None, None, [question], 1) for question in questions])
+    counts, asked = collections.Counter(), collections.Counter(question[0] for question in questions)
+    for question, (own,), other in zip(questions, here, there):
+        for note in notes_of(question, own, other, due, ways_of(question)):
+            counts[note.why] += 1
+            if note.why == 'UNEXPLAINED' or counts[note.why] <= MOST_SHOWN:
+                report(note)
+    same, unexplained = counts.pop('same', 0), counts.pop('UNEXPLAINED', 0)
+    meant = '; '.join(f'{n} {why}' for why, n in sorted(counts.items())) or 'none meant to differ'
+    kinds = ', '.join(f'{n} {what}' for what, n in sorted(asked.items()))
+    print(f'{len(questions)} questions, {kinds}: {same} answers the same; {meant}; {unexplained} unexplained')
+    sys.exit(1 if unexplained else 0)

@@ -1,0 +1,213 @@
+"""What the scripts know of URLs, after the URL Standard, and of paths as URLs. Stated here anew; nothing of it is
+taken from the programs that are compared.
+
+Hosts are ASCII domains without a number at the end; of others nothing is said here, which is `Open`.
+"""
+import collections, re
+from urllib.parse import unquote_to_bytes
+
+PORTS = {'http': 80, 'https': 443, 'ws': 80, 'wss': 443, 'ftp': 21, 'file': None}
+SCHEME = re.compile(r'([A-Za-z][A-Za-z0-9+.-]*):')
+EDGES = ''.join(map(chr, range(33)))
+DRIVE = re.compile(r'[A-Za-z][:|]')
+DRIVE_FIRST = re.compile(r'[A-Za-z][:|](?:[/\\]|\Z)')
+ONE_DOT, TWO_DOTS = re.compile(r'(?:\.|%2e)', re.I), re.compile(r'(?:\.|%2e){2}', re.I)
+UNRESERVED = frozenset(b'ABCDEFGHIJKLMNOPQRSTUVWXYZabcdefghijklmnopqrstuvwxyz0123456789-._~')
+
+# the bytes that a part of a URL escapes, beside all below the space and above `~`
+FRAGMENT = frozenset(b' "<>`')
+PATH = FRAGMENT | frozenset(b'#?^{}')
+USER = PATH | frozenset(b'/:;=@[\\]|')
+QUERY = frozenset(b' "#<>')
+OPAQUE = frozenset()
+FORBIDDEN = re.compile(r'[\0-\x20#%/:<>?@\[\\\]^|\x7f]')
+FORBIDDEN_OPAQUE = re.compile(r'[\0\t\n\r #/:<>?@\[\\\]^|]')
+
+# The path is a list of segments, or a text where it is opaque. The host is None where there is none.
+Url = collections.namedtuple('Url', 'scheme user password host port path query fragment')
+
+
+class Refused(Exception):
+    """The text is no URL."""
+
+
+class Open(Exception):
+    """Nothing is said here of such a host."""
+
+
+def escaped(text, escapes):
+    return ''.join(chr(b) if 32 <= b < 127 and b not in escapes else f'%{b:02X}' for b in text.encode())
+
+
+def is_special(scheme):
+    return scheme in PORTS
+
+
+def cut(text, mark):
+    """The text before a mark, and that after it, None where there is no mark."""
+    before, found, after = text.partition(mark)
+    return before, after if found else None
+
+
+def host_of(scheme, text):
+    if text[:1] == '[' or not text.isascii() or '%' in text and is_special(scheme):
+        raise Open
+    if not is_special(scheme):
+        if FORBIDDEN_OPAQUE.search(text):
+            raise Refused
+        return escaped(text, OPAQUE)
+    if not text or FORBIDDEN.search(text):
+        raise Refused
+    if re.search(r'(?:^|\.)(?:[0-9]+|0[xX][0-9A-Fa-f]*)\.?$', text):
+        raise Open
+    return text.lower()
+
+
+def port_of(scheme, text):
+    if not text:
+        return None
+    if not (text.isascii() and text.isdigit()) or int(text) > 65535:
+        raise Refused
+    return None if int(text) == PORTS.get(scheme) else int(text)
+
+
+def apart(scheme, text):
+    """The text up to the first slash, and the rest."""
+    at = re.search(r'[/\\]' if is_special(scheme) else '/', text)
+    return (text[:at.start()], text[at.start():]) if at else (text, '')
+
+
+def with_authority(scheme, text, escapes):
+    """A URL of what follows the two slashes."""
+    authority, rest = apart(scheme, text)
+    user, found, address = authority.rpartition('@')
+    name, password = cut(user, ':')
+    host, port = re.fullmatch(r'((?:\[[^\]]*\]?|[^:\[])*)(?::(.*))?', address, re.S).groups()
+    if not host and (found or port is not None):
+        raise Refused
+    host, port = host_of(scheme, host), port_of(scheme, port or '')
+    if rest[:1] == '/' or is_special(scheme) and rest[:1] == '\\':
+        rest = rest[1:]
+    elif not is_special(scheme):
+        return Url(scheme, escaped(name, USER), escaped(password or '', USER), host, port, [], None, None)
+    return Url(scheme, escaped(name, USER), escaped(password or '', USER), host, port, with_segments(scheme, [], rest, escapes), None, None)
+
+
+def shortened(scheme, path):
+    """A path without its last segment, unless that is the drive letter of a file."""
+    if scheme == 'file' and len(path) == 1 and DRIVE.fullmatch(path[0]) and path[0][1] == ':':
+        return path
+    return path[:-1]
+
+
+def with_segments(scheme, path, text, escapes):
+    """A path after the segments of a text."""
+    parts = re.split(r'[/\\]' if is_special(scheme) else '/', text)
+    for count, part in enumerate(parts, 1):
+        if TWO_DOTS.fullmatch(part):
+            path = shortened(scheme, path)
+        elif ONE_DOT.fullmatch(part):
+            path = path[:]
+        elif scheme == 'file' and not path and DRIVE.fullmatch(part):
+            path = [f'{part[0]}:']
+            continue
+        else:
+            path = [*path, escaped(part, escapes)]
+            continue
+        if count == len(parts):
+            path = [*path, '']
+    return path
+
+
+def file_parsed(base, text, escapes):
+    slashes = re.match(r'[/\\]{0,2}', text).end()
+    rest, host = text[slashes:], base.host if base else ''
+    if slashes == 2:
+        address, after = apart('file', rest)
+        if DRIVE.fullmatch(address):
+            return Url('file', '', '', '', None, with_segments('file', [], rest, escapes), None, None)
+        host = '' if not address else host_of('file', address)
+        host = '' if host == 'localhost' else host
+        return Url('file', '', '', host, None, with_segments('file', [], after[1:], escapes), None, None)
+    path = []
+    if base and not DRIVE_FIRST.match(rest):
+        if slashes == 0:
+            path = shortened('file', base.path)
+        elif base.path and DRIVE.fullmatch(base.path[0]) and base.path[0][1] == ':':
+            path = base.path[:1]
+    return Url('file', '', '', host, None, with_segments('file', path, rest, escapes), None, None)
+
+
+def relative_parsed(base, text, escapes):
+    slashes = re.match(r'[/\\]{0,2}' if is_special(base.scheme) else '/{0,2}', text).end()
+    if slashes == 2:
+        rest = text.lstrip('/\\') if is_special(base.scheme) else text[2:]
+        return with_authority(base.scheme, rest, escapes)
+    path = shortened(base.scheme, base.path) if slashes == 0 else []
+    return base._replace(path=with_segments(base.scheme, path, text[slashes:], escapes), query=None, fragment=None)
+
+
+def body_parsed(scheme, base, text, escapes):
+    """A URL up to its path. The base has the same scheme, or there is none."""
+    if scheme == 'file':
+        return file_parsed(base, text, escapes)
+    if base and (not is_special(scheme) or text[:2] != '//'):
+        return relative_parsed(base, text, escapes)
+    if is_special(scheme):
+        return with_authority(scheme, text.lstrip('/\\'), escapes)
+    if text[:2] == '//':
+        return with_authority(scheme, text[2:], escapes)
+    path = with_segments(scheme, [], text[1:], escapes) if text[:1] == '/' else escaped(text, OPAQUE)
+    return Url(scheme, '', '', None, None, path, None, None)
+
+
+def parsed(text, base=None, escapes=PATH):
+    """The URL of a text, which may be relative to that of a base; what refuses it is `Refused`."""
+    text, fragment = cut(re.sub('[\t\n\r]', '', text.strip(EDGES)), '#')
+    found = SCHEME.match(text)
+    text, query = cut(text[found.end():] if found else text, '?')
+    scheme = found.group(1).lower() if found else base.scheme if base else None
+    if scheme is None or not found and isinstance(base.path, str) and (text or query is not None or fragment is None):
+        raise Refused
+    if found and not (base and base.scheme == scheme and is_special(scheme)):
+        base = None
+    url = base if base and not text else body_parsed(scheme, base, text, escapes)
+    if query is not None:
+        url = url._replace(query=escaped(query, QUERY | frozenset(b"'") if is_special(scheme) else QUERY))
+    return url._replace(fragment=None if fragment is None else escaped(fragment, FRAGMENT))
+
+
+def path_text(url):
+    return url.path if isinstance(url.path, str) else ''.join(f'/{segment}' for segment in url.path)
+
+
+def text_of(url):
+    text = f'{url.scheme}:'
+    if url.host is not None:
+        secret = f':{url.password}' if url.password else ''
+        text += '//' + (f'{url.user}{secret}@' if url.user or secret else '') + url.host
+        text += '' if url.port is None else f':{url.port}'
+    elif not isinstance(url.path, str) and len(url.path) > 1 and url.path[0] == '':
+        text += '/.'
+    text += path_text(url)
+    text += '' if url.query is None else f'?{url.query}'
+    return text + ('' if url.fragment is None else f'#{url.fragment}')
+
+
+def url_of_path(path, is_folder=False):
+    """The URL of an absolute path, None for any other."""
+    if not path.startswith('/'):
+        return None
+    parts = [part for part in path.split('/') if part not in ('', '.')]
+    text = ''.join(f'/{"".join(chr(b) if b in UNRESERVED else f"%{b:02X}" for b in part.encode())}' for part in parts)
+    return parsed(f'file://{text}{"/" if is_folder or not parts else ""}')
+
+
+def path_of_url(url):
+    """The path of a file's URL, None for any other, and where it is not UTF-8."""
+    if url.scheme != 'file' or url.host:
+        return None
+    try:
+        return unquote_to_bytes(path_text(url)).decode()
+    except UnicodeDecodeError:
+        return None
