@@ -617,6 +617,13 @@ few_digits k m total e small heavy =
       | inr few ↦ omega arith
     ]
 
+-- digits of a number of which some is left are at most twelve
+pub few_so_far : (part : List ℕ) (total left : ℕ) → total < 2 ^ 63 → total ≡ raw_of part + 2 ^ (5 * length part) * left
+    → (0 < length part → 0 < left) → length part ≤ 12
+few_so_far part total left small e some =
+    let most : length part + 1 ≤ 13 = few_digits (length part) (length part + 1) total refl small (λ h. weighs (raw_of part) (2 ^ (5 * length part)) left total (some h) e) in
+    omega arith
+
 no_shorter : (k m : ℕ) (n : ℤ) (other : List ℕ) → IsGroup other n → m ≡ k + 1 → (0 < k → 2 ^ (5 * k) ≤ total_of n) → m ≤ length other
 no_shorter k m n other g e heavy =
     let some : 0 < length other = IsGroup-nonempty other n g in

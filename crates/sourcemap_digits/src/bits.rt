@@ -1,5 +1,5 @@
 //! Bits written as digits of base 64, six a digit, lowest first.
-ghost use Rattle.std.specs.Prelude.{◌≡◌, ℕ, ◌+◌, ◌*◌, ◌/◌, ◌<◌, ◌≤◌, ◌==◌, false, true, Bool, List, ◌++◌, MatchResult, IfErr, IfOk, OnOk, Result, None, length, string_bytes};
+ghost use Rattle.std.specs.Prelude.{◌≡◌, ℕ, ◌+◌, ◌*◌, ◌/◌, ◌<◌, ◌≤◌, ◌==◌, false, true, Bool, List, ◌++◌, MatchResult, IfErr, IfOk, OnErr, OnOk, Result, None, length, string_bytes};
 ghost use Rattle.std.specs.List.{slice_index_or};
 ghost use Rattle.std.specs.Int.{bit_at};
 ghost use Rattle.sourcemap_errors.specs.declared.errors.Error.{Error};
@@ -67,13 +67,17 @@ pub fn has_bit(text: &[u8], place: usize) -> bool
     (value >> (place % 6)) % 2 == 1
 }
 
-/// Writes the shortest text of bits behind a text. Only want of memory refuses.
+/// Appends the shortest text of bits to a text. Returns `OutOfMemory` only, and then the text is
+/// unchanged.
 pub fn push_bits(text: &mut String, bits: &[bool]) -> Result<()>
     ensures written { OnOk result ((part : List ℕ) × IsBitText bits.now part
         × (string_bytes text.new ≡ string_bytes text.old ++ part)) }
     ensures memory { IfErr result (λ e. e ≡ OutOfMemory) }
+    ensures unchanged { OnErr result (string_bytes text.new ≡ string_bytes text.old) }
 {
-    for digit in 0..digit_count(bits) {
+    let digits = digit_count(bits);
+    text.reserve(digits)?;
+    for digit in 0..digits {
         text.push(glyph_char(value_from(bits, 6 * digit)))?;
     }
     Ok(())

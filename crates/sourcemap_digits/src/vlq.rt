@@ -1,5 +1,5 @@
 //! Numbers written as digits of base 64: the segments of a map's text.
-ghost use Rattle.std.specs.Prelude.{◌≡◌, ◌≢◌, [], ℕ, ◌^◌, ◌<◌, ◌==◌, ◌&&◌, ◌||◌, nat_lt, ℤ, List, ◌++◌, Result, IfOk, IfErr, IfSome, OnOk, string_bytes};
+ghost use Rattle.std.specs.Prelude.{◌≡◌, ◌≢◌, [], ℕ, ◌^◌, ◌<◌, ◌==◌, ◌&&◌, ◌||◌, nat_lt, ℤ, List, ◌++◌, Result, IfOk, IfErr, IfSome, OnErr, OnOk, string_bytes};
 ghost use Rattle.sourcemap_errors.specs.declared.errors.Error.{Error};
 ghost use Rattle.sourcemap_errors.specs.declared.errors.Error.TheVariants.{VlqOverflow};
 ghost use Rattle.sourcemap_errors.specs.Answer.{UnlessMemory, IsAnswer, Gives};
@@ -7,6 +7,9 @@ ghost use Rattle.sourcemap_digits.specs.Vlq.{digit_value, glyph, number_of, Begi
 
 use sourcemap_errors::errors::{Error, Result};
 use std::alloc::Global;
+
+// The most digits of a number.
+const MOST_DIGITS: usize = 13;
 
 // The value of each byte, 64 where it is no digit.
 static VALUES: [u8; 256] = [
@@ -140,17 +143,19 @@ fn number_from(raw: u64) -> i64
     if raw % 2 == 0 { magnitude } else { -magnitude }
 }
 
-/// Writes the shortest digits of a number behind a text. Answers `VlqOverflow` for a number that is
-/// 2^62 or more from 0, and writes nothing then; else only want of memory refuses.
+/// Appends the shortest digits of a number to a text. Returns `VlqOverflow` for a number that is
+/// 2^62 or more from 0, else only `OutOfMemory`. After an error the text is unchanged.
 pub fn push_number(text: &mut String, number: i64) -> Result<()>
     ensures written { OnOk result ((digits : List ℕ) × IsShortest digits number
         × (string_bytes text.new ≡ string_bytes text.old ++ digits)) }
     ensures refused { IfErr result (λ e. UnlessMemory e ((e ≡ VlqOverflow) × IsTooFar number)) }
+    ensures unchanged { OnErr result (string_bytes text.new ≡ string_bytes text.old) }
 {
     let magnitude = number.unsigned_abs();
     if magnitude >= 1 << 62 {
         return Err(Error::VlqOverflow);
     }
+    text.reserve(MOST_DIGITS)?;
     let mut raw = 2 * magnitude + u64::from(number < 0);
     while raw >= 32 {
         text.push(glyph_char((raw % 32) as u8 + 32))?;

@@ -67,6 +67,11 @@ Gave remaining old new bytes =
     → (ys : List ℕ) × (remaining new.reader ≡ Some ys)
     × (left_at old.place xs ≡ option_map (λ later. bytes ++ later) (left_at new.place ys))
 
+-- a buffer begins with bytes that make a header invalid, read at some state within it
+abbrev pub ShowsInvalidHeader : List ℕ → Type 0
+ShowsInvalidHeader buf = (state : Place) × (count : ℕ) × IsInHeader state × (count ≤ length buf)
+    × ((later : List ℕ) → left_at state (take count buf ++ later) ≡ None)
+
 -- the bytes that come next make the header faulty
 abbrev pub HasFaultyHeader : {R : Type 0} → (R → Option (List ℕ)) → StripHeaderReader R → Type 0
 HasFaultyHeader remaining r = (xs : List ℕ) × (remaining r.reader ≡ Some xs) × (left_at r.place xs ≡ None)
@@ -78,4 +83,4 @@ pub record IsTurn {R : Type 0} (remaining : R → Option (List ℕ)) (old new : 
   pub end : IfOk result (λ count. count ≡ Some 0 → IsAtEnd (left_of remaining new))
   pub sound : OnOk result (has_failed new ≡ false)
   pub known : IfOk result (λ count. IsSome count → ¬ HasFaultyHeader remaining new)
-  pub fault : IfErr result (λ e. IsTrue (has_failed new) → error_kind e ≡ InvalidData)
+  pub fault : IfErr result (λ e. IsTrue (has_failed new) → (error_kind e ≡ InvalidData) × ShowsInvalidHeader buf)

@@ -1,5 +1,5 @@
 //! A reader that drops a junk header, however the bytes come.
-ghost use Rattle.std.specs.Prelude.{◌≡◌, ℕ, List, [], ◌++◌, IsTrue, ◌<◌, length, Some, None, false, IsErr, IfErr, option_and_then};
+ghost use Rattle.std.specs.Prelude.{◌≡◌, ℕ, List, [], ◌++◌, IsTrue, ◌<◌, length, Some, None, Ok, false, IsErr, IfErr, OnOk, option_and_then};
 ghost use Rattle.sourcemap_headers.specs.HeaderReader.{left_at, left_after, read_behind_header, IsWithin, IsInHeader};
 ghost use Rattle.std.specs.declared.io.ErrorKind.TheVariants.{InvalidData};
 ghost use Rattle.sourcemap_headers.specs.declared.header_reader.Place.TheVariants.{Behind, Faulty};
@@ -84,11 +84,13 @@ fn skip(place: Place, chunk: &[u8]) -> Skipped
 /// header is there if the first byte is `)`, `]`, `}` or `'`, and goes up to the first newline;
 /// where it never ends, no byte is given, and where there is none, all bytes are.
 ///
-/// A carriage return in the header with another byte than a newline behind it is a fault of kind
-/// `InvalidData`, which each later read answers again, one into an empty buffer too. Any other
-/// fault is the inner reader's as it was, which no clause says, and reading goes on where it was
-/// once that reader does. One read asks the inner reader at most 2^64 - 1 times for bytes; if it
-/// was given nothing but junk by then, it answers a fault of kind `Other`.
+/// A read has two errors of its own. One is of kind `InvalidData`: a carriage return in the header
+/// is followed by another byte than a newline. Each later read returns it again, one into an empty
+/// buffer too. The other is of kind `Other`: one read got nothing but junk from 2^64 - 1 reads of the
+/// inner reader. Any other error is the inner reader's, passed on as it is, whatever its kind; the
+/// next read goes on where that one was. No clause of std says which errors a reader returns, so
+/// that they are passed on unchanged is tested. A read has no allocator, so it takes no memory of
+/// its own.
 #[derive(Debug, Drop)]
 pub struct StripHeaderReader<R> {
     reader: R,
@@ -96,7 +98,7 @@ pub struct StripHeaderReader<R> {
 }
 
 impl<R: Read + Drop> StripHeaderReader<R> {
-    ghost use Rattle.sourcemap_headers.specs.HeaderReader.{has_failed, left_of, HasFaultyHeader, IsTurn};
+    ghost use Rattle.sourcemap_headers.specs.HeaderReader.{has_failed, left_of, HasFaultyHeader, IsTurn, ShowsInvalidHeader};
     ghost use Rattle.std.specs.IoError.{error_kind};
     ghost use Rattle.std.specs.Io.{ReadsAtMost};
     ghost use Rattle.std.specs.Io.KnownBytes.{ReadConsumes};
@@ -137,8 +139,9 @@ impl<R: Read + Drop> StripHeaderReader<R> {
         ensures refused { HasFaultyHeader R.remaining self.old → IsErr result }
         ensures stays { HasFaultyHeader R.remaining self.old
             → HasFaultyHeader R.remaining self.new }
+        ensures sound { OnOk result (has_failed self.new ≡ false) }
         ensures fault { IfErr result (λ e. IsTrue (has_failed self.new)
-            → error_kind e ≡ InvalidData) }
+            → (error_kind e ≡ InvalidData) × ShowsInvalidHeader buf.new) }
     {
         for _ in 0..u64::MAX {
             if let Some(count) = self.turn(buf)? {
@@ -182,7 +185,7 @@ impl<R: Read + Drop> Read for StripHeaderReader<R> {
     ghost use Rattle.std.specs.Io.{ReadsAtMost};
     ghost use Rattle.std.specs.Io.KnownBytes.{ReadConsumes};
     ghost use Rattle.std.specs.IoError.{error_kind};
-    ghost use Rattle.sourcemap_headers.specs.HeaderReader.{has_failed, left_of, HasFaultyHeader};
+    ghost use Rattle.sourcemap_headers.specs.HeaderReader.{has_failed, left_of, HasFaultyHeader, ShowsInvalidHeader};
 
     ghost remaining = { left_of R.remaining };
 
@@ -199,6 +202,13 @@ impl<R: Read + Drop> Read for StripHeaderReader<R> {
         ensures again { IsTrue (has_failed self.old) → IsErr result × IsTrue (has_failed self.new) }
         ensures fault { IfErr result (λ e. IsTrue (has_failed self.new)
             → error_kind e ≡ InvalidData) }
+        // no other error is taken for that of the header: bytes that were read show it
+        ensures shown { has_failed self.old ≡ false → IsTrue (has_failed self.new)
+            → ShowsInvalidHeader buf.new }
+        ensures sound { OnOk result (has_failed self.new ≡ false) }
+        // an empty buffer asks nothing of the inner reader
+        ensures empty { length buf.old ≡ 0 → has_failed self.old ≡ false
+            → (result ≡ Ok 0) × (self.new ≡ self.old) }
     {
         if let Place::Faulty = self.place {
             return Err(io::Error::from(io::ErrorKind::InvalidData));

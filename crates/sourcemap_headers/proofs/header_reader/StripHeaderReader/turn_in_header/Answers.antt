@@ -1,5 +1,6 @@
 use Rattle.std.proofs.Common.{arith, rules, take, []}
 use Rattle.std.proofs.lemmas.List.{length-take-le}
+use Rattle.sourcemap_headers.specs.HeaderReader.{ShowsInvalidHeader}
 use Rattle.sourcemap_headers.proofs.HeaderReaderLemmas.{gave_junk, gave_end, nothing_behind, turned}
 use Rattle.sourcemap_headers.proofs.header_reader.StripHeaderReader.turn_in_header.Goals as goal
 
@@ -27,3 +28,9 @@ returns-else-taken-count g c = record {
   known = search rules;
   fault = search rules;
 }
+
+pub returns-in-IsFaulty : goal.returns-in-IsFaulty
+returns-in-IsFaulty g c =
+    let shown : ShowsInvalidHeader c.read.new.buf =
+    (c.args.self.now.place, c.in_ok-count.count, c.requires.in_header, c.in_ok-count.ensures.bound.0, c.in-IsFaulty.ensures.junk c.requires.in_header) in
+    search (rules, shown)
