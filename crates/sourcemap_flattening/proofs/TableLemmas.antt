@@ -3,7 +3,6 @@ use Rattle.std.proofs.Common.{◌≡◌, ◌≢◌, refl, sym, ap, subst, ◌∙
 use Rattle.std.specs.List.{AllByRecursion}
 use Rattle.std.specs.Option.{option_or, option_copied}
 use Rattle.std.specs.Str.{bytes_eq}
-use Rattle.std.specs.HashMap.{hash_map_len}
 use Rattle.std.proofs.lemmas.Bool.{cases_Bool, cases_eq, ltb-true, lt-ltb}
 use Rattle.std.proofs.lemmas.Slice.Eq.{bytes_eq-Decides}
 use Rattle.std.proofs.lemmas.List.Sums.{fold-append}
@@ -13,8 +12,9 @@ use Rattle.sourcemap_lists.specs.Interner.{id_of, with_text, AreDistinct}
 use Rattle.sourcemap_lists.specs.Search.{find_last}
 use Rattle.sourcemap_lists.proofs.InternerLemmas.{id_of-last, slice_get-id_of}
 use Rattle.sourcemap_rewriting.specs.Kept.{kept_once, number_in}
-use Rattle.sourcemap_rewriting.specs.Numbering.{HasPlace, IsIndex, id_in}
-use Rattle.sourcemap_rewriting.proofs.NumberingLemmas.{option_or-None, id_of-fold, id_of-added, distinct-kept_once, slice_get-set_same, slice_get-set_other}
+use Rattle.sourcemap_rewriting.specs.Numbering.{HasPlace}
+use Rattle.sourcemap_interning.proofs.ItemLemmas.{slice_get-set_same, slice_get-set_other}
+use Rattle.sourcemap_rewriting.proofs.NumberingLemmas.{option_or-None, id_of-fold, id_of-added, distinct-kept_once}
 use Rattle.sourcemap_flattening.specs.Table.{TextEntry, texts_entered, contents_entered, entries_kept, numbers_among, are_too_many, put_at, entry_value, entry_values, IsTable, IsEntered, AreEntered}
 use Rattle.sourcemap_flattening.specs.declared.table.Entry.{Entry}
 use Rattle.sourcemap_flattening.specs.declared.table.Table.{Table}
@@ -277,22 +277,23 @@ module _ (before : List TextEntry) (e : TextEntry) where
 
 -- A table.
 
-pub table-none : (t : Table) → IsIndex [] t.ids → entry_values t.entries.items ≡ [] → IsTable [] t
+pub table-none : (t : Table) → t.ids ≡ [] → entry_values t.entries.items ≡ [] → IsTable [] t
 table-none t index none = record { index = index; kept = none; few = omega arith }
 
 -- with one text more
 pub entered-more : (before : List TextEntry) (e : TextEntry) (number : ℕ) (old new : Table) → IsTable before old
-    → (id_in old.ids e.0 ≡ None → hash_map_len old.ids < 4294967295)
-    → id_of e.0 (with_text (texts_entered before) e.0) ≡ Some number
-    → IsIndex (with_text (texts_entered before) e.0) new.ids
+    → (id_of e.0 old.ids ≡ None → length old.ids < 4294967295)
+    → id_of e.0 new.ids ≡ Some number
+    → new.ids ≡ with_text old.ids e.0
     → entry_values new.entries.items ≡ put_at number e (entry_values old.entries.items)
     → IsEntered (before ++ e ∷ []) e.0 number new
 entered-more before e number old new is room placed index put =
     let texts = texts-push before e in
-    let place : id_of e.0 (texts_entered (before ++ e ∷ [])) ≡ Some number = ap (id_of e.0) texts ∙ placed in
+    let indexed : new.ids ≡ texts_entered (before ++ e ∷ []) = index ∙ ap (λ us. with_text us e.0) is.index ∙ sym texts in
+    let place : id_of e.0 (texts_entered (before ++ e ∷ [])) ≡ Some number = ap (id_of e.0) (sym indexed) ∙ placed in
     record {
       table = record {
-        index = subst (λ texts. IsIndex texts new.ids) (sym texts) index;
+        index = indexed;
         kept = put ∙ ap (put_at number e) is.kept ∙ put-entered before e number place;
         few = subst (λ texts. length texts ≤ 4294967295) (sym texts) (few (id_of e.0 (texts_entered before)) refl);
       };
@@ -301,8 +302,8 @@ entered-more before e number old new is room placed index put =
   where
     few : (o : Option ℕ) → id_of e.0 (texts_entered before) ≡ o → length (with_text (texts_entered before) e.0) ≤ 4294967295
     few None new =
-        let less : hash_map_len old.ids < 4294967295 = room (is.index.places e.0 ∙ new) in
-        rw new (let more = length_push (texts_entered before) e.0 in omega (arith, less, more, is.index.count))
+        let less : length old.ids < 4294967295 = room (ap (id_of e.0) is.index ∙ new) in
+        rw new (let more = length_push (texts_entered before) e.0 in omega (arith, less, more, ap length is.index))
     few (Some n) known = rw known is.few
 
 -- what is too many with one text more

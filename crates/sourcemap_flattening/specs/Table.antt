@@ -5,7 +5,6 @@ use Rattle.std.specs.Str.{bytes_eq}
 use Rattle.sourcemap_lists.specs.Interner.{id_of}
 use Rattle.sourcemap_lists.specs.Search.{find_last}
 use Rattle.sourcemap_rewriting.specs.Kept.{kept_once, number_in}
-use Rattle.sourcemap_rewriting.specs.Numbering.{IsIndex}
 use Rattle.sourcemap_flattening.specs.declared.table.Entry.{Entry}
 use Rattle.sourcemap_flattening.specs.declared.table.Table.{Table}
 
@@ -42,7 +41,7 @@ are_too_many texts = nat_lt 4294967295 (length texts)
 
 -- the table of what was entered
 pub record IsTable (entered : List TextEntry) (t : Table) : Type 0 where
-  pub index : IsIndex (texts_entered entered) t.ids
+  pub index : t.ids ≡ texts_entered entered
   pub kept : entry_values t.entries.items ≡ entries_kept entered
   pub few : length (texts_entered entered) ≤ 4294967295
 

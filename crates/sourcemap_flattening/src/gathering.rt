@@ -58,8 +58,8 @@ impl<'a> Gathering<'a> {
         ensures memory { IsOkUnless result OutOfMemory }
     {
         Ok(Gathering {
-            sources: Table::new(alloc),
-            names: Table::new(alloc),
+            sources: Table::new(alloc)?,
+            names: Table::new(alloc)?,
             tokens: Vec::with_capacity(alloc, tokens)?,
             ignored: BTreeSet::new(alloc),
         })

@@ -1,18 +1,15 @@
 //! Texts that are kept once each, beside the contents that were given for them.
-ghost use Rattle.std.specs.Prelude.{◌≡◌, ◌<◌, ◌++◌, ◌∷◌, ℕ, [], List, None, IfErr, IfOk, OnOk, IsOkUnless, codes, true, false};
-ghost use Rattle.std.specs.HashMap.{hash_map_len};
-ghost use Rattle.sourcemap_lists.specs.Interner.{with_text};
+ghost use Rattle.std.specs.Prelude.{◌≡◌, ◌<◌, ◌++◌, ◌∷◌, [], List, None, IfErr, IfOk, OnOk, IsOkUnless, codes, length, true, false};
+ghost use Rattle.sourcemap_lists.specs.Interner.{id_of, with_text};
 ghost use Rattle.sourcemap_errors.specs.declared.errors.Error.TheVariants.{OutOfMemory};
-ghost use Rattle.sourcemap_rewriting.specs.Numbering.{IsIndex, id_in};
 ghost use Rattle.sourcemap_flattening.specs.Faults.{RefusesBy};
 ghost use Rattle.sourcemap_flattening.specs.Table.{AreEntered, IsEntered, IsTable, TextEntry, are_too_many, entry_value, entry_values, put_at, texts_entered};
 
 use crate::faults::too_many;
 use sourcemap_errors::errors::Result;
-use sourcemap_rewriting::numbering::number_of;
+use sourcemap_interning::text_index::TextIndex;
 use sourcemap_views::sourceview::SourceView;
 use std::alloc::Global;
-use std::collections::HashMap;
 
 // How many texts have an id.
 const MOST: usize = 4294967295;
@@ -29,19 +26,20 @@ pub(crate) struct Entry<'a> {
 #[derive(Drop)]
 pub(crate) struct Table<'a> {
     pub(crate) entries: Vec<Entry<'a>>,
-    // the id of each text
-    ids: HashMap<&'a str, u32>,
+    // the texts of the entries
+    ids: TextIndex<'a>,
 }
 
 impl<'a> Table<'a> {
     // A table of no texts.
-    pub(crate) fn new(alloc: Global) -> Self
-        ensures { IsTable [] result }
+    pub(crate) fn new(alloc: Global) -> Result<Self>
+        ensures ok { IfOk result (IsTable []) }
+        ensures memory { IsOkUnless result OutOfMemory }
     {
-        Table {
+        Ok(Table {
             entries: Vec::new(alloc),
-            ids: HashMap::new(alloc),
-        }
+            ids: TextIndex::new(alloc)?,
+        })
     }
 
     // Enters all of these, in their order. The answer is the number of each.
@@ -84,23 +82,22 @@ impl<'a> Table<'a> {
         if has_no_room(&self.ids, item.text) {
             return Err(too_many(alloc));
         }
-        let number = number_of(&mut self.ids, item.text)?;
+        let number = self.ids.number_of(item.text)?;
         put(&mut self.entries, number as usize, item)?;
         Ok(number)
     }
 }
 
 // Whether the text is a new one, and there is no id left for it.
-fn has_no_room(ids: &HashMap<&str, u32>, text: &str) -> bool
-    ensures room { result ≡ false → id_in ids.now text.now ≡ None
-        → hash_map_len ids.now < 4294967295 }
-    ensures full { (texts : List (List ℕ)) → IsIndex texts ids.now → result ≡ true
-        → are_too_many (with_text texts text.now) ≡ true }
+fn has_no_room(ids: &TextIndex<'_>, text: &str) -> bool
+    ensures room { result ≡ false → id_of text.now ids.now ≡ None
+        → length ids.now < 4294967295 }
+    ensures full { result ≡ true → are_too_many (with_text ids.now text.now) ≡ true }
 {
     if ids.len() < MOST {
         return false;
     }
-    ids.get(text).is_none()
+    !ids.contains(text)
 }
 
 // Puts an entry to its number.

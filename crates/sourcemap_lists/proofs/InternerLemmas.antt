@@ -15,14 +15,14 @@ position_from-append t i (x ∷ xs) y =
     elim (t x) as (λ b. cond b (Some i) (position_from t (i + 1) (xs ++ y ∷ [])) ≡ option_or (cond b (Some i) (position_from t (i + 1) xs)) (cond (t y) (Some (i + suc (length xs))) None))
     [ true ↦ refl | false ↦ rw place at later ]
 
-slice_get-append : {X : Type 0} (xs : List X) (y : X) (i : ℕ) (z : X) → slice_get (xs ++ y ∷ []) i ≡ Some z → (slice_get xs i ≡ Some z) ⊎ ((i ≡ length xs) × (y ≡ z))
+pub slice_get-append : {X : Type 0} (xs : List X) (y : X) (i : ℕ) (z : X) → slice_get (xs ++ y ∷ []) i ≡ Some z → (slice_get xs i ≡ Some z) ⊎ ((i ≡ length xs) × (y ≡ z))
 slice_get-append [] y zero z e = inr (refl, cc)
 slice_get-append [] y (suc i) z e = cc
 slice_get-append (x ∷ xs) y zero z e = inl e
 slice_get-append (x ∷ xs) y (suc i) z e =
     elim (slice_get-append xs y i z e) [ inl h ↦ inl h | inr h ↦ inr (omega arith, h.1) ]
 
-bytes_eq-refl : (text : List ℕ) → bytes_eq text text ≡ true
+pub bytes_eq-refl : (text : List ℕ) → bytes_eq text text ≡ true
 bytes_eq-refl text = (bytes_eq-Decides text text).1 refl
 
 bytes_eq-false : (a b : List ℕ) → (a ≡ b → bytes_eq a b ≡ true → ⊥) → bytes_eq a b ≡ false

@@ -1,5 +1,6 @@
 pub mod AllLemmas
 pub mod DecidesLemmas
+pub mod IndexLemmas
 pub mod InternerLemmas
 pub mod SearchLemmas
 pub mod SortLemmas

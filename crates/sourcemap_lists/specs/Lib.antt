@@ -1,3 +1,5 @@
+pub mod Digests
+pub mod Index
 pub mod Interner
 pub mod Items
 pub mod Search

@@ -1,14 +1,17 @@
 //! Texts that are kept once each, and found by their ids.
 ghost use Rattle.std.specs.Prelude.{◌≡◌, ◌≤◌, ℕ, List, [], ◌∷◌, ◌++◌, Some, Err, cond, is_ok, if◌then◌else◌, ◌==◌, map, length, IsOk, IsSome, IfOk, IfErr, OnOk, OnErr, IfSome, option_map, slice_get, string_bytes};
-ghost use Rattle.std.specs.HashMap.{get_by_text};
+ghost use Rattle.std.specs.BTreeMap.{get, get_by_text};
+ghost use Rattle.std.specs.Ordering.{nat_cmp};
 ghost use Rattle.std.specs.Str.{bytes_eq};
 ghost use Rattle.sourcemap_errors.specs.Answer.{Gives};
 ghost use Rattle.sourcemap_lists.specs.Interner.{id_of, AreDistinct, with_text, id_for};
+ghost use Rattle.sourcemap_lists.specs.Index.{confirmed};
 ghost use Rattle.sourcemap_errors.specs.declared.errors.Error.TheVariants.{IncompatibleSourceMap, OutOfMemory};
 
+use crate::digests::digest;
 use sourcemap_errors::errors::{Error, Result};
 use std::alloc::Global;
-use std::collections::HashMap;
+use std::collections::BTreeMap;
 use std::marker::Model;
 
 /// How many texts an interner holds at most.
@@ -18,14 +21,19 @@ const MOST: usize = 4294967295;
 #[derive(Drop)]
 pub struct Interner {
     texts: Vec<String>,
-    // the id of each text
-    ids: HashMap<String, u32>,
+    // The id of the first text of each digest. Trees bound the time for texts that were chosen to
+    // share digests.
+    firsts: BTreeMap<u64, u32>,
+    // The ids of the other texts, whose digests earlier texts have.
+    others: BTreeMap<String, u32>,
 }
 
 impl Model for Interner {
     ghost use Rattle.std.specs.Prelude.{◌≡◌, ◌≤◌, ℕ, List, map, length, string_bytes};
-    ghost use Rattle.std.specs.HashMap.{get_by_text};
-    ghost use Rattle.sourcemap_lists.specs.Interner.{id_of, AreDistinct};
+    ghost use Rattle.std.specs.BTreeMap.{get, get_by_text};
+    ghost use Rattle.std.specs.Ordering.{nat_cmp};
+    ghost use Rattle.sourcemap_lists.specs.Interner.{AreDistinct};
+    ghost use Rattle.sourcemap_lists.specs.Index.{IsIndex};
 
     ghost Value = { List (List ℕ) };
 
@@ -33,8 +41,7 @@ impl Model for Interner {
 
     ghost invariant = { λ a. (length (map string_bytes a.texts.items) ≤ 4294967295)
         × AreDistinct (map string_bytes a.texts.items)
-        × ((text : List ℕ)
-        → get_by_text a.ids text ≡ id_of text (map string_bytes a.texts.items)) };
+        × IsIndex (get nat_cmp a.firsts) (get_by_text a.others) (map string_bytes a.texts.items) };
 }
 
 impl Interner {
@@ -44,7 +51,8 @@ impl Interner {
     {
         Interner {
             texts: Vec::new(alloc),
-            ids: HashMap::new(alloc),
+            firsts: BTreeMap::new(alloc),
+            others: BTreeMap::new(alloc),
         }
     }
 
@@ -63,7 +71,12 @@ impl Interner {
         ensures full { id_for self.old text.now ≡ Err IncompatibleSourceMap
             → result ≡ Err IncompatibleSourceMap }
     {
-        if let Some(id) = self.ids.get(text) {
+        let digest = digest(text);
+        let first = self.firsts.get(&digest).copied();
+        if let Some(id) = confirmed(self.texts.as_slice(), text, first) {
+            return Ok(id);
+        }
+        if let Some(id) = self.others.get(text) {
             return Ok(*id);
         }
         let count = self.texts.len();
@@ -71,7 +84,11 @@ impl Interner {
             return Err(Error::IncompatibleSourceMap);
         }
         let id = count as u32;
-        put(&mut self.texts, &mut self.ids, text, id)?;
+        if first.is_some() {
+            put_other(&mut self.texts, &mut self.others, text, id)?;
+            return Ok(id);
+        }
+        put_first(&mut self.texts, &mut self.firsts, digest, text, id)?;
         Ok(id)
     }
 
@@ -79,10 +96,7 @@ impl Interner {
     pub fn get(&self, id: u32) -> Option<&str>
         ensures text { option_map (λ text. text.now) result ≡ slice_get self.now id }
     {
-        match self.texts.get(id as usize) {
-            Some(text) => Some(text.as_str()),
-            None => None,
-        }
+        text_at(self.texts.as_slice(), id)
     }
 
     /// How many texts there are.
@@ -113,20 +127,70 @@ impl Interner {
         ensures texts { map string_bytes result.items ≡ self }
         ensures distinct { AreDistinct self }
     {
-        let Interner { texts, ids: _ } = self;
+        let Interner { texts, .. } = self;
         texts
     }
 }
 
-// Puts a text at the end of `texts`, and its id into `ids`. Where memory runs out, neither changes.
-fn put(texts: &mut Vec<String>, ids: &mut HashMap<String, u32>, text: &str, id: u32) -> Result<()>
+// The text of an id, none for an id that no text has.
+fn text_at(texts: &[String], id: u32) -> Option<&str>
+    ensures { option_map (λ text. text.now) result ≡ slice_get (map string_bytes texts.now) id }
+{
+    match texts.get(id as usize) {
+        Some(text) => Some(text.as_str()),
+        None => None,
+    }
+}
+
+// The id, if it is that of this text.
+fn confirmed(texts: &[String], text: &str, id: Option<u32>) -> Option<u32>
+    ensures { result ≡ confirmed (map string_bytes texts.now) text.now id }
+{
+    let id = id?;
+    let known = text_at(texts, id)?;
+    if text == known { Some(id) } else { None }
+}
+
+// Puts a text at the end of `texts`, and its id into `firsts` by a digest that is new there. Where
+// memory runs out, neither changes.
+fn put_first(
+    texts: &mut Vec<String>,
+    firsts: &mut BTreeMap<u64, u32>,
+    digest: u64,
+    text: &str,
+    id: u32,
+) -> Result<()>
     ensures texts { map string_bytes texts.new.items
         ≡ (if is_ok result then map string_bytes texts.old.items ++ text.now ∷ []
         else map string_bytes texts.old.items) }
-    ensures ids { (other : List ℕ) → get_by_text ids.new other
+    ensures firsts { (other : ℕ) → get nat_cmp firsts.new other
         ≡ (if is_ok result
-        then cond (bytes_eq text.now other) (Some id) (get_by_text ids.old other)
-        else get_by_text ids.old other) }
+        then cond (digest == other) (Some id) (get nat_cmp firsts.old other)
+        else get nat_cmp firsts.old other) }
+    ensures only { IfErr result (λ e. e ≡ OutOfMemory) }
+{
+    let kept = String::from_str(*texts.allocator(), text)?;
+    // makes sure that the last step succeeds
+    texts.reserve(1)?;
+    firsts.insert(digest, id)?;
+    texts.push(kept)?;
+    Ok(())
+}
+
+// The same of a text whose digest another one has, with its id in `others`.
+fn put_other(
+    texts: &mut Vec<String>,
+    others: &mut BTreeMap<String, u32>,
+    text: &str,
+    id: u32,
+) -> Result<()>
+    ensures texts { map string_bytes texts.new.items
+        ≡ (if is_ok result then map string_bytes texts.old.items ++ text.now ∷ []
+        else map string_bytes texts.old.items) }
+    ensures others { (other : List ℕ) → get_by_text others.new other
+        ≡ (if is_ok result
+        then cond (bytes_eq text.now other) (Some id) (get_by_text others.old other)
+        else get_by_text others.old other) }
     ensures only { IfErr result (λ e. e ≡ OutOfMemory) }
 {
     let alloc = *texts.allocator();
@@ -134,7 +198,7 @@ fn put(texts: &mut Vec<String>, ids: &mut HashMap<String, u32>, text: &str, id: 
     let key = String::from_str(alloc, text)?;
     // makes sure that the last step succeeds
     texts.reserve(1)?;
-    ids.insert(key, id)?;
+    others.insert(key, id)?;
     texts.push(kept)?;
     Ok(())
 }

@@ -7,7 +7,8 @@ use Rattle.std.proofs.lemmas.List.{length-set, length-replicate}
 use Rattle.sourcemap_rewriting.specs.Numbering.{first_some}
 use Rattle.sourcemap_lists.specs.Items.{item_at}
 use Rattle.sourcemap_rewriting.specs.KeptContents.{given_to, AreKept}
-use Rattle.sourcemap_rewriting.proofs.NumberingLemmas.{first_some-push, slice_get-set_same, slice_get-set_other, option_or-None}
+use Rattle.sourcemap_interning.proofs.ItemLemmas.{slice_get-set_same, slice_get-set_other}
+use Rattle.sourcemap_rewriting.proofs.NumberingLemmas.{first_some-push, option_or-None}
 
 -- contents are where they were, or their new number has some
 abbrev pub AreLeft : List ℕ → (old now kept : List (Option (List ℕ))) → Type 0

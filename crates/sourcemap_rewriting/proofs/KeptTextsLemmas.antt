@@ -10,7 +10,8 @@ use Rattle.sourcemap_rewriting.specs.Numbering.{with_text_if, kept_of, met_texts
 use Rattle.sourcemap_rewriting.specs.declared.numbering.NewNumbers.{NewNumbers}
 use Rattle.sourcemap_lists.proofs.AllLemmas.{All-at}
 use Rattle.sourcemap_rewriting.proofs.FirstIdsLemmas.{first_here}
-use Rattle.sourcemap_rewriting.proofs.NumberingLemmas.{kept_of-push, id_of-with_text, id_of-kept_of, slice_get-set_other}
+use Rattle.sourcemap_interning.proofs.ItemLemmas.{slice_get-set_other}
+use Rattle.sourcemap_rewriting.proofs.NumberingLemmas.{kept_of-push, id_of-with_text, id_of-kept_of}
 
 -- texts are where they were, or among those that were moved
 abbrev pub AreThere : (old now moved : List (List ℕ)) → Type 0

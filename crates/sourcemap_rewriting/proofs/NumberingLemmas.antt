@@ -1,8 +1,6 @@
 -- Texts that are kept once each, and their new numbers.
 use Rattle.std.proofs.Common.{◌≡◌, ◌≢◌, refl, sym, ap, subst, ◌∙◌, ℕ, zero, suc, ◌+◌, ◌<◌, ◌≤◌, List, [], ◌∷◌, ◌++◌, append_assoc, length, map, fold, Bool, true, false, cond, Some, None, Option, arith, inl, inr, ◌⊎◌, slice_get, slice_set, get_or, is_some, option_map, replicate, string_bytes, String}
-use Rattle.std.specs.HashMap.{IsEmpty, hash_map_len}
 use Rattle.std.specs.List.{AllByRecursion}
-use Rattle.std.specs.Map.{lookup}
 use Rattle.std.specs.Option.{option_or}
 use Rattle.std.specs.Str.{bytes_eq}
 use Rattle.std.specs.declared.alloc.Global.{Global}
@@ -11,11 +9,12 @@ use Rattle.std.proofs.lemmas.Slice.Eq.{bytes_eq-Decides}
 use Rattle.std.proofs.lemmas.List.Sums.{fold-append}
 use Rattle.std.proofs.lemmas.List.{map_push, length_push, append-nil, length-set, length-replicate}
 use Rattle.std.proofs.lemmas.Option.{slice_get_within, slice_get_past, slice_get-map, slice_get_read}
+use Rattle.sourcemap_interning.proofs.ItemLemmas.{slice_get-set_same, slice_get-set_other, slice_get-pushed, slice_get-last}
 use Rattle.sourcemap_lists.specs.Interner.{id_of, with_text, AreDistinct}
 use Rattle.sourcemap_lists.proofs.AllLemmas.{All-append, All-at, All-weaker}
 use Rattle.sourcemap_lists.proofs.InternerLemmas.{AreDistinct-append, id_of-append, id_of-last, slice_get-id_of}
 use Rattle.sourcemap_rewriting.specs.Kept.{present, kept_once, number_in}
-use Rattle.sourcemap_rewriting.specs.Numbering.{with_text_if, first_some, HasPlace, kept_of, met_texts, IsMet, IsMetOrNot, NumbersMore, id_in, IsIndex, IsNumbering, Meets}
+use Rattle.sourcemap_rewriting.specs.Numbering.{with_text_if, first_some, HasPlace, kept_of, met_texts, IsMet, IsMetOrNot, NumbersMore, IsNumbering, Meets}
 use Rattle.sourcemap_rewriting.specs.declared.numbering.NewNumbers.{NewNumbers}
 use Rattle.sourcemap_rewriting.specs.declared.numbering.Numbering.{Numbering}
 
@@ -225,27 +224,6 @@ slice_get-number_in kept (Some t) few h = rw h.1 (slice_get-id_of t kept h.0 h.1
 -- Items of lists.
 
 module _ {X : Type 0} where
-  pub slice_get-set_same : (xs : List X) (i : ℕ) (y : X) → i < length xs → slice_get (slice_set xs i y) i ≡ Some y
-  slice_get-set_same [] i y h = absurd (omega arith)
-  slice_get-set_same (x ∷ xs) zero y h = refl
-  slice_get-set_same (x ∷ xs) (suc i) y h = slice_get-set_same xs i y (omega arith)
-
-  pub slice_get-set_other : (xs : List X) (i j : ℕ) (y : X) → j ≢ i → slice_get (slice_set xs i y) j ≡ slice_get xs j
-  slice_get-set_other [] i j y h = refl
-  slice_get-set_other (x ∷ xs) zero zero y h = absurd (h refl)
-  slice_get-set_other (x ∷ xs) zero (suc j) y h = refl
-  slice_get-set_other (x ∷ xs) (suc i) zero y h = refl
-  slice_get-set_other (x ∷ xs) (suc i) (suc j) y h = slice_get-set_other xs i j y (λ e. h (ap suc e))
-
-  slice_get-pushed : (xs : List X) (y x : X) (k : ℕ) → slice_get xs k ≡ Some x → slice_get (xs ++ y ∷ []) k ≡ Some x
-  slice_get-pushed [] y x k e = cc
-  slice_get-pushed (z ∷ xs) y x zero e = e
-  slice_get-pushed (z ∷ xs) y x (suc k) e = slice_get-pushed xs y x k e
-
-  slice_get-last : (xs : List X) (y : X) → slice_get (xs ++ y ∷ []) (length xs) ≡ Some y
-  slice_get-last [] y = refl
-  slice_get-last (x ∷ xs) y = slice_get-last xs y
-
   slice_get-replicate : (n : ℕ) (x : X) (i : ℕ) → i < n → slice_get (replicate n x) i ≡ Some x
   slice_get-replicate zero x i h = absurd (omega arith)
   slice_get-replicate (suc n) x zero h = refl
@@ -272,17 +250,14 @@ first_some-met f (y ∷ ys) (suc k) x e =
 
 -- A numbering.
 
-pub numbering-new : (texts : List (List ℕ)) (n : Numbering) → n.met.numbers.items ≡ replicate (length texts) 4294967295 → n.met.order.items ≡ [] → IsEmpty n.ids → IsNumbering texts n
+pub numbering-new : (texts : List (List ℕ)) (n : Numbering) → n.met.numbers.items ≡ replicate (length texts) 4294967295 → n.met.order.items ≡ [] → n.ids ≡ [] → IsNumbering texts n
 numbering-new texts n numbers order none = record {
   numbered = record {
     many = ap length numbers ∙ length-replicate (length texts) 4294967295;
     met = subst (λ xs. AllByRecursion (IsMet texts n.met) xs) (sym order) tt;
     others = λ id text e. inl (ap (λ xs. slice_get xs id) numbers ∙ slice_get-replicate (length texts) 4294967295 id (slice_get_within texts id text e));
   };
-  index = record {
-    places = λ text. ap (lookup (λ key. bytes_eq text key.now)) none ∙ sym (ap (λ ids. id_of text (kept_of texts ids)) order);
-    count = ap length none ∙ sym (ap (λ ids. length (kept_of texts ids)) order);
-  };
+  index = none ∙ sym (ap (kept_of texts) order);
 }
 
 module _ (texts : List (List ℕ)) (n : Numbering) (id : ℕ) (text : List ℕ) (is : IsNumbering texts n) (named : slice_get texts id ≡ Some text) where
@@ -309,10 +284,10 @@ module _ (texts : List (List ℕ)) (n : Numbering) (id : ℕ) (text : List ℕ) 
   pub number-known : (known : ℕ) → slice_get n.met.numbers.items id ≡ Some known → known ≢ 4294967295 → number_in (met_texts texts n.met) (slice_get texts id) ≡ known
   number-known known numbered apart = let met = known-met known numbered apart in rw (named, met.2) refl
 
-  pub room : length texts ≤ 4294967295 → id_in n.ids text ≡ None → hash_map_len n.ids < 4294967295
+  pub room : length texts ≤ 4294967295 → id_of text n.ids ≡ None → length n.ids < 4294967295
   room few new =
-      let less = room-for_new (met_texts texts n.met) texts id text (AreFew-kept_of texts n.met.order.items) named (sym (is.index.places text) ∙ new) in
-      omega (arith, is.index.count)
+      let less = room-for_new (met_texts texts n.met) texts id text (AreFew-kept_of texts n.met.order.items) named (ap (id_of text) (sym is.index) ∙ new) in
+      omega (arith, ap length is.index)
 
   -- one that was not
   module _ (number : ℕ) (next : Numbering) (meets : Meets text id number n next) where
@@ -328,8 +303,11 @@ module _ (texts : List (List ℕ)) (n : Numbering) (id : ℕ) (text : List ℕ) 
     kept_new : met_texts texts next.met ≡ with_text (met_texts texts n.met) text
     kept_new = kept_more ∙ ap (with_text_if (met_texts texts n.met)) named
 
+    indexed : next.ids ≡ met_texts texts next.met
+    indexed = meets.index ∙ ap (λ us. with_text us text) is.index ∙ sym kept_new
+
     placed : id_of text (met_texts texts next.met) ≡ Some number
-    placed = ap (id_of text) kept_new ∙ meets.place (met_texts texts n.met) is.index
+    placed = ap (id_of text) (sym indexed) ∙ meets.place
 
     here_met : IsMet texts next.met id
     here_met = record { text = text; number = number; named = named; numbered = numbered; placed = placed }
@@ -371,7 +349,7 @@ module _ (texts : List (List ℕ)) (n : Numbering) (id : ℕ) (text : List ℕ) 
             (All-append (IsMet texts next.met) n.met.order.items (id ∷ []) (All-weaker (IsMet texts n.met) (IsMet texts next.met) still_met n.met.order.items is.numbered.met) (here_met, tt));
         others = other_or_met;
       };
-      index = subst (λ kept. IsIndex kept next.ids) (sym kept_new) (meets.index (met_texts texts n.met) is.index);
+      index = indexed;
     }
 
     pub number-new : number_in (met_texts texts next.met) (slice_get texts id) ≡ number

@@ -1,10 +1,7 @@
 -- New numbers for texts that have old ones, in the order in which they are first asked for.
 use Rattle.std.specs.Prelude.{◌≡◌, ℕ, ◌⊎◌, List, [], ◌∷◌, ◌++◌, length, map, slice_get, slice_set, Option, Some, None}
 use Rattle.std.specs.Option.{option_or}
-use Rattle.std.specs.HashMap.{HashMap, get_by, hash_map_len}
 use Rattle.std.specs.List.{AllByRecursion}
-use Rattle.std.specs.Str.{bytes_eq}
-use denote.Ref.{Bor}
 use Rattle.sourcemap_lists.specs.Interner.{id_of, with_text}
 use Rattle.sourcemap_lists.specs.Tokens.{no_id}
 use Rattle.sourcemap_lists.specs.declared.tokens.RawToken.{RawToken}
@@ -59,23 +56,14 @@ pub record NumbersMore (texts : List (List ℕ)) (id : ℕ) (old new : NewNumber
   pub met : (f : ℕ → Option (List ℕ)) → (slice_get texts id ≡ None → f id ≡ None)
       → first_some f new.order.items ≡ option_or (first_some f old.order.items) (f id)
 
--- the id that a text has in a map
-abbrev pub id_in : {S : Type 0} → HashMap (Bor (List ℕ)) ℕ S → List ℕ → Option ℕ
-id_in ids text = get_by (λ key. bytes_eq text key.now) ids
-
--- each of these texts has the number of its place, and no other has one
-pub record IsIndex {S : Type 0} (texts : List (List ℕ)) (ids : HashMap (Bor (List ℕ)) ℕ S) : Type 0 where
-  pub places : (text : List ℕ) → id_in ids text ≡ id_of text texts
-  pub count : hash_map_len ids ≡ length texts
-
 pub record IsNumbering (texts : List (List ℕ)) (n : Numbering) : Type 0 where
   pub numbered : AreNumbered texts n.met
-  pub index : IsIndex (met_texts texts n.met) n.ids
+  pub index : n.ids ≡ met_texts texts n.met
 
 -- with an old number that was not met before
 pub record Meets (text : List ℕ) (id number : ℕ) (old new : Numbering) : Type 0 where
-  pub place : (texts : List (List ℕ)) → IsIndex texts old.ids → id_of text (with_text texts text) ≡ Some number
-  pub index : (texts : List (List ℕ)) → IsIndex texts old.ids → IsIndex (with_text texts text) new.ids
+  pub place : id_of text new.ids ≡ Some number
+  pub index : new.ids ≡ with_text old.ids text
   pub order : new.met.order.items ≡ old.met.order.items ++ id ∷ []
   pub numbers : new.met.numbers.items ≡ slice_set old.met.numbers.items id number
 

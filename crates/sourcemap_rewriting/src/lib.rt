@@ -8,7 +8,7 @@ mod first_ids;
 mod kept_contents;
 mod kept_texts;
 mod loaded_contents;
-pub mod numbering;
+mod numbering;
 pub mod options;
 mod renumbering;
 pub mod rewritten;

@@ -1,0 +1,24 @@
+-- Items of lists in which one is set, or to which one is added.
+use Rattle.std.proofs.Common.{◌≡◌, ◌≢◌, refl, ap, ℕ, zero, suc, ◌<◌, List, [], ◌∷◌, ◌++◌, length, Some, arith, slice_get, slice_set}
+
+module _ {X : Type 0} where
+  pub slice_get-set_same : (xs : List X) (i : ℕ) (y : X) → i < length xs → slice_get (slice_set xs i y) i ≡ Some y
+  slice_get-set_same [] i y h = absurd (omega arith)
+  slice_get-set_same (x ∷ xs) zero y h = refl
+  slice_get-set_same (x ∷ xs) (suc i) y h = slice_get-set_same xs i y (omega arith)
+
+  pub slice_get-set_other : (xs : List X) (i j : ℕ) (y : X) → j ≢ i → slice_get (slice_set xs i y) j ≡ slice_get xs j
+  slice_get-set_other [] i j y h = refl
+  slice_get-set_other (x ∷ xs) zero zero y h = absurd (h refl)
+  slice_get-set_other (x ∷ xs) zero (suc j) y h = refl
+  slice_get-set_other (x ∷ xs) (suc i) zero y h = refl
+  slice_get-set_other (x ∷ xs) (suc i) (suc j) y h = slice_get-set_other xs i j y (λ e. h (ap suc e))
+
+  pub slice_get-pushed : (xs : List X) (y x : X) (k : ℕ) → slice_get xs k ≡ Some x → slice_get (xs ++ y ∷ []) k ≡ Some x
+  slice_get-pushed [] y x k e = cc
+  slice_get-pushed (z ∷ xs) y x zero e = e
+  slice_get-pushed (z ∷ xs) y x (suc k) e = slice_get-pushed xs y x k e
+
+  pub slice_get-last : (xs : List X) (y : X) → slice_get (xs ++ y ∷ []) (length xs) ≡ Some y
+  slice_get-last [] y = refl
+  slice_get-last (x ∷ xs) y = slice_get-last xs y

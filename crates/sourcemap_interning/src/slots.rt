@@ -1,0 +1,79 @@
+//! Slots that lead from the hash of a text to its number.
+ghost use Rattle.std.specs.Prelude.{◌≡◌, ◌≤◌, ◌+◌, ℕ, List, map, length, slice_get, Some};
+ghost use Rattle.std.specs.Str.{bytes_eq};
+ghost use Rattle.sourcemap_interning.specs.Slots.{AreRight, IsProbed, IsRight, hash_of, start_of};
+
+use std::hash::{FoldHasher, Hasher};
+
+/// How many slots are looked at for a text.
+pub(crate) const WINDOW: usize = 32;
+
+/// The number in a slot that has none.
+pub(crate) const NO_NUMBER: u32 = 4294967295;
+
+// The number of a text, and its hash.
+#[derive(Clone, Copy)]
+pub(crate) struct Slot {
+    pub(crate) hash: u32,
+    pub(crate) number: u32,
+}
+
+// What the slots of a text hold.
+#[derive(Clone, Copy)]
+pub(crate) enum Probe {
+    // its number
+    Found(u32),
+    // no number of it, and this one is the first that is free
+    Free(usize),
+    // no number of it, and none is free
+    Full,
+}
+
+// The kit's hash, whose seed is fixed: texts that collide are easily made.
+pub(crate) fn hash_of(text: &str) -> u32
+    ensures { result ≡ hash_of text.now }
+{
+    let mut hasher = FoldHasher::default();
+    hasher.write(text.as_bytes());
+    (hasher.finish() >> 32) as u32
+}
+
+// The first slot of a text with this hash.
+fn start_of(hash: u32, mask: usize) -> usize
+    ensures start { result ≡ start_of mask hash }
+    ensures within { result ≤ mask }
+{
+    hash as usize & mask
+}
+
+// Whether this slot is that of a text with this hash.
+fn is_of(slot: Slot, texts: &[&str], text: &str, hash: u32) -> bool
+    requires right { IsRight (map (λ t. t.now) texts.now) slot }
+    requires hash { hash ≡ hash_of text.now }
+    ensures { (other : List ℕ)
+        → slice_get (map (λ t. t.now) texts.now) slot.number ≡ Some other
+        → result ≡ bytes_eq other text.now }
+{
+    slot.hash == hash && texts[slot.number as usize] == text
+}
+
+// Looks for a text with this hash.
+pub(crate) fn look_up(slots: &[Slot], mask: usize, texts: &[&str], text: &str, hash: u32) -> Probe
+    requires long { length slots.now ≡ mask + 33 }
+    requires right { AreRight (map (λ t. t.now) texts.now) slots.now }
+    requires hash { hash ≡ hash_of text.now }
+    ensures { IsProbed (map (λ t. t.now) texts.now) slots.now (start_of mask hash) text.now result }
+{
+    let start = start_of(hash, mask);
+    for step in 0..WINDOW {
+        let at = start + step;
+        let slot = slots[at];
+        if slot.number == NO_NUMBER {
+            return Probe::Free(at);
+        }
+        if is_of(slot, texts, text, hash) {
+            return Probe::Found(slot.number);
+        }
+    }
+    Probe::Full
+}
