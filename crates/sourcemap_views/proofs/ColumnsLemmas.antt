@@ -1,5 +1,5 @@
 -- The first prefix that is wide enough: how a walk along the characters finds it.
-use Rattle.std.proofs.Common.{◌≡◌, refl, sym, ap, subst, ◌∙◌, ℕ, zero, suc, ◌+◌, ◌-◌, ◌<◌, ◌≤◌, List, [], ◌∷◌, ◌++◌, length, take, drop, nat_le, Bool, true, Some, None, Option, option_map, map, arith, inl, inr, chars, encode_utf8_all, encode_utf8, IsUtf8, IsAscii, IsCharBoundary, append_assoc, append-nil, find, get_or, add-one, le_refl, ap₂, slice_range}
+use Rattle.std.proofs.Common.{◌≡◌, refl, sym, ap, subst, ◌∙◌, ℕ, zero, suc, ◌+◌, ◌-◌, ◌<◌, ◌≤◌, List, [], ◌∷◌, ◌++◌, length, take, drop, nat_le, Bool, true, false, Some, None, Option, option_map, map, arith, inl, inr, chars, encode_utf8_all, encode_utf8, IsUtf8, IsAscii, IsCharBoundary, append_assoc, append-nil, find, get_or, add-one, le_refl, ap₂, slice_range}
 use Rattle.std.specs.Char.{IsScalar}
 use Rattle.std.specs.Bool.{⊤}
 use Rattle.std.proofs.lemmas.Bool.{cases_Bool, cases_lt, and_parts, and_from, lt-leb}
@@ -11,7 +11,7 @@ use lib.Utf8.{scalar}
 use Rattle.std.proofs.lemmas.Option.{none-some, same_Some}
 use Rattle.std.proofs.lemmas.List.{append_cancel_right, take-append-drop, length-append, length-take-le, take_at, drop_at, get_or-take, get_or-drop, length-drop, take_all, take-take}
 use Rattle.std.proofs.Common.{take-add}
-use Rattle.sourcemap_views.specs.Columns.{IsPlace, units_of, width, prefixes, first_reaching, column_place, part_between, slice_of}
+use Rattle.sourcemap_views.specs.Columns.{IsPlace, units_of, width, prefixes, first_reaching, column_place, reached_place, part_between, slice_of}
 
 -- ---- searching lists
 
@@ -303,9 +303,10 @@ record Cut (line : List ℕ) (col place : ℕ) : Type 0 where
   place_is : length (encode_utf8_all front) ≡ place
   before : chars (take place line) ≡ front
   behind : chars (drop place line) ≡ back
+  enough : nat_le col (width front) ≡ true
 
-cut_at : (line front back : List ℕ) (col place : ℕ) → IsUtf8 line → chars line ≡ front ++ back → BeginBefore col front → length (encode_utf8_all front) ≡ place → Cut line col place
-cut_at line front back col place u is begin e =
+cut_at : (line front back : List ℕ) (col place : ℕ) → IsUtf8 line → chars line ≡ front ++ back → BeginBefore col front → length (encode_utf8_all front) ≡ place → nat_le col (width front) ≡ true → Cut line col place
+cut_at line front back col place u is begin e enough =
     let spelt : line ≡ encode_utf8_all front ++ encode_utf8_all back = sym (encodes-chars line u) ∙ ap encode_utf8_all is ∙ encodes-append front back in
     let scalars = scalars_parts front back (ap all_scalars (sym is) ∙ scalars-chars line u) in
     record {
@@ -316,13 +317,22 @@ cut_at line front back col place u is begin e =
       place_is = e;
       before = ap (λ t. chars (take place t)) spelt ∙ ap chars (take_at (encode_utf8_all front) (encode_utf8_all back) place e) ∙ chars-encodes front scalars.0;
       behind = ap (λ t. chars (drop place t)) spelt ∙ ap chars (drop_at (encode_utf8_all front) (encode_utf8_all back) place e) ∙ chars-encodes back scalars.1;
+      enough = enough;
     }
+
+found_passes : {X : Type 0} (test : X → Bool) (xs : List X) (x : X) → find test xs ≡ Some x → test x ≡ true
+found_passes test [] x e = absurd (none-some x e)
+found_passes test (y ∷ ys) x e =
+    elim (cases_Bool (test y)) [
+      | inl t ↦ subst (λ z. test z ≡ true) (same_Some y x (rw t at e)) t
+      | inr t ↦ found_passes test ys x (rw t at e)
+    ]
 
 place_cuts : (line : List ℕ) (col place : ℕ) → IsUtf8 line → Some place ≡ column_place line col → Cut line col place
 place_cuts line col place u e =
     let m = some_from_map (λ prefix. length (encode_utf8_all prefix)) (first_reaching col (chars line)) place (sym e) in
     let f = found (chars line) m.0 col m.1 in
-    cut_at line m.0 f.rest col place u f.is f.begin m.2
+    cut_at line m.0 f.rest col place u f.is f.begin m.2 (found_passes (λ prefix. nat_le col (width prefix)) (prefixes (chars line)) m.0 m.1)
 
 -- a column that is further on stands as far behind the place of the first
 pub place-further : (line : List ℕ) (col more place units : ℕ) → IsUtf8 line
@@ -546,3 +556,40 @@ Counted-end text (b ∷ rest) total e t = absurd (omega arith)
 
 pub ascii-width : (text : List ℕ) → IsAscii text → length text ≡ width (chars text)
 ascii-width text a = sym (ap width (chars-IsAscii text a) ∙ (ascii_begin text (length text) (le_refl (length text)) a).1)
+
+-- ---- the place of a column, or the end of the line
+
+pub reached-far : (line : List ℕ) (col place units : ℕ) → col ≤ units → Some place ≡ column_place line col → reached_place col place units ≡ column_place line col
+reached-far line col place units l e = let far : nat_le col units ≡ true = grind (arith, nat_tests) in rw far e
+
+pub reached-there : (line : List ℕ) (col place units : ℕ) → IsUtf8 line → Some place ≡ column_place line col → units ≡ width (chars (take place line)) → reached_place col place units ≡ column_place line col
+reached-there line col place units u e w =
+    let cut = place_cuts line col place u e in
+    let far : nat_le col units ≡ true = ap (nat_le col) (w ∙ ap width cut.before) ∙ cut.enough in
+    rw far e
+
+none_from_map : {X Y : Type 0} (f : X → Y) (o : Option X) → option_map f o ≡ None → o ≡ None
+none_from_map f None e = refl
+none_from_map f (Some x) e = absurd (none-some (f x) (sym e))
+
+none_whole : (test : List ℕ → Bool) (cs : List ℕ) → find test (prefixes cs) ≡ None → test cs ≡ false
+none_whole test [] e =
+    elim (cases_Bool (test [])) [ inl t ↦ absurd (none-some [] (sym (rw t at e))) | inr t ↦ t ]
+none_whole test (c ∷ cs) e =
+    elim (cases_Bool (test [])) [
+      | inl t ↦ absurd (none-some [] (sym (rw t at e)))
+      | inr t ↦
+          let later : option_map (λ prefix. c ∷ prefix) (find (λ prefix. test (c ∷ prefix)) (prefixes cs)) ≡ None = sym (find-map test (λ prefix. c ∷ prefix) (prefixes cs)) ∙ (rw t at e) in
+          none_whole (λ prefix. test (c ∷ prefix)) cs (none_from_map (λ prefix. c ∷ prefix) _ later)
+    ]
+
+pub reached-short : (line : List ℕ) (col place units : ℕ) → None ≡ column_place line col → units ≡ width (chars line) → reached_place col place units ≡ column_place line col
+reached-short line col place units e w =
+    let short : nat_le col units ≡ false = ap (nat_le col) w ∙ none_whole (λ prefix. nat_le col (width prefix)) (chars line) (none_from_map (λ prefix. length (encode_utf8_all prefix)) (first_reaching col (chars line)) (sym e)) in
+    rw short e
+
+pub reached-end : (line : List ℕ) (col place units : ℕ) → IsUtf8 line → IsPlace line place units → place ≡ length line → units < col → reached_place col place units ≡ column_place line col
+reached-end line col place units u p end l =
+    let none : length (drop place line) ≡ 0 = length-drop place line ∙ omega arith in
+    let short : nat_le col units ≡ false = grind (arith, nat_tests) in
+    rw short (Walked-short line (drop place line) col units l none (Walked-at line col place units u p (omega arith)))

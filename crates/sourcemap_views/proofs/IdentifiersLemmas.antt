@@ -26,16 +26,23 @@ is_part-past_ascii c l m n =
 abbrev pub passing_bytes : (ℕ → Bool) → List ℕ → ℕ
 passing_bytes test cs = length (encode_utf8_all (take_while test cs))
 
-take_while-more : (test : ℕ → Bool) (c : ℕ) (cs : List ℕ) → test c ≡ true → take_while test (c ∷ cs) ≡ c ∷ take_while test cs
+pub take_while-more : (test : ℕ → Bool) (c : ℕ) (cs : List ℕ) → test c ≡ true → take_while test (c ∷ cs) ≡ c ∷ take_while test cs
 take_while-more test c cs e =
     let one = one-add (prefix_len test cs) in
     rw (e, one) refl
 
-take_while-end : (test : ℕ → Bool) (c : ℕ) (cs : List ℕ) → test c ≡ false → take_while test (c ∷ cs) ≡ []
+pub take_while-end : (test : ℕ → Bool) (c : ℕ) (cs : List ℕ) → test c ≡ false → take_while test (c ∷ cs) ≡ []
 take_while-end test c cs e = rw e refl
 
-encoded_len : (c : ℕ) (cs : List ℕ) → length (encode_utf8_all (c ∷ cs)) ≡ length (encode_utf8 c) + length (encode_utf8_all cs)
+pub encoded_len : (c : ℕ) (cs : List ℕ) → length (encode_utf8_all (c ∷ cs)) ≡ length (encode_utf8 c) + length (encode_utf8_all cs)
 encoded_len c cs = length-append (encode_utf8 c) (encode_utf8_all cs)
+
+pub encoded_some : (c : ℕ) (cs : List ℕ) → 1 ≤ length (encode_utf8_all (c ∷ cs))
+encoded_some c cs =
+    let all = encoded_len c cs in
+    let some = length-encode c in
+    let few = len_utf8_bounds c in
+    omega (arith, all, some, few)
 
 pub passing-more : (test : ℕ → Bool) (rest left : List ℕ) (c : ℕ) → IsUtf8 rest → rest ≡ encode_utf8 c ++ left → test c ≡ true
     → passing_bytes test (chars rest) ≡ length (encode_utf8 c) + passing_bytes test (chars left)
@@ -54,7 +61,7 @@ passing-none test [] e = ap (passing_bytes test) chars-nil
 passing-none test (b ∷ rest) e = absurd (omega arith)
 
 -- all of them pass where as many bytes do
-all_pass : (test : ℕ → Bool) (cs : List ℕ) (more : ℕ) → (more + passing_bytes test cs == more + length (encode_utf8_all cs)) ≡ list_all test cs
+pub all_pass : (test : ℕ → Bool) (cs : List ℕ) (more : ℕ) → (more + passing_bytes test cs == more + length (encode_utf8_all cs)) ≡ list_all test cs
 all_pass test [] more = grind (arith, nat_tests)
 all_pass test (c ∷ cs) more =
     elim (cases_Bool (test c)) [
@@ -162,7 +169,7 @@ part_seen c part =
       ]
     ]
 
-start_is_part : (c : ℕ) → is_start c ≡ true → is_part c ≡ true
+pub start_is_part : (c : ℕ) → is_start c ≡ true → is_part c ≡ true
 start_is_part c e = rw e refl
 
 parts_of_word : (cs : List ℕ) → take_while is_part (take_while is_not_whitespace cs) ≡ take_while is_part cs
@@ -181,7 +188,7 @@ parts_of_word (c ∷ cs) =
       ]
     ]
 
-identifier_of_word : (cs : List ℕ) → identifier_at_start (take_while is_not_whitespace cs) ≡ identifier_at_start cs
+pub identifier_of_word : (cs : List ℕ) → identifier_at_start (take_while is_not_whitespace cs) ≡ identifier_at_start cs
 identifier_of_word [] = refl
 identifier_of_word (c ∷ cs) =
     elim (cases_Bool (is_start c)) [
@@ -229,7 +236,7 @@ token-none text words len u e is none = sym (ap unless_empty (word_identifier te
 begins : (test : ℕ → Bool) (cs : List ℕ) → (rest : List ℕ) × (cs ≡ take_while test cs ++ rest)
 begins test cs = (drop (prefix_len test cs) cs, sym (take-append-drop (prefix_len test cs) cs))
 
-identifier_begins : (cs : List ℕ) → (rest : List ℕ) × (cs ≡ identifier_at_start cs ++ rest)
+pub identifier_begins : (cs : List ℕ) → (rest : List ℕ) × (cs ≡ identifier_at_start cs ++ rest)
 identifier_begins [] = ([], refl)
 identifier_begins (c ∷ cs) =
     elim (cases_Bool (is_start c)) [
@@ -237,12 +244,15 @@ identifier_begins (c ∷ cs) =
       | inr e ↦ (c ∷ cs, rw e refl)
     ]
 
-pub token-there : (text words : List ℕ) (len : ℕ) → IsUtf8 text → IsUtf8 words → words ≡ trim_start text → len ≡ identifier_bytes (chars words) → len ≢ 0 → Some (take len words) ≡ token_at_start text
-token-there text words len u v e is some =
+pub identifier_front : (words : List ℕ) (len : ℕ) → IsUtf8 words → len ≡ identifier_bytes (chars words) → len ≢ 0 → Some (take len words) ≡ unless_empty (identifier_at_start (chars words))
+identifier_front words len v is some =
     let whole = identifier_begins (chars words) in
     let spelt : words ≡ encode_utf8_all (identifier_at_start (chars words)) ++ encode_utf8_all whole.0 = sym (encodes-chars words v) ∙ ap encode_utf8_all whole.1 ∙ encodes-append (identifier_at_start (chars words)) whole.0 in
     let front : take len words ≡ encode_utf8_all (identifier_at_start (chars words)) = ap (take len) spelt ∙ take_at (encode_utf8_all (identifier_at_start (chars words))) (encode_utf8_all whole.0) len (sym is) in
-    ap Some front ∙ sym (ap unless_empty (word_identifier text words u e) ∙ some_bytes (identifier_at_start (chars words)) (λ z. some (is ∙ z)))
+    ap Some front ∙ sym (some_bytes (identifier_at_start (chars words)) (λ z. some (is ∙ z)))
+
+pub token-there : (text words : List ℕ) (len : ℕ) → IsUtf8 text → IsUtf8 words → words ≡ trim_start text → len ≡ identifier_bytes (chars words) → len ≢ 0 → Some (take len words) ≡ token_at_start text
+token-there text words len u v e is some = identifier_front words len v is some ∙ sym (ap unless_empty (word_identifier text words u e))
 
 -- ---- the walk along what continues an identifier
 

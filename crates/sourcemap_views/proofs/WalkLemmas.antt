@@ -1,8 +1,11 @@
 -- How a walk along tokens finds the one that a function follows.
-use Rattle.std.proofs.Common.{◌≡◌, refl, sym, ap, ◌∙◌, ℕ, zero, suc, ◌-◌, ◌<◌, ◌⊎◌, List, [], ◌∷◌, take, true, false, cond, Some, None, Option, option_map, arith, inl, inr, codes, is_some, true≢false}
+use Rattle.std.proofs.Common.{◌≡◌, refl, sym, ap, ◌∙◌, ℕ, zero, suc, ◌-◌, ◌<◌, ◌⊎◌, List, [], ◌∷◌, take, drop, true, false, cond, Some, None, Option, option_map, arith, inl, inr, codes, is_some, true≢false}
 use Rattle.std.proofs.lemmas.Bool.{cases_Bool}
 use Rattle.std.proofs.lemmas.Option.{none-some}
-use Rattle.sourcemap_views.specs.Walk.{function_token, is_text}
+use Rattle.std.specs.Option.{MatchOption, option_and_then}
+use Rattle.sourcemap_views.specs.Identifiers.{is_text, token_at_start}
+use Rattle.sourcemap_views.specs.Walk.{function_token}
+use Rattle.sourcemap_views.specs.Walks.{tokens_from}
 
 -- what is found of the items left, where the item before them has the identifier, or has not
 abbrev pub found_after : {S : Type 0} → List ℕ → Option S → List (S × Option (List ℕ)) → Option S
@@ -63,3 +66,33 @@ found_after-passed name called item left next n due l e other was =
 pub none_seen : {T S : Type 0} (seen : T → S) (token : Option T) → is_some token ≡ false → option_map seen token ≡ None
 none_seen seen None e = refl
 none_seen seen (Some token) e = absurd (true≢false e)
+
+pub some_seen : {T S : Type 0} (seen : T → S) (token : Option T) → is_some token ≡ true → is_some (option_map seen token) ≡ true
+some_seen seen None e = absurd (true≢false (sym e))
+some_seen seen (Some token) e = refl
+
+-- the item before is found where the next one is `function`
+pub found_after-fired : {S : Type 0} (name : List ℕ) (called : Option S) (item : S × Option (List ℕ)) (left next : List (S × Option (List ℕ))) (n : ℕ) (due : Option S)
+    → 0 < n → left ≡ item ∷ next → is_some called ≡ true → is_text (codes "function") item.1 ≡ true
+    → found_after name called (take n left) ≡ due → called ≡ due
+found_after-fired name None item left next n due l e some fired was = absurd (true≢false (sym some))
+found_after-fired name (Some token) item left next n due l e some fired was =
+    let items_left : take n left ≡ item ∷ take (n - 1) next = ap (take n) e ∙ take-next n item next l in
+    let here : found_after name (Some token) (item ∷ take (n - 1) next) ≡ Some token = rw fired refl in
+    sym here ∙ sym (ap (found_after name (Some token)) items_left) ∙ was
+
+-- the tokens before one, by the one that comes before it
+pub tokens_before : {T S : Type 0} (seen : T → S) (before : T → List S) (token : Option T) (tokens : List S) → MatchOption token (tokens ≡ []) (λ t. tokens ≡ seen t ∷ before t) → tokens ≡ tokens_from seen before token
+tokens_before seen before None tokens e = e
+tokens_before seen before (Some token) tokens e = e
+
+-- the identifier where a walk stands is that at the place in the view
+pub identifier_seen : {X : Type 0} (line : X → List ℕ) (reached : X → Option ℕ) (stand : Option X)
+    → option_and_then (λ s. option_and_then (λ at. token_at_start (drop at (line s))) (reached s)) stand
+    ≡ option_and_then (λ (found : List ℕ × ℕ). token_at_start (drop found.1 found.0)) (option_and_then (λ s. option_map (λ at. (line s, at)) (reached s)) stand)
+identifier_seen line reached None = refl
+identifier_seen line reached (Some s) = at (reached s)
+  where
+    at : (o : Option ℕ) → option_and_then (λ n. token_at_start (drop n (line s))) o ≡ option_and_then (λ (found : List ℕ × ℕ). token_at_start (drop found.1 found.0)) (option_map (λ n. (line s, n)) o)
+    at None = refl
+    at (Some n) = refl

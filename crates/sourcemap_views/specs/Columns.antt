@@ -25,6 +25,10 @@ first_reaching col characters = find (λ prefix. nat_le col (width prefix)) (pre
 abbrev pub column_place : List ℕ → ℕ → Option ℕ
 column_place line col = option_map (λ prefix. length (encode_utf8_all prefix)) (first_reaching col (chars line))
 
+-- the position, if it is as far on as the column
+abbrev pub reached_place : (col place units : ℕ) → Option ℕ
+reached_place col place units = cond (nat_le col units) (Some place) None
+
 -- a place where a line may be cut, and how many units stand before it
 abbrev pub IsPlace : List ℕ → (place units : ℕ) → Type 0
 IsPlace line place units = IsCharBoundary line place × (units ≡ width (chars (take place line)))

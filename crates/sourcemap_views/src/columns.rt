@@ -2,7 +2,7 @@
 ghost use Rattle.std.specs.Prelude.{◌≡◌, ◌<◌, ◌≤◌, ◌-◌, IfNone, IfSome, IsAscii, Some, length, option_map, slice_range, take};
 ghost use Rattle.std.specs.Bool.{OnTrue};
 ghost use Rattle.std.specs.Str.{IsCharBoundary, chars};
-ghost use Rattle.sourcemap_views.specs.Columns.{IsPlace, column_place, slice_of, width};
+ghost use Rattle.sourcemap_views.specs.Columns.{IsPlace, column_place, reached_place, slice_of, width};
 
 /// A place in a line, in bytes, and how many UTF-16 units stand before it.
 #[derive(Debug, Clone, Copy)]
@@ -22,6 +22,20 @@ pub fn reach(line: &str, col: u64) -> Option<Reached>
         return reach_in_ascii(line, col);
     }
     reach_by_characters(line, skip_blocks(line, col), col)
+}
+
+/// The position of a column, or the end of a line that is too short.
+pub fn reach_or_end(line: &str, col: u64) -> Reached
+    ensures value { reached_place col result.place result.units ≡ column_place line.now col }
+    ensures place { IsPlace line.now result.place result.units }
+{
+    match reach(line, col) {
+        Some(at) => at,
+        None => Reached {
+            place: line.len(),
+            units: units_in(line),
+        },
+    }
 }
 
 // The same where each byte before the column is a character.
@@ -129,6 +143,22 @@ pub fn slice_at(line: &str, col: u32, span: u32) -> Option<&str>
     let end = (u64::from(col) + u64::from(span)).saturating_sub(start.units);
     let length = reach(rest, end)?.place;
     Some(&rest[..length])
+}
+
+/// The position of a column, or the end of a line that is too short. It is found from a known
+/// position that is not before the column, or is the end, without a walk from the line's start.
+pub fn reach_from(line: &str, from: Reached, col: u64) -> Reached
+    requires { IsPlace line.now from.place from.units }
+    ensures value { reached_place col result.place result.units ≡ column_place line.now col }
+    ensures place { IsPlace line.now result.place result.units }
+{
+    if col <= from.units {
+        return reach_back(line, from, col);
+    }
+    if from.place == line.len() {
+        return from;
+    }
+    reach_or_end(line, col)
 }
 
 /// The place of a column that is not behind this place of the line, without a walk from its start.

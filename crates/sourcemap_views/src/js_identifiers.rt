@@ -1,8 +1,9 @@
 //! Identifiers of JavaScript.
 ghost use Rattle.std.specs.Prelude.{◌≡◌, length, option_map};
-ghost use Rattle.std.specs.Str.{IsCharBoundary, chars, encode_utf8_all};
+ghost use Rattle.std.specs.Prelude.{drop, true};
+ghost use Rattle.std.specs.Str.{IsCharBoundary, chars, encode_utf8_all, trim_start};
 ghost use Rattle.std.specs.List.{take_while};
-ghost use Rattle.sourcemap_views.specs.Identifiers.{identifier_at_start, is_identifier, is_part, is_start, token_at_start};
+ghost use Rattle.sourcemap_views.specs.Identifiers.{first_passes, identifier_at_start, is_identifier, is_part, is_start, is_text, token_at_start, unless_empty};
 
 use unicode_ident::{is_xid_continue, is_xid_start};
 
@@ -28,22 +29,63 @@ pub fn get_javascript_token(text: &str) -> Option<&str>
     Some(&words[..length])
 }
 
+/// Whether the longest identifier with which a text starts is this one. Of the text it reads no
+/// more than the bytes of the name and one character.
+pub(crate) fn starts_with_identifier(text: &str, name: &str) -> bool
+    requires { is_identifier (chars name.now) ≡ true }
+    ensures { result ≡ is_text name.now (unless_empty (identifier_at_start (chars text.now))) }
+{
+    if name.is_empty() {
+        return false;
+    }
+    match text.strip_prefix(name) {
+        Some(rest) => !starts_with_part(rest),
+        None => false,
+    }
+}
+
+/// How many bytes of white space a text starts with.
+pub(crate) fn blank_length(text: &str) -> usize
+    ensures rest { drop result text.now ≡ trim_start text.now }
+    ensures boundary { IsCharBoundary text.now result }
+{
+    text.len() - text.trim_start().len()
+}
+
 // How many bytes the longest identifier takes with which a text starts, 0 if there is none.
 fn identifier_length(text: &str) -> usize
     ensures value { result ≡ length (encode_utf8_all (identifier_at_start (chars text.now))) }
     ensures boundary { IsCharBoundary text.now result }
 {
-    match text.chars().next() {
-        Some(first) if starts_identifier(first) => {
-            let width = first.len_utf8();
-            width + parts_length(&text[width..])
-        }
-        _ => 0,
+    if starts_with_start(text) {
+        parts_length(text)
+    } else {
+        0
     }
 }
 
-// How many bytes those characters take with which a text starts that may continue an identifier.
-fn parts_length(text: &str) -> usize
+/// Whether an identifier may start with the first character of a text.
+pub(crate) fn starts_with_start(text: &str) -> bool
+    ensures { result ≡ first_passes is_start (chars text.now) }
+{
+    match text.chars().next() {
+        Some(first) => starts_identifier(first),
+        None => false,
+    }
+}
+
+// Whether an identifier may go on with the first character of a text.
+fn starts_with_part(text: &str) -> bool
+    ensures { result ≡ first_passes is_part (chars text.now) }
+{
+    match text.chars().next() {
+        Some(first) => continues_identifier(first),
+        None => false,
+    }
+}
+
+/// How many bytes those characters take with which a text starts that may continue an identifier.
+pub(crate) fn parts_length(text: &str) -> usize
     ensures value { result ≡ length (encode_utf8_all (take_while is_part (chars text.now))) }
     ensures boundary { IsCharBoundary text.now result }
 {

@@ -1,12 +1,16 @@
 //! The walk back along the tokens of a map, which guesses the name of a function.
-ghost use Rattle.std.specs.Prelude.{◌≡◌, ◌≤◌, ℕ, List, [], ◌∷◌, IfSome, Option, Some, drop, option_map, take};
+ghost use Rattle.std.specs.Prelude.{◌≡◌, ◌≤◌, ℕ, List, [], ◌∷◌, IfSome, Option, Some, drop, nat_le, option_map, take, true};
 ghost use Rattle.std.specs.Option.{MatchOption, option_and_then, option_copied};
-ghost use Rattle.sourcemap_views.specs.Columns.{IsPlace, column_place};
-ghost use Rattle.sourcemap_views.specs.Identifiers.{token_at_start};
-ghost use Rattle.sourcemap_views.specs.Walk.{HasLine, function_token, guessed_name, is_text, place_in, sets, walked};
+ghost use Rattle.std.specs.Str.{IsCharBoundary, chars};
+ghost use Rattle.sourcemap_views.specs.Columns.{IsPlace, column_place, reached_place};
+ghost use Rattle.sourcemap_views.specs.Identifiers.{is_identifier, is_text, token_at_start};
+ghost use Rattle.sourcemap_views.specs.Walk.{HasLine, IsWord, IsWordEnd, function_token, guessed_name, identifier_from, place_in, sets, walked};
 
-use crate::columns::{Reached, reach, reach_back};
-use crate::js_identifiers::{get_javascript_token, is_valid_javascript_identifier};
+use crate::columns::{Reached, reach_from, reach_or_end};
+use crate::js_identifiers::{
+    blank_length, is_valid_javascript_identifier, parts_length, starts_with_identifier,
+    starts_with_start,
+};
 use crate::sourceview::SourceView;
 
 /// A token of a map, as a walk back along its map needs it.
@@ -43,56 +47,169 @@ pub trait WalkedToken: Copy + Drop {
             (λ token. before self.now ≡ seen token ∷ before token) };
 }
 
-// A line of a view by its number, and a place in it.
+// A line of a view by its number, a position in it, and the offset of the first word from there on.
 #[derive(Clone, Copy)]
 struct Stand<'view> {
     number: u32,
     line: &'view str,
     at: Reached,
+    word: usize,
     ghost sound: { IsPlace line.now at.place at.units },
+    ghost first: { IsWord line.now at.place word },
 }
 
 impl<'view> Stand<'view> {
-    // The identifier with which the rest of the line starts.
-    fn identifier(&self) -> Option<&'view str>
-        ensures { option_copied result ≡ token_at_start (drop self.now.at.place self.now.line.now) }
+    // At a column, found from the start of the line, or at the end of a line that is too short.
+    fn new(number: u32, line: &'view str, col: u32) -> Stand<'view>
+        ensures number { result.number ≡ number }
+        ensures line { result.line.now ≡ line.now }
+        ensures place { reached_place col result.at.place result.at.units
+            ≡ column_place line.now col }
     {
-        get_javascript_token(&self.line[self.at.place..])
+        let at = reach_or_end(line, u64::from(col));
+        let word = word_from(line, at.place);
+        Stand {
+            number,
+            line,
+            at,
+            word,
+        }
     }
 
-    // The same line at a column that is not behind the place.
-    fn back_to(&self, col: u32) -> Stand<'view>
-        requires { col ≤ self.now.at.units }
+    // The same line at another column. A column that is not after the position is found from it, so
+    // that tokens in falling order read a line once.
+    fn moved_to(&self, col: u32) -> Stand<'view>
         ensures number { result.number ≡ self.now.number }
         ensures line { result.line.now ≡ self.now.line.now }
-        ensures place { Some result.at.place ≡ column_place self.now.line.now col }
+        ensures place { reached_place col result.at.place result.at.units
+            ≡ column_place self.now.line.now col }
     {
-        let at = reach_back(self.line, self.at, u64::from(col));
+        let at = reach_from(self.line, self.at, u64::from(col));
+        let word = word_near(self.line, at.place, self.at.place, self.word);
         Stand {
             number: self.number,
             line: self.line,
             at,
+            word,
+        }
+    }
+
+    // Whether the line reaches the column, and this identifier is there.
+    fn is_named(&self, col: u32, name: &str) -> bool
+        requires { is_identifier (chars name.now) ≡ true }
+        ensures { result ≡ is_text name.now
+            (identifier_from self.now.line.now col self.now.at.place self.now.at.units) }
+    {
+        u64::from(col) <= self.at.units && starts_with_identifier(&self.line[self.word..], name)
+    }
+}
+
+// The first word from a position of a line on, with the end of those of its first characters that
+// may continue an identifier.
+#[derive(Clone, Copy)]
+struct Word<'view> {
+    stand: Stand<'view>,
+    end: usize,
+    ghost ended: { IsWordEnd stand.line.now stand.word end },
+}
+
+impl<'view> Word<'view> {
+    // The word of a position of which no end is known.
+    fn new(stand: Stand<'view>) -> Word<'view>
+        ensures { result.stand ≡ stand.entry }
+    {
+        let end = stand.word + parts_length(&stand.line[stand.word..]);
+        Word { stand, end }
+    }
+
+    // The same line at another column. A word that is not after this one is read up to its start.
+    fn moved_to(&self, col: u32) -> Word<'view>
+        ensures number { result.stand.number ≡ self.now.stand.number }
+        ensures line { result.stand.line.now ≡ self.now.stand.line.now }
+        ensures place { reached_place col result.stand.at.place result.stand.at.units
+            ≡ column_place self.now.stand.line.now col }
+    {
+        let stand = self.stand.moved_to(col);
+        if stand.word > self.stand.word {
+            return Word::new(stand);
+        }
+        let end = end_before(stand.line, stand.word, self.stand.word, self.end);
+        Word { stand, end }
+    }
+
+    // The identifier at the column, if the line reaches it.
+    fn identifier(&self, col: u32) -> Option<&'view str>
+        ensures { option_copied result ≡ identifier_from self.now.stand.line.now col
+            self.now.stand.at.place self.now.stand.at.units }
+    {
+        let stand = &self.stand;
+        if u64::from(col) <= stand.at.units && starts_with_start(&stand.line[stand.word..]) {
+            Some(&stand.line[stand.word..self.end])
+        } else {
+            None
         }
     }
 }
 
-// A line of a view at a column, found from the start of the line.
-fn stand_at<'view>(view: &'view SourceView, line: u32, col: u32) -> Option<Stand<'view>>
-    ensures value { option_map (λ s. (s.line.now, s.at.place)) result
-        ≡ place_in view.now (line, col) }
-    ensures kept { IfSome result (λ s. HasLine view.now s.number s.line.now) }
+// The byte offset of the first word from an offset of a line on.
+fn word_from(line: &str, offset: usize) -> usize
+    requires { IsCharBoundary line.now offset }
+    ensures { IsWord line.now offset result }
 {
-    let text = view.get_line(line)?;
-    let at = reach(text, u64::from(col))?;
-    Some(Stand {
-        number: line,
-        line: text,
-        at,
-    })
+    offset + blank_length(&line[offset..])
 }
 
-// The same from where the walk stood last, if that is in the line and not before the column, so
-// that a line is not walked along anew for each of its tokens.
+// The same, where the word is known of another offset.
+fn word_near(line: &str, offset: usize, known: usize, word: usize) -> usize
+    requires offset { IsCharBoundary line.now offset }
+    requires known { IsCharBoundary line.now known }
+    requires word { IsWord line.now known word }
+    ensures { IsWord line.now offset result }
+{
+    if offset <= known {
+        word_before(line, offset, known, word)
+    } else {
+        word_from(line, offset)
+    }
+}
+
+// The same, where the word is known of a later offset. White space is read up to that offset only.
+fn word_before(line: &str, offset: usize, next: usize, word: usize) -> usize
+    requires order { offset ≤ next }
+    requires offset { IsCharBoundary line.now offset }
+    requires next { IsCharBoundary line.now next }
+    requires word { IsWord line.now next word }
+    ensures { IsWord line.now offset result }
+{
+    let gap = &line[offset..next];
+    let blank = blank_length(gap);
+    if blank == gap.len() {
+        word
+    } else {
+        offset + blank
+    }
+}
+
+// The end of the characters from `word` on that may continue an identifier, where `end` is that of
+// those from `next` on. They are read up to `next` only.
+fn end_before(line: &str, word: usize, next: usize, end: usize) -> usize
+    requires order { word ≤ next }
+    requires word { IsCharBoundary line.now word }
+    requires next { IsCharBoundary line.now next }
+    requires end { IsWordEnd line.now next end }
+    ensures { IsWordEnd line.now word result }
+{
+    let gap = &line[word..next];
+    let length = parts_length(gap);
+    if length == gap.len() {
+        end
+    } else {
+        word + length
+    }
+}
+
+// A line of a view at a column, none if there is no such line. In the line of the last token the
+// column is found from that token.
 fn stand_next<'view>(
     view: &'view SourceView,
     last: Option<Stand<'view>>,
@@ -100,15 +217,34 @@ fn stand_next<'view>(
     col: u32,
 ) -> Option<Stand<'view>>
     requires { IfSome last (λ s. HasLine view.now s.number s.line.now) }
-    ensures value { option_map (λ s. (s.line.now, s.at.place)) result
+    ensures value { option_and_then
+        (λ s. option_map (λ at. (s.line.now, at)) (reached_place col s.at.place s.at.units)) result
         ≡ place_in view.now (line, col) }
     ensures kept { IfSome result (λ s. HasLine view.now s.number s.line.now) }
 {
     match last {
-        Some(stand) if stand.number == line && u64::from(col) <= stand.at.units => {
-            Some(stand.back_to(col))
-        }
-        _ => stand_at(view, line, col),
+        Some(stand) if stand.number == line => Some(stand.moved_to(col)),
+        _ => Some(Stand::new(line, view.get_line(line)?, col)),
+    }
+}
+
+// The same with the end of the word.
+fn word_next<'view>(
+    view: &'view SourceView,
+    last: Option<Word<'view>>,
+    line: u32,
+    col: u32,
+) -> Option<Word<'view>>
+    requires { IfSome last (λ w. HasLine view.now w.stand.number w.stand.line.now) }
+    ensures value { option_and_then
+        (λ w. option_map (λ at. (w.stand.line.now, at))
+        (reached_place col w.stand.at.place w.stand.at.units)) result
+        ≡ place_in view.now (line, col) }
+    ensures kept { IfSome result (λ w. HasLine view.now w.stand.number w.stand.line.now) }
+{
+    match last {
+        Some(word) if word.stand.number == line => Some(word.moved_to(col)),
+        _ => Some(Word::new(Stand::new(line, view.get_line(line)?, col))),
     }
 }
 
@@ -119,8 +255,8 @@ fn stand_next<'view>(
 pub struct RevTokenIter<'view, T> {
     view: &'view SourceView,
     token: Option<T>,
-    stand: Option<Stand<'view>>,
-    ghost own: { IfSome stand (λ s. HasLine view.now s.number s.line.now) } by { Prim.hlevel sets },
+    word: Option<Word<'view>>,
+    ghost own: { IfSome word (λ w. HasLine view.now w.stand.number w.stand.line.now) } by { Prim.hlevel sets },
 }
 
 impl<'view, T: WalkedToken> Iterator for RevTokenIter<'view, T> {
@@ -137,44 +273,57 @@ impl<'view, T: WalkedToken> Iterator for RevTokenIter<'view, T> {
         let token = self.token?;
         self.token = token.previous();
         let (line, col) = token.place();
-        let stand = stand_next(self.view, self.stand, line, col);
-        self.stand = stand;
-        Some((token, identifier_of(stand)))
+        let word = word_next(self.view, self.word, line, col);
+        self.word = word;
+        Some((token, identifier_of(word, col)))
     }
 }
 
-// The identifier where the walk stands, if it stands anywhere.
-fn identifier_of<'view>(stand: Option<Stand<'view>>) -> Option<&'view str>
-    ensures { option_copied result
-        ≡ option_and_then (λ s. token_at_start (drop s.at.place s.line.now)) stand.entry }
+// The identifier at a column of a line, if there is such a line.
+fn identifier_of<'view>(word: Option<Word<'view>>, col: u32) -> Option<&'view str>
+    ensures { option_copied result ≡ option_and_then
+        (λ w. identifier_from w.stand.line.now col w.stand.at.place w.stand.at.units) word.entry }
 {
-    stand?.identifier()
+    word?.identifier(col)
 }
 
-impl<'view, T: WalkedToken> RevTokenIter<'view, T> {
-    ghost use Rattle.sourcemap_views.specs.Walks.{walk_left};
-
-    // Of the first 128 tokens, the first that has this identifier where the one behind it in the
-    // walk has `function`.
-    fn function_token(self, name: &str) -> Option<T>
-        ensures { option_map T.seen result ≡ function_token name.now
-            (take 128 (walk_left T.seen T.before T.place_of self.entry)) }
-    {
-        let mut walk = self;
-        let mut called = None;
-        for _passed in 0..128u32 {
-            let (token, identifier) = walk.next()?;
-            if called.is_some() && has_text(identifier, "function") {
-                return called;
-            }
-            called = if has_text(identifier, name) {
-                Some(token)
-            } else {
-                None
-            };
-        }
-        None
+// Whether there is such a line, and this identifier is at the column.
+fn is_named(stand: Option<Stand<'_>>, col: u32, name: &str) -> bool
+    requires { is_identifier (chars name.now) ≡ true }
+    ensures { result ≡ is_text name.now (option_and_then
+        (λ s. identifier_from s.line.now col s.at.place s.at.units) stand.entry) }
+{
+    match stand {
+        None => false,
+        Some(stand) => stand.is_named(col, name),
     }
+}
+
+// Of this token and those before it, 128 in all, the first with this identifier where the next one
+// of the walk has `function`. Identifiers are compared, so their ends are not needed.
+fn function_token<T: WalkedToken>(view: &SourceView, token: T, name: &str) -> Option<T>
+    requires { is_identifier (chars name.now) ≡ true }
+    ensures { option_map T.seen result ≡ function_token name.now
+        (take 128 (walked T.place_of view.now (T.seen token ∷ T.before token))) }
+{
+    let mut left = Some(token);
+    let mut stand = None;
+    let mut called = None;
+    for _passed in 0..128u32 {
+        let token = left?;
+        left = token.previous();
+        let (line, col) = token.place();
+        stand = stand_next(view, stand, line, col);
+        if called.is_some() && is_named(stand, col, "function") {
+            return called;
+        }
+        called = if is_named(stand, col, name) {
+            Some(token)
+        } else {
+            None
+        };
+    }
+    None
 }
 
 impl SourceView {
@@ -189,7 +338,7 @@ impl SourceView {
         RevTokenIter {
             view: self,
             token: Some(token),
-            stand: None,
+            word: None,
         }
     }
 
@@ -207,18 +356,6 @@ impl SourceView {
         if !is_valid_javascript_identifier(minified_name) {
             return None;
         }
-        self.rev_token_iter(token)
-            .function_token(minified_name)?
-            .name()
-    }
-}
-
-// Whether an identifier is there and is this text.
-fn has_text(identifier: Option<&str>, text: &str) -> bool
-    ensures { result ≡ is_text text.now (option_copied identifier.entry) }
-{
-    match identifier {
-        None => false,
-        Some(identifier) => identifier == text,
+        function_token(self, token, minified_name)?.name()
     }
 }
