@@ -1,5 +1,5 @@
 -- A text is cut at its newlines, and is UTF-8 where each of its lines is.
-use Rattle.std.proofs.Common.{◌≡◌, refl, sym, ap, subst, ◌∙◌, ℕ, zero, suc, ◌+◌, ◌-◌, ◌<◌, ◌≤◌, Bool, true, false, ◌&&◌, if◌then◌else◌, List, [], ◌∷◌, ◌++◌, Option, None, Some, is_some, length, take, drop, get_or, nat_lt, slice_range, arith, append_assoc, IsUtf8}
+use Rattle.std.proofs.Common.{◌≡◌, refl, sym, ap, subst, ◌∙◌, ℕ, zero, suc, ◌+◌, ◌-◌, ◌<◌, ◌≤◌, Bool, true, false, ◌&&◌, if◌then◌else◌, List, [], ◌∷◌, ◌++◌, MatchOption, Option, None, Some, is_some, option_map, length, take, drop, get_or, nat_lt, slice_range, arith, append_assoc, IsUtf8}
 use Rattle.std.proofs.lemmas.Bool.{and_parts, eqb-true, and_from, false_from_ne_true}
 use Rattle.std.specs.Cmp.{both_ways}
 use Rattle.std.proofs.Math.Bool.{and-true}
@@ -10,7 +10,7 @@ use Rattle.std.proofs.lemmas.Str.{IsUtf8-append, IsUtf8-nil, IsUtf8-take, IsUtf8
 use Rattle.std.specs.Str.{is_utf8, IsAscii}
 use Rattle.memchr.specs.Find.{NoneBefore, Nowhere, Passes, is_byte}
 use Rattle.std.specs.Str.{IsCharBoundary}
-use Rattle.sourcemap_references.specs.Lines.{IsFirstMarked, EndsAt, if_text, lines_after}
+use Rattle.sourcemap_references.specs.Lines.{IsFirstMarked, AreUnmarked, EndsAt, LeavesOnly, if_text, lines_after}
 use Rattle.sourcemap_references.specs.declared.lines.Line.{Line}
 use Rattle.sourcemap_references.specs.Reference.{Reference, first_on, first_reference, line_says, or_later, reference_on, text_lines}
 
@@ -57,8 +57,8 @@ after_ascii front later byte small text =
     let within = length-append front (byte ∷ later) in
     let stands : get_or (front ++ byte ∷ later) (length front) 0 < 128 = omega (arith, at) in
     let rest = IsUtf8-drop (front ++ byte ∷ later) (length front + 1) text (IsCharBoundary-after_ascii (front ++ byte ∷ later) (length front) text (omega (arith, within)) stands) in
-    let behind = ap (drop (length front + 1)) (sym (append_assoc front (byte ∷ []) later)) ∙ drop_at (front ++ byte ∷ []) later (length front + 1) (length-append front (byte ∷ [])) in
-    subst IsUtf8 behind rest
+    let following = ap (drop (length front + 1)) (sym (append_assoc front (byte ∷ []) later)) ∙ drop_at (front ++ byte ∷ []) later (length front + 1) (length-append front (byte ∷ [])) in
+    subst IsUtf8 following rest
 
 pub is_utf8-ascii : (front later : List ℕ) (byte : ℕ) → byte < 128 → is_utf8 (front ++ byte ∷ later) ≡ (is_utf8 front && is_utf8 later)
 is_utf8-ascii front later byte small =
@@ -157,9 +157,9 @@ left-here : (text : List ℕ) (start end : ℕ) → IsPassed text start → Ends
     → first_reference text ≡ if_text (take start text) (or_later (line_says (slice_range text start end)) (first_on (lines_after text end)))
 left-here text start end passed ends = passed.left ∙ ap (λ lines. if_text (take start text) (first_on lines)) ends.lines
 
-left-behind : (text : List ℕ) (start end : ℕ) → IsPassed text start → EndsAt text start end → is_some (reference_on (slice_range text start end)) ≡ false
+left-after : (text : List ℕ) (start end : ℕ) → IsPassed text start → EndsAt text start end → is_some (reference_on (slice_range text start end)) ≡ false
     → first_reference text ≡ if_text (take end text) (first_on (lines_after text end))
-left-behind text start end passed ends none =
+left-after text start end passed ends none =
     left-here text start end passed ends
     ∙ ap (if_text (take start text)) (later_counts _ _ _ none)
     ∙ if_text-both _ _ _ _ (is_utf8-end text start end passed ends.order)
@@ -176,18 +176,36 @@ passed-line text start end passed ends none inside =
           ap (λ xs. is_utf8 (xs ++ later)) front ∙ ap is_utf8 (append_assoc (take end text) (10 ∷ []) later)
           ∙ is_utf8-ascii (take end text) later 10 (omega arith) ∙ ap (λ b. b && is_utf8 later) (sym same);
       left =
-          left-behind text start end passed ends none
+          left-after text start end passed ends none
           ∙ ap (λ b. if_text (take end text) (first_on (if b then text_lines (drop (end + 1) text) else []))) more
           ∙ ap (λ b. if b then first_reference (drop (end + 1) text) else None) (sym same);
     }
 
-pub passed-all : (text : List ℕ) (start end : ℕ) → IsPassed text start → EndsAt text start end → is_some (reference_on (slice_range text start end)) ≡ false
-    → end ≡ length text → first_reference text ≡ if_text text (Some None)
-passed-all text start end passed ends none last =
+-- without a mark on the line that ends here, none of the lines so far has one
+pub unmarked : (text : List ℕ) (start end : ℕ) → IsPassed text start → EndsAt text start end → is_some (reference_on (slice_range text start end)) ≡ false
+    → AreUnmarked text end
+unmarked text start end passed ends none = record { within = ends.within; left = left-after text start end passed ends none }
+
+only_then : (text : List ℕ) (end : ℕ) → AreUnmarked text end → IsUtf8 (take end text) → first_reference text ≡ first_on (lines_after text end)
+only_then text end lines utf8 = lines.left ∙ ap (λ b. if b then first_on (lines_after text end) else None) (is_utf8-from_IsUtf8 (take end text) utf8)
+
+pub leaves : (text rest : List ℕ) (end : ℕ) → AreUnmarked text end → IsUtf8 (take end text) → end < length text → rest ≡ drop (end + 1) text
+    → LeavesOnly text (Some rest)
+leaves text rest end lines utf8 inside is =
+    let more : nat_lt end (length text) ≡ true = grind (arith, nat_tests) in
+    let left = length-drop (end + 1) text in
+    let long = ap length is in (
+      only_then text end lines utf8 ∙ ap (λ b. first_on (if b then text_lines (drop (end + 1) text) else [])) more ∙ ap first_reference (sym is),
+      omega (arith, left, long, inside),
+    )
+
+pub leaves_none : (text : List ℕ) (end : ℕ) → AreUnmarked text end → IsUtf8 (take end text) → length text ≤ end → LeavesOnly text None
+leaves_none text end lines utf8 last =
     let more : nat_lt end (length text) ≡ false = grind (arith, nat_tests) in
-    left-behind text start end passed ends none
-    ∙ ap (λ b. if_text (take end text) (first_on (if b then text_lines (drop (end + 1) text) else []))) more
-    ∙ ap (λ xs. if_text xs (Some None)) (take_all end text (omega (arith, last)))
+    only_then text end lines utf8 ∙ ap (λ b. first_on (if b then text_lines (drop (end + 1) text) else [])) more
+
+pub whole_text : (text : List ℕ) (end : ℕ) → AreUnmarked text end → IsUtf8 text → length text ≤ end → first_reference text ≡ Some None
+whole_text text end lines utf8 last = leaves_none text end lines (subst IsUtf8 (sym (take_all end text last)) utf8) last
 
 start_boundary : (text : List ℕ) (start end : ℕ) → IsPassed text start → EndsAt text start end → IsUtf8 (take end text) → IsCharBoundary (take end text) start
 start_boundary text start end passed ends utf8 =
@@ -216,3 +234,8 @@ decides text line passed ends some =
       ends = end_boundary text start end ends;
       starts = start_boundary text start end passed ends;
     }
+
+pub leaves_after : {R : Type 0} (text : List ℕ) (end : ℕ) (list_of : R → List ℕ) (rest : Option R) → AreUnmarked text end → IsUtf8 (take end text)
+    → MatchOption rest (end ≡ length text) (λ r. (end < length text) × (list_of r ≡ drop (end + 1) text)) → LeavesOnly text (option_map list_of rest)
+leaves_after text end list_of None lines utf8 last = leaves_none text end lines utf8 (omega (arith, last))
+leaves_after text end list_of (Some r) lines utf8 more = leaves text (list_of r) end lines utf8 more.0 more.1

@@ -1,4 +1,4 @@
--- What stands behind a mark, and what the line that decides says of a text.
+-- What follows a mark, and what the line that decides says of a text.
 use Rattle.std.proofs.Common.{◌≡◌, refl, sym, ap, ◌∙◌, ℕ, true, false, if◌then◌else◌, List, Option, None, Some, is_some, Result, Ok, Err, length, take, drop, get_or, codes, option_map, arith, inl, inr, IsUtf8, nat_eq, min, ◌-◌, slice_range}
 use Rattle.std.proofs.lemmas.Bool.{cases_Bool, false_from_ne_true}
 use Rattle.std.proofs.lemmas.List.{get_or-take, length-take}
@@ -11,14 +11,14 @@ use Rattle.sourcemap_errors.specs.Answer.{Gives, UnlessMemory}
 use Rattle.sourcemap_errors.specs.declared.errors.Error.{Error}
 use Rattle.sourcemap_errors.specs.declared.errors.Error.TheVariants.{OutOfMemory}
 use Rattle.std.proofs.lemmas.Option.{same_Some}
-use Rattle.sourcemap_references.specs.Lines.{IsFirstMarked, if_text}
+use Rattle.sourcemap_references.specs.Lines.{AreUnmarked, IsFirstMarked, if_text}
 use Rattle.sourcemap_references.specs.declared.lines.Line.{Line}
 use Rattle.sourcemap_references.specs.Reference.{Reference, first_reference, reference_on}
 use Rattle.sourcemap_references.specs.References.{IsInvalidData, Locates, LocatesRead, reference}
 use Rattle.sourcemap_references.specs.declared.detector.SourceMapRef.{SourceMapRef}
 
-behind : (line mark : List ℕ) → length mark ≡ 21 → get_or mark 20 0 ≡ 61 → starts_with nat_eq line mark ≡ true → IsUtf8 line → IsCharBoundary line 21
-behind line mark long last starts text =
+after_mark : (line mark : List ℕ) → length mark ≡ 21 → get_or mark 20 0 ≡ 61 → starts_with nat_eq line mark ≡ true → IsUtf8 line → IsCharBoundary line 21
+after_mark line mark long last starts text =
     let same : mark ≡ take 21 line = same_text mark (take (length mark) line) (sym starts) ∙ ap (λ n. take n line) long in
     let fits : min 21 (length line) ≡ 21 = sym (length-take 21 line) ∙ ap length (sym same) ∙ long in
     let equals : get_or line 20 0 ≡ 61 = sym (get_or-take 21 line 20 0 (omega arith)) ∙ ap (λ xs. get_or xs 20 0) (sym same) ∙ last in
@@ -27,10 +27,10 @@ behind line mark long last starts text =
 pub mark_boundary : (line : List ℕ) → is_some (reference_on line) ≡ true → IsUtf8 line → IsCharBoundary line 21
 mark_boundary line some text =
     elim (cases_Bool (starts_with nat_eq line (codes "//# sourceMappingURL="))) [
-      | inl is ↦ behind line (codes "//# sourceMappingURL=") refl refl is text
+      | inl is ↦ after_mark line (codes "//# sourceMappingURL=") refl refl is text
       | inr not_usual ↦
           elim (cases_Bool (starts_with nat_eq line (codes "//@ sourceMappingURL="))) [
-            | inl is ↦ behind line (codes "//@ sourceMappingURL=") refl refl is text
+            | inl is ↦ after_mark line (codes "//@ sourceMappingURL=") refl refl is text
             | inr not_legacy ↦ absurd (let no : false ≡ true = rw (not_usual, not_legacy) at some in cc)
           ]
     ]
@@ -54,6 +54,10 @@ located (Err e) due all is gives = UnlessMemory-weaker e (λ no. absurd (let wro
 pub no_text_due : (bytes : List ℕ) (due all : Option (Option Reference)) → all ≡ if_text bytes due → ¬ IsUtf8 bytes → (e : Error) → IsInvalidData e
     → UnlessMemory e ((all ≡ None) × IsInvalidData e)
 no_text_due bytes due all is no_text e fault = UnlessMemory-from e (is ∙ if_text-none bytes due no_text, fault)
+
+-- bytes that are no text, before any line with a mark
+pub no_text_before : (text : List ℕ) (end : ℕ) → AreUnmarked text end → ¬ IsUtf8 (take end text) → first_reference text ≡ None
+no_text_before text end lines no_text = lines.left ∙ if_text-none (take end text) _ no_text
 
 pub range_from_start : (text : List ℕ) (end : ℕ) → slice_range text 0 end ≡ take end text
 range_from_start text end = let all : end - 0 ≡ end = omega arith in ap (λ n. take n text) all

@@ -1,10 +1,12 @@
 -- Single lines of a text, and what follows for its reference.
 use Rattle.std.specs.Prelude.{◌≡◌, ℕ, ◌+◌, ◌<◌, ◌≤◌, List, [], ◌∷◌, Option, None, Some, IfSome, Bool, true, false, drop, length, nat_lt, slice_index, slice_range, take, if◌then◌else◌}
 use Rattle.std.specs.Str.{IsCharBoundary, IsUtf8, is_utf8}
-use Rattle.sourcemap_references.specs.Reference.{Reference, first_reference, line_says, or_later, reference_on, text_lines}
+use Rattle.sourcemap_references.specs.Reference.{Reference, first_on, first_reference, line_says, or_later, reference_on, text_lines}
 use Rattle.sourcemap_references.specs.declared.lines.Line.{Line}
+use Rattle.sourcemap_references.specs.declared.lines.Lines.{Lines}
+use Rattle.sourcemap_references.specs.declared.lines.Lines.TheVariants.{Marked, Unmarked}
 
--- the lines behind the newline at this index, none where the text ends there
+-- the lines after the newline at this index, none where the text ends there
 abbrev pub lines_after : List ℕ → ℕ → List (List ℕ)
 lines_after text end = if nat_lt end (length text) then text_lines (drop (end + 1) text) else []
 
@@ -24,6 +26,26 @@ pub record IsFirstMarked (text : List ℕ) (line : Line) : Type 0 where
   pub first : first_reference text ≡ if_text (take line.end text) (Some (reference_on (drop line.start (take line.end text))))
   pub ends : IsCharBoundary text line.end
   pub starts : IsUtf8 (take line.end text) → IsCharBoundary (take line.end text) line.start
+
+-- the lines up to here have no mark: if they are UTF-8, the reference is that of the lines after them
+pub record AreUnmarked (text : List ℕ) (end : ℕ) : Type 0 where
+  pub within : end ≤ length text
+  pub left : first_reference text ≡ if_text (take end text) (first_on (lines_after text end))
+
+-- of the first line with a mark, if there is one
+abbrev pub IfMarked : Lines → (Line → Type 0) → Type 0
+IfMarked (Marked line) Holds = Holds line
+IfMarked (Unmarked _) Holds = Unit {0}
+
+-- of the end of lines without a mark
+abbrev pub IfUnmarked : Lines → (ℕ → Type 0) → Type 0
+IfUnmarked (Marked _) Holds = Unit {0}
+IfUnmarked (Unmarked end) Holds = Holds end
+
+-- what a text says is what this rest of it does; without a rest, all of it is UTF-8 without a reference
+abbrev pub LeavesOnly : List ℕ → Option (List ℕ) → Type 0
+LeavesOnly text (Some rest) = (first_reference text ≡ first_reference rest) × (length rest < length text)
+LeavesOnly text None = first_reference text ≡ Some None
 
 -- a line was read, or there was none: the known bytes say what it says, or else what the bytes left say
 abbrev pub ReadsLine : Option (List ℕ) → Option (List ℕ) → Bool → List ℕ → Type 0

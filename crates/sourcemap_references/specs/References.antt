@@ -3,6 +3,7 @@ use Rattle.std.specs.Prelude.{◌≡◌, ℕ, List, Option, None, Some, Result, 
 use Rattle.std.specs.IoError.{error_kind}
 use Rattle.std.specs.declared.io.ErrorKind.TheVariants.{InvalidData}
 use Rattle.sourcemap_errors.specs.Answer.{UnlessMemory}
+use Rattle.sourcemap_errors.specs.Errors.{FromIo}
 use Rattle.sourcemap_errors.specs.declared.errors.Error.{Error}
 use Rattle.sourcemap_errors.specs.declared.errors.Error.TheVariants.{Io}
 use Rattle.sourcemap_references.specs.Reference.{Reference, usual, legacy, first_reference}
@@ -29,9 +30,9 @@ abbrev pub Locates : Result (Option SourceMapRef) Error → Option (Option Refer
 Locates (Ok found) due = due ≡ Some (option_map reference found)
 Locates (Err e) due = UnlessMemory e ((due ≡ None) × IsInvalidData e)
 
--- the error of a read, or of bytes that are not UTF-8
+-- the error of a read, or of bytes that are not UTF-8; a read that failed for memory is `OutOfMemory`, and no `Io`
 abbrev pub IsReadError : Error → Type 0
-IsReadError (Io _) = Unit {0}
+IsReadError (Io cause) = FromIo cause (Io cause)
 IsReadError e = UnlessMemory e ⊥
 
 -- the reference that was found is that of the bytes which the reader had, where these are known

@@ -1,5 +1,5 @@
 //! References to source maps.
-ghost use Rattle.std.specs.Prelude.{◌≡◌, ◌+◌, ℕ, Err, IsOkUnless, List, MatchResult, Ok, Option, Some, false, is_some, length, option_map, string_bytes, true};
+ghost use Rattle.std.specs.Prelude.{◌≡◌, ◌+◌, ◌<◌, ◌≤◌, ℕ, drop, Err, IsOkUnless, List, MatchOption, MatchResult, None, Ok, Option, Some, false, is_some, length, option_map, string_bytes, true};
 ghost use Rattle.std.specs.Io.BufRead.{strip_last};
 ghost use Rattle.std.specs.Io.Buffered.{reader_remaining};
 ghost use Rattle.std.specs.Result.{result_ok};
@@ -10,13 +10,13 @@ ghost use Rattle.sourcemap_errors.specs.declared.errors.Error.{Error};
 ghost use Rattle.sourcemap_errors.specs.declared.errors.Error.TheVariants.{OutOfMemory};
 ghost use Rattle.sourcemap_places.specs.Places.{url_text};
 ghost use Rattle.sourcemap_places.specs.Urls.{IsLong};
-ghost use Rattle.sourcemap_references.specs.Lines.{ReadsLine};
+ghost use Rattle.sourcemap_references.specs.Lines.{AreUnmarked, IsFirstMarked, LeavesOnly, ReadsLine};
 ghost use Rattle.sourcemap_references.specs.Reference.{first_reference, line_says, reference_on, url_after_mark};
 ghost use Rattle.sourcemap_references.specs.References.{IsInvalidData, IsReadError, Locates, LocatesRead, reference, url_of};
 ghost use Rattle.sourcemap_references.specs.declared.detector.SourceMapRef.{SourceMapRef};
 ghost use Rattle.sourcemap_references.specs.Resolution.{IsLongJoin, UnlessLong, is_data_url, resolved, resolved_path};
 
-use crate::lines::marked_line;
+use crate::lines::{Line, Lines, first_lines};
 use simdutf8::compat::from_utf8;
 use sourcemap_errors::errors::{Error, Result};
 use sourcemap_places::places::{named_path, path_url};
@@ -106,15 +106,19 @@ fn joined_text(base: &Url, reference: &str) -> Result<Option<String>>
     }
 }
 
+// So many bytes of a text, or more, are searched and then tested for UTF-8 while they are in the
+// nearest cache.
+const BLOCK: usize = 1 << 14;
+
 /// The reference that a text carries, if it does, as `locate_sourcemap_reference_slice` finds it in
 /// bytes. Returns `OutOfMemory` only.
 pub fn locate_in_text(alloc: Global, text: &str) -> Result<Option<SourceMapRef>>
     ensures value { Locates result (first_reference text.now) }
     ensures memory { IsOkUnless result OutOfMemory }
 {
-    match marked_line(text.as_bytes()) {
-        Some(line) => reference_on_line(alloc, &text[..line.end][line.start..]),
-        None => Ok(None),
+    match first_lines(text.as_bytes(), text.len()) {
+        Lines::Marked(line) => reference_on_line(alloc, &text[..line.end][line.start..]),
+        Lines::Unmarked(_) => Ok(None),
     }
 }
 
@@ -125,16 +129,52 @@ pub fn locate_in_text(alloc: Global, text: &str) -> Result<Option<SourceMapRef>>
 pub fn locate_sourcemap_reference_slice(alloc: Global, bytes: &[u8]) -> Result<Option<SourceMapRef>>
     ensures { Locates result (first_reference bytes.now) }
 {
-    let Some(line) = marked_line(bytes) else {
-        return match from_utf8(bytes) {
-            Ok(_) => Ok(None),
-            Err(_) => Err(no_text()),
-        };
-    };
+    let mut rest = bytes;
+    loop {
+        match first_lines(rest, rest.len().min(BLOCK)) {
+            Lines::Marked(line) => return reference_at(alloc, rest, line),
+            Lines::Unmarked(end) => match rest_after(rest, end)? {
+                Some(later) => rest = later,
+                None => return Ok(None),
+            },
+        }
+    }
+}
+
+// The reference on the first line with a mark.
+fn reference_at(alloc: Global, bytes: &[u8], line: Line) -> Result<Option<SourceMapRef>>
+    requires { IsFirstMarked bytes.now line }
+    ensures { Locates result (first_reference bytes.now) }
+{
     match from_utf8(&bytes[..line.end]) {
         Ok(text) => reference_on_line(alloc, &text[line.start..]),
         Err(_) => Err(no_text()),
     }
+}
+
+// The lines that follow some without a mark, none if those were the last.
+fn rest_after(bytes: &[u8], end: usize) -> Result<Option<&[u8]>>
+    requires { AreUnmarked bytes.now end }
+    ensures { MatchResult result
+        (λ rest. LeavesOnly bytes.now (option_map (λ r. r.now) rest))
+        (λ e. (first_reference bytes.now ≡ None) × IsInvalidData e) }
+{
+    match from_utf8(&bytes[..end]) {
+        Ok(_) => Ok(lines_after_end(bytes, end)),
+        Err(_) => Err(no_text()),
+    }
+}
+
+// What follows the newline at an index, none where the text ends there.
+fn lines_after_end(bytes: &[u8], end: usize) -> Option<&[u8]>
+    requires { end ≤ length bytes.now }
+    ensures { MatchOption result (end ≡ length bytes.now)
+        (λ rest. (end < length bytes.now) × (rest.now ≡ drop (end + 1) bytes.now)) }
+{
+    if end == bytes.len() {
+        return None;
+    }
+    Some(&bytes[end + 1..])
 }
 
 /// The reference in what a reader gives, as `locate_sourcemap_reference_slice` finds it in a slice.

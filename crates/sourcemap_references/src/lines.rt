@@ -1,7 +1,7 @@
-//! The first line of a text that starts with the mark of a reference.
-ghost use Rattle.std.specs.Prelude.{◌≡◌, ◌≤◌, IfSome, IfNone, None, Some, is_some, length};
-ghost use Rattle.sourcemap_references.specs.Lines.{IsFirstMarked, EndsAt, if_text};
-ghost use Rattle.sourcemap_references.specs.Reference.{first_reference, reference_on};
+//! The lines of a text, up to the first that starts with the mark of a reference.
+ghost use Rattle.std.specs.Prelude.{◌≡◌, ◌≤◌, is_some, length};
+ghost use Rattle.sourcemap_references.specs.Lines.{IfMarked, IfUnmarked, IsFirstMarked, AreUnmarked, EndsAt};
+ghost use Rattle.sourcemap_references.specs.Reference.{reference_on};
 
 use memchr::memchr;
 
@@ -14,19 +14,31 @@ pub struct Line {
     pub end: usize,
 }
 
-/// The first line that starts with a mark. None if no line does.
-pub fn marked_line(bytes: &[u8]) -> Option<Line>
-    ensures marked { IfSome result (λ line. IsFirstMarked bytes.now line) }
-    ensures none { IfNone result (first_reference bytes.now ≡ if_text bytes.now (Some None)) }
+/// What the first lines of a text are.
+#[derive(Clone, Copy, Debug)]
+pub enum Lines {
+    /// Some without a mark, and then this one, which has one.
+    Marked(Line),
+    /// Lines without a mark, of which the last ends here.
+    Unmarked(usize),
+}
+
+/// The first lines of a text: up to the first with a mark, or else to the first that ends at
+/// `least` or later.
+pub fn first_lines(bytes: &[u8], least: usize) -> Lines
+    requires { least ≤ length bytes.now }
+    ensures marked { IfMarked result (λ line. IsFirstMarked bytes.now line) }
+    ensures unmarked { IfUnmarked result (λ end. AreUnmarked bytes.now end) }
+    ensures many { IfUnmarked result (λ end. least ≤ end) }
 {
     let mut start = 0;
     loop {
         let end = line_end(bytes, start);
         if has_mark(&bytes[start..end]) {
-            return Some(Line { start, end });
+            return Lines::Marked(Line { start, end });
         }
-        if end == bytes.len() {
-            return None;
+        if end >= least {
+            return Lines::Unmarked(end);
         }
         start = end + 1;
     }
