@@ -17,7 +17,8 @@ pub use sourcemap_hermes::rewrite::{default_rewriting_keeps_scopes, rewriting_ke
 pub use sourcemap_index::decode::{answers_are_determined, no_other_fault_is_of_urls};
 pub use sourcemap_index::laws::{
     encoded_texts_are_compact, encoded_texts_read_back, hermes_maps_are_of_a_kind,
-    maps_of_forty_levels_are_shallow, regular_maps_are_of_a_kind, written_values_have_one_text,
+    maps_of_forty_levels_are_shallow, read_maps_are_well_formed, regular_maps_are_of_a_kind,
+    written_values_have_one_text,
 };
 pub use sourcemap_references::detector::readers_find_what_slices_do;
 pub use sourcemap_regular::encode::written_records_are_determined;
@@ -27,6 +28,7 @@ pub use sourcemap_scopes::offsets::scope_mappings_are_determined;
 pub use sourcemap_scopes::source_scopes::{
     entries_determine_function_maps, picked_scopes_answer_alike,
 };
+pub use sourcemap_splitting::laws::module_means_what_flat_means;
 pub use sourcemap_trees::laws::{
     decoded_maps_are_well_formed, flat_maps_answer_alike, flat_maps_are_well_formed,
     flat_maps_say_the_flat_list, maps_are_written_once, orderly_maps_are_in_order,

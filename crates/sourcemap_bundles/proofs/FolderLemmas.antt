@@ -10,7 +10,8 @@ use Rattle.std.specs.declared.vec.Vec.{Vec}
 use Rattle.std.proofs.lemmas.List.{map-append, take_more}
 use Rattle.std.proofs.lemmas.List.Elements.{same_from_all_zip}
 use Rattle.std.proofs.lemmas.List.Sums.{fold_push}
-use Rattle.sourcemap_bundles.specs.Folder.{AreNumbered, IsNumbered, count_of, modules_by_number}
+use Rattle.sourcemap_bundles.specs.Folder.{AreNumbered, IsNumbered, IsReadBy, no_modules, with_file}
+use Rattle.sourcemap_bundles.specs.Modules.{FilesValue}
 use Rattle.sourcemap_bundles.specs.Stored.{entry_value}
 
 -- entries that were copied one by one are the same files
@@ -32,18 +33,13 @@ match_ordering-map Less a b c = refl
 match_ordering-map Equal a b c = refl
 match_ordering-map Greater a b c = refl
 
-pub entries-insert : (entries : List (ℕ × Vec ℕ Global)) (id : ℕ) (text : Vec ℕ Global)
+pub entries_insert : (entries : List (ℕ × Vec ℕ Global)) (id : ℕ) (text : Vec ℕ Global)
     → map entry_value (insert_entry nat_cmp entries id text) ≡ insert_entry nat_cmp (map entry_value entries) id text.items
-entries-insert [] id text = refl
-entries-insert (e ∷ entries) id text =
+entries_insert [] id text = refl
+entries_insert (e ∷ entries) id text =
     match_ordering-map (nat_cmp id e.0) ((id, text) ∷ e ∷ entries) ((e.0, text) ∷ entries) (e ∷ insert_entry nat_cmp entries id text)
     ∙ ap (λ rest. match_ordering (nat_cmp id e.0) ((id, text.items) ∷ entry_value e ∷ map entry_value entries)
-    ((e.0, text.items) ∷ map entry_value entries) (entry_value e ∷ rest)) (entries-insert entries id text)
-
--- what was read of the first so many files
-abbrev pub IsReadTo : List (List ℕ) → ℕ → List (ℕ × Vec ℕ Global) → Type 0
-IsReadTo names count entries = (found : List (ℕ × List ℕ)) × AreNumbered names found
-    × (count ≡ count_of found) × (map entry_value entries ≡ modules_by_number found)
+    ((e.0, text.items) ∷ map entry_value entries) (entry_value e ∷ rest)) (entries_insert entries id text)
 
 are_numbered-push : (names : List (List ℕ)) (found : List (ℕ × List ℕ)) (name : List ℕ) (id : ℕ) (text : List ℕ)
     → AreNumbered names found → IsNumbered name id → AreNumbered (names ++ name ∷ []) (found ++ (id, text) ∷ [])
@@ -53,15 +49,12 @@ are_numbered-push (x ∷ names) [] name id text h n = absurd h
 are_numbered-push (x ∷ names) (f ∷ found) name id text h n = (h.0, are_numbered-push names found name id text h.1 n)
 
 -- one file more
-pub IsReadTo-push : (names : List (List ℕ)) (count : ℕ) (entries : List (ℕ × Vec ℕ Global)) (name : List ℕ) (id : ℕ) (text : Vec ℕ Global)
-    → IsReadTo names count entries → IsNumbered name id
-    → IsReadTo (names ++ name ∷ []) (max count (id + 1)) (insert_entry nat_cmp entries id text)
-IsReadTo-push names count entries name id text (found, numbered, counted, read) n = (
-  found ++ (id, text.items) ∷ [],
-  are_numbered-push names found name id text.items numbered n,
-  ap (λ c. max c (id + 1)) counted ∙ sym (fold_push (λ c f. max c (f.0 + 1)) 1 found (id, text.items)),
-  entries-insert entries id text ∙ ap (λ es. insert_entry nat_cmp es id text.items) read
-      ∙ sym (fold_push (λ es f. insert_entry nat_cmp es f.0 f.1) [] found (id, text.items)),
+IsReadBy-push : (names : List (List ℕ)) (startup : List ℕ) (folder : FilesValue) (name : List ℕ) (id : ℕ) (text : List ℕ)
+    → IsReadBy names startup folder → IsNumbered name id → IsReadBy (names ++ name ∷ []) startup (with_file folder (id, text))
+IsReadBy-push names startup folder name id text (found, numbered, read) n = (
+  found ++ (id, text) ∷ [],
+  are_numbered-push names found name id text numbered n,
+  ap (λ f. with_file f (id, text)) read ∙ sym (fold_push with_file (no_modules startup) found (id, text)),
 )
 
 -- a file is found among its entries as among the stored ones
@@ -78,18 +71,16 @@ found_by_number (e ∷ entries) test =
     ∙ sym (lookup-cond (test e.0) e.1 (lookup test entries))
 
 -- the same of the first names of a list
-pub IsReadTo-more : (names : List (String Global)) (i : ℕ) (item : String Global) (name : List ℕ) (id count count' : ℕ)
-    (text : Vec ℕ Global) (entries entries' : List (ℕ × Vec ℕ Global))
-    → i < length names → item ≡ get_or names i item → name ≡ string_bytes item
-    → count' ≡ max count (id + 1) → entries' ≡ insert_entry nat_cmp entries id text → IsNumbered name id
-    → IsReadTo (map string_bytes (take i names)) count entries → IsReadTo (map string_bytes (take (i + 1) names)) count' entries'
-IsReadTo-more names i item name id count count' text entries entries' below is same counted inserted numbered before =
+pub IsReadBy-more : (names : List (String Global)) (i : ℕ) (item : String Global) (name startup : List ℕ) (id : ℕ) (text : List ℕ)
+    (folder folder' : FilesValue) → i < length names → item ≡ get_or names i item → name ≡ string_bytes item
+    → folder' ≡ with_file folder (id, text) → IsNumbered name id
+    → IsReadBy (map string_bytes (take i names)) startup folder → IsReadBy (map string_bytes (take (i + 1) names)) startup folder'
+IsReadBy-more names i item name startup id text folder folder' below is same added numbered before =
     let first : List (List ℕ) = map string_bytes (take i names) in
     let more : take (i + 1) names ≡ take i names ++ item ∷ [] =
     take_more names i item below ∙ ap (λ x. take i names ++ x ∷ []) (sym is) in
     let names_more : map string_bytes (take (i + 1) names) ≡ first ++ string_bytes item ∷ [] =
     ap (map string_bytes) more ∙ map-append string_bytes (take i names) (item ∷ []) in
-    subst (λ ns. IsReadTo ns count' entries') (sym names_more)
-    (subst (λ c. IsReadTo (first ++ string_bytes item ∷ []) c entries') (sym counted)
-    (subst (λ es. IsReadTo (first ++ string_bytes item ∷ []) (max count (id + 1)) es) (sym inserted)
-    (IsReadTo-push first count entries (string_bytes item) id text before (subst (λ n. IsNumbered n id) same numbered))))
+    subst (λ ns. IsReadBy ns startup folder') (sym names_more)
+    (subst (λ f. IsReadBy (first ++ string_bytes item ∷ []) startup f) (sym added)
+    (IsReadBy-push first startup folder (string_bytes item) id text before (subst (λ n. IsNumbered n id) same numbered)))

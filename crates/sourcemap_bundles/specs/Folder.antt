@@ -8,14 +8,15 @@ use Rattle.std.specs.Str.Parse.{IsNumeral, digits_value}
 use Rattle.std.specs.String.{string_cmp}
 use Rattle.std.specs.declared.alloc.Global.{Global}
 use Rattle.std.specs.declared.string.String.{String}
+use Rattle.sourcemap_errors.specs.Errors.{FromIo}
 use Rattle.sourcemap_errors.specs.declared.errors.Error.{Error}
 use Rattle.sourcemap_errors.specs.declared.errors.Error.TheVariants.{Io, InvalidRamBundleIndex, NotARamBundle, OutOfMemory}
 use Rattle.sourcemap_bundles.specs.Modules.{BundleValue, FilesValue, files, indexed}
 
--- why a file bundle is refused
+-- why a file bundle is refused; a read that failed for memory is `OutOfMemory`, and no `Io`
 abbrev pub IsFileFault : Error → Type 0
 IsFileFault OutOfMemory = Unit {0}
-IsFileFault (Io _) = Unit {0}
+IsFileFault (Io cause) = FromIo cause (Io cause)
 IsFileFault NotARamBundle = Unit {0}
 IsFileFault InvalidRamBundleIndex = Unit {0}
 IsFileFault _ = ⊥
@@ -25,17 +26,21 @@ abbrev pub IsNumbered : List ℕ → ℕ → Type 0
 IsNumbered name id = (digits : List ℕ) × (name ≡ digits ++ codes ".js") × IsNumeral 10 digits
     × (id ≡ digits_value 10 digits) × (id + 1 < 2 ^ 64)
 
--- one more than the greatest number, or 1
-abbrev pub count_of : List (ℕ × List ℕ) → ℕ
-count_of found = fold (λ count file. max count (file.0 + 1)) 1 found
+-- the startup code alone
+abbrev pub no_modules : List ℕ → FilesValue
+no_modules startup = record { startup = startup; count = 1; modules = [] }
 
--- files by their numbers: of two with one number the later counts
-abbrev pub modules_by_number : List (ℕ × List ℕ) → List (ℕ × List ℕ)
-modules_by_number found = fold (λ entries file. insert_entry nat_cmp entries file.0 file.1) [] found
+-- one file more, with its number: of two with one number the later counts
+abbrev pub with_file : FilesValue → ℕ × List ℕ → FilesValue
+with_file folder file = record {
+  startup = folder.startup;
+  count = max folder.count (file.0 + 1);
+  modules = insert_entry nat_cmp folder.modules file.0 file.1;
+}
 
 -- the startup code, and files with their numbers
 abbrev pub folder_of : List ℕ → List (ℕ × List ℕ) → FilesValue
-folder_of startup found = record { startup = startup; count = count_of found; modules = modules_by_number found }
+folder_of startup found = fold with_file (no_modules startup) found
 
 -- files of these names, each with its number
 abbrev pub AreNumbered : List (List ℕ) → List (ℕ × List ℕ) → Type 0

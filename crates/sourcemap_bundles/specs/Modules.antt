@@ -4,6 +4,7 @@ use Rattle.std.specs.Ordering.{is_eq, nat_cmp}
 use Rattle.std.specs.Map.{lookup}
 use Rattle.std.specs.Str.{IsUtf8}
 use Rattle.sourcemap_errors.specs.Answer.{UnlessMemory}
+use Rattle.sourcemap_errors.specs.Errors.{FromIo}
 use Rattle.sourcemap_errors.specs.declared.errors.Error.{Error}
 use Rattle.sourcemap_errors.specs.declared.errors.Error.TheVariants.{Io, InvalidRamBundleEntry, InvalidRamBundleIndex, InvalidRamBundleMagic, OutOfMemory, Utf8}
 use Rattle.sourcemap_bundle_bytes.specs.Bundle.{bundle_magic, entry_of, header_of, number_after, range_of, then_make}
@@ -98,5 +99,5 @@ IsViewOf text (Err _) = ⊥
 abbrev pub IsOfFile : Result BundleValue Error → Type 0
 IsOfFile (Ok bundle) = (bytes : List ℕ) × (indexed_bundle bytes ≡ Ok bundle)
 IsOfFile (Err OutOfMemory) = Unit {0}
-IsOfFile (Err (Io _)) = Unit {0}
+IsOfFile (Err (Io cause)) = FromIo cause (Io cause)
 IsOfFile (Err e) = (bytes : List ℕ) × (indexed_bundle bytes ≡ Err e)

@@ -1,12 +1,12 @@
 //! A file bundle: a folder with a file for each module, beside the file of the startup code.
-ghost use Rattle.std.specs.Prelude.{◌≡◌, ◌<◌, ◌+◌, ◌^◌, ℕ, Ok, IfErr, IfOk, IsOkUnless, map, option_map, string_bytes};
+ghost use Rattle.std.specs.Prelude.{◌≡◌, ◌<◌, ◌+◌, ◌^◌, ℕ, Ok, IfErr, IfOk, IsOkUnless, OnOk, map, option_map, string_bytes};
 ghost use Rattle.std.specs.List.Sorted.{IsSorted};
 ghost use Rattle.std.specs.Option.{SomeIff};
 ghost use Rattle.std.specs.String.{string_cmp};
 ghost use Rattle.std.specs.Str.Parse.{IsNumeral, digits_value};
 ghost use Rattle.sourcemap_errors.specs.Answer.{Gives};
 ghost use Rattle.sourcemap_errors.specs.declared.errors.Error.TheVariants.{InvalidRamBundleIndex, OutOfMemory};
-ghost use Rattle.sourcemap_bundles.specs.Folder.{IsFileFault, IsFolder, IsNumbered, IsReadBy};
+ghost use Rattle.sourcemap_bundles.specs.Folder.{IsFileFault, IsFolder, IsNumbered, IsReadBy, with_file};
 ghost use Rattle.sourcemap_bundles.specs.Modules.{file_module};
 ghost use Rattle.sourcemap_bundles.specs.Stored.{files_value, module_value};
 
@@ -69,6 +69,18 @@ impl UnbundleRamBundle {
             id,
             text: text.as_slice(),
         })
+    }
+
+    /// Adds the file of a module: of two with one number the later counts. Returns `OutOfMemory` only.
+    #[tactic(auto, using(crate::proofs::FolderLemmas::entries_insert))]
+    fn add(&mut self, id: usize, text: Vec<u8>) -> Result<()>
+        requires { id + 1 < 2 ^ 64 }
+        ensures added { OnOk result (files_value self.new ≡ with_file (files_value self.old) (id, text.items)) }
+        ensures memory { IsOkUnless result OutOfMemory }
+    {
+        self.modules.insert(id, text)?;
+        self.module_count = self.module_count.max(id + 1);
+        Ok(())
     }
 
     /// Returns a copy.
@@ -168,19 +180,17 @@ fn read_modules<F: Files>(
     ensures files { IfOk result (λ bundle. IsReadBy (map string_bytes names.now) startup_code.items (files_value bundle)) }
     ensures refused { IfErr result IsFileFault }
 {
-    let mut modules = BTreeMap::new(alloc);
-    let mut module_count = 1usize;
+    let mut bundle = UnbundleRamBundle {
+        startup_code,
+        module_count: 1,
+        modules: BTreeMap::new(alloc),
+    };
     for name in names {
         let id = module_number(name.as_str())?;
         let text = fs::read(&(rt, alloc), folder.join(alloc, name.as_str())?)?;
-        modules.insert(id, text)?;
-        module_count = module_count.max(id + 1);
+        bundle.add(id, text)?;
     }
-    Ok(UnbundleRamBundle {
-        startup_code,
-        module_count,
-        modules,
-    })
+    Ok(bundle)
 }
 
 /// Returns the number of the module that a file's name stands for: ASCII digits and `.js`.

@@ -1,6 +1,8 @@
 -- From what calls answered to the reply that is due, and from the reply to what a run printed.
 use Rattle.std.proofs.Common.{◌≡◌, ◌≢◌, ◌⊎◌, inl, inr, refl, sym, ap, subst, ◌∙◌, ℕ, List, [], ◌++◌, codes, Option, Some, None, Result, Ok, Err, IfSome, IsOkAnd, MatchOption, MatchResult, IfOk, string_bytes, String, Global, Vec}
+use Rattle.std.specs.IoError.{error_kind}
 use Rattle.std.specs.declared.io.Error.{Error as IoError}
+use Rattle.std.specs.declared.io.ErrorKind.TheVariants.{OutOfMemory as NoMemory}
 use Rattle.sourcemap.specs.Answer.{UnlessMemory, Gives, IsAnswer}
 use Rattle.sourcemap.specs.AnyMap.{map_tree}
 use Rattle.sourcemap.specs.Decoder.{AreSame, BytesDecode, Reading, UnlessRead}
@@ -170,7 +172,7 @@ may_be_read known (Err e) h = h
 -- a fault of opening a file is one of a reader
 pub may_not_open : (cause : IoError) (e : Error) → FromIo cause e → UnlessRead e ⊥
 may_not_open cause OutOfMemory h = tt
-may_not_open cause (Io kept) h = tt
+may_not_open cause (Io kept) (same, other) = inr (refl, subst (λ x. error_kind x ≢ NoMemory) (sym same) other)
 may_not_open cause e h = absurd h
 
 -- the map in a file, and what kept its bytes from being there or from being one

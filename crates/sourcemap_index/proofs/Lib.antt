@@ -7,6 +7,7 @@ pub mod FamilyLemmas
 pub mod FlattenLemmas
 pub mod KindLemmas
 pub mod LookupLemmas
+pub mod ReadLemmas
 pub mod RowsLemmas
 pub mod WriteLemmas
 pub mod UrlFaultLemmas

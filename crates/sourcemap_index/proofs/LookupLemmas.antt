@@ -1,5 +1,5 @@
 -- What an index answers is what its closest section answers.
-use Rattle.std.proofs.Common.{◌≡◌, refl, sym, ap, subst, ◌∙◌, ℕ, ◌+◌, ◌<◌, ◌≤◌, arith, zero, suc, List, [], ◌∷◌, map, Option, Some, None, option_map, IfSome, slice_get, IsSortedByKey}
+use Rattle.std.proofs.Common.{◌≡◌, inl, inr, refl, sym, ap, subst, ◌∙◌, ℕ, ◌+◌, ◌<◌, ◌≤◌, arith, zero, suc, List, [], ◌∷◌, map, Option, Some, None, option_map, IfSome, slice_get, IsSortedByKey}
 use Rattle.std.specs.Prelude.{option_and_then}
 use Rattle.std.specs.List.{AllByRecursion}
 use Rattle.std.specs.declared.cmp.Ordering.{Ordering}
@@ -8,13 +8,13 @@ use Rattle.sourcemap_lists.specs.Search.{closest, closest_item}
 use Rattle.sourcemap_lists.specs.Tokens.{position_cmp}
 use Rattle.sourcemap_lists.proofs.SearchLemmas.{closest_item-has, closest_item-change, item-closest}
 use Rattle.sourcemap_records.specs.Jsontypes.{Place}
-use Rattle.sourcemap_regular.specs.Token.{TokenValue, answers, says, token_value}
+use Rattle.sourcemap_regular.specs.Token.{TokenValue, answers, says, token_value, lookup as lookup_regular}
 use Rattle.sourcemap_regular.specs.declared.token.Token.{Token}
-use Rattle.sourcemap_trees.specs.MapTree.{MapTree, leaf, index, MapSections, no_sections, hollow, filled, MapSection, IndexValue, index_tree, offset_of, section_offset, section_with, sections_from, InEachSection}
+use Rattle.sourcemap_trees.specs.MapTree.{MapTree, LeafMap, held, leaf, index, MapSections, no_sections, hollow, filled, MapSection, IndexValue, index_tree, offset_of, section_offset, section_with, sections_from, InEachSection}
 use Rattle.sourcemap_trees.specs.Meaning.{lowered, lookup, lookups, meaning, closest_answer}
 use Rattle.sourcemap_trees.specs.WellFormed.{IsInOrder, AreSectionsInOrder}
 use Rattle.sourcemap_trees.proofs.MapTreeLemmas.{InSection, section_list-from}
-use Rattle.sourcemap_index.specs.Lookup.{IsAmong}
+use Rattle.sourcemap_index.specs.Lookup.{AnyHasToken, HasToken, IsAmong}
 
 -- ---- how far a map goes down
 
@@ -131,3 +131,30 @@ meaning_found t p found is = both found ∙ ap (option_map says) is
     both : (found : Option Token) → option_map answers found ≡ option_map says (option_map token_value found)
     both None = refl
     both (Some token) = refl
+
+-- ---- whose token it is
+
+pub found_in_leaf : (l : LeafMap) (p : ℕ × ℕ) (found : Option Token) → option_map token_value found ≡ lookup_regular (held l) p
+    → IfSome found (λ token. HasToken (leaf l) (token_value token))
+found_in_leaf l p None is = tt
+found_in_leaf l p (Some token) is = (p, sym is)
+
+in_rest : (place : Place) (map : Option MapTree) (rest : MapSections) (token : TokenValue) → AnyHasToken rest token
+    → AnyHasToken (section_with place map rest) token
+in_rest place None rest token has = has
+in_rest place (Some t) rest token has = inr has
+
+in_section : (ss : List MapSection) (k : ℕ) (s : MapSection) (t : MapTree) (token : TokenValue) → slice_get ss k ≡ Some s
+    → s.map ≡ Some t → HasToken t token → AnyHasToken (sections_from ss) token
+in_section [] k s t token at is has = cc
+in_section (s' ∷ ss) zero s t token at is has =
+    let same : s' ≡ s = cc in
+    subst (λ m. AnyHasToken (section_with s'.place m (sections_from ss)) token) (sym (ap (λ (s : MapSection). s.map) same ∙ is)) (inl has)
+in_section (s' ∷ ss) (suc k) s t token at is has =
+    in_rest s'.place s'.map (sections_from ss) token (in_section ss k s t token at is has)
+
+-- a token of a section's map is one of the index
+pub found_in_section : (v : IndexValue) (s : MapSection) (t : MapTree) (found : Option Token) → IsAmong v.sections s → s.map ≡ Some t
+    → IfSome found (λ token. HasToken t (token_value token)) → IfSome found (λ token. HasToken (index_tree v) (token_value token))
+found_in_section v s t None among is has = tt
+found_in_section v s t (Some token) (k, at) is has = in_section v.sections k s t (token_value token) at is has

@@ -3,7 +3,7 @@ use Rattle.std.specs.Prelude.{◌≡◌, ℕ, List, Option, Some, None, IfSome, 
 use Rattle.sourcemap_errors.specs.declared.errors.Error.{Error}
 use Rattle.sourcemap_records.specs.Jsontypes.{Place}
 use Rattle.sourcemap_regular.specs.Map.{MapValue, meaning as meaning_regular}
-use Rattle.sourcemap_regular.specs.Rewrite.{Removal, Rewrites, taken_away, SaysLess}
+use Rattle.sourcemap_regular.specs.Rewrite.{MeansLess, Removal, Rewrites, taken_away, SaysLess}
 use Rattle.sourcemap_trees.specs.Decode.{Then}
 use Rattle.sourcemap_trees.specs.MapTree.{MapTree, MapSection, offset_of}
 use Rattle.sourcemap_trees.specs.Meaning.{meaning}
@@ -47,6 +47,10 @@ RewriteAnswer options t answer = Then (FlatAnswer t) (λ m a. Rewrites options m
 -- token by token the map says what the flat map says, less what is taken away
 abbrev pub SaysFlatLess : Removal → MapTree → MapValue → Type 0
 SaysFlatLess removal t m = (whole : MapValue) × (flat t ≡ Ok whole) × SaysFlat t whole × SaysLess removal whole m
+
+-- at every position the map means what the flat map does, less what is taken away
+abbrev pub MeansFlatLess : Removal → MapTree → MapValue → Type 0
+MeansFlatLess removal t m = (whole : MapValue) × (flat t ≡ Ok whole) × MeansLess removal whole m
 
 -- wherever the index answers, the map answers the same, less what is taken away
 abbrev pub AnswersLess : Removal → MapTree → MapValue → Type 0

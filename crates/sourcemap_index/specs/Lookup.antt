@@ -1,7 +1,19 @@
--- The section that a position is looked up in.
-use Rattle.std.specs.Prelude.{◌≡◌, ℕ, List, Some, slice_get}
-use Rattle.sourcemap_trees.specs.MapTree.{MapSection}
+-- The section that a position is looked up in, and the tokens that a lookup may find.
+use Rattle.std.specs.Prelude.{◌≡◌, ◌⊎◌, ℕ, List, Some, slice_get}
+use Rattle.sourcemap_regular.specs.Token.{TokenValue, lookup as lookup_regular}
+use Rattle.sourcemap_trees.specs.MapTree.{MapTree, leaf, index, held, MapSections, no_sections, hollow, filled, MapSection}
 
 -- the section is one of these
 abbrev pub IsAmong : List MapSection → MapSection → Type 0
 IsAmong ss s = (k : ℕ) × (slice_get ss k ≡ Some s)
+
+-- one of the regular maps in a map finds the token at some position
+abbrev mutual
+  pub HasToken : MapTree → TokenValue → Type 0
+  HasToken (leaf l) token = (p : ℕ × ℕ) × (lookup_regular (held l) p ≡ Some token)
+  HasToken (index parts ss) token = AnyHasToken ss token
+
+  pub AnyHasToken : MapSections → TokenValue → Type 0
+  AnyHasToken no_sections token = ⊥
+  AnyHasToken (hollow place rest) token = AnyHasToken rest token
+  AnyHasToken (filled place t rest) token = HasToken t token ⊎ AnyHasToken rest token

@@ -9,7 +9,7 @@ ghost use Rattle.sourcemap_trees.specs.MapTree.{index_tree, sections_from};
 ghost use Rattle.sourcemap_trees.specs.WellFormed.{HasTokensInOrder, IsWellFormed};
 ghost use Rattle.sourcemap_flattening.specs.Gathering.{Gathers, RefusesFor};
 ghost use Rattle.sourcemap_index.specs.Family.{index_value, map_tree, section_value};
-ghost use Rattle.sourcemap_index.specs.Flatten.{AnswersLess, Gathered, IsSectionInOrder, MadeFlat, RewriteAnswer, SaysFlatLess, map_added, section_added};
+ghost use Rattle.sourcemap_index.specs.Flatten.{AnswersLess, Gathered, IsSectionInOrder, MadeFlat, MeansFlatLess, RewriteAnswer, SaysFlatLess, map_added, section_added};
 
 use crate::family::{DecodedMap, SourceMapIndex, SourceMapSection};
 use sourcemap_errors::errors::Result;
@@ -56,6 +56,10 @@ impl SourceMapIndex {
             (RewriteAnswer options.now (index_tree (index_value self))) result }
         ensures tokens { IfOk result
             (SaysFlatLess (removal_of options.now) (index_tree (index_value self))) }
+        // It means at every position what the flat map does, less what the options take away, also
+        // where sections are out of order.
+        ensures means { IfOk result
+            (MeansFlatLess (removal_of options.now) (index_tree (index_value self))) }
         // It answers wherever the index does, less what the options take away.
         ensures meaning { IfOk result (λ m. IsOrderly (index_tree (index_value self))
             → AnswersLess (removal_of options.now) (index_tree (index_value self)) m) }

@@ -12,7 +12,7 @@ ghost use Rattle.sourcemap_trees.specs.Encode.{RecordAnswer, Restores};
 ghost use Rattle.sourcemap_hermes.specs.Decode.{OnlyHermesDecodes};
 ghost use Rattle.sourcemap_hermes.specs.Map.{HermesValue};
 ghost use Rattle.sourcemap_trees.specs.MapTree.{MapTree, hermes, leaf, regular};
-ghost use Rattle.sourcemap_trees.specs.WellFormed.{IsWellFormed};
+ghost use Rattle.sourcemap_trees.specs.WellFormed.{HasTokensInOrder, IsWellFormed};
 ghost use Rattle.sourcemap_index.specs.Decode.{BytesDecode, UrlDecodes, ValueDecodes};
 ghost use Rattle.sourcemap_index.specs.DecodedMap.{IsShallow, IsTextOf, IsValueOf, levels};
 
@@ -36,6 +36,17 @@ pub fn hermes_maps_are_of_a_kind()
         ↔ BytesDecode bytes (Ok (leaf (hermes h))) }
     ensures urls { (url : List ℕ) (h : HermesValue)
         → UrlStandsFor OnlyHermesDecodes url (Ok h) ↔ UrlDecodes url (Ok (leaf (hermes h))) }
+{}
+
+/// A law: the map that a JSON value, bytes or a data URL stand for is well-formed, and has its tokens
+/// in order, which is what the laws of flat maps ask of it.
+pub fn read_maps_are_well_formed()
+    ensures values { (d : Data) (t : MapTree) → ValueDecodes d (Ok t)
+        → IsWellFormed t × HasTokensInOrder t }
+    ensures bytes { (bytes : List ℕ) (t : MapTree) → BytesDecode bytes (Ok t)
+        → IsWellFormed t × HasTokensInOrder t }
+    ensures urls { (url : List ℕ) (t : MapTree) → UrlDecodes url (Ok t)
+        → IsWellFormed t × HasTokensInOrder t }
 {}
 
 /// A law: a map is written as one text, and no number of its value has a fraction, so that the

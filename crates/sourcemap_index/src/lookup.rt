@@ -26,7 +26,7 @@ fn lowered(offset: (u32, u32), line: u32, col: u32) -> (u32, u32)
 
 impl SourceMapIndex {
     ghost use Rattle.sourcemap_index.specs.Family.{index_value, section_value};
-    ghost use Rattle.sourcemap_index.specs.Lookup.{IsAmong};
+    ghost use Rattle.sourcemap_index.specs.Lookup.{HasToken, IsAmong};
 
     // The section with the closest offset to a position.
     fn closest_section(&self, line: u32, col: u32) -> Option<&SourceMapSection>
@@ -48,8 +48,11 @@ impl SourceMapIndex {
     // The closest token, by the closest section.
     #[cycle(lookup)]
     fn closest_token(&self, line: u32, col: u32) -> Option<Token<'_>>
-        ensures { IsInOrder (index_tree (index_value self.now)) → option_map token_value result
+        ensures value { IsInOrder (index_tree (index_value self.now))
+            → option_map token_value result
             ≡ lookup (index_tree (index_value self.now)) (line, col) }
+        ensures found { IfSome result
+            (λ token. HasToken (index_tree (index_value self.now)) (token_value token)) }
     {
         let section = self.closest_section(line, col)?;
         let (line, col) = lowered(section.offset, line, col);
@@ -63,8 +66,8 @@ impl SourceMapIndex {
     /// offset is closest, at the position less the offset; only on the section's first line does
     /// the column count from its offset. It is the token of the section's own map, with its place
     /// there. There is none where no section stands before the position, or the closest one has no
-    /// map. So it is where sections stand in order of their offsets, at every depth; of an index in
-    /// no order the answer is some token or none.
+    /// map. So it is where sections are in order of their offsets, at every depth; in an index out
+    /// of order the result is some token of one of its maps, or none.
     pub fn lookup_token(&self, line: u32, col: u32) -> Option<Token<'_>>
         ensures value { IsInOrder (index_tree (index_value self.now))
             → option_map token_value result
@@ -72,6 +75,8 @@ impl SourceMapIndex {
         ensures meaning { IsInOrder (index_tree (index_value self.now))
             → option_map answers result
             ≡ meaning (index_tree (index_value self.now)) (line, col) }
+        ensures found { IfSome result
+            (λ token. HasToken (index_tree (index_value self.now)) (token_value token)) }
     {
         self.closest_token(line, col)
     }
@@ -79,12 +84,14 @@ impl SourceMapIndex {
 
 impl DecodedMap {
     ghost use Rattle.sourcemap_index.specs.Family.{map_tree};
+    ghost use Rattle.sourcemap_index.specs.Lookup.{HasToken};
 
     // The closest token. A map alone goes by the table of its lines.
     #[inline(always)]
     fn closest_token(&self, line: u32, col: u32) -> Option<Token<'_>>
-        ensures { IsInOrder (map_tree self.now)
+        ensures value { IsInOrder (map_tree self.now)
             → option_map token_value result ≡ lookup (map_tree self.now) (line, col) }
+        ensures found { IfSome result (λ token. HasToken (map_tree self.now) (token_value token)) }
     {
         match self {
             DecodedMap::Regular(map) => map.lookup_token(line, col),
@@ -96,8 +103,9 @@ impl DecodedMap {
     // The same of a map that is one of many.
     #[cycle(lookup)]
     fn closest_among_many(&self, line: u32, col: u32) -> Option<Token<'_>>
-        ensures { IsInOrder (map_tree self.now)
+        ensures value { IsInOrder (map_tree self.now)
             → option_map token_value result ≡ lookup (map_tree self.now) (line, col) }
+        ensures found { IfSome result (λ token. HasToken (map_tree self.now) (token_value token)) }
     {
         match self {
             DecodedMap::Regular(map) => map.lookup_token_among_many(line, col),
@@ -116,6 +124,7 @@ impl DecodedMap {
             → option_map token_value result ≡ lookup (map_tree self.now) (line, col) }
         ensures meaning { IsInOrder (map_tree self.now)
             → option_map answers result ≡ meaning (map_tree self.now) (line, col) }
+        ensures found { IfSome result (λ token. HasToken (map_tree self.now) (token_value token)) }
     {
         self.closest_token(line, col)
     }

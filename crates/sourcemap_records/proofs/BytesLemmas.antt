@@ -42,12 +42,13 @@ same_fault (Io e) = refl
 same_fault _ = refl
 
 unless_read : (e : Error) (P : Type 0) → UnlessMemory e P → UnlessRead e P
-unless_read (Io _) P h = tt
+unless_read (Io _) P h = inl h
 unless_read OutOfMemory P h = tt
 unless_read _ P h = h
 
 unless_read_any : (e : Error) (P : Type 0) → UnlessRead e ⊥ → UnlessRead e P
-unless_read_any (Io _) P h = tt
+unless_read_any (Io _) P (inl h) = absurd h
+unless_read_any (Io _) P (inr h) = inr h
 unless_read_any OutOfMemory P h = tt
 unless_read_any _ P h = absurd h
 

@@ -10,6 +10,7 @@ use Rattle.sourcemap_errors.specs.declared.errors.Error.{Error}
 use Rattle.sourcemap_errors.specs.declared.errors.Error.TheVariants.{Io, BadJson, InvalidDataUrl}
 use Rattle.sourcemap_errors.specs.declared.errors.JsonFault.TheVariants.{Parse, Shape}
 use Rattle.sourcemap_errors.specs.Answer.{UnlessMemory}
+use Rattle.sourcemap_errors.specs.Errors.{FromIo}
 use Rattle.sourcemap_headers.specs.Header.{behind_header}
 use Rattle.sourcemap_headers.specs.DataUrl.{Holds}
 use Rattle.sourcemap_records.specs.Jsontypes.{Tree, record_of}
@@ -72,9 +73,9 @@ AreSame (Ok m) (Ok n) = m ≡ n
 AreSame (Err e) (Err f) = IsSameFault e f
 AreSame _ _ = ⊥
 
--- a fact that a failed read or want of memory excuses
+-- a fact that a failed read or out of memory excuses; a read that failed for memory is `OutOfMemory`, and no `Io`
 abbrev pub UnlessRead : Error → Type 0 → Type 0
-UnlessRead (Io _) P = Unit {0}
+UnlessRead (Io cause) P = P ⊎ FromIo cause (Io cause)
 UnlessRead e P = UnlessMemory e P
 
 -- what a call that reads returned, seen by `view`, is an answer that `Answers` admits

@@ -6,4 +6,5 @@ pub mod MapLemmas
 pub mod RewriteLemmas
 pub mod RewriteMeaning
 pub mod RewriteTwice
+mod TokenLemmas
 pub mod WriteLemmas

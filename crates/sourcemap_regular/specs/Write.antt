@@ -3,6 +3,7 @@ use Rattle.std.specs.Prelude.{◌≡◌, ◌≤◌, ℕ, List, false, Result, Ok
 use Rattle.serde_json.specs.Data.{depth}
 use Rattle.serde_json.specs.Read.{max_depth}
 use Rattle.serde_json.specs.Written.{compact_text, has_float}
+use Rattle.sourcemap_errors.specs.Errors.{FromIo}
 use Rattle.sourcemap_errors.specs.declared.errors.Error.{Error}
 use Rattle.sourcemap_errors.specs.declared.errors.Error.TheVariants.{Io}
 use Rattle.sourcemap_records.specs.Jsontypes.{Tree, written}
@@ -24,7 +25,7 @@ IsEncoded Encodes text = (t : Tree) × Encodes (Ok t) × IsText t text
 abbrev pub IsCompactTextOf : MapValue → List ℕ → Type 0
 IsCompactTextOf m text = (t : Tree) × IsRecordOf m t × (text ≡ compact_text (written t))
 
--- a fault of a writer
+-- the error of a write; one that failed for memory is `OutOfMemory`, and no `Io`
 abbrev pub IsIo : Error → Type 0
-IsIo (Io _) = Unit {0}
+IsIo (Io cause) = FromIo cause (Io cause)
 IsIo _ = ⊥

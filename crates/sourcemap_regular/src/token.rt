@@ -1,10 +1,12 @@
 //! A token of a map, with the map.
-ghost use Rattle.std.specs.Prelude.{◌≡◌, ℕ, ◌+◌, ◌<◌, ◌^◌, Some, slice_get};
+ghost use Rattle.std.specs.Prelude.{◌≡◌, ℕ, ◌+◌, ◌++◌, ◌<◌, ◌^◌, Some, codes, decimal, slice_get};
 
 use crate::map::SourceMap;
+use itoa::write_digits;
 use sourcemap_lists::tokens::{NO_ID, RawToken};
 use sourcemap_views::sourceview::SourceView;
 use std::fmt;
+use std::str::from_utf8_unchecked;
 
 /// A token of a map, with the map: it answers by texts what the raw token says by ids.
 /// A token that a lookup found also knows how far behind it the position stands that was asked for.
@@ -20,10 +22,11 @@ pub struct Token<'a> {
 
 impl<'a> Token<'a> {
     ghost use Rattle.std.specs.Prelude.{◌≢◌, ◌==◌, not, [], IsTrue, IsSome, ◌↔◌, option_map, is_some, unwrap_or};
+    ghost use Rattle.std.specs.Fmt.{WritesOnOk};
     ghost use Rattle.std.specs.Option.{option_copied};
     ghost use Rattle.sourcemap_lists.specs.Tokens.{no_id};
     ghost use Rattle.sourcemap_regular.specs.Map.{contents_of};
-    ghost use Rattle.sourcemap_regular.specs.Token.{answers, token_value};
+    ghost use Rattle.sourcemap_regular.specs.Token.{answers, token_text, token_value};
 
     /// The map that the token is of.
     pub fn sourcemap(&self) -> &'a SourceMap
@@ -156,6 +159,36 @@ impl<'a> Token<'a> {
     {
         self.raw.is_range
     }
+
+    // Puts the text of the token, but for what the alternate form adds.
+    fn put<W: fmt::Write>(&self, f: &mut fmt::Formatter<W>) -> fmt::Result
+        ensures { WritesOnOk W.write_str_gives f.old result (token_text (answers self.now)) f.new }
+    {
+        let mut buffer = [0; POSITION_LENGTH];
+        let position = position_text(self.get_src_line(), self.get_src_col(), &mut buffer);
+        f.write_str(self.get_source().unwrap_or("<unknown>"))?;
+        f.write_str(position)?;
+        if let Some(name) = self.get_name() {
+            f.write_str(" name=")?;
+            f.write_str(name)?;
+        }
+        Ok(())
+    }
+}
+
+// The longest text of a position: two colons and two numbers of ten digits.
+const POSITION_LENGTH: usize = 22;
+
+// `:line:column`, at the end of a buffer. Written in one piece, since each write to a formatter has
+// a cost of its own.
+fn position_text(line: u32, column: u32, buffer: &mut [u8; POSITION_LENGTH]) -> &str
+    ensures { result.now ≡ codes ":" ++ decimal line ++ codes ":" ++ decimal column }
+{
+    let start = write_digits(u64::from(column), buffer, POSITION_LENGTH) - 1;
+    buffer[start] = b':';
+    let start = write_digits(u64::from(line), buffer, start) - 1;
+    buffer[start] = b':';
+    unsafe { from_utf8_unchecked(&buffer[start..]) }
 }
 
 impl fmt::Display for Token<'_> {
@@ -168,13 +201,7 @@ impl fmt::Display for Token<'_> {
     /// The alternate form adds ` (line:column)` of the generated text, and ` (range)` for a range
     /// token.
     fn fmt<W: fmt::Write>(&self, f: &mut fmt::Formatter<W>) -> fmt::Result {
-        let source = self.get_source().unwrap_or("<unknown>");
-        let line = self.get_src_line();
-        let column = self.get_src_col();
-        write!(f, "{source}:{line}:{column}")?;
-        if let Some(name) = self.get_name() {
-            write!(f, " name={name}")?;
-        }
+        self.put(f)?;
         if f.alternate() {
             write!(f, " ({}:{})", self.raw.dst_line, self.raw.dst_col)?;
             if self.raw.is_range {

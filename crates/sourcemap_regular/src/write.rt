@@ -1,5 +1,5 @@
 //! The compact JSON text of a map: to a writer, and as a data URL.
-ghost use Rattle.std.specs.Prelude.{◌≡◌, ◌⊎◌, ℕ, List, Err, OnOk, IfOk, IfErr, IsOkUnless, string_bytes};
+ghost use Rattle.std.specs.Prelude.{◌≡◌, ◌⊎◌, ℕ, List, Err, OnErr, OnOk, IfOk, IfErr, IsOkUnless, string_bytes};
 ghost use Rattle.std.specs.Io.KnownBytes.{Appends};
 ghost use Rattle.sourcemap_errors.specs.Answer.{UnlessMemory};
 ghost use Rattle.sourcemap_errors.specs.declared.errors.Error.TheVariants.{OutOfMemory};
@@ -30,11 +30,14 @@ pub fn encode_to_vec<M: Encodable>(alloc: Global, map: &M) -> Result<Vec<u8>>
 }
 
 /// Writes the compact JSON text of the record that the map is written as, to a writer that is
-/// used again. The faults are those of making the record, want of memory, and `Io` for a write's,
-/// after which the writer may hold any part of the text.
+/// used again. The text is made first, so after an error of making the record, or where memory runs
+/// out before the text is whole, nothing was written. After a write's error, which is `Io`, or
+/// `OutOfMemory` where it is of that kind, the writer may hold any part of the text.
 pub fn encode_to<M: Encodable, W: Write>(alloc: Global, map: &M, writer: &mut W) -> Result<()>
     ensures written { OnOk result ((text : List ℕ) × IsEncoded (M.encodes map.now) text
         × Appends (W.contents writer.old) (W.contents writer.new) text) }
+    ensures unwritten { OnErr result ((writer.new ≡ writer.old)
+        ⊎ ((text : List ℕ) × IsEncoded (M.encodes map.now) text)) }
     ensures fault { IfErr result (λ e. UnlessMemory e (M.encodes map.now (Err e) ⊎ IsIo e)) }
 {
     let text = encode_to_vec(alloc, map)?;

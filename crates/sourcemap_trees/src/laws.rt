@@ -18,9 +18,11 @@ pub fn records_decode_once()
     ensures { (r : Tree) (a b : Result MapTree Error) → TreeDecodes r a → TreeDecodes r b → a ≡ b }
 {}
 
-/// A law: each map that a record stands for is well-formed at every level.
+/// A law: each map that a record stands for is well-formed at every level, and has its tokens in
+/// order.
 pub fn decoded_maps_are_well_formed()
-    ensures { (r : Tree) (t : MapTree) → TreeDecodes r (Ok t) → IsWellFormed t }
+    ensures well_formed { (r : Tree) (t : MapTree) → TreeDecodes r (Ok t) → IsWellFormed t }
+    ensures tokens { (r : Tree) (t : MapTree) → TreeDecodes r (Ok t) → HasTokensInOrder t }
 {}
 
 /// A law: the sections of a well-formed map are in order at every level.

@@ -6,12 +6,12 @@ use Rattle.sourcemap_trees.specs.Meaning.{lookup, lowered}
 use Rattle.sourcemap_trees.specs.WellFormed.{IsInOrder}
 use Rattle.sourcemap_index.specs.Family.{index_value, map_tree, section_value}
 use Rattle.sourcemap_index.proofs.FamilyLemmas.{section_map, section_at}
-use Rattle.sourcemap_index.proofs.LookupLemmas.{index_answers, indexes_below, answer_of}
+use Rattle.sourcemap_index.proofs.LookupLemmas.{index_answers, indexes_below, answer_of, found_in_leaf, found_in_section}
 use Rattle.sourcemap_index.proofs.family.+lookup.Goals as goal
 
-pub SourceMapIndex::closest_token-returns-in_err-section :
-    goal.SourceMapIndex::closest_token-returns-in_err-section
-SourceMapIndex::closest_token-returns-in_err-section t c =
+pub SourceMapIndex::closest_token-returns-in_err-section-clause-value :
+    goal.SourceMapIndex::closest_token-returns-in_err-section-clause-value
+SourceMapIndex::closest_token-returns-in_err-section-clause-value t c =
     index_answers (index_value c.args.self.now) (c.args.line, c.args.col) None (option_map token_value c.from_residual.result)
     c.in_err-section.ensures.closest (λ _. ap (option_map token_value) c.from_residual.ensures)
 
@@ -24,9 +24,9 @@ SourceMapIndex::closest_token-closest_among_many-requires t c =
     let less = indexes_below (index_value c.args.self.now) (section_value s) (map_tree c.deref.result.now) c.in_ok-section.ensures.own is in
     (omega (arith, less), tt)
 
-pub SourceMapIndex::closest_token-returns-in-Some :
-    goal.SourceMapIndex::closest_token-returns-in-Some
-SourceMapIndex::closest_token-returns-in-Some t c =
+pub SourceMapIndex::closest_token-returns-in-Some-clause-value :
+    goal.SourceMapIndex::closest_token-returns-in-Some-clause-value
+SourceMapIndex::closest_token-returns-in-Some-clause-value t c =
     let s = c.in_ok-section.section.now in
     let p : ℕ × ℕ = (c.args.line, c.args.col) in
     let is : (section_value s).map ≡ Some (map_tree c.deref.result.now) =
@@ -34,13 +34,22 @@ SourceMapIndex::closest_token-returns-in-Some t c =
     index_answers (index_value c.args.self.now) p (Some (section_value s)) (option_map token_value c.closest_among_many.result)
     c.in_ok-section.ensures.closest
     (λ inner.
-    c.closest_among_many.ensures (subst (λ m. IfSome m IsInOrder) is inner)
+    c.closest_among_many.ensures.value (subst (λ m. IfSome m IsInOrder) is inner)
     ∙ ap (lookup (map_tree c.deref.result.now)) (c.lowered-line.ensures ∙ ap (λ o. lowered o p) (sym (section_at s)))
     ∙ ap (λ m. answer_of m (lowered (section_offset (section_value s)) p)) (sym is))
 
-pub SourceMapIndex::closest_token-returns-in-None :
-    goal.SourceMapIndex::closest_token-returns-in-None
-SourceMapIndex::closest_token-returns-in-None t c =
+pub SourceMapIndex::closest_token-returns-in-Some-clause-found :
+    goal.SourceMapIndex::closest_token-returns-in-Some-clause-found
+SourceMapIndex::closest_token-returns-in-Some-clause-found t c =
+    let s = c.in_ok-section.section.now in
+    let is : (section_value s).map ≡ Some (map_tree c.deref.result.now) =
+    section_map s ∙ ap (option_map (λ b. map_tree b.value)) c.in-Some.is ∙ ap (λ m. Some (map_tree m)) (sym c.deref.ensures) in
+    found_in_section (index_value c.args.self.now) (section_value s) (map_tree c.deref.result.now) c.closest_among_many.result
+    c.in_ok-section.ensures.own is c.closest_among_many.ensures.found
+
+pub SourceMapIndex::closest_token-returns-in-None-clause-value :
+    goal.SourceMapIndex::closest_token-returns-in-None-clause-value
+SourceMapIndex::closest_token-returns-in-None-clause-value t c =
     let s = c.in_ok-section.section.now in
     let is : (section_value s).map ≡ None = section_map s ∙ ap (option_map (λ b. map_tree b.value)) c.in-None.is in
     index_answers (index_value c.args.self.now) (c.args.line, c.args.col) (Some (section_value s)) None

@@ -5,6 +5,10 @@ use Rattle.sourcemap_index.specs.Family.{index_value}
 use Rattle.sourcemap_index.proofs.FlattenLemmas.{answers_alike, answers_less, if_ok_then}
 use Rattle.sourcemap_index.proofs.family.SourceMapIndex.flatten_and_rewrite.Goals as goal
 
+pub returns-clause-means : goal.returns-clause-means
+returns-clause-means g c =
+    if_ok_then c.rewrite.result (λ m less. (c.in_ok-flat.flat, c.in_ok-flat.ensures.answer, less)) c.rewrite.ensures.meaning
+
 pub returns-clause-meaning : goal.returns-clause-meaning
 returns-clause-meaning g c =
     let t : MapTree = index_tree (index_value c.args.self) in
