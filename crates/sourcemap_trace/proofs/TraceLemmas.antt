@@ -13,13 +13,13 @@ use Rattle.sourcemap_trace.specs.Trace.{answer_at, answer_to, meaning_text, trac
 use Rattle.sourcemap_trace.proofs.PositionsLemmas.{next_line}
 
 -- the first line is answered, and then the lines that are left
-pub one_more : (says : ℕ × ℕ → Option Meaning) (rest line later old new : List ℕ) → 0 < length rest
-    → line ≡ before_first is_newline rest → later ≡ after_first is_newline rest
-    → new ≡ old ++ (answer_to says line ++ codes "\n") → new ++ trace_of says later ≡ old ++ trace_of says rest
-one_more says rest line later old new some first others pushed =
-    let answers : trace_of says rest ≡ (answer_to says line ++ codes "\n") ++ trace_of says later =
-    rw (next_line rest some, first, others) refl in
-    rw (pushed, answers, append_assoc old (answer_to says line ++ codes "\n") (trace_of says later)) refl
+pub one_more : (says : ℕ × ℕ → Option Meaning) (rest later old new : List ℕ) (position : Option (ℕ × ℕ)) → 0 < length rest
+    → position ≡ position_of (before_first is_newline rest) → later ≡ after_first is_newline rest
+    → new ≡ old ++ (answer_at says position ++ codes "\n") → new ++ trace_of says later ≡ old ++ trace_of says rest
+one_more says rest later old new position some named others pushed =
+    let answers : trace_of says rest ≡ (answer_at says position ++ codes "\n") ++ trace_of says later =
+    rw (next_line rest some, named, others) refl in
+    rw (pushed, answers, append_assoc old (answer_at says position ++ codes "\n") (trace_of says later)) refl
 
 -- maps of one meaning answer alike
 pub alike : (s t : MapTree) (positions : List ℕ) → MeansTheSame s t → trace_of (meaning s) positions ≡ trace_of (meaning t) positions

@@ -1,47 +1,67 @@
 //! The lines of a list of positions, and the position that a line names.
-ghost use Rattle.std.specs.Prelude.{◌≡◌, ◌==◌, ◌<◌, length};
+ghost use Rattle.std.specs.Prelude.{◌≡◌, ◌==◌, ◌<◌, IfSome, length, option_map};
 ghost use Rattle.std.specs.List.{after_first, before_first};
-ghost use Rattle.sourcemap_trace.specs.Positions.{number_of, position_of};
+ghost use Rattle.sourcemap_trace.specs.Positions.{is_newline, number_of, position_of};
 
-// What stands before the first byte that is `mark`, and what stands after it. Without one all bytes
-// stand before it.
-pub(crate) fn cut_at(bytes: &[u8], mark: u8) -> (&[u8], &[u8])
-    ensures before { result.0.now ≡ before_first (λ byte. byte == mark) bytes.now }
-    ensures after { result.1.now ≡ after_first (λ byte. byte == mark) bytes.now }
-    ensures shorter { 0 < length bytes.now → length result.1.now < length bytes.now }
+// The lines after the first.
+fn without_first(lines: &[u8]) -> &[u8]
+    ensures later { result.now ≡ after_first is_newline lines.now }
+    ensures shorter { 0 < length lines.now → length result.now < length lines.now }
 {
-    for (index, byte) in bytes.iter().enumerate() {
-        if *byte == mark {
-            return (&bytes[..index], &bytes[index + 1..]);
+    for (index, byte) in lines.iter().enumerate() {
+        if *byte == b'\n' {
+            return &lines[index + 1..];
         }
     }
-    (bytes, &[])
+    &[]
 }
 
-// The number that a text of digits is. Digits past those of a number of 32 bits are not looked at.
-fn number_in(digits: &[u8]) -> Option<u32>
-    ensures { result ≡ number_of digits.now }
+// The number before the first byte that is `mark`, and what stands after that byte. Without one all
+// bytes stand before it. Digits past those of a number of 32 bits are not looked at.
+fn number_before(bytes: &[u8], mark: u8) -> Option<(u32, &[u8])>
+    ensures number { option_map (λ found. found.0) result
+        ≡ number_of (before_first (λ byte. byte == mark) bytes.now) }
+    ensures after { IfSome result
+        (λ found. found.1.now ≡ after_first (λ byte. byte == mark) bytes.now) }
 {
-    if digits.is_empty() {
-        return None;
-    }
     let mut value: u64 = 0;
-    for byte in digits {
-        if !byte.is_ascii_digit() {
+    let mut index = 0;
+    while index < bytes.len() && bytes[index] != mark {
+        if !bytes[index].is_ascii_digit() {
             return None;
         }
-        value = value * 10 + u64::from(*byte - b'0');
+        value = value * 10 + u64::from(bytes[index] - b'0');
         if value > 4_294_967_295 {
             return None;
         }
+        index += 1;
     }
-    Some(value as u32)
+    if index == 0 {
+        return None;
+    }
+    Some((value as u32, &bytes[(index + 1).min(bytes.len())..]))
 }
 
-// The position that a line names.
-pub(crate) fn position_in(line: &[u8]) -> Option<(u32, u32)>
-    ensures { result ≡ position_of line.now }
+// The position that the first line names, and the lines after it; none if it names none.
+fn first_position(lines: &[u8]) -> Option<((u32, u32), &[u8])>
+    ensures position { option_map (λ found. found.0) result
+        ≡ position_of (before_first is_newline lines.now) }
+    ensures later { IfSome result (λ found. found.1.now ≡ after_first is_newline lines.now) }
+    ensures shorter { IfSome result (λ found. length found.1.now < length lines.now) }
 {
-    let (row, col) = cut_at(line, b':');
-    Some((number_in(row)?, number_in(col)?))
+    let (row, rest) = number_before(lines, b':')?;
+    let (col, later) = number_before(rest, b'\n')?;
+    Some(((row, col), later))
+}
+
+// The position that the first line names, if it names one, and the lines after it.
+pub(crate) fn next_position(lines: &[u8]) -> (Option<(u32, u32)>, &[u8])
+    ensures position { result.0 ≡ position_of (before_first is_newline lines.now) }
+    ensures later { result.1.now ≡ after_first is_newline lines.now }
+    ensures shorter { 0 < length lines.now → length result.1.now < length lines.now }
+{
+    match first_position(lines) {
+        Some((position, later)) => (Some(position), later),
+        None => (None, without_first(lines)),
+    }
 }

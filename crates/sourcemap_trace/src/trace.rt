@@ -11,7 +11,7 @@ ghost use Rattle.sourcemap.specs.Types.{MapValue};
 ghost use Rattle.sourcemap.specs.declared.errors.Error.TheVariants.{OutOfMemory};
 ghost use Rattle.sourcemap_trace.specs.Trace.{answer_at, answer_to, trace_of};
 
-use crate::positions::{cut_at, position_in};
+use crate::positions::next_position;
 use sourcemap::laws::answers_are_determined;
 use sourcemap::{DecodedMap, Result};
 use std::alloc::Global;
@@ -33,20 +33,21 @@ pub fn trace_text(alloc: Global, map: &DecodedMap, positions: &[u8]) -> Result<S
     let mut text = String::new(alloc);
     let mut rest = positions;
     while !rest.is_empty() {
-        let (line, later) = cut_at(rest, b'\n');
-        push_answer(&mut text, map, line)?;
+        let (position, later) = next_position(rest);
+        push_answer(&mut text, map, position)?;
         rest = later;
     }
     Ok(text)
 }
 
-// Puts the answer to a line, and a newline, at the end of a text.
-fn push_answer(text: &mut String, map: &DecodedMap, line: &[u8]) -> Result<()>
+// Puts the answer to a position, or to a line that names none, and a newline at the end of a text.
+fn push_answer(text: &mut String, map: &DecodedMap, position: Option<(u32, u32)>) -> Result<()>
     ensures answer { IsInOrder (map_tree map.now) → OnOk result (string_bytes text.new
-        ≡ string_bytes text.old ++ (answer_to (meaning (map_tree map.now)) line.now ++ codes "\n")) }
+        ≡ string_bytes text.old
+        ++ (answer_at (meaning (map_tree map.now)) position ++ codes "\n")) }
     ensures memory { IsOkUnless result OutOfMemory }
 {
-    match position_in(line) {
+    match position {
         Some((line, col)) => push_token(text, map, line, col),
         None => {
             text.push_str("bad position\n")?;
@@ -55,7 +56,7 @@ fn push_answer(text: &mut String, map: &DecodedMap, line: &[u8]) -> Result<()>
     }
 }
 
-// The same of a position.
+// The same of a position alone.
 fn push_token(text: &mut String, map: &DecodedMap, line: u32, col: u32) -> Result<()>
     ensures answer { IsInOrder (map_tree map.now) → OnOk result (string_bytes text.new
         ≡ string_bytes text.old
@@ -63,7 +64,10 @@ fn push_token(text: &mut String, map: &DecodedMap, line: u32, col: u32) -> Resul
     ensures memory { IsOkUnless result OutOfMemory }
 {
     match map.lookup_token(line, col) {
-        Some(token) => write!(text, "{token}\n")?,
+        Some(token) => {
+            text.write(token)?;
+            text.push_str("\n")?;
+        }
         None => text.push_str("none\n")?,
     }
     Ok(())

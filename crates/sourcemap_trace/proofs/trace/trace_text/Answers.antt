@@ -8,6 +8,7 @@ use Rattle.sourcemap_trace.proofs.trace.trace_text.Goals as goal
 pub loop-rest-preserved : goal.loop-rest-preserved
 loop-rest-preserved c = λ ordered.
     let some : 0 < length c.loop-rest.rest.now = search rules in
-    one_more (meaning (map_tree c.args.map.now)) c.loop-rest.rest.now c.cut_at.result.0.now c.cut_at.result.1.now
-    (string_bytes c.loop-rest.text) (string_bytes c.push_answer.new.text) some c.cut_at.ensures.before c.cut_at.ensures.after
+    one_more (meaning (map_tree c.args.map.now)) c.loop-rest.rest.now c.next_position-position.result.1.now
+    (string_bytes c.loop-rest.text) (string_bytes c.push_answer.new.text) c.next_position-position.result.0 some
+    c.next_position-position.ensures.position c.next_position-position.ensures.later
     (c.in_ok-push_answer.ensures.answer ordered) ∙ c.loop-rest.invariant ordered
