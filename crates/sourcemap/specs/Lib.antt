@@ -81,3 +81,6 @@ pub use Rattle.sourcemap_bundles.specs.Folder as BundleFolder
 pub use Rattle.sourcemap_bundles.specs.Iterators as BundleIterators
 pub use Rattle.sourcemap_bundles.specs.Modules as BundleModules
 pub use Rattle.sourcemap_bundles.specs.Stored as BundlesStored
+pub use Rattle.sourcemap_splitting.specs.Iterators as SplitIterators
+pub use Rattle.sourcemap_splitting.specs.ModuleMap
+pub use Rattle.sourcemap_splitting.specs.Split

@@ -1,4 +1,4 @@
-//! RAM bundles: the numbers at their head, and their modules.
+//! RAM bundles: the numbers at their head, their modules, and maps of these.
 
 pub use sourcemap_bundle_bytes::bundle::{
     ModuleEntry, RAM_BUNDLE_MAGIC, RamBundleHeader, byte_range,
@@ -7,3 +7,4 @@ pub use sourcemap_bundles::ram_bundle::{
     RamBundle, RamBundleModule, RamBundleModuleIter, RamBundleType, is_ram_bundle_slice,
     is_unbundle_path,
 };
+pub use sourcemap_splitting::split::{SplitRamBundleModuleIter, split_ram_bundle};

@@ -1,3 +1,10 @@
 pub mod ClosestLemmas
-pub mod NumberLemmas
+pub mod LinesLemmas
+pub mod LoweredLemmas
+pub mod MapsLemmas
 pub mod MeaningLemmas
+pub mod MovedLemmas
+pub mod NumberLemmas
+pub mod SplitLemmas
+pub mod TableLemmas
+pub mod TextsLemmas

@@ -17,24 +17,8 @@ use Rattle.sourcemap_regular.specs.Map.{MapValue, Meaning, column_behind, meanin
 use Rattle.sourcemap_regular.proofs.MapLemmas.{of_item, meaning-item}
 use Rattle.sourcemap_splitting.specs.ModuleMap.{is_in, lowered_to, module_map, moved_by, names_in, number_of, sources_in, texts_at, tokens_in, used_ids}
 use Rattle.sourcemap_splitting.proofs.ClosestLemmas.{closest-among, closest-filter, closest-map, KeepsOrder}
+use Rattle.sourcemap_splitting.proofs.LoweredLemmas.{cmp-lowered, in-later, same-lowered}
 use Rattle.sourcemap_splitting.proofs.NumberLemmas.{text_by_number}
-
--- what stands on these lines stands on the first of them or later
-in-later : (line : ℕ) (end p : ℕ × ℕ) → is_in line end p ≡ true → line ≤ p.0
-in-later line end p inside = by_cases (nat_lt p.0 line) refl
-  where
-    by_cases : (b : Bool) → nat_lt p.0 line ≡ b → line ≤ p.0
-    by_cases true b = let no : false ≡ true = (rw b at inside) in cc
-    by_cases false b = grind (arith, nat_tests, b)
-
-less-lowered : (a b line : ℕ) → line ≤ a → line ≤ b → nat_lt (a - line) (b - line) ≡ nat_lt a b
-less-lowered a b line la lb = grind (arith, nat_tests)
-
-same-lowered : (a b line : ℕ) → line ≤ a → line ≤ b → nat_eq (a - line) (b - line) ≡ nat_eq a b
-same-lowered a b line la lb = grind (arith, nat_tests)
-
-cmp-lowered : (a b line : ℕ) → line ≤ a → line ≤ b → nat_cmp (a - line) (b - line) ≡ nat_cmp a b
-cmp-lowered a b line la lb = rw (less-lowered a b line la lb, same-lowered a b line la lb) refl
 
 orders : (line : ℕ) (end p : ℕ × ℕ) (sources names : List ℕ) (tokens : List RawToken) → line ≤ p.0
     → AllByRecursion (KeepsOrder (moved_by line sources names) destination destination position_cmp p (lowered_to line p)) (tokens_in line end tokens)

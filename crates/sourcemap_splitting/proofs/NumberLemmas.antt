@@ -9,6 +9,7 @@ use Rattle.std.proofs.lemmas.Map.Steps.{length-le_from_distinct_below}
 use Rattle.std.proofs.lemmas.Option.{slice_get-map, slice_get_past, slice_get_cases}
 use Rattle.sourcemap_lists.specs.Tokens.{no_id}
 use Rattle.sourcemap_splitting.specs.ModuleMap.{number_of, with_id, used_ids, texts_at}
+use Rattle.sourcemap_splitting.specs.Ids.{AreBelow}
 
 pub number_of-get : (ids : List ℕ) (id n : ℕ) → number_of ids id ≡ Some n → slice_get ids n ≡ Some id
 number_of-get [] id n found = cc
@@ -27,7 +28,7 @@ number_of-get (k ∷ ids) id n found = by_cases (k == id) (number_of ids id) ref
         let next : suc m ≡ n = (let e : m + 1 ≡ n = cc in omega arith) in
         subst (λ m. slice_get (k ∷ ids) m ≡ Some id) next (rest m is)
 
-number_of-append : (ids : List ℕ) (k id : ℕ)
+pub number_of-append : (ids : List ℕ) (k id : ℕ)
     → number_of (ids ++ k ∷ []) id ≡ option_or (number_of ids id) (cond (k == id) (Some (length ids)) None)
 number_of-append [] k id = refl
 number_of-append (x ∷ ids) k id = by_cases (x == id) (number_of ids id) (k == id) refl refl refl (number_of-append ids k id)
@@ -68,7 +69,7 @@ number_of-met count ids id below = by_cases (number_of ids id) refl
     by_cases (Some n) found = (n, number_of-stays count ids id id n found)
     by_cases None found = (length ids, (rw (here, found, number_of-append ids id id, found, itself) refl))
 
-met-fold : (count : ℕ) (more ids : List ℕ) (k id : ℕ) → slice_get more k ≡ Some id → id < count
+pub met-fold : (count : ℕ) (more ids : List ℕ) (k id : ℕ) → slice_get more k ≡ Some id → id < count
     → (n : ℕ) × (number_of (fold (with_id count) ids more) id ≡ Some n)
 met-fold count [] ids k id at below = cc
 met-fold count (x ∷ more) ids zero id at below =
@@ -78,9 +79,6 @@ met-fold count (x ∷ more) ids zero id at below =
 met-fold count (x ∷ more) ids (suc k) id at below = met-fold count more (with_id count ids x) k id at below
 
 -- Each used id is below the count, and none stands twice.
-
-abbrev AreBelow : ℕ → List ℕ → Type 0
-AreBelow count ids = (q : ℕ) → list_any (nat_eq q) ids ≡ true → q < count
 
 list_any-append : (q : ℕ) (ids : List ℕ) (k : ℕ) → list_any (nat_eq q) (ids ++ k ∷ []) ≡ true → (list_any (nat_eq q) ids ≡ true) ⊎ (q ≡ k)
 list_any-append q [] k any = inr (grind (arith, nat_tests, any))
@@ -130,7 +128,7 @@ distinct-with count ids k distinct = by_cases (nat_lt k count) (number_of ids k)
     by_cases true (Some n) b is = rw (b, is) distinct
     by_cases false o b is = rw b distinct
 
-below-fold : (count : ℕ) (more ids : List ℕ) → AreBelow count ids → AreBelow count (fold (with_id count) ids more)
+pub below-fold : (count : ℕ) (more ids : List ℕ) → AreBelow count ids → AreBelow count (fold (with_id count) ids more)
 below-fold count [] ids below = below
 below-fold count (k ∷ more) ids below = below-fold count more (with_id count ids k) (below-with count ids k below)
 
@@ -138,18 +136,18 @@ distinct-fold : (count : ℕ) (more ids : List ℕ) → IsDistinct nat_eq ids �
 distinct-fold count [] ids distinct = distinct
 distinct-fold count (k ∷ more) ids distinct = distinct-fold count more (with_id count ids k) (distinct-with count ids k distinct)
 
-nothing_distinct : IsDistinct nat_eq []
+pub nothing_distinct : IsDistinct nat_eq []
 unfolding IsDistinct
 nothing_distinct = tt
 
-nothing_below : (count : ℕ) → AreBelow count []
+pub nothing_below : (count : ℕ) → AreBelow count []
 nothing_below count q any = cc
 
 pub few_used : (count : ℕ) (ids : List ℕ) → length (used_ids count ids) ≤ count
 few_used count ids =
     length-le_from_distinct_below (used_ids count ids) count (distinct-fold count ids [] nothing_distinct) (below-fold count ids [] (nothing_below count))
 
-any-number : (ids : List ℕ) (id n : ℕ) → number_of ids id ≡ Some n → list_any (nat_eq id) ids ≡ true
+pub any-number : (ids : List ℕ) (id n : ℕ) → number_of ids id ≡ Some n → list_any (nat_eq id) ids ≡ true
 any-number [] id n found = cc
 any-number (x ∷ ids) id n found = by_cases (x == id) (number_of ids id) refl refl (any-number ids id)
   where

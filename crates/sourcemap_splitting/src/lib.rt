@@ -1,5 +1,9 @@
-//! What the map of a module of a RAM bundle is, and that it means what the flat map does. The call
-//! that splits a bundle is still to come.
+//! Bundles split: the text of each module, and a map of it that says what the flat map of the whole
+//! bundle says on the lines of the module.
 #![tactic(auto)]
 
+mod id_numbers;
 pub mod laws;
+mod lines;
+mod module_maps;
+pub mod split;

@@ -6,3 +6,4 @@ pub mod LinkingLemmas
 pub mod MergingLemmas
 pub mod RefusalLemmas
 pub mod RewritingLemmas
+pub mod SplittingLemmas

@@ -10,3 +10,4 @@ pub mod Merging
 pub mod Naming
 pub mod Places
 pub mod Publishing
+pub mod Splitting

@@ -17,3 +17,4 @@ pub mod publishing;
 pub mod quick;
 pub mod saving;
 pub mod shrinking;
+pub mod splitting;

@@ -1,0 +1,28 @@
+//! The words that ask for rounds.
+ghost use Rattle.std.specs.Prelude.{◌≡◌, IfSome, codes, map, string_bytes};
+ghost use Rattle.sourcemap_bench_bundles.specs.Command.{AskFor};
+
+// Whether a word asks for a bundle to be split.
+fn split_word(word: &str) -> Option<()>
+    ensures { IfSome result (λ found. word.now ≡ codes "split") }
+{
+    match word {
+        "split" => Some(()),
+        _ => None,
+    }
+}
+
+/// How often the words ask for the bundle to be split, a decimal number below 2^32; none for other
+/// words.
+pub fn parse_words(words: &[String]) -> Option<u32>
+    ensures { IfSome result (λ rounds. AskFor (map string_bytes words.now)) }
+{
+    match words {
+        [word, rounds] => {
+            split_word(word.as_str())?;
+            let rounds = rounds.as_str().parse().ok()?;
+            Some(rounds)
+        }
+        _ => None,
+    }
+}

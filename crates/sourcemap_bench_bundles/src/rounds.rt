@@ -1,0 +1,68 @@
+//! Rounds in which a bundle is split, and the checksums that they come to.
+ghost use Rattle.std.specs.Prelude.{◌≡◌};
+ghost use Rattle.sourcemap_splitting.specs.Split.{parts_value};
+ghost use Rattle.sourcemap_bench_bundles.specs.Sums.{mixed, with_module};
+
+use sourcemap::ram_bundle::{RamBundle, SplitRamBundleModuleIter, split_ram_bundle};
+use sourcemap::{Result, SourceMap, SourceMapIndex, SourceView};
+use std::alloc::Global;
+
+// A sum with one more number.
+fn mixed(sum: u32, number: u32) -> u32
+    ensures { result ≡ mixed sum number }
+{
+    ((31 * u64::from(sum) + u64::from(number)) % (1 << 32)) as u32
+}
+
+// A sum with the length of a module's text in bytes, and the count of the sources of its map.
+fn with_module(sum: u32, parts: &(String, SourceView, SourceMap)) -> u32
+    ensures { result ≡ with_module sum (parts_value parts.now) }
+{
+    let (_, view, map) = parts;
+    let length = u32::try_from(view.source().len()).unwrap_or(u32::MAX);
+    mixed(mixed(sum, length), map.get_source_count())
+}
+
+// The sum after all of these modules, if none is refused.
+fn with_modules(modules: SplitRamBundleModuleIter<'_>, start: u32) -> Result<u32> {
+    let mut sum = start;
+    for item in modules {
+        let parts = item?;
+        sum = with_module(sum, &parts);
+    }
+    Ok(sum)
+}
+
+// The sum after a bundle was split once.
+fn split_sum(
+    alloc: Global,
+    bundle: &RamBundle<'_>,
+    index: &SourceMapIndex,
+    start: u32,
+) -> Result<u32> {
+    let modules = split_ram_bundle(alloc, bundle, index)?;
+    with_modules(modules, start)
+}
+
+// The sum after so many rounds.
+fn split_rounds(
+    alloc: Global,
+    bundle: &RamBundle<'_>,
+    index: &SourceMapIndex,
+    rounds: u32,
+) -> Result<u32> {
+    let mut sum = 0;
+    for _ in 0..rounds {
+        sum = split_sum(alloc, bundle, index, sum)?;
+    }
+    Ok(sum)
+}
+
+/// Returns the checksum of so many rounds over the index map on the first line, and the bundle after
+/// it.
+pub fn checksum(alloc: Global, rounds: u32, bytes: &[u8]) -> Result<u32> {
+    let mut parts = bytes.splitn(2, |byte| *byte == b'\n');
+    let index = SourceMapIndex::from_slice(alloc, parts.next().unwrap_or_default())?;
+    let bundle = RamBundle::parse_indexed_from_slice(parts.next().unwrap_or_default())?;
+    split_rounds(alloc, &bundle, &index, rounds)
+}

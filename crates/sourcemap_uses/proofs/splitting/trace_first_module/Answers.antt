@@ -1,0 +1,35 @@
+-- The first module is given with a map that says on its lines what the flat map says.
+use Rattle.std.proofs.Common.{◌≡◌, ◌∙◌, ◌+◌, ◌-◌, sym, ap, subst, Ok, IfOk, string_bytes, arith}
+use Rattle.sourcemap.specs.Answer.{Gives}
+use Rattle.sourcemap.specs.AnyMap.{index_value}
+use Rattle.sourcemap.specs.BundleModules.{modules_of}
+use Rattle.sourcemap.specs.Split.{HasFewTexts, ModuleParts, file_name, parts_at, parts_on, parts_value}
+use Rattle.sourcemap.specs.SplitIterators.{split_value}
+use Rattle.sourcemap.specs.Types.{meaning}
+use Rattle.sourcemap_uses.specs.Splitting.{printed}
+use Rattle.sourcemap_uses.proofs.SplittingLemmas.{first_due, given_map}
+use Rattle.sourcemap_uses.proofs.splitting.trace_first_module.Goals as goal
+
+pub returns-in-None : goal.returns-in-None
+returns-in-None c = λ flat found first is_first on_lines.
+    let due = first_due (index_value c.args.map.now) (modules_of c.args.bundle.now) (split_value c.in_ok-modules.modules) flat found first is_first c.in_ok-modules.ensures.answer in
+    let none = sym c.in-None.ensures.steps.0 ∙ due.1.1 in
+    cc
+
+pub returns : goal.returns
+returns c = λ flat found first is_first on_lines.
+    let line = c.args.line in
+    let col = c.args.col in
+    let due = first_due (index_value c.args.map.now) (modules_of c.args.bundle.now) (split_value c.in_ok-modules.modules) flat found first is_first c.in_ok-modules.ensures.answer in
+    let steps = c.in-Some-Ok.ensures.steps in
+    let parts : ModuleParts = parts_value (c.in-Some-Ok.field-0-0-0, c.in-Some-Ok.field-0-0-1, c.in-Some-Ok.map) in
+    let gives : steps.0 ≡ Ok parts = subst (λ r. Gives parts_value r steps.0) c.in-Some-Ok.field-0-is steps.2 in
+    let same_due : parts_at flat first found ≡ steps.0 = (let both = sym due.1.1 ∙ steps.1 in cc) in
+    let map_is : (parts_on flat first found).map ≡ c.in-Some-Ok.map = given_map flat first found parts (same_due ∙ gives) in
+    let few = subst HasFewTexts due.0 c.in_ok-modules.ensures.few in
+    let law = c.module_means_what_flat_means.ensures flat (file_name found.id) found.text first (first + line, col) on_lines.token few.sources few.names
+    on_lines.inside on_lines.closest on_lines.within in
+    let back : first + line - first ≡ line = omega arith in
+    let said : meaning c.in-Some-Ok.map (line, col) ≡ meaning flat (first + line, col) =
+    ap (λ m. meaning m (line, col)) (sym map_is) ∙ ap (λ l. meaning (parts_on flat first found).map (l, col)) (sym back) ∙ law in
+    subst (λ says. IfOk c.text_at.result (λ text. string_bytes text ≡ printed says)) said c.text_at.ensures

@@ -1,0 +1,49 @@
+//! Positions in the modules of a RAM bundle.
+ghost use Rattle.std.specs.Prelude.{◌≡◌, ℕ, ◌+◌, IfOk, string_bytes};
+ghost use Rattle.sourcemap.specs.AnyMap.{index_value};
+ghost use Rattle.sourcemap.specs.BundleModules.{ModuleValue, modules_of};
+ghost use Rattle.sourcemap.specs.Types.{MapValue, meaning};
+ghost use Rattle.sourcemap_uses.specs.Splitting.{IsFirstModule, IsOnItsLines, printed};
+
+use sourcemap::laws::module_means_what_flat_means;
+use sourcemap::ram_bundle::{RamBundle, split_ram_bundle};
+use sourcemap::{Result, SourceMap, SourceMapIndex};
+use std::alloc::Global;
+
+/// Returns what the map of the first module of a bundle says of a position of its text, as a token
+/// prints it, and an empty text where it says nothing or there is no module. Returns the errors of
+/// `split_ram_bundle`, then that of the module.
+///
+/// Where the token closest to the position in the flat map is one of the module's lines, it is what
+/// the flat map of the whole bundle says of the position there.
+pub fn trace_first_module<'a>(
+    alloc: Global,
+    bundle: &'a RamBundle<'a>,
+    map: &SourceMapIndex,
+    line: u32,
+    col: u32,
+) -> Result<String>
+    ensures { (flat : MapValue) (found : ModuleValue) (first : ℕ)
+        → IsFirstModule (index_value map.now) (modules_of bundle.now) flat found first
+        → IsOnItsLines flat found first (first + line, col)
+        → IfOk result (λ text. string_bytes text ≡ printed (meaning flat (first + line, col))) }
+{
+    module_means_what_flat_means();
+    let mut modules = split_ram_bundle(alloc, bundle, map)?;
+    match modules.next() {
+        None => Ok(String::new(alloc)),
+        Some(Err(error)) => Err(error),
+        Some(Ok((_, _, map))) => text_at(alloc, &map, line, col),
+    }
+}
+
+// What a map says of a position, as a token prints it.
+fn text_at(alloc: Global, map: &SourceMap, line: u32, col: u32) -> Result<String>
+    ensures { IfOk result (λ text. string_bytes text ≡ printed (meaning map.now (line, col))) }
+{
+    let mut text = String::new(alloc);
+    if let Some(token) = map.lookup_token(line, col) {
+        write!(text, "{token}")?;
+    }
+    Ok(text)
+}
