@@ -5,13 +5,15 @@ use sourcemap_bundles::ram_bundle::{RamBundle, is_unbundle_path};
 use sourcemap_errors::errors::Result;
 use std::alloc::Global;
 use std::fs;
+use std::os::unix::fs::symlink;
 use std::rt::Files;
 
 static MAGIC: [u8; 5] = [0xe5, 0xd1, 0x0b, 0xfb, 0];
 
-// What a row is about, names in `js-modules`, where a slash at the end is a folder's and a file
-// holds its own name, whether that is a bundle, and all that the bundle answers.
-static FOLDERS: [(&str, &[&str], &str); 16] = [
+// What a row is about, names in `js-modules`, where a slash at the end is a folder's, an at sign a
+// link's to the startup code, and a file holds its own name; whether that is a bundle, and all that
+// the bundle answers.
+static FOLDERS: [(&str, &[&str], &str); 17] = [
     (
         "two modules",
         &["UNBUNDLE", "0.js", "2.js"],
@@ -43,6 +45,11 @@ static FOLDERS: [(&str, &[&str], &str); 16] = [
     (
         "a folder with a module's name",
         &["UNBUNDLE", "3.js/", "1.js"],
+        "true Unbundle 2 [main] 1=1.js",
+    ),
+    (
+        "a link",
+        &["UNBUNDLE", "3.js@", "1.js"],
         "true Unbundle 2 [main] 1=1.js",
     ),
     (
@@ -89,6 +96,8 @@ fn make_one<F: Files>(rt: &F, alloc: Global, name: &str) -> Result<()> {
         fs::write(rt, path, MAGIC.as_slice())?;
     } else if name == "UNBUNDLE-" {
         fs::write(rt, "bundle_made/js-modules/UNBUNDLE", &MAGIC[..3])?;
+    } else if let Some(link) = path.strip_suffix('@') {
+        symlink(rt, "../main.js", link)?;
     } else if name.ends_with('/') {
         fs::create_dir(rt, path)?;
     } else {
@@ -119,6 +128,19 @@ fn made_and_asked<F: Files>(rt: &F, alloc: Global, names: &[&str]) -> Result<Str
     let answer = asked(rt, alloc, "bundle_made/main.js")?;
     fs::remove_dir_all(&(rt, alloc), "bundle_made")?;
     Ok(answer)
+}
+
+// Where `js-modules` is missing, where it is a file, and where the startup code is a folder.
+fn asked_without_folder<F: Files>(rt: &F, alloc: Global) -> Result<String> {
+    let _ = fs::remove_dir_all(&(rt, alloc), "bundle_alone");
+    fs::create_dir(rt, "bundle_alone")?;
+    fs::write(rt, "bundle_alone/main.js", "main")?;
+    let missing = asked(rt, alloc, "bundle_alone/main.js")?;
+    fs::write(rt, "bundle_alone/js-modules", "")?;
+    let file = asked(rt, alloc, "bundle_alone/main.js")?;
+    let folder = asked(rt, alloc, "bundle_alone")?;
+    fs::remove_dir_all(&(rt, alloc), "bundle_alone")?;
+    Ok(format!(in alloc; "{missing}, {file}, {folder}")?)
 }
 
 fn indexed_file<F: Files>(rt: &F, alloc: Global, path: &str) -> Result<String> {
@@ -161,6 +183,12 @@ fn paths(rt: HostRuntime) {
         "a missing file",
         indexed_file(&rt, alloc, missing),
         "io",
+    );
+    check(
+        &rt,
+        "no folder of modules",
+        asked_without_folder(&rt, alloc),
+        "false not a ram bundle, false not a ram bundle, false not a ram bundle",
     );
     check(&rt, "a file", written_and_asked(&rt, alloc), "Indexed 0 []");
 }

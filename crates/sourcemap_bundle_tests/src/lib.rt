@@ -6,6 +6,8 @@ mod answers;
 #[cfg(test)]
 mod checks;
 #[cfg(test)]
+mod failing;
+#[cfg(test)]
 mod folders;
 #[cfg(test)]
 mod indexed;

@@ -1,5 +1,5 @@
 //! Composition of two lists of tokens.
-use crate::checks::check;
+use crate::checks::{again, check, error_text};
 use crate::mappings::{BARE, Row, token, tokens_told};
 use sourcemap_composition::composition::compose;
 use sourcemap_core::errors::Result;
@@ -179,14 +179,14 @@ fn tokens_of(alloc: Global, ways: &[Way], source: u32, name: u32) -> Result<Vec<
 fn told(alloc: Global, original: &[RawToken], adjustment: &[RawToken]) -> Result<String> {
     match compose(alloc, original, adjustment) {
         Ok(tokens) => tokens_told(alloc, tokens.as_slice()),
-        Err(fault) => Ok(format!(in alloc; "{fault}")?),
+        Err(error) => error_text(alloc, &error),
     }
 }
 
 fn composed(alloc: Global, originals: &[Way], adjustments: &[Way]) -> Result<String> {
     let originals = tokens_of(alloc, originals, 3, 4)?;
     let adjustments = tokens_of(alloc, adjustments, 9, 8)?;
-    told(alloc, originals.as_slice(), adjustments.as_slice())
+    again(|| told(alloc, originals.as_slice(), adjustments.as_slice()))
 }
 
 #[test]

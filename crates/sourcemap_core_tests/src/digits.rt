@@ -1,5 +1,5 @@
 //! Segments of numbers and texts of bits.
-use crate::checks::check;
+use crate::checks::{again, check, error_text};
 use sourcemap_core::bits::{decode_rmi, encode_rmi, push_bits};
 use sourcemap_core::errors::Result;
 use sourcemap_core::vlq::{generate_vlq_segment, parse_vlq_segment};
@@ -48,14 +48,14 @@ static READ: [(&str, &str, &str); 12] = [
 fn read(alloc: Global, segment: &str) -> Result<String> {
     match parse_vlq_segment(alloc, segment) {
         Ok(numbers) => Ok(format!(in alloc; "{numbers:?}")?),
-        Err(fault) => Ok(format!(in alloc; "{fault}")?),
+        Err(error) => error_text(alloc, &error),
     }
 }
 
 #[test]
 fn reads_segments(rt: HostRuntime) {
     for (about, segment, want) in READ.iter() {
-        check(&rt, about, read(rt.alloc(), segment), want);
+        check(&rt, about, again(|| read(rt.alloc(), segment)), want);
     }
 }
 
@@ -79,14 +79,14 @@ static WRITTEN: [(&str, &[i64], &str); 5] = [
 fn written(alloc: Global, numbers: &[i64]) -> Result<String> {
     match generate_vlq_segment(alloc, numbers) {
         Ok(text) => Ok(text),
-        Err(fault) => Ok(format!(in alloc; "{fault}")?),
+        Err(error) => error_text(alloc, &error),
     }
 }
 
 #[test]
 fn writes_segments(rt: HostRuntime) {
     for (about, numbers, want) in WRITTEN.iter() {
-        check(&rt, about, written(rt.alloc(), numbers), want);
+        check(&rt, about, again(|| written(rt.alloc(), numbers)), want);
     }
 }
 
@@ -166,7 +166,7 @@ fn places(alloc: Global, bits: &[bool]) -> Result<String> {
 fn bits_read(alloc: Global, text: &str) -> Result<String> {
     match decode_rmi(alloc, text) {
         Ok(bits) => places(alloc, bits.as_slice()),
-        Err(fault) => Ok(format!(in alloc; "{fault}")?),
+        Err(error) => error_text(alloc, &error),
     }
 }
 

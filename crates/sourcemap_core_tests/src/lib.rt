@@ -17,4 +17,6 @@ mod mappings;
 #[cfg(test)]
 mod places;
 #[cfg(test)]
+mod text_index;
+#[cfg(test)]
 mod texts;

@@ -1,5 +1,5 @@
 //! Lookups by a table of lines: which token, and by how many comparisons.
-use crate::checks::check;
+use crate::checks::{again, check};
 use sourcemap_core::errors::Result;
 use sourcemap_core::line_index::LineIndex;
 use sourcemap_core::probe::{KeyProbe, Probe};
@@ -102,7 +102,7 @@ static BETWEEN_LINES: [(&str, (u32, u32), &str); 9] = [
 
 fn between_lines(alloc: Global, place: (u32, u32)) -> Result<String> {
     let list = tokens_on_lines(alloc)?;
-    found(alloc, &list, place, 1, 8)
+    again(|| found(alloc, &list, place, 1, 8))
 }
 
 #[test]

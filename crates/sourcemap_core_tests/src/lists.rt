@@ -85,8 +85,9 @@ fn orders(alloc: Global) -> Result<(bool, bool)> {
 }
 
 #[test]
-fn tells_whether_tokens_are_in_order(rt: HostRuntime) {
-    assert!(rt; matches!(orders(rt.alloc()), Ok((false, true))));
+fn tells_whether_tokens_are_in_order(rt: HostRuntime) -> Result<()> {
+    assert!(rt; orders(rt.alloc())? == (false, true));
+    Ok(())
 }
 
 // Whether a list equals its copy, and that copy without its last token.
@@ -197,4 +198,39 @@ fn equal_texts_have_one_number(rt: HostRuntime) {
         r#"4 (Some("b"), Some(""), None, None)"#,
     );
     check(&rt, "all texts", kept(alloc), r#"["b", "a", "", "B"]"#);
+}
+
+// Made to share one digest, and so to be told apart by their bytes alone.
+static COLLIDING: [&str; 4] = [
+    "d2Vd/J8r/!qq!p9iuh1fYfw2a&.#!M};",
+    "d2Vd/J8r/!qq!p9ifPNtsXs0*y~xFn!I",
+    "DcMDnNyL|iF!}1[#uh1fYfw2a&.#!M};",
+    "DcMDnNyL|iF!}1[#fPNtsXs0*y~xFn!I",
+];
+
+fn push_colliding(ids: &mut String, interner: &mut Interner) -> Result<()> {
+    for text in COLLIDING.iter() {
+        let id = interner.add(text)?;
+        write!(ids, "{id} ")?;
+    }
+    Ok(())
+}
+
+fn colliding_ids(alloc: Global) -> Result<String> {
+    let mut ids = String::new(alloc);
+    let mut interner = Interner::new(alloc);
+    interner.add("first")?;
+    push_colliding(&mut ids, &mut interner)?;
+    push_colliding(&mut ids, &mut interner)?;
+    Ok(ids)
+}
+
+#[test]
+fn colliding_texts_have_ids_of_their_own(rt: HostRuntime) {
+    check(
+        &rt,
+        "colliding",
+        colliding_ids(rt.alloc()),
+        "1 2 3 4 1 2 3 4 ",
+    );
 }

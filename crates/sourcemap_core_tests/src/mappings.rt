@@ -1,5 +1,5 @@
 //! The text of mappings, read and written.
-use crate::checks::check;
+use crate::checks::{check, error_text};
 use sourcemap_core::errors::{Error, Result};
 use sourcemap_core::mappings::{
     parse_mappings, tokens_in_order, write_mappings, write_range_mappings,
@@ -146,7 +146,7 @@ fn read(alloc: Global, texts: Texts) -> Result<String> {
     let (mappings, ranges, counts) = texts;
     match parse_mappings(alloc, mappings, ranges, counts.0, counts.1) {
         Ok(tokens) => tokens_told(alloc, tokens.as_slice()),
-        Err(fault) => Ok(format!(in alloc; "{fault}")?),
+        Err(error) => error_text(alloc, &error),
     }
 }
 

@@ -1,13 +1,13 @@
 //! Paths of files: as URLs and back, and from one file to another.
 use crate::checks::check;
-use sourcemap_core::errors::Result;
+use sourcemap_core::errors::{Error, Result};
 use sourcemap_core::places::{path_url, url_path};
 use sourcemap_core::utils::make_relative_path;
 use std::alloc::Global;
-use url::Url;
+use url::{ParseError, Url};
 
 // A path, whether it is a folder, and its URL.
-static URLS: [(&str, bool, &str); 16] = [
+static URLS: [(&str, bool, &str); 17] = [
     ("/a b/c.js", false, "file:///a%20b/c.js"),
     ("c.js", false, "none"),
     ("", true, "none"),
@@ -24,6 +24,11 @@ static URLS: [(&str, bool, &str); 16] = [
     ("/é/a\\b:~_-.js", false, "file:///%C3%A9/a%5Cb%3A~_-.js"),
     ("/C:/a.js", false, "file:///C%3A/a.js"),
     ("/a\nb", false, "file:///a%0Ab"),
+    (
+        "/ !\"#$%&'()*+,-.0123456789:;<=>?@AMZ[\\]^_`amz{|}~\u{7f}\u{1}",
+        false,
+        "file:///%20%21%22%23%24%25%26%27%28%29%2A%2B%2C-.0123456789%3A%3B%3C%3D%3E%3F%40AMZ%5B%5C%5D%5E_%60amz%7B%7C%7D~%7F%01",
+    ),
 ];
 
 // A URL, and its path.
@@ -66,13 +71,18 @@ fn url_of(alloc: Global, path: &str, folder: bool) -> Result<String> {
     }
 }
 
-fn path_of(alloc: Global, text: &str) -> Result<String> {
-    let Ok(url) = Url::parse(alloc, text) else {
-        return Ok(String::from_str(alloc, "no URL")?);
-    };
-    match url_path(alloc, &url)? {
+fn url_path_told(alloc: Global, url: &Url) -> Result<String> {
+    match url_path(alloc, url)? {
         None => Ok(String::from_str(alloc, "none")?),
         Some(path) => Ok(path),
+    }
+}
+
+fn path_of(alloc: Global, text: &str) -> Result<String> {
+    match Url::parse(alloc, text) {
+        Ok(url) => url_path_told(alloc, &url),
+        Err(ParseError::OutOfMemory) => Err(Error::OutOfMemory),
+        Err(_) => Ok(String::from_str(alloc, "no URL")?),
     }
 }
 

@@ -9,8 +9,9 @@ use std::io;
 use std::io::{ErrorKind, Read, Seek, SeekFrom, Write};
 use std::rt::Files;
 
-// A file system of four files: `/a.js`, `/late.js`, which fails after its first byte, `/never.js`,
-// which is not opened, and `/strange.js`, of which only its bytes are known.
+// A file system of six files: `/a.js`, `/late.js`, which fails after its first byte, `/never.js`,
+// which is not opened, `/strange.js`, of which only its bytes are known, and `/grown.js` and
+// `/cut.js`, which have more or fewer bytes than they had when they were opened.
 #[derive(Drop)]
 struct Broken {
     // with which kind it fails
@@ -22,7 +23,8 @@ struct Broken {
 struct Bytes {
     left: usize,
     fault: Option<ErrorKind>,
-    is_known: bool,
+    // how many there are by its metadata, if that is known
+    size: Option<u64>,
 }
 
 impl Read for Bytes {
@@ -60,10 +62,9 @@ impl Seek for Bytes {
 
 impl OpenFile for Bytes {
     fn metadata(&self) -> io::Result<Metadata> {
-        if self.is_known {
-            Ok(Metadata::of_file(self.left as u64))
-        } else {
-            unsupported()
+        match self.size {
+            Some(size) => Ok(Metadata::of_file(size)),
+            None => unsupported(),
         }
     }
 
@@ -97,17 +98,27 @@ impl Files for Broken {
             "/a.js" => Ok(Bytes {
                 left: 2,
                 fault: None,
-                is_known: true,
+                size: Some(2),
+            }),
+            "/grown.js" => Ok(Bytes {
+                left: 5,
+                fault: None,
+                size: Some(1),
+            }),
+            "/cut.js" => Ok(Bytes {
+                left: 1,
+                fault: None,
+                size: Some(5),
             }),
             "/late.js" => Ok(Bytes {
                 left: 1,
                 fault: Some(self.kind),
-                is_known: true,
+                size: Some(1),
             }),
             "/strange.js" => Ok(Bytes {
                 left: 3,
                 fault: None,
-                is_known: false,
+                size: None,
             }),
             _ => Err(io::Error::from(self.kind)),
         }
@@ -164,12 +175,18 @@ fn loaded(alloc: Global, kind: ErrorKind, sources: &[&str]) -> Result<String> {
 }
 
 // The kind of the fault, the sources, and what is shown: an open that fails, and a read that does.
-static ROWS: [(ErrorKind, &[&str], &str); 4] = [
+static ROWS: [(ErrorKind, &[&str], &str); 6] = [
     (
         ErrorKind::Other,
         &["a.js", "late.js", "never.js", "strange.js"],
         "2 [xx] none none [xxx]",
     ),
+    (
+        ErrorKind::PermissionDenied,
+        &["never.js", "a.js"],
+        "1 none [xx]",
+    ),
+    (ErrorKind::Other, &["grown.js", "cut.js"], "2 [xxxxx] [x]"),
     (
         ErrorKind::OutOfMemory,
         &["a.js", "late.js", "strange.js"],

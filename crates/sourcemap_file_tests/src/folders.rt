@@ -1,5 +1,5 @@
 // Folders that tests write to, and what they compare.
-use sourcemap::{Error, Result};
+use sourcemap::{Error, Result, SourceMapBuilder};
 use std::alloc::Global;
 use std::os::unix::fs::symlink;
 use std::process::Abort;
@@ -84,4 +84,34 @@ pub fn count_shown(alloc: Global, loaded: Result<usize>) -> Result<String> {
         }
         Err(fault) => Ok(format!(in alloc; "{fault}")?),
     }
+}
+
+// How many of the first sources have contents.
+fn held(builder: &SourceMapBuilder, count: u32) -> usize {
+    let mut held = 0usize;
+    for id in 0..count {
+        if builder.has_source_contents(id) {
+            held = held.saturating_add(1);
+        }
+    }
+    held
+}
+
+/// How many contents are loaded of so many sources. Where memory runs out, what was loaded stays, and
+/// the others are loaded by a second call.
+pub fn load<F: Files>(
+    rt: &F,
+    builder: &mut SourceMapBuilder,
+    current: &str,
+    base: Option<&str>,
+    count: u32,
+) -> Result<usize> {
+    let before = held(builder, count);
+    let mut loaded = builder.load_local_source_contents(rt, current, base);
+    if matches!(loaded, Err(Error::OutOfMemory)) {
+        let kept = held(builder, count).saturating_sub(before);
+        let others = builder.load_local_source_contents(rt, current, base)?;
+        loaded = Ok(kept.saturating_add(others));
+    }
+    loaded
 }

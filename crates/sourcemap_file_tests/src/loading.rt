@@ -1,5 +1,5 @@
 // Contents that a builder loads.
-use crate::folders::{check, count_shown, fill, folder, placed, push_shown};
+use crate::folders::{check, count_shown, fill, folder, load, placed, push_shown};
 use sourcemap::{Result, SourceMapBuilder};
 use std::alloc::Global;
 use std::rt::Files;
@@ -39,11 +39,11 @@ fn loaded<F: Files>(
     base: Option<&str>,
     count: u32,
 ) -> Result<String> {
-    let mut out = count_shown(alloc, builder.load_local_source_contents(rt, current, base))?;
+    let mut out = count_shown(alloc, load(rt, builder, current, base, count))?;
     for id in 0..count {
         push_shown(&mut out, builder.get_source_contents(id))?;
     }
-    let again = count_shown(alloc, builder.load_local_source_contents(rt, current, base))?;
+    let again = count_shown(alloc, load(rt, builder, current, base, count))?;
     out.push_str(" ")?;
     out.push_str(again.as_str())?;
     Ok(out)
@@ -256,21 +256,21 @@ fn contents_are_loaded(rt: HostRuntime) -> io::Result<()> {
     fs::remove_dir_all(&rt, "contents_are_loaded")
 }
 
-// How many bytes of a long file are loaded, all of them `y`.
-fn long_loaded<F: Files>(rt: &F, alloc: Global, folder: &str) -> Result<String> {
+// How many files are loaded, how many bytes of the first, and whether they are these.
+fn long_loaded<F: Files>(rt: &F, alloc: Global, folder: &str, bytes: &[u8]) -> Result<String> {
     let mut builder = builder(alloc, folder, &["long.js"], None)?;
     let count = builder.load_local_source_contents(rt, folder, None)?;
     let contents = builder.get_source_contents(0).unwrap_or("");
-    let same = contents.bytes().filter(|byte| *byte == b'y').count();
-    Ok(format!(in alloc; "{count} {} {same}", contents.len())?)
+    let is_same = contents.as_bytes() == bytes;
+    Ok(format!(in alloc; "{count} {} {is_same}", contents.len())?)
 }
 
 #[test]
 fn a_long_file_is_loaded_whole(rt: HostRuntime) -> io::Result<()> {
     let folder = folder(&rt, "a_long_file_is_loaded_whole")?;
-    let bytes = vec![in rt.alloc(); b'y'; 1_000_003]?;
+    let bytes = vec![in rt.alloc(); b'y'; 10_000_003]?;
     fs::write(&rt, "a_long_file_is_loaded_whole/long.js", bytes.as_slice())?;
-    let answer = long_loaded(&rt, rt.alloc(), folder.as_str());
-    check(&rt, "a long file", answer, "1 1000003 1000003");
+    let answer = long_loaded(&rt, rt.alloc(), folder.as_str(), bytes.as_slice());
+    check(&rt, "a long file", answer, "1 10000003 true");
     fs::remove_dir_all(&rt, "a_long_file_is_loaded_whole")
 }

@@ -94,23 +94,22 @@ fn names_of_functions(rt: HostRuntime) {
 // Offsets in no order: some name of the source or none.
 static UNORDERED: [&str; 3] = ["KAA,LCA,UCA", "AAE;ACD", "UAA,FCA,FCA,UDA"];
 
-fn is_some_name_or_none(alloc: Global, mappings: &str, col: u32) -> bool {
-    match asked_of_mappings(alloc, mappings, 0, col) {
-        Ok(name) => matches!(name.as_str(), "a" | "b" | "c" | "none"),
-        Err(_) => false,
-    }
+fn is_some_name_or_none(alloc: Global, mappings: &str, col: u32) -> Result<bool> {
+    let name = asked_of_mappings(alloc, mappings, 0, col)?;
+    Ok(matches!(name.as_str(), "a" | "b" | "c" | "none"))
 }
 
 #[test]
-fn offsets_out_of_order(rt: HostRuntime) {
+fn offsets_out_of_order(rt: HostRuntime) -> Result<()> {
     for mappings in UNORDERED.iter() {
         for col in 0..20 {
             assert!(rt;
-                is_some_name_or_none(rt.alloc(), mappings, col),
+                is_some_name_or_none(rt.alloc(), mappings, col)?,
                 "{mappings}"
             );
         }
     }
+    Ok(())
 }
 
 const ROW: &str = r#"{"x_facebook_sources":[[{"names":["<global>","foo"],"mappings":"AAA,KCC"}]]}"#;
@@ -264,13 +263,14 @@ fn copied(alloc: Global, text: &str) -> Result<String> {
 }
 
 #[test]
-fn copies_are_equal(rt: HostRuntime) {
+fn copies_are_equal(rt: HostRuntime) -> Result<()> {
     let alloc = rt.alloc();
-    assert!(rt; matches!(compared(alloc, LISTS, SECOND), Ok((true, true, false))));
-    assert!(rt; matches!(compared(alloc, ROW, EMPTY), Ok((true, true, false))));
+    assert!(rt; compared(alloc, LISTS, SECOND)? == (true, true, false));
+    assert!(rt; compared(alloc, ROW, EMPTY)? == (true, true, false));
     let want =
         r#"{"sources":null,"version":null,"x_facebook_sources":[null,[{"mappings":"AAA","names":["f"]}]]}"#;
     check(&rt, SECOND, copied(alloc, SECOND), want);
+    Ok(())
 }
 
 // Scope mappings, a line and a column of the source, and the index of the name of its function, or

@@ -5,7 +5,7 @@ use crate::decoding::sections_told;
 use crate::maps::{boxed, map_of, record_told};
 use sourcemap::decoder::decode_slice;
 use sourcemap::encoder::Encodable;
-use sourcemap::errors::Result;
+use sourcemap::errors::{Error, Result};
 use sourcemap::types::{DecodedMap, SourceMapIndex, SourceMapSection};
 use std::alloc::Global;
 
@@ -104,8 +104,30 @@ fn has_debug_id(section: Option<&SourceMapSection>) -> bool {
     }
 }
 
+// Makes a change. Where memory runs out, the index is to be as before, and the change is made again.
+fn apply_beside(
+    alloc: Global,
+    index: &mut SourceMapIndex,
+    before: &SourceMapIndex,
+    change: Change,
+) -> Result<()> {
+    let mut outcome = apply(alloc, index, change);
+    if matches!(outcome, Err(Error::OutOfMemory)) {
+        if *index != *before {
+            return Err(Error::IncompatibleSourceMap);
+        }
+        outcome = apply(alloc, index, change);
+    }
+    outcome
+}
+
+fn apply_whole(alloc: Global, index: &mut SourceMapIndex, change: Change) -> Result<()> {
+    let before = boxed(alloc, index.clone())?;
+    apply_beside(alloc, index, &*before, change)
+}
+
 fn change_told(alloc: Global, index: &mut SourceMapIndex, change: Change) -> Result<String> {
-    apply(alloc, index, change)?;
+    apply_whole(alloc, index, change)?;
     let sections = sections_told(alloc, index)?;
     let has_id = has_debug_id(index.get_section(1));
     Ok(format!(in alloc; "{:?} {sections} {has_id}", index.get_file())?)

@@ -9,6 +9,16 @@ pub fn check(rt: &impl Abort, row: &str, answer: Result<String>, want: &str) {
     assert!(rt; is_wanted, "{row}: {answer:?}");
 }
 
+/// What a call answers. Where memory runs out, it is called again.
+pub fn again<F: Fn() -> Result<String>>(call: F) -> Result<String>
+    requires { F.IsAlwaysCallable call }
+{
+    match call() {
+        Err(Error::OutOfMemory) => call(),
+        answer => answer,
+    }
+}
+
 /// The text of a fault; want of memory stays one.
 pub fn fault_told<T: Drop>(alloc: Global, answer: Result<T>) -> Result<String> {
     match answer {

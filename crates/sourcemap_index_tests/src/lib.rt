@@ -1,5 +1,5 @@
-//! Tests of index maps: read, made of parts, asked and changed. This crate holds nothing else, so
-//! that no proof and no must-fail edit waits for it.
+//! Tests of index maps: read, made of parts, asked and changed; and of RAM bundles, split by index
+//! maps. This crate holds nothing else, so that no proof and no must-fail edit waits for it.
 #![tactic(auto)]
 
 #[cfg(test)]
@@ -21,4 +21,10 @@ mod maps;
 #[cfg(test)]
 mod nested;
 #[cfg(test)]
+mod readers;
+#[cfg(test)]
+mod splitting;
+#[cfg(test)]
 mod whole;
+#[cfg(test)]
+mod writers;

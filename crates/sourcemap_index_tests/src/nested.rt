@@ -1,5 +1,5 @@
 // Index maps in one another, made in memory and read from text.
-use crate::checks::{check, fault_told};
+use crate::checks::{again, check, fault_told};
 use crate::lookups::{flat_token_told, token_told};
 use crate::maps::{boxed, map_of};
 use serde_json::Value;
@@ -83,7 +83,8 @@ fn flat_looked_up(alloc: Global, map: &DecodedMap) -> Result<String> {
 }
 
 fn flattened(alloc: Global, depth: usize) -> Result<String> {
-    flat_looked_up(alloc, &*nested(alloc, depth)?)
+    let map = nested(alloc, depth)?;
+    again(|| flat_looked_up(alloc, &*map))
 }
 
 // What a map made of another one prints at the place 0:0, and whether it is the same map.
@@ -102,7 +103,8 @@ fn read_back_told(alloc: Global, map: &DecodedMap) -> Result<String> {
 }
 
 fn read_back(alloc: Global, depth: usize) -> Result<String> {
-    read_back_told(alloc, &*nested(alloc, depth)?)
+    let map = nested(alloc, depth)?;
+    again(|| read_back_told(alloc, &*map))
 }
 
 fn copy_told(alloc: Global, map: &DecodedMap) -> Result<String> {

@@ -1,5 +1,5 @@
 // Index maps as a whole: made flat, moved down, copied, compared and written.
-use crate::checks::{check, fault_told};
+use crate::checks::{again, check, fault_told};
 use crate::decoding::sections_told;
 use crate::maps::{boxed, index_of, map_of, record_told, value_told};
 use sourcemap::errors::{Error, Result};
@@ -48,7 +48,8 @@ fn map_told(alloc: Global, map: Result<SourceMap>) -> Result<String> {
 }
 
 fn flat(alloc: Global, text: &str) -> Result<String> {
-    map_told(alloc, index_of(alloc, text)?.flatten())
+    let index = index_of(alloc, text)?;
+    again(|| map_told(alloc, index.flatten()))
 }
 
 // An index, and its flat map or the fault.
@@ -291,7 +292,8 @@ fn all_but_rows_stays_where_sections_move(rt: HostRuntime) {
 }
 
 fn written(alloc: Global, text: &str) -> Result<String> {
-    value_told(alloc, map_of(alloc, text)?.to_value())
+    let map = map_of(alloc, text)?;
+    again(|| value_told(alloc, map.to_value()))
 }
 
 fn written_away(alloc: Global, text: &str) -> Result<String> {

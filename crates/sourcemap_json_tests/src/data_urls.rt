@@ -1,5 +1,5 @@
 // Data URLs, read with each charset and refused with any other form.
-use crate::checks::check;
+use crate::checks::{check, error_text};
 use sourcemap_errors::errors::Result;
 use sourcemap_json::data_url::{data_url, data_url_bytes};
 use std::alloc::Global;
@@ -55,7 +55,7 @@ static READ: [(&str, &str, &str); 9] = [
 fn read(alloc: Global, url: &str) -> Result<String> {
     match data_url_bytes(alloc, url) {
         Ok(bytes) => Ok(String::from_str(alloc, str::from_utf8(bytes.as_slice())?)?),
-        Err(fault) => Ok(format!(in alloc; "{fault}")?),
+        Err(error) => error_text(alloc, &error),
     }
 }
 

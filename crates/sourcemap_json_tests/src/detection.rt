@@ -1,13 +1,14 @@
 // Which bytes hold a map, asked of slices and of readers that give a byte a read or fail.
 use crate::checks::check;
 use crate::headers::OneByOne;
-use sourcemap_errors::errors::Result;
+use sourcemap_errors::errors::{Error, Result};
 use sourcemap_json::detector::{is_sourcemap, is_sourcemap_slice};
+use sourcemap_test_writers::HaltingReader;
 use std::alloc::Global;
-use std::io::Read;
+use std::io::{ErrorKind, Read};
 
 // What a row is about, and a map.
-static MAPS: [(&str, &str); 9] = [
+static MAPS: [(&str, &str); 11] = [
     ("sources", r#"{"version":3,"sources":[],"mappings":""}"#),
     ("sections alone", r#"{"sections":[]}"#),
     ("a junk header", ")]}'\n{\"sections\":[]}"),
@@ -29,10 +30,18 @@ static MAPS: [(&str, &str); 9] = [
         "values of other kinds",
         r#"{"version":3,"sources":1,"mappings":{}}"#,
     ),
+    (
+        "a whole map",
+        r#"{"version":3,"sources":["coolstuff.js"],"names":["x","alert"],"mappings":"AAAA,GAAIA,GAAI,EACR,IAAIA,GAAK,EAAG,CACVC,MAAM"}"#,
+    ),
+    (
+        "a whole map behind a longer header",
+        ")]}garbage\n{\"version\":3,\"sources\":[\"coolstuff.js\"],\"names\":[\"x\",\"alert\"],\"mappings\":\"AAAA\"}",
+    ),
 ];
 
 // What a row is about, and a text that is no map.
-static OTHERS: [(&str, &str); 9] = [
+static OTHERS: [(&str, &str); 11] = [
     ("a null", r#"{"version":3,"sources":null,"mappings":""}"#),
     (
         "a version that is a text",
@@ -43,6 +52,11 @@ static OTHERS: [(&str, &str); 9] = [
         r#"{"version":"3","sections":[]}"#,
     ),
     ("a list", "[]"),
+    ("sections that are null", r#"{"version":3,"sections":null}"#),
+    (
+        "sources and names alone",
+        r#"{"sources":["coolstuff.js"],"names":["x","alert"]}"#,
+    ),
     ("no mappings", r#"{"version":3,"sources":[]}"#),
     ("no list and no root", r#"{"version":3,"mappings":""}"#),
     (
@@ -56,7 +70,9 @@ static OTHERS: [(&str, &str); 9] = [
 fn answers(alloc: Global, bytes: &[u8]) -> Result<String> {
     let is_map = is_sourcemap_slice(alloc, bytes)?;
     let is_read = is_sourcemap(alloc, OneByOne(bytes))?;
-    Ok(format!(in alloc; "{is_map}, {is_read}")?)
+    let halting = HaltingReader::new(bytes, usize::MAX, ErrorKind::TimedOut);
+    let is_read_on = is_sourcemap(alloc, halting)?;
+    Ok(format!(in alloc; "{is_map}, {is_read}, {is_read_on}")?)
 }
 
 #[test]
@@ -66,7 +82,7 @@ fn maps_and_other_texts(rt: HostRuntime) {
             &rt,
             about,
             answers(rt.alloc(), text.as_bytes()),
-            "true, true",
+            "true, true, true",
         );
     }
     for (about, text) in OTHERS.iter() {
@@ -74,7 +90,7 @@ fn maps_and_other_texts(rt: HostRuntime) {
             &rt,
             about,
             answers(rt.alloc(), text.as_bytes()),
-            "false, false",
+            "false, false, false",
         );
     }
 }
@@ -96,5 +112,19 @@ fn a_failed_read_is_no_map(rt: HostRuntime) {
             answer_of_failing(rt.alloc(), bytes, count),
             "false",
         );
+    }
+}
+
+// Whether a reader whose memory runs out after so many reads is refused for that.
+fn ran_out(alloc: Global, bytes: &[u8], reads: usize) -> bool {
+    let reader = HaltingReader::new(bytes, reads, ErrorKind::OutOfMemory);
+    matches!(is_sourcemap(alloc, reader), Err(Error::OutOfMemory))
+}
+
+#[test]
+fn out_of_memory_alone_is_an_error(rt: HostRuntime) {
+    let bytes = r#"{"sections":[]}"#.as_bytes();
+    for reads in 0..=bytes.len() {
+        assert!(rt; ran_out(rt.alloc(), bytes, reads), "after {reads} reads");
     }
 }

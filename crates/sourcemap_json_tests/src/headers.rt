@@ -1,6 +1,6 @@
 // Junk headers, with bytes that come one by one and reads that fail.
-use crate::checks::check;
-use sourcemap_errors::errors::Result;
+use crate::checks::{check, error_text};
+use sourcemap_errors::errors::{Error, Result};
 use sourcemap_json::decoder::{StripHeaderReader, strip_junk_header};
 use std::alloc::Global;
 use std::io::{ErrorKind, Read};
@@ -48,7 +48,7 @@ static READ: [(&str, &[u8], &str); 6] = [
 fn text_or_fault(alloc: Global, bytes: &[u8], outcome: io::Result<usize>) -> Result<String> {
     match outcome {
         Ok(_) => Ok(String::from_str(alloc, str::from_utf8(bytes)?)?),
-        Err(fault) => Ok(format!(in alloc; "{fault}")?),
+        Err(error) => error_text(alloc, &Error::from(error)),
     }
 }
 
@@ -83,7 +83,7 @@ static STRIPPED: [(&str, &[u8], &str); 3] = [
 fn stripped(alloc: Global, text: &[u8]) -> Result<String> {
     match strip_junk_header(text) {
         Ok(bytes) => Ok(String::from_str(alloc, str::from_utf8(bytes)?)?),
-        Err(fault) => Ok(format!(in alloc; "{fault}")?),
+        Err(error) => error_text(alloc, &Error::from(error)),
     }
 }
 
@@ -137,5 +137,97 @@ fn reads(alloc: Global, text: &[u8], rooms: [usize; 4]) -> Result<String> {
 fn faults_come_where_they_stand(rt: HostRuntime) {
     for (about, text, rooms, want) in FAULTY.iter() {
         check(&rt, about, reads(rt.alloc(), text, *rooms), want);
+    }
+}
+
+// Gives a byte a read, and fails once where so many bytes are left, with a text of its own.
+#[derive(Drop)]
+struct FailsOnce<'a> {
+    rest: &'a [u8],
+    left: Option<usize>,
+    kind: ErrorKind,
+}
+
+impl Read for FailsOnce<'_> {
+    fn read(&mut self, buf: &mut [u8]) -> io::Result<usize> {
+        if self.left == Some(self.rest.len()) {
+            self.left = None;
+            return Err(io::Error::new(self.kind, "the disk is gone"));
+        }
+        match (self.rest, buf) {
+            ([byte, rest @ ..], [first, ..]) => {
+                self.rest = rest;
+                *first = *byte;
+                Ok(1)
+            }
+            _ => Ok(0),
+        }
+    }
+}
+
+// What a row is about, how many bytes are left where the inner reader fails, the kind of its error,
+// and what comes of reading `)]}x\nab`.
+static PASSED_ON: [(&str, usize, ErrorKind, &str); 6] = [
+    (
+        "at the first read, of the kind of an invalid header",
+        7,
+        ErrorKind::InvalidData,
+        "(the disk is gone)ab",
+    ),
+    (
+        "inside of the header, of that kind",
+        5,
+        ErrorKind::InvalidData,
+        "(the disk is gone)ab",
+    ),
+    (
+        "inside of the header, of the kind of too many reads",
+        4,
+        ErrorKind::Other,
+        "(the disk is gone)ab",
+    ),
+    (
+        "inside of the header, interrupted",
+        3,
+        ErrorKind::Interrupted,
+        "(the disk is gone)ab",
+    ),
+    (
+        "after the header, out of memory",
+        2,
+        ErrorKind::OutOfMemory,
+        "(the disk is gone)ab",
+    ),
+    (
+        "after its first byte, of the kind of an invalid header",
+        1,
+        ErrorKind::InvalidData,
+        "a(the disk is gone)b",
+    ),
+];
+
+fn read_past_errors(alloc: Global, left: usize, kind: ErrorKind) -> Result<String> {
+    let mut reader = StripHeaderReader::new(FailsOnce {
+        rest: b")]}x\nab",
+        left: Some(left),
+        kind,
+    });
+    let mut text = String::new(alloc);
+    let mut buf = [0u8; 4];
+    for _ in 0..5 {
+        match reader.read(&mut buf) {
+            Ok(0) => {}
+            Ok(_) => text.push(buf[0] as char)?,
+            Err(cause) if cause.kind() == kind => write!(text, "({cause})")?,
+            Err(_) => text.push('!')?,
+        }
+    }
+    Ok(text)
+}
+
+#[test]
+fn errors_of_the_inner_reader_are_passed_on(rt: HostRuntime) {
+    for (about, left, kind, want) in PASSED_ON.iter() {
+        check(&rt, about, read_past_errors(rt.alloc(), *left, *kind), want);
     }
 }

@@ -28,15 +28,19 @@ static WRONG: [&str; 15] = [
     r#"{"debugId":"00000000000000000000000000000000","debug_id":"x"}"#,
 ];
 
-fn is_of_wrong_shape(alloc: Global, text: &str) -> bool {
-    matches!(read(alloc, text), Err(Error::BadJson(JsonFault::Shape)))
+fn is_of_wrong_shape(alloc: Global, text: &str) -> Result<bool> {
+    match read(alloc, text) {
+        Err(Error::OutOfMemory) => Err(Error::OutOfMemory),
+        answer => Ok(matches!(answer, Err(Error::BadJson(JsonFault::Shape)))),
+    }
 }
 
 #[test]
-fn wrong_shapes(rt: HostRuntime) {
+fn wrong_shapes(rt: HostRuntime) -> Result<()> {
     for text in WRONG.iter() {
-        assert!(rt; is_of_wrong_shape(rt.alloc(), text), "{text}");
+        assert!(rt; is_of_wrong_shape(rt.alloc(), text)?, "{text}");
     }
+    Ok(())
 }
 
 const NOTHING: &str = r#"{"sources":null,"version":null}"#;
@@ -90,15 +94,16 @@ fn are_equal(alloc: Global, one: &str, other: &str) -> Result<bool> {
 }
 
 #[test]
-fn written_texts(rt: HostRuntime) {
+fn written_texts(rt: HostRuntime) -> Result<()> {
     let alloc = rt.alloc();
     for (about, text, want) in WRITTEN.iter() {
         for text in [*text, *want] {
             check(&rt, about, told(alloc, by_reference(alloc, text)), want);
             check(&rt, about, told(alloc, by_moving(alloc, text)), want);
-            assert!(rt; matches!(are_equal(alloc, text, want), Ok(true)), "{about}");
+            assert!(rt; are_equal(alloc, text, want)?, "{about}");
         }
     }
+    Ok(())
 }
 
 // What a row is about, a text, and the debug id that it stands for.
@@ -196,6 +201,7 @@ fn is_equal_copied(scopes: &FacebookScopeMapping) -> Result<bool> {
 }
 
 #[test]
-fn scopes_are_copied(rt: HostRuntime) {
-    assert!(rt; matches!(is_equal_to_copy(rt.alloc()), Ok(true)));
+fn scopes_are_copied(rt: HostRuntime) -> Result<()> {
+    assert!(rt; is_equal_to_copy(rt.alloc())?);
+    Ok(())
 }

@@ -3,11 +3,12 @@ ghost use Rattle.std.specs.Prelude.{◌≡◌};
 ghost use Rattle.std.specs.Bool.{Decides};
 ghost use Rattle.sourcemap_json.specs.References.{reference};
 
-use crate::checks::check;
-use sourcemap_errors::errors::Result;
+use crate::checks::{check, error_text};
+use sourcemap_errors::errors::{Error, Result};
 use sourcemap_json::detector::{
-    SourceMapRef, locate_sourcemap_reference, locate_sourcemap_reference_slice,
+    SourceMapRef, is_sourcemap, locate_sourcemap_reference, locate_sourcemap_reference_slice,
 };
+use sourcemap_test_writers::HaltingReader;
 use sourcemap_views::sourceview::SourceView;
 use std::alloc::Global;
 use std::io::{ErrorKind, Read};
@@ -124,7 +125,7 @@ fn shown(alloc: Global, found: Result<Option<SourceMapRef>>) -> Result<String> {
         Ok(Some(SourceMapRef::Ref(url))) => Ok(format!(in alloc; "#{url}")?),
         Ok(Some(SourceMapRef::LegacyRef(url))) => Ok(format!(in alloc; "@{url}")?),
         Ok(None) => Ok(String::from_str(alloc, "none")?),
-        Err(error) => Ok(format!(in alloc; "{error}")?),
+        Err(error) => error_text(alloc, &error),
     }
 }
 
@@ -168,6 +169,36 @@ fn a_failed_read_is_no_reference(rt: HostRuntime) {
     );
 }
 
+// The reference in a reader that is interrupted before each byte, and fails after so many reads.
+fn halted(alloc: Global, bytes: &[u8], reads: usize, kind: ErrorKind) -> Result<String> {
+    let reader = HaltingReader::new(bytes, reads, kind);
+    shown(alloc, locate_sourcemap_reference(alloc, reader))
+}
+
+#[test]
+fn interrupted_reads_are_made_again(rt: HostRuntime) {
+    for (about, bytes, want) in LOCATED.iter() {
+        let found = halted(rt.alloc(), bytes, usize::MAX, ErrorKind::TimedOut);
+        check(&rt, about, found, want);
+    }
+}
+
+fn ran_out(alloc: Global, reads: usize) -> bool {
+    let bytes = b"a\n//# sourceMappingURL=a.map";
+    let reader = HaltingReader::new(bytes, reads, ErrorKind::OutOfMemory);
+    matches!(
+        locate_sourcemap_reference(alloc, reader),
+        Err(Error::OutOfMemory)
+    )
+}
+
+#[test]
+fn a_read_that_runs_out_of_memory_is_out_of_memory(rt: HostRuntime) {
+    for reads in 0..29 {
+        assert!(rt; ran_out(rt.alloc(), reads), "after {reads} reads");
+    }
+}
+
 fn viewed(alloc: Global, bytes: &[u8]) -> Result<String> {
     let view = SourceView::new(alloc, str::from_utf8(bytes)?)?;
     shown(alloc, view.sourcemap_reference())
@@ -177,6 +208,91 @@ fn viewed(alloc: Global, bytes: &[u8]) -> Result<String> {
 fn views_have_the_same_reference(rt: HostRuntime) {
     for (about, bytes, want) in LOCATED[..13].iter() {
         check(&rt, about, viewed(rt.alloc(), bytes), want);
+    }
+}
+
+// What a row is about, how a long text begins, what then stands in it 3,000 times, how it ends, and
+// its reference behind its mark, or the error.
+static LONG: [(&str, &[u8], &[u8], &[u8], &str); 8] = [
+    (
+        "behind many lines",
+        b"",
+        b"let a;\n",
+        b"//# sourceMappingURL=a.map\n\xff",
+        "#a.map",
+    ),
+    (
+        "before many lines",
+        b"//@ sourceMappingURL=a.map\n",
+        b"let a;\n",
+        b"//# sourceMappingURL=b.map",
+        "@a.map",
+    ),
+    (
+        "many lines without one",
+        b"\xc3\xa9\n",
+        b"let a;\n",
+        b"b",
+        "none",
+    ),
+    ("one line", b"", b"let a; ", b"", "none"),
+    (
+        "behind one line",
+        b"",
+        b"let a; ",
+        b"\n//# sourceMappingURL=a.map",
+        "#a.map",
+    ),
+    (
+        "the first line is not UTF-8",
+        b"\xff\n",
+        b"let a;\n",
+        b"//# sourceMappingURL=a.map",
+        "invalid data",
+    ),
+    (
+        "a late line is not UTF-8",
+        b"",
+        b"let a;\n",
+        b"\xff\n//# sourceMappingURL=a.map",
+        "invalid data",
+    ),
+    (
+        "the last line is not UTF-8",
+        b"",
+        b"let a;\n",
+        b"\xe2\x82",
+        "invalid data",
+    ),
+];
+
+fn long(alloc: Global, head: &[u8], piece: &[u8], tail: &[u8]) -> Result<Vec<u8>> {
+    let mut bytes = Vec::new(alloc);
+    bytes.extend_from_slice(head)?;
+    for _ in 0..3000 {
+        bytes.extend_from_slice(piece)?;
+    }
+    bytes.extend_from_slice(tail)?;
+    Ok(bytes)
+}
+
+// What a slice of a long text says, and a reader of it if that says something else.
+fn both_said(alloc: Global, head: &[u8], piece: &[u8], tail: &[u8]) -> Result<String> {
+    let bytes = long(alloc, head, piece, tail)?;
+    let found = locate_sourcemap_reference_slice(alloc, bytes.as_slice());
+    let sliced = shown(alloc, found)?;
+    let found = locate_sourcemap_reference(alloc, bytes.as_slice());
+    let read = shown(alloc, found)?;
+    if sliced == read {
+        return Ok(sliced);
+    }
+    Ok(format!(in alloc; "{sliced}, but {read} by a reader")?)
+}
+
+#[test]
+fn locates_in_long_texts(rt: HostRuntime) {
+    for (about, head, piece, tail, want) in LONG.iter() {
+        check(&rt, about, both_said(rt.alloc(), head, piece, tail), want);
     }
 }
 
@@ -266,4 +382,44 @@ fn equal_by_mark_and_text(rt: HostRuntime) {
         compared(rt.alloc(), "a", "b"),
         "a false false",
     );
+}
+
+// Fails at each read.
+#[derive(Drop)]
+struct Failing {
+    kind: ErrorKind,
+}
+
+impl Read for Failing {
+    fn read(&mut self, _buf: &mut [u8]) -> io::Result<usize> {
+        Err(io::Error::from(self.kind))
+    }
+}
+
+// The kind of a failed read, and what comes of it.
+static FAILED: [(ErrorKind, &str, &str); 2] = [
+    (ErrorKind::OutOfMemory, "OutOfMemory", "OutOfMemory"),
+    (ErrorKind::TimedOut, "Io(Kind(TimedOut))", "false"),
+];
+
+fn located(alloc: Global, kind: ErrorKind) -> Result<String> {
+    match locate_sourcemap_reference(alloc, Failing { kind }) {
+        Ok(found) => Ok(format!(in alloc; "{found:?}")?),
+        Err(error) => Ok(format!(in alloc; "{error:?}")?),
+    }
+}
+
+fn detected(alloc: Global, kind: ErrorKind) -> Result<String> {
+    match is_sourcemap(alloc, Failing { kind }) {
+        Ok(found) => Ok(format!(in alloc; "{found}")?),
+        Err(error) => Ok(format!(in alloc; "{error:?}")?),
+    }
+}
+
+#[test]
+fn reads_that_fail_for_memory_are_out_of_memory(rt: HostRuntime) {
+    for (kind, want, is_map) in FAILED.iter() {
+        check(&rt, want, located(rt.alloc(), *kind), want);
+        check(&rt, is_map, detected(rt.alloc(), *kind), is_map);
+    }
 }

@@ -113,10 +113,49 @@ fn found(
     }
 }
 
-// Where memory runs out, the same step is taken again.
+fn push_source(told: &mut String, builder: &SourceMapBuilder, id: u32) -> Result<()> {
+    if let Some(source) = builder.get_source(id) {
+        write!(told, " {source} {:?}", builder.get_source_contents(id))?;
+    }
+    Ok(())
+}
+
+// What getters answer: the file and the root, then the first sources with their contents.
+fn state(alloc: Global, builder: &SourceMapBuilder) -> Result<String> {
+    let head = (builder.get_file(), builder.get_source_root());
+    let mut told = format!(in alloc; "{head:?}")?;
+    for id in 0..4 {
+        push_source(&mut told, builder, id)?;
+    }
+    Ok(told)
+}
+
+// Whether a step that was refused left what it may: a token's source may stand last.
+fn is_as_before(step: &Step<'_>, before: &str, after: &str) -> bool {
+    match step {
+        Step::Token(_, _, _, _) => after.starts_with(before),
+        Step::Found(_, _, _) => after.starts_with(before),
+        _ => after == before,
+    }
+}
+
+fn take_again(
+    alloc: Global,
+    builder: &mut SourceMapBuilder,
+    step: &Step<'_>,
+    before: &str,
+) -> Result<Answer> {
+    if !is_as_before(step, before, state(alloc, builder)?.as_str()) {
+        return Err(Error::IncompatibleSourceMap);
+    }
+    take(alloc, builder, step)
+}
+
+// Takes a step. Where memory runs out, the builder is to be as before, and the step is taken again.
 fn take_twice(alloc: Global, builder: &mut SourceMapBuilder, step: &Step<'_>) -> Result<Answer> {
+    let before = state(alloc, builder)?;
     match take(alloc, builder, step) {
-        Err(Error::OutOfMemory) => take(alloc, builder, step),
+        Err(Error::OutOfMemory) => take_again(alloc, builder, step, before.as_str()),
         outcome => outcome,
     }
 }
@@ -169,7 +208,7 @@ fn push_answers(
 ) -> Result<()> {
     let alloc = *told.allocator();
     for step in steps {
-        push_answer(told, take(alloc, builder, step)?)?;
+        push_answer(told, take_twice(alloc, builder, step)?)?;
     }
     Ok(())
 }

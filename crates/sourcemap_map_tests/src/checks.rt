@@ -1,5 +1,5 @@
 // How an answer is compared with the text that is wanted.
-use sourcemap::Result;
+use sourcemap::{Error, Result};
 use std::alloc::Global;
 use std::process::Abort;
 
@@ -7,6 +7,16 @@ use std::process::Abort;
 pub fn check(rt: &impl Abort, row: &str, answer: Result<String>, want: &str) {
     let is_wanted = matches!(&answer, Ok(text) if text.as_str() == want);
     assert!(rt; is_wanted, "{row}: {answer:?}");
+}
+
+/// What a call answers. Where memory runs out, it is called again.
+pub fn again<F: Fn() -> Result<String>>(call: F) -> Result<String>
+    requires { F.IsAlwaysCallable call }
+{
+    match call() {
+        Err(Error::OutOfMemory) => call(),
+        answer => answer,
+    }
 }
 
 /// A text that may be missing, in brackets, so that an empty one is told from none.

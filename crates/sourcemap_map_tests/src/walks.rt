@@ -55,7 +55,7 @@ impl<'a> WalkedToken for Chain<'a> {
 }
 
 // Texts, places from the last one on, and the identifiers at them.
-static WALKS: [(&str, &[(u32, u32)], &str); 9] = [
+static WALKS: [(&str, &[(u32, u32)], &str); 18] = [
     ("abc👌def", &[(0, 5), (0, 4), (0, 3)], " [def] [def] none"),
     ("abc👌def", &[(0, 3), (0, 4), (0, 5)], " none [def] [def]"),
     ("function b(){}", &[(0, 9), (0, 0)], " [b] [function]"),
@@ -77,6 +77,55 @@ static WALKS: [(&str, &[(u32, u32)], &str); 9] = [
     ),
     ("éa=b", &[(0, 3), (0, 1), (0, 0)], " [b] [a] [éa]"),
     ("", &[(0, 0)], " none"),
+    // Each column of one run, and the same column twice.
+    (
+        "a1b1",
+        &[(0, 4), (0, 3), (0, 2), (0, 1), (0, 0)],
+        " none none [b1] none [a1b1]",
+    ),
+    (
+        "ab.cd",
+        &[(0, 4), (0, 3), (0, 2), (0, 1), (0, 0)],
+        " [d] [cd] none [b] [ab]",
+    ),
+    (
+        "ab cd",
+        &[(0, 3), (0, 3), (0, 1), (0, 1), (0, 0)],
+        " [cd] [cd] [b] [b] [ab]",
+    ),
+    // Letters of two units, and a character that is no letter but goes on an identifier.
+    (
+        "𐊀𐊀b",
+        &[(0, 4), (0, 3), (0, 2), (0, 1), (0, 0)],
+        " [b] [b] [𐊀b] [𐊀b] [𐊀𐊀b]",
+    ),
+    (
+        "a\u{200c}b",
+        &[(0, 2), (0, 1), (0, 0)],
+        " [b] none [a\u{200c}b]",
+    ),
+    // White space of one and of three bytes, before a word and at the end.
+    (
+        "a \u{3000} b",
+        &[(0, 5), (0, 4), (0, 3), (0, 2), (0, 1), (0, 0)],
+        " none [b] [b] [b] [b] [a]",
+    ),
+    (
+        "a  ",
+        &[(0, 3), (0, 2), (0, 1), (0, 0)],
+        " none none none [a]",
+    ),
+    // Lines in turn, and columns that the line does not reach.
+    (
+        "abcd\nef\nabcd",
+        &[(2, 2), (1, 2), (1, 1), (0, 3), (0, 1)],
+        " [cd] none [f] [d] [bcd]",
+    ),
+    (
+        "éab",
+        &[(0, 9), (0, 4), (0, 2), (0, 9), (0, 0)],
+        " none none [b] none [éab]",
+    ),
 ];
 
 fn walked(alloc: Global, text: &str, places: &[(u32, u32)]) -> Result<String> {
@@ -190,11 +239,11 @@ fn named(alloc: Global, name: &str, walk: Walk) -> Result<String> {
             name: Some(*name),
         })?;
     }
-    guessed(alloc, spots.as_slice(), name)
+    guessed(alloc, "function b(){}", spots.as_slice(), name)
 }
 
-fn guessed(alloc: Global, spots: &[Spot], name: &str) -> Result<String> {
-    let view = SourceView::new(alloc, "function b(){}")?;
+fn guessed(alloc: Global, text: &str, spots: &[Spot], name: &str) -> Result<String> {
+    let view = SourceView::new(alloc, text)?;
     match spots.split_first() {
         None => shown(alloc, None),
         Some((here, behind)) => {
@@ -211,5 +260,42 @@ fn guessed(alloc: Global, spots: &[Spot], name: &str) -> Result<String> {
 fn walks_guess_the_name_behind_the_word_function(rt: HostRuntime) {
     for (about, name, walk, want) in NAMES.iter() {
         check(&rt, about, named(rt.alloc(), name, *walk), want);
+    }
+}
+
+// Texts with a token at column 9 that has the name `foo`, and one at column 0; what the function is
+// called in the text, and the name that is guessed.
+static COMPARED: [(&str, &str, &str); 9] = [
+    ("function bc(){}", "b", "none"),
+    ("function bc(){}", "bc", "[foo]"),
+    ("function bc(){}", "bcd", "none"),
+    ("function  b(){}", "b", "[foo]"),
+    ("functions b(){}", "b", "none"),
+    ("function b", "b", "[foo]"),
+    ("function b\u{200c}", "b", "none"),
+    ("function é1(){}", "é1", "[foo]"),
+    ("function é1(){}", "é", "none"),
+];
+
+fn compared(alloc: Global, text: &str, name: &str) -> Result<String> {
+    let spots = [
+        Spot {
+            line: 0,
+            col: 9,
+            name: Some("foo"),
+        },
+        Spot {
+            line: 0,
+            col: 0,
+            name: None,
+        },
+    ];
+    guessed(alloc, text, &spots, name)
+}
+
+#[test]
+fn names_are_compared_whole(rt: HostRuntime) {
+    for (text, name, want) in COMPARED.iter() {
+        check(&rt, text, compared(rt.alloc(), text, name), want);
     }
 }

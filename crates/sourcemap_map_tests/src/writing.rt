@@ -1,5 +1,5 @@
 // What maps are written as, on each way that leads there, and writers that take little or fail.
-use crate::checks::check;
+use crate::checks::{again, check};
 use crate::samples::{Made, boxed, record_of, record_written, value_written, written};
 use serde_json::Value;
 use sourcemap::decoder::decode_regular;
@@ -101,16 +101,17 @@ fn by_moved_record(alloc: Global, text: &str) -> Result<String> {
 // By the value of a map of any kind that is lent, and of one that is given away.
 
 fn by_value(alloc: Global, text: &str) -> Result<String> {
-    value_written(alloc, decoded(alloc, text)?.to_value())
+    let map = decoded(alloc, text)?;
+    again(|| value_written(alloc, map.to_value()))
 }
 
 fn by_moved_value(alloc: Global, text: &str) -> Result<String> {
-    value_written(alloc, from_value(alloc, text)?.into_value())
+    let value = Value::from_str(alloc, text)?;
+    again(|| moved_written(alloc, DecodedMap::from_value(alloc, &value)))
 }
 
-fn from_value(alloc: Global, text: &str) -> Result<DecodedMap> {
-    let value = Value::from_str(alloc, text)?;
-    DecodedMap::from_value(alloc, &value)
+fn moved_written(alloc: Global, map: Result<DecodedMap>) -> Result<String> {
+    value_written(alloc, map?.into_value())
 }
 
 fn check_each_way(rt: &impl Abort, alloc: Global, about: &str, text: &str, want: &str) {

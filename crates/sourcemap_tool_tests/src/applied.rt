@@ -73,10 +73,11 @@ static REFUSED: [(&str, &str); 2] = [
 ];
 
 // Whether an index is refused for this reason.
-fn is_refused(answer: Result<String, Error>, want: &str) -> bool {
+fn is_refused(answer: Result<String, Error>, want: &str) -> Result<bool, Error> {
     match answer {
-        Err(Error::CannotFlatten(why)) => why.as_str() == want,
-        _ => false,
+        Err(Error::CannotFlatten(why)) => Ok(why.as_str() == want),
+        Err(Error::OutOfMemory) => Err(Error::OutOfMemory),
+        _ => Ok(false),
     }
 }
 
@@ -84,7 +85,7 @@ fn is_refused(answer: Result<String, Error>, want: &str) -> bool {
 fn flattening_is_applied(rt: HostRuntime) -> Result<(), Fail> {
     assert!(rt; is_text(flattened(&rt, TWO), FLAT)?);
     for (text, want) in REFUSED.iter() {
-        assert!(rt; is_refused(flattened(&rt, text), want), "{text}");
+        assert!(rt; is_refused(flattened(&rt, text), want)?, "{text}");
     }
     Ok(())
 }
@@ -138,8 +139,12 @@ fn composed(rt: &HostRuntime, text: &str, by: &str) -> Result<String, Error> {
     apply(rt, rt.alloc(), &command, map, Some(adjustment))
 }
 
-fn is_incompatible(answer: Result<String, Error>) -> bool {
-    matches!(answer, Err(Error::IncompatibleSourceMap))
+fn is_incompatible(answer: Result<String, Error>) -> Result<bool, Error> {
+    match answer {
+        Err(Error::IncompatibleSourceMap) => Ok(true),
+        Err(Error::OutOfMemory) => Err(Error::OutOfMemory),
+        _ => Ok(false),
+    }
 }
 
 #[test]
@@ -148,9 +153,9 @@ fn composing_is_applied(rt: HostRuntime) -> Result<(), Fail> {
         assert!(rt; is_text(composed(&rt, text, by), want)?, "{text} {by}");
     }
     for (text, by) in NOT_REGULAR.iter() {
-        assert!(rt; is_incompatible(composed(&rt, text, by)), "{text} {by}");
+        assert!(rt; is_incompatible(composed(&rt, text, by))?, "{text} {by}");
     }
     let (text, by) = PAST_THE_LAST_COLUMN;
-    assert!(rt; is_incompatible(composed(&rt, text, by)));
+    assert!(rt; is_incompatible(composed(&rt, text, by))?);
     Ok(())
 }

@@ -1,4 +1,5 @@
 // Runs of `compose FILE`: what is asked of a map and of the one in a file, printed and refused.
+use crate::memory::unless_out;
 use crate::runs::words_of;
 use crate::shelves::Shelf;
 use sourcemap_commands::program::{reply_to, run};
@@ -17,6 +18,7 @@ const ROWS: &str =
 {"file":"f","sources":["o.js"],"names":["n"],"sourcesContent":["x"],"sourceRoot":"r","ignoreList":[0],"mappings":"AAAAA"}|{"file":"g","sources":["t.js"],"names":["z"],"mappings":"EAAAA"}|0 {"file":"f","ignoreList":[0],"mappings":"EAAAA","names":["n"],"sourceRoot":"r","sources":["o.js"],"sourcesContent":["x"],"version":3}|opened
 {"sources":["o.js"],"mappings":"AAAA"}|{"sources":["t.js"],"mappings":"+/////HAAA"}|0 {"mappings":"+/////HAAA","names":[],"sources":["o.js"],"version":3}|opened
 {"sources":["o.js"],"mappings":"AAAA,CAAC"}|{"sources":["t.js"],"mappings":"+/////HAAA"}|1 encountered incompatible sourcemap format|opened
+{"sources":["o.js"],"mappings":"AAAA,KAAK"}|{"sources":["t.js"],"mappings":"AAAA,AAAK"}|0 {"mappings":"AAAA,AAAK","names":[],"sources":["o.js"],"version":3}|opened
 {"sections":[]}|{"sources":["t.js"],"mappings":"EAAA"}|1 encountered incompatible sourcemap format|opened
 {"sources":["o.js"],"mappings":"AAAA"}|{"sections":[]}|1 encountered incompatible sourcemap format|opened
 {"sections":[]}|{"sections":[]}|1 encountered incompatible sourcemap format|opened
@@ -57,8 +59,10 @@ fn row_of(line: &str) -> Result<Row<'_>, Fail> {
 fn shelf(text: &str) -> Shelf<'_> {
     Shelf {
         path: "a.map",
-        text,
+        bytes: text.as_bytes(),
         left: None,
+        kind: ErrorKind::BrokenPipe,
+        is_shut: false,
         is_opened: Cell::new(false),
     }
 }
@@ -87,6 +91,7 @@ fn is_run(
 ) -> Result<bool, Fail> {
     let mut output = Vec::new(rt.alloc());
     let ended = run(files, rt.alloc(), words, &mut input.as_bytes(), &mut output)?;
+    unless_out(ended, output.as_slice())?;
     Ok(ended == status && is_line(output.as_slice(), text))
 }
 

@@ -1,4 +1,5 @@
 // Readers and writers that fail, and what is told of faults beside the output.
+use crate::memory::{unless_cut_out, unless_out};
 use crate::runs::{MAP, USAGE, words_of};
 use sourcemap::{Error, decode};
 use sourcemap_commands::program::run;
@@ -52,6 +53,7 @@ fn slow(left: Option<usize>) -> SlowReader<'static> {
 fn is_refused(rt: &HostRuntime, words: &[String], left: usize) -> Result<bool, Fail> {
     let mut output = Vec::new(rt.alloc());
     let status = run(rt, rt.alloc(), words, &mut slow(Some(left)), &mut output)?;
+    unless_out(status, output.as_slice())?;
     Ok(status == 1 && output.as_slice() == "broken pipe\n".as_bytes())
 }
 
@@ -67,11 +69,18 @@ fn a_run_on_a_reader_that_fails_is_refused(rt: HostRuntime) -> Result<(), Fail> 
     Ok(())
 }
 
+// Whether the error of a reader that fails after so many bytes is that of its read.
+fn is_read_error(rt: &HostRuntime, left: usize) -> Result<bool, Error> {
+    match decode(rt.alloc(), slow(Some(left))) {
+        Err(Error::OutOfMemory) => Err(Error::OutOfMemory),
+        decoded => Ok(matches!(decoded, Err(Error::Io(_)))),
+    }
+}
+
 #[test]
 fn a_reader_that_fails_is_not_decoded(rt: HostRuntime) -> Result<(), Fail> {
     for left in 0..=MAP.len() {
-        let decoded = decode(rt.alloc(), slow(Some(left)));
-        assert!(rt; matches!(decoded, Err(Error::Io(_))), "after {left} bytes");
+        assert!(rt; is_read_error(&rt, left)?, "after {left} bytes");
     }
     Ok(())
 }
@@ -80,11 +89,13 @@ fn a_reader_that_fails_is_not_decoded(rt: HostRuntime) -> Result<(), Fail> {
 // that takes less than all of it and is flushed, which then holds what it took.
 fn is_written(rt: &HostRuntime, words: &[String], want: &[u8]) -> Result<bool, Fail> {
     let mut output = narrow(rt, None);
-    let _status = run(rt, rt.alloc(), words, &mut slow(None), &mut output)?;
+    let status = run(rt, rt.alloc(), words, &mut slow(None), &mut output)?;
+    unless_out(status, output.held.as_slice())?;
     let mut is_so = output.held.as_slice() == want;
     for left in 0..=want.len() {
         let mut output = narrow(rt, Some(left));
         let ended = run(rt, rt.alloc(), words, &mut slow(None), &mut output);
+        unless_cut_out(&ended, output.held.as_slice())?;
         is_so &= matches!(ended, Err(Error::Io(_))) & (output.held.as_slice() == &want[..left]);
     }
     Ok(is_so)
@@ -107,6 +118,9 @@ fn is_told(rt: &HostRuntime, fault: &Error, want: &[u8]) -> Result<bool, Fail> {
     for left in 0..want.len() {
         let mut faults = narrow(rt, Some(left));
         let told = tell(fault, &mut faults);
+        if matches!(told, Err(Error::OutOfMemory)) {
+            return Err(Error::OutOfMemory.into());
+        }
         is_so &= told.is_err() & (faults.held.as_slice() == &want[..left]);
     }
     Ok(is_so)

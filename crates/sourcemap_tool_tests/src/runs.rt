@@ -1,4 +1,5 @@
 // Runs of the program: what is asked, printed and refused.
+use crate::memory::unless_out;
 use sourcemap::decode_slice;
 use sourcemap_commands::command::{Command, parse_words};
 use sourcemap_commands::program::{apply, reply_to, run};
@@ -31,6 +32,10 @@ lookup 0 0|{"mappings":"A!"}|1 invalid base64 character: !
 lookup 0 0|{"mappings":"A","rangeMappings":"!"}|1 invalid base64 character: !
 lookup 0 0|{"sources":["a.js"],"mappings":"ggggggggggggI"}|1 vlq decode caused an overflow
 lookup 0 0|{"sources":["a.js"],"mappings":"g"}|1 leftover cur/shift in vlq decode
+lookup 0 0|{"mappings":"gggggggggggggA"}|1 vlq decode caused an overflow
+lookup 0 0|{"mappings":"Aé"}|1 invalid base64 character: Ã
+lookup 0 0|{"mappings":"A","rangeMappings":"é"}|1 invalid base64 character: Ã
+lookup 0 0|{"mappings":";,;,"}|0 none
 lookup 0 0|{"sections":[]}|0 none
 lookup 10 4|TWO|0 b.js:0:0
 lookup 10 9|TWO|0 b.js:0:0
@@ -38,10 +43,14 @@ lookup 10 3|TWO|0 a.js:0:0
 lookup 0 0|{"x_facebook_sources":[]}|0 none
 lookup 0 9|HERMES|0 b.js:0:0
 tokens|{"sources":["a.js"],"mappings":"AAAO","rangeMappings":"B"}|0 0:0 a.js:0:7 range
+tokens|{"sources":["a.js"],"mappings":"AADA"}|0 0:0 a.js:4294967295:0
+tokens|{"mappings":"ggggggggggggH"}|0 0:0 <unknown>:4294967295:4294967295
 tokens|{"sections":[]}|1 encountered incompatible sourcemap format
 tokens|HERMES|0 0:0 b.js:0:0
 rewrite|MAP|0 {"mappings":"AAAA,GAAIA,GAAI,EACR,IAAIA,GAAK,EAAG,CACVC,MAAM","names":["x","alert"],"sources":["coolstuff.js"],"version":3}
 rewrite|{"sources":["a.js","b.js"],"sourcesContent":["x","y"],"mappings":"ACAA","sourceRoot":"r"}|0 {"mappings":"AAAA","names":[],"sources":["r/b.js"],"sourcesContent":["y"],"version":3}
+rewrite|{"sources":["a.js"],"mappings":"AADA"}|0 {"mappings":"AA+/////HA","names":[],"sources":["a.js"],"version":3}
+rewrite|{"mappings":"D,C","rangeMappings":"B"}|0 {"mappings":"A,+/////H","names":[],"rangeMappings":"C","sources":[],"version":3}
 rewrite|{"sections":[]}|1 encountered incompatible sourcemap format
 rewrite|HERMES|0 {"mappings":"AAAA","names":[],"sources":["b.js"],"version":3,"x_facebook_sources":[[{"mappings":"AAA","names":["f"]}]]}
 rewrite|{"sources":["a.js","b.js"],"mappings":"ACAA","x_facebook_sources":[]}|0 {"mappings":"AAAA","names":[],"sources":["b.js"],"version":3,"x_facebook_sources":[null]}
@@ -116,8 +125,8 @@ pub fn words_of(alloc: Global, line: &str) -> Result<Vec<String>, AllocError> {
     Ok(words)
 }
 
-// Whether a run on a reader prints this text, ends with this status and leaves so much of its input.
-fn is_run(
+/// Whether a run on a reader prints this text, ends with this status and leaves so much of its input.
+pub fn is_run(
     rt: &HostRuntime,
     words: &[String],
     input: &str,
@@ -128,6 +137,7 @@ fn is_run(
     let mut rest = input.as_bytes();
     let mut output = Vec::new(rt.alloc());
     let ended = run(rt, rt.alloc(), words, &mut rest, &mut output)?;
+    unless_out(ended, output.as_slice())?;
     Ok((ended, rest.len()) == (status, left) && output.as_slice() == text.as_bytes())
 }
 

@@ -8,11 +8,12 @@ use std::io;
 use std::io::{ErrorKind, Read, Seek, SeekFrom, Write};
 use std::rt::Files;
 
-// What a file gives: its bytes, one a read, and a fault once so many were given.
+// What a file gives: its bytes, one a read, and an error of this kind once so many were given.
 #[derive(Drop)]
 pub struct Page<'a> {
     pub rest: &'a [u8],
     pub left: Option<usize>,
+    pub kind: ErrorKind,
 }
 
 fn unsupported<T>() -> io::Result<T>
@@ -24,7 +25,7 @@ fn unsupported<T>() -> io::Result<T>
 impl Read for Page<'_> {
     fn read(&mut self, buf: &mut [u8]) -> io::Result<usize> {
         if self.left == Some(0) {
-            return Err(io::Error::from(ErrorKind::BrokenPipe));
+            return Err(io::Error::from(self.kind));
         }
         self.left = self.left.map(|left| left.saturating_sub(1));
         match (self.rest, buf.first_mut()) {
@@ -72,12 +73,15 @@ impl OpenFile for Page<'_> {
     }
 }
 
-// The file system: the file's path, its text, after how many bytes it fails.
+// The file system: the file's path, its bytes, after how many of them it fails, with which kind, and
+// whether it fails so where it is opened.
 #[derive(Drop)]
 pub struct Shelf<'a> {
     pub path: &'a str,
-    pub text: &'a str,
+    pub bytes: &'a [u8],
     pub left: Option<usize>,
+    pub kind: ErrorKind,
+    pub is_shut: bool,
     pub is_opened: Cell<bool>,
 }
 
@@ -91,9 +95,13 @@ impl<'a> Files for Shelf<'a> {
         if path != self.path {
             return Err(io::Error::from(ErrorKind::NotFound));
         }
+        if self.is_shut {
+            return Err(io::Error::from(self.kind));
+        }
         Ok(Page {
-            rest: self.text.as_bytes(),
+            rest: self.bytes,
             left: self.left,
+            kind: self.kind,
         })
     }
 

@@ -1,9 +1,11 @@
 // Lists of positions, answered by the call and by runs of `trace FILE`.
+use crate::memory::unless_out;
 use crate::runs::{MAP, TWO, words_of};
 use crate::shelves::Shelf;
-use sourcemap::{Error, decode_slice};
+use sourcemap::{DecodedMap, Error, decode_slice};
 use sourcemap_commands::program::{reply_to, run};
 use sourcemap_trace::trace_text;
+use std::alloc::Global;
 use std::cell::Cell;
 use std::io;
 use std::io::ErrorKind;
@@ -93,9 +95,17 @@ static TRACES: [(&str, &str, &str); 21] = [
     ),
 ];
 
+// The answers of a map, which is asked again where memory runs out.
+fn traced_twice(alloc: Global, map: &DecodedMap, positions: &[u8]) -> Result<String, Error> {
+    match trace_text(alloc, map, positions) {
+        Err(Error::OutOfMemory) => trace_text(alloc, map, positions),
+        answer => answer,
+    }
+}
+
 fn traced(rt: &HostRuntime, map: &str, positions: &[u8]) -> Result<String, Error> {
     let map = decode_slice(rt.alloc(), map.as_bytes())?;
-    trace_text(rt.alloc(), &map, positions)
+    traced_twice(rt.alloc(), &map, positions)
 }
 
 // Whether a list of positions has these answers.
@@ -124,12 +134,12 @@ fn positions_are_answered(rt: HostRuntime) -> Result<(), Fail> {
 
 #[test]
 fn long_lines_and_many_are_answered(rt: HostRuntime) -> Result<(), Fail> {
-    let zeros = "0".repeat(rt.alloc(), 1_000_000)?;
+    let zeros = "0".repeat(rt.alloc(), 10_000_000)?;
     let line = format!(in rt.alloc(); "{zeros}:5")?;
     assert!(rt; is_traced(&rt, MAP, line.as_bytes(), "coolstuff.js:0:4 name=x\n")?);
     assert!(rt; is_traced(&rt, MAP, zeros.as_bytes(), "bad position\n")?);
-    let newlines = "\n".repeat(rt.alloc(), 100_000)?;
-    let answers = "bad position\n".repeat(rt.alloc(), 100_000)?;
+    let newlines = "\n".repeat(rt.alloc(), 1_000_000)?;
+    let answers = "bad position\n".repeat(rt.alloc(), 1_000_000)?;
     assert!(rt; is_traced(&rt, MAP, newlines.as_bytes(), answers.as_str())?);
     Ok(())
 }
@@ -138,8 +148,10 @@ fn long_lines_and_many_are_answered(rt: HostRuntime) -> Result<(), Fail> {
 fn shelf(text: &str) -> Shelf<'_> {
     Shelf {
         path: "a.txt",
-        text,
+        bytes: text.as_bytes(),
         left: None,
+        kind: ErrorKind::BrokenPipe,
+        is_shut: false,
         is_opened: Cell::new(false),
     }
 }
@@ -155,6 +167,7 @@ fn is_run(
 ) -> Result<bool, Fail> {
     let mut output = Vec::new(rt.alloc());
     let ended = run(files, rt.alloc(), words, &mut map.as_bytes(), &mut output)?;
+    unless_out(ended, output.as_slice())?;
     Ok(ended == status && output.as_slice() == text.as_bytes())
 }
 

@@ -1,0 +1,68 @@
+//! The calls that can be measured, and the words that ask for them.
+
+/// What is called.
+#[derive(Clone, Copy, Debug, PartialEq, Eq)]
+pub enum Call {
+    /// `walk`: `SourceView::rev_token_iter` from the last token of the map on the first line, in the
+    /// text after it.
+    Walk,
+    /// `view`: a view of the text, and its lines.
+    View,
+    /// `locate`: `locate_sourcemap_reference_slice`.
+    Locate,
+    /// `locate-reader`: `locate_sourcemap_reference`.
+    LocateReader,
+    /// `locate-view`: `SourceView::sourcemap_reference`.
+    LocateView,
+    /// `resolve`: the reference that is located, resolved against a URL.
+    Resolve,
+    /// `resolve-path`: the same against a path.
+    ResolvePath,
+    /// `data-url`: `decode_data_url`.
+    DataUrl,
+    /// `embedded`: `SourceMapRef::get_embedded_sourcemap`.
+    Embedded,
+    /// `detect`: `is_sourcemap_slice`.
+    Detect,
+    /// `detect-reader`: `is_sourcemap`.
+    DetectReader,
+    /// `relative`: `make_relative_path` from the first line to what follows.
+    Relative,
+    /// `prefix`: `find_common_prefix` of all lines.
+    Prefix,
+    /// `builder`: a token with a source and a name of its own for each line.
+    Builder,
+    /// `intern`: `Interner::add` of each line.
+    Intern,
+    /// `bundle`: all modules of a RAM bundle, and its startup code.
+    Bundle,
+    /// `nest`: so many indexes in one another, copied, asked, flattened and dropped.
+    Nest,
+}
+
+/// The call that the words ask for, none for other words.
+pub fn parse_words(words: &[String]) -> Option<Call> {
+    let [word] = words else {
+        return None;
+    };
+    match word.as_str() {
+        "walk" => Some(Call::Walk),
+        "view" => Some(Call::View),
+        "locate" => Some(Call::Locate),
+        "locate-reader" => Some(Call::LocateReader),
+        "locate-view" => Some(Call::LocateView),
+        "resolve" => Some(Call::Resolve),
+        "resolve-path" => Some(Call::ResolvePath),
+        "data-url" => Some(Call::DataUrl),
+        "embedded" => Some(Call::Embedded),
+        "detect" => Some(Call::Detect),
+        "detect-reader" => Some(Call::DetectReader),
+        "relative" => Some(Call::Relative),
+        "prefix" => Some(Call::Prefix),
+        "builder" => Some(Call::Builder),
+        "intern" => Some(Call::Intern),
+        "bundle" => Some(Call::Bundle),
+        "nest" => Some(Call::Nest),
+        _ => None,
+    }
+}

@@ -1,0 +1,63 @@
+//! Makes one call over what standard input holds, so that its time and memory can be measured.
+#![tactic(auto)]
+
+mod call;
+mod indexes;
+mod paths;
+mod references;
+mod tables;
+mod views;
+
+use call::{Call, parse_words};
+use sourcemap::Result;
+use std::alloc::Global;
+use std::env;
+use std::io::Read;
+use std::process::ExitCode;
+
+const USAGE: &str =
+    "usage: walk | view | locate | locate-reader | locate-view | resolve | resolve-path | relative | prefix | data-url | embedded | detect | detect-reader | builder | intern | bundle | nest";
+
+// A size of what the call returns, so that it is not left out.
+fn size_of(alloc: Global, call: Call, bytes: &[u8]) -> Result<usize> {
+    match call {
+        Call::Walk => views::walked(alloc, bytes),
+        Call::View => views::viewed(alloc, bytes),
+        Call::Locate => references::located(alloc, bytes),
+        Call::LocateReader => references::located_by_reader(alloc, bytes),
+        Call::LocateView => references::located_by_view(alloc, bytes),
+        Call::Resolve => references::resolved(alloc, bytes),
+        Call::ResolvePath => references::resolved_path(alloc, bytes),
+        Call::DataUrl => references::decoded(alloc, bytes),
+        Call::Embedded => references::embedded(alloc, bytes),
+        Call::Detect => references::detected(alloc, bytes),
+        Call::DetectReader => references::detected_by_reader(alloc, bytes),
+        Call::Relative => paths::relative(alloc, bytes),
+        Call::Prefix => paths::prefix(alloc, bytes),
+        Call::Builder => tables::built(alloc, bytes),
+        Call::Intern => tables::interned(alloc, bytes),
+        Call::Bundle => tables::modules(bytes),
+        Call::Nest => indexes::nested(alloc, bytes),
+    }
+}
+
+fn main(rt: HostRuntime) -> Result<ExitCode> {
+    let alloc = rt.alloc();
+    let words: Vec<String> = env::args(&rt)?.skip(1).collect(alloc)?;
+    let Some(call) = parse_words(words.as_slice()) else {
+        println!(rt; "{USAGE}")?;
+        return Ok(ExitCode::from(2));
+    };
+    let mut bytes = Vec::new(alloc);
+    rt.reader().read_to_end(&mut bytes)?;
+    match size_of(alloc, call, bytes.as_slice()) {
+        Ok(size) => {
+            println!(rt; "{size}")?;
+            Ok(ExitCode::SUCCESS)
+        }
+        Err(error) => {
+            println!(rt; "{error}")?;
+            Ok(ExitCode::FAILURE)
+        }
+    }
+}

@@ -1,0 +1,20 @@
+//! Paths from one file to another, and what paths have in common.
+
+use sourcemap::Result;
+use sourcemap::utils::{find_common_prefix, make_relative_path};
+use std::alloc::Global;
+use std::str;
+
+/// The length of the path from the first line to what follows it.
+pub fn relative(alloc: Global, bytes: &[u8]) -> Result<usize> {
+    let text = str::from_utf8(bytes)?;
+    let (base, target) = text.split_once('\n').unwrap_or((text, text));
+    let path = make_relative_path(alloc, base, target)?;
+    Ok(path.len())
+}
+
+/// The length of the path that all lines have in common.
+pub fn prefix(alloc: Global, bytes: &[u8]) -> Result<usize> {
+    let common = find_common_prefix(alloc, str::from_utf8(bytes)?.lines())?;
+    Ok(common.map_or(0, |path| path.len()))
+}

@@ -1,0 +1,363 @@
+// File bundles in a file system that fails.
+ghost use Rattle.std.specs.Prelude.{IsErr};
+
+use crate::answers::bundle_text;
+use crate::checks::check;
+use sourcemap_bundles::ram_bundle::{RamBundle, is_unbundle_path};
+use sourcemap_errors::errors::{Error, Result};
+use std::alloc::{Allocator, Global};
+use std::fs::{Metadata, OpenFile, OpenOptions};
+use std::io;
+use std::io::{ErrorKind, Read, Seek, SeekFrom, Write};
+use std::rt::Files;
+
+// What is asked of a path.
+#[derive(Clone, Copy, PartialEq, Eq)]
+enum Step {
+    Metadata,
+    Open,
+    Read,
+}
+
+// A file system with the startup code `m.js`, the marker, and files of these names, each ended by a
+// zero byte; of them `9.js` is a link. One step fails at one path.
+#[derive(Drop)]
+struct Disk<'a> {
+    names: &'a [u8],
+    step: Step,
+    path: &'a str,
+    kind: ErrorKind,
+}
+
+impl Disk<'_> {
+    // Whether this step fails at this path.
+    fn fails(&self, step: Step, path: &str) -> bool {
+        step == self.step && path == self.path
+    }
+
+    // What is read of a path.
+    fn page<'b>(&self, path: &str, bytes: &'b [u8]) -> io::Result<Page<'b>> {
+        if self.fails(Step::Open, path) {
+            return Err(io::Error::from(self.kind));
+        }
+        let fault = if self.fails(Step::Read, path) {
+            Some(self.kind)
+        } else {
+            None
+        };
+        Ok(Page { bytes, fault })
+    }
+}
+
+// Bytes, or a fault in their place.
+#[derive(Drop)]
+struct Page<'a> {
+    bytes: &'a [u8],
+    fault: Option<ErrorKind>,
+}
+
+impl Read for Page<'_> {
+    fn read(&mut self, buf: &mut [u8]) -> io::Result<usize> {
+        if let Some(kind) = self.fault {
+            return Err(io::Error::from(kind));
+        }
+        let mut rest = self.bytes;
+        let count = rest.read(buf)?;
+        self.bytes = rest;
+        Ok(count)
+    }
+}
+
+impl Write for Page<'_> {
+    fn write(&mut self, _buf: &[u8]) -> io::Result<usize> {
+        unsupported()
+    }
+
+    fn flush(&mut self) -> io::Result<()> {
+        unsupported()
+    }
+}
+
+impl Seek for Page<'_> {
+    fn seek(&mut self, _to: SeekFrom) -> io::Result<u64> {
+        unsupported()
+    }
+}
+
+impl OpenFile for Page<'_> {
+    fn metadata(&self) -> io::Result<Metadata> {
+        unsupported()
+    }
+
+    fn set_len(&self, _size: u64) -> io::Result<()> {
+        unsupported()
+    }
+
+    fn sync_all(&self) -> io::Result<()> {
+        unsupported()
+    }
+
+    fn sync_data(&self) -> io::Result<()> {
+        unsupported()
+    }
+}
+
+fn unsupported<T>() -> io::Result<T>
+    ensures { IsErr result }
+{
+    Err(io::Error::from(ErrorKind::Unsupported))
+}
+
+impl<'a> Files for Disk<'a> {
+    type File = Page<'a>;
+
+    type Dir = Page<'a>;
+
+    fn open_file(&self, how: &OpenOptions, path: &str) -> io::Result<Page<'a>> {
+        how.check()?;
+        match path {
+            "js-modules/UNBUNDLE" => self.page(path, b"\xe5\xd1\x0b\xfb"),
+            _ => self.page(path, b"x"),
+        }
+    }
+
+    fn open_dir(&self, path: &str) -> io::Result<Page<'a>> {
+        self.page(path, self.names)
+    }
+
+    fn metadata(&self, path: &str) -> io::Result<Metadata> {
+        if self.fails(Step::Metadata, path) {
+            return Err(io::Error::from(self.kind));
+        }
+        Ok(Metadata::of_file(1))
+    }
+
+    fn symlink_metadata(&self, path: &str) -> io::Result<Metadata> {
+        if self.fails(Step::Metadata, path) {
+            return Err(io::Error::from(self.kind));
+        }
+        match path {
+            "js-modules/9.js" => Ok(Metadata::of_symlink(1)),
+            _ => Ok(Metadata::of_file(1)),
+        }
+    }
+
+    fn copy(&self, _from: &str, _to: &str) -> io::Result<u64> {
+        unsupported()
+    }
+
+    fn rename(&self, _from: &str, _to: &str) -> io::Result<()> {
+        unsupported()
+    }
+
+    fn remove_file(&self, _path: &str) -> io::Result<()> {
+        unsupported()
+    }
+
+    fn create_dir(&self, _path: &str) -> io::Result<()> {
+        unsupported()
+    }
+
+    fn remove_dir(&self, _path: &str) -> io::Result<()> {
+        unsupported()
+    }
+
+    fn remove_dir_all<B: Allocator>(&self, _alloc: B, _path: &str) -> io::Result<()> {
+        unsupported()
+    }
+}
+
+// What an error prints, and the kind of one of files.
+fn fault_text(alloc: Global, fault: Error) -> Result<String> {
+    match fault {
+        Error::Io(cause) => Ok(format!(in alloc; "{:?}", cause.kind())?),
+        other => Ok(format!(in alloc; "{other}")?),
+    }
+}
+
+fn read_text(alloc: Global, disk: &Disk<'_>) -> Result<String> {
+    match RamBundle::parse_unbundle_from_path(disk, alloc, "m.js") {
+        Ok(bundle) => bundle_text(alloc, &bundle),
+        Err(fault) => fault_text(alloc, fault),
+    }
+}
+
+fn is_bundle_text(alloc: Global, disk: &Disk<'_>) -> Result<String> {
+    match is_unbundle_path(disk, alloc, "m.js") {
+        Ok(is_bundle) => Ok(format!(in alloc; "{is_bundle}")?),
+        Err(fault) => fault_text(alloc, fault),
+    }
+}
+
+// What a row is about, the names, and which step fails at which path; whether there is a bundle, and
+// all that it answers, where the file system refuses, and where it has no memory.
+struct Row {
+    about: &'static str,
+    names: &'static [u8],
+    step: Step,
+    path: &'static str,
+    refused: &'static str,
+    no_memory: &'static str,
+}
+
+fn asked(alloc: Global, row: &Row, kind: ErrorKind) -> Result<String> {
+    let disk = Disk {
+        names: row.names,
+        step: row.step,
+        path: row.path,
+        kind,
+    };
+    let is_bundle = is_bundle_text(alloc, &disk)?;
+    let answer = read_text(alloc, &disk)?;
+    Ok(format!(in alloc; "{is_bundle}, {answer}")?)
+}
+
+static ROWS: [Row; 17] = [
+    Row {
+        about: "nothing fails, and a link is no plain file",
+        names: b"9.js\02.js\0UNBUNDLE\00.js\0",
+        step: Step::Open,
+        path: "",
+        refused: "true, Unbundle 3 [x] 0=x 2=x",
+        no_memory: "true, Unbundle 3 [x] 0=x 2=x",
+    },
+    Row {
+        about: "nothing fails, and a link is not read",
+        names: b"9.js\0",
+        step: Step::Open,
+        path: "js-modules/9.js",
+        refused: "true, Unbundle 1 [x]",
+        no_memory: "true, Unbundle 1 [x]",
+    },
+    Row {
+        about: "a name that is not UTF-8",
+        names: b"0.js\0\xff.js\0",
+        step: Step::Open,
+        path: "",
+        refused: "true, InvalidFilename",
+        no_memory: "true, InvalidFilename",
+    },
+    Row {
+        about: "all names are listed before one is refused",
+        names: b"+.js\0\xff\0",
+        step: Step::Open,
+        path: "",
+        refused: "true, InvalidFilename",
+        no_memory: "true, InvalidFilename",
+    },
+    Row {
+        about: "whether there is startup code",
+        names: b"0.js\0",
+        step: Step::Metadata,
+        path: "m.js",
+        refused: "false, not a ram bundle",
+        no_memory: "out of memory, out of memory",
+    },
+    Row {
+        about: "opening the startup code",
+        names: b"\xff\0",
+        step: Step::Open,
+        path: "m.js",
+        refused: "true, PermissionDenied",
+        no_memory: "true, out of memory",
+    },
+    Row {
+        about: "reading the startup code",
+        names: b"\xff\0",
+        step: Step::Read,
+        path: "m.js",
+        refused: "true, PermissionDenied",
+        no_memory: "true, out of memory",
+    },
+    Row {
+        about: "whether there is a marker",
+        names: b"0.js\0",
+        step: Step::Metadata,
+        path: "js-modules/UNBUNDLE",
+        refused: "false, not a ram bundle",
+        no_memory: "out of memory, out of memory",
+    },
+    Row {
+        about: "opening the marker",
+        names: b"0.js\0",
+        step: Step::Open,
+        path: "js-modules/UNBUNDLE",
+        refused: "false, not a ram bundle",
+        no_memory: "out of memory, out of memory",
+    },
+    Row {
+        about: "reading the marker",
+        names: b"0.js\0",
+        step: Step::Read,
+        path: "js-modules/UNBUNDLE",
+        refused: "false, not a ram bundle",
+        no_memory: "out of memory, out of memory",
+    },
+    Row {
+        about: "opening the folder",
+        names: b"0.js\0",
+        step: Step::Open,
+        path: "js-modules/",
+        refused: "true, PermissionDenied",
+        no_memory: "true, out of memory",
+    },
+    Row {
+        about: "reading the folder",
+        names: b"0.js\0",
+        step: Step::Read,
+        path: "js-modules/",
+        refused: "true, PermissionDenied",
+        no_memory: "true, out of memory",
+    },
+    Row {
+        about: "whether a name is that of a plain file",
+        names: b"0.js\0",
+        step: Step::Metadata,
+        path: "js-modules/0.js",
+        refused: "true, PermissionDenied",
+        no_memory: "true, out of memory",
+    },
+    Row {
+        about: "opening a module",
+        names: b"0.js\0",
+        step: Step::Open,
+        path: "js-modules/0.js",
+        refused: "true, PermissionDenied",
+        no_memory: "true, out of memory",
+    },
+    Row {
+        about: "reading a module",
+        names: b"0.js\0",
+        step: Step::Read,
+        path: "js-modules/0.js",
+        refused: "true, PermissionDenied",
+        no_memory: "true, out of memory",
+    },
+    Row {
+        about: "a name is refused before a later file is read",
+        names: b"1.js\0+.js\0",
+        step: Step::Open,
+        path: "js-modules/1.js",
+        refused: "true, invalid module index in ram bundle",
+        no_memory: "true, invalid module index in ram bundle",
+    },
+    Row {
+        about: "a file is read before a later name is refused",
+        names: b"x\01.js\0",
+        step: Step::Open,
+        path: "js-modules/1.js",
+        refused: "true, PermissionDenied",
+        no_memory: "true, out of memory",
+    },
+];
+
+#[test]
+fn folders_that_fail(rt: HostRuntime) {
+    let alloc = rt.alloc();
+    for row in &ROWS {
+        let refused = asked(alloc, row, ErrorKind::PermissionDenied);
+        check(&rt, row.about, refused, row.refused);
+        let no_memory = asked(alloc, row, ErrorKind::OutOfMemory);
+        check(&rt, row.about, no_memory, row.no_memory);
+    }
+}

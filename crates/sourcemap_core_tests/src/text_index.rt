@@ -1,0 +1,90 @@
+//! Numbers of texts, also of texts that collide.
+use crate::checks::check;
+use sourcemap_core::errors::Result;
+use sourcemap_interning::text_index::TextIndex;
+use std::alloc::Global;
+
+// How many texts an index holds at most.
+const MOST: usize = 4294967295;
+
+static TEXTS: [&str; 7] = ["b", "a", "b", "", "ab", "a", ""];
+
+// The number of each text, and behind them how many texts there are.
+fn numbers(alloc: Global, texts: &[&str]) -> Result<String> {
+    let mut index = TextIndex::new(alloc)?;
+    let mut answer = String::new(alloc);
+    for text in texts {
+        if index.len() < MOST {
+            let number = index.number_of(*text)?;
+            write!(answer, "{number} ")?;
+        }
+    }
+    write!(answer, "of {}", index.len())?;
+    Ok(answer)
+}
+
+#[test]
+fn numbers_texts_by_their_first_use(rt: HostRuntime) {
+    check(
+        &rt,
+        "equal texts",
+        numbers(rt.alloc(), &TEXTS),
+        "0 1 0 2 3 1 2 of 4",
+    );
+}
+
+// So many texts that differ in eight digits.
+fn made(alloc: Global, start: &str, end: &str, count: usize) -> Result<Vec<String>> {
+    let mut texts = Vec::new(alloc);
+    for number in 0..count {
+        texts.push(format!(in alloc; "{start}{number:08}{end}")?)?;
+    }
+    Ok(texts)
+}
+
+// How many of these texts, from the first on, get their own place as number.
+fn placed<'a>(index: &mut TextIndex<'a>, texts: &'a [String]) -> Result<usize> {
+    for (place, text) in texts.iter().enumerate() {
+        if index.len() >= MOST {
+            return Ok(place);
+        }
+        if index.number_of(text.as_str())? as usize != place {
+            return Ok(place);
+        }
+    }
+    Ok(texts.len())
+}
+
+// The same when they are entered, and when they are asked for again; whether the last one
+// is there, and a text that was not entered.
+fn numbered(alloc: Global, start: &str, end: &str, count: usize) -> Result<String> {
+    let texts = made(alloc, start, end, count)?;
+    let other = format!(in alloc; "{start}{:08}{end}", count)?;
+    let mut index = TextIndex::new(alloc)?;
+    let first = placed(&mut index, texts.as_slice())?;
+    let again = placed(&mut index, texts.as_slice())?;
+    let is_there = match texts.last() {
+        Some(text) => index.contains(text.as_str()),
+        None => false,
+    };
+    let is_other = index.contains(other.as_str());
+    Ok(format!(in alloc; "{first} {again} {is_there} {is_other}")?)
+}
+
+#[test]
+fn numbers_many_texts(rt: HostRuntime) {
+    let answer = numbered(rt.alloc(), "name", "", 3000);
+    check(&rt, "usual texts", answer, "3000 3000 true false");
+}
+
+// All of these have one hash: bench/colliding.py writes them.
+#[test]
+fn numbers_texts_that_collide(rt: HostRuntime) {
+    let answer = numbered(
+        rt.alloc(),
+        "webpack:00000019v}kzYA]7",
+        "/src/app/file.js",
+        300,
+    );
+    check(&rt, "texts that collide", answer, "300 300 true false");
+}

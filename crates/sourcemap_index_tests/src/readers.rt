@@ -1,0 +1,138 @@
+// Readers that give a byte a read, are interrupted before each and fail, for maps of each kind.
+use crate::checks::{again, check, fault_told};
+use crate::lookups::token_told;
+use crate::maps::{boxed, map_of};
+use sourcemap::SourceMapHermes;
+use sourcemap::decoder::decode;
+use sourcemap::errors::{Error, Result};
+use sourcemap::types::{DecodedMap, SourceMap, SourceMapIndex};
+use sourcemap_test_writers::HaltingReader;
+use std::alloc::Global;
+use std::io::ErrorKind;
+
+const REGULAR: &str = r#"{"sources":["a.js"],"mappings":"AAAA"}"#;
+
+const HERMES: &str = r#"{"sources":["a.js"],"mappings":"AAAA","x_facebook_sources":[null]}"#;
+
+const INDEX: &str =
+    r#"{"sections":[{"offset":{"line":0,"column":0},"map":{"sources":["a.js"],"mappings":"AAAA"}}]}"#;
+
+// A text, and whether it is a map; each is also read behind a junk header.
+static TEXTS: [&str; 4] = [
+    REGULAR,
+    HERMES,
+    INDEX,
+    concat!(")]}'\r\n", r#"{"sources":["a.js"],"mappings":"AAAA"}"#),
+];
+
+// A reader of these bytes, which fails after so many reads.
+fn halting(text: &str, reads: usize, kind: ErrorKind) -> HaltingReader<'_> {
+    HaltingReader::new(text.as_bytes(), reads, kind)
+}
+
+// What a map prints at the place 0:0, or its error.
+fn place_told(alloc: Global, map: Result<Box<DecodedMap>>) -> Result<String> {
+    match map {
+        Ok(map) => token_told(alloc, map.lookup_token(0, 0)),
+        error => fault_told(alloc, error),
+    }
+}
+
+fn decoded(alloc: Global, text: &str, reads: usize) -> Result<String> {
+    let reader = halting(text, reads, ErrorKind::TimedOut);
+    place_told(alloc, boxed(alloc, decode(alloc, reader)))
+}
+
+fn is_as_from_slice(alloc: Global, map: &DecodedMap, text: &str) -> Result<bool> {
+    Ok(*map_of(alloc, text)? == *map)
+}
+
+// Whether a reader of a text is read as its bytes are.
+fn is_read_alike(alloc: Global, text: &str) -> Result<String> {
+    let reader = halting(text, usize::MAX, ErrorKind::TimedOut);
+    let map = boxed(alloc, DecodedMap::from_reader(alloc, reader))?;
+    Ok(format!(in alloc; "{}", is_as_from_slice(alloc, &*map, text)?)?)
+}
+
+#[test]
+fn maps_are_read_byte_by_byte(rt: HostRuntime) {
+    let alloc = rt.alloc();
+    for text in TEXTS.iter() {
+        check(&rt, text, again(|| is_read_alike(alloc, text)), "true");
+        check(
+            &rt,
+            text,
+            again(|| decoded(alloc, text, usize::MAX)),
+            "a.js:0:0",
+        );
+    }
+}
+
+#[test]
+fn each_read_may_fail(rt: HostRuntime) {
+    for text in TEXTS.iter() {
+        for reads in 0..=text.len() {
+            check(&rt, text, decoded(rt.alloc(), text, reads), "timed out");
+        }
+    }
+}
+
+// The calls that read a map of one kind.
+#[derive(Clone, Copy)]
+enum Kind {
+    Regular,
+    Hermes,
+    Index,
+}
+
+// The error of a reader that fails after so many reads.
+fn error_of(alloc: Global, kind: Kind, text: &str, reads: usize) -> Result<String> {
+    let reader = halting(text, reads, ErrorKind::TimedOut);
+    match kind {
+        Kind::Regular => fault_told(alloc, SourceMap::from_reader(alloc, reader)),
+        Kind::Hermes => fault_told(alloc, SourceMapHermes::from_reader(alloc, reader)),
+        Kind::Index => fault_told(alloc, SourceMapIndex::from_reader(alloc, reader)),
+    }
+}
+
+// A kind of maps, the text of one, and that of a map of another kind.
+static KINDS: [(Kind, &str, &str); 3] = [
+    (Kind::Regular, REGULAR, INDEX),
+    (Kind::Hermes, HERMES, REGULAR),
+    (Kind::Index, INDEX, HERMES),
+];
+
+#[test]
+fn maps_of_one_kind_are_read(rt: HostRuntime) {
+    let alloc = rt.alloc();
+    let incompatible = "encountered incompatible sourcemap format";
+    for (kind, text, other) in KINDS.iter() {
+        check(
+            &rt,
+            text,
+            error_of(alloc, *kind, text, usize::MAX),
+            "no fault",
+        );
+        check(
+            &rt,
+            other,
+            error_of(alloc, *kind, other, usize::MAX),
+            incompatible,
+        );
+        for reads in 0..=text.len() {
+            check(&rt, text, error_of(alloc, *kind, text, reads), "timed out");
+        }
+    }
+}
+
+fn ran_out(alloc: Global, text: &str, reads: usize) -> bool {
+    let reader = halting(text, reads, ErrorKind::OutOfMemory);
+    matches!(decode(alloc, reader), Err(Error::OutOfMemory))
+}
+
+#[test]
+fn a_read_that_runs_out_of_memory_is_out_of_memory(rt: HostRuntime) {
+    for reads in 0..=REGULAR.len() {
+        assert!(rt; ran_out(rt.alloc(), REGULAR, reads), "after {reads} reads");
+    }
+}

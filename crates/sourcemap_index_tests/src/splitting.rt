@@ -1,0 +1,307 @@
+// RAM bundles that are split by their index maps into the texts and the maps of their modules.
+use crate::checks::{check, fault_told};
+use crate::maps::{index_of, record_told};
+use sourcemap::errors::{Error, Result};
+use sourcemap::ram_bundle::{RamBundle, SplitRamBundleModuleIter, split_ram_bundle};
+use sourcemap::sourceview::SourceView;
+use sourcemap::types::{SourceMap, SourceMapIndex};
+use std::alloc::Global;
+
+// One module, `xyz`, after the startup code `ab`; the same without its last two bytes; and with two
+// lines, `xy` and `z`.
+const ONE: &[u8] = b"\xe5\xd1\x0b\xfb\x01\0\0\0\x02\0\0\0\x02\0\0\0\x04\0\0\0abxyz\0";
+
+const CUT: &[u8] = b"\xe5\xd1\x0b\xfb\x01\0\0\0\x02\0\0\0\x02\0\0\0\x04\0\0\0abxy";
+
+const LINES: &[u8] = b"\xe5\xd1\x0b\xfb\x01\0\0\0\x02\0\0\0\x02\0\0\0\x05\0\0\0abxy\nz\0";
+
+// Three modules.
+const THREE: &[u8] =
+    b"\xe5\xd1\x0b\xfb\x03\0\0\0\0\0\0\0\0\0\0\0\x04\0\0\0\x04\0\0\0\x03\0\0\0\x07\0\0\0\x02\0\0\0xyz\0uv\0w\0";
+
+const AT_FIVE: &str =
+    r#"{"sections":[{"offset":{"line":0,"column":0},"map":{"sources":["a.js"],"mappings":";;;;;AAAA,EAAE;AAAA"}}],"x_facebook_offsets":[5]}"#;
+
+// A line for each of the three modules.
+const LINE_BY_LINE: &str =
+    r#"{"sections":[{"offset":{"line":0,"column":0},"map":{"sources":["a.js"],"sourcesContent":["A"],"names":["n"],"mappings":";;;;;AAAAA,EAAE;AAAA;AACAA"}}],"x_facebook_offsets":[5,6,7]}"#;
+
+// A bundle, its index map, and its items or why there are none.
+struct Row {
+    about: &'static str,
+    bundle: &'static [u8],
+    index: &'static str,
+    items: &'static str,
+}
+
+static ROWS: [Row; 28] = [
+    Row {
+        about: "a module on one line",
+        bundle: ONE,
+        index: AT_FIVE,
+        items: r#"0.js [xyz] {"file":"0.js","mappings":"AAAA,EAAE","names":[],"sources":["a.js"],"version":3}"#,
+    },
+    Row {
+        about: "a range token",
+        bundle: ONE,
+        index: r#"{"sections":[{"offset":{"line":0,"column":0},"map":{"sources":["a.js"],"rangeMappings":";;;;;C","mappings":";;;;;AAAA,EAAE;AAAA"}}],"x_facebook_offsets":[5]}"#,
+        items: r#"0.js [xyz] {"file":"0.js","mappings":"AAAA,EAAE","names":[],"rangeMappings":"C","sources":["a.js"],"version":3}"#,
+    },
+    Row {
+        about: "a null offset",
+        bundle: ONE,
+        index: r#"{"sections":[{"offset":{"line":0,"column":0},"map":{"sources":["a.js"],"mappings":";;;;;AAAA,EAAE;AAAA"}}],"x_facebook_offsets":[null]}"#,
+        items: "",
+    },
+    Row {
+        about: "a null offset of a module that is cut",
+        bundle: CUT,
+        index: r#"{"sections":[{"offset":{"line":0,"column":0},"map":{"sources":["a.js"],"mappings":";;;;;AAAA,EAAE;AAAA"}}],"x_facebook_offsets":[null]}"#,
+        items: "invalid ram bundle module entry",
+    },
+    Row {
+        about: "too few offsets",
+        bundle: ONE,
+        index: r#"{"sections":[{"offset":{"line":0,"column":0},"map":{"sources":["a.js"],"mappings":";;;;;AAAA,EAAE;AAAA"}}],"x_facebook_offsets":[]}"#,
+        items: "invalid ram bundle module entry",
+    },
+    Row {
+        about: "no offsets",
+        bundle: ONE,
+        index: r#"{"sections":[{"offset":{"line":0,"column":0},"map":{"sources":["a.js"],"mappings":";;;;;AAAA,EAAE;AAAA"}}]}"#,
+        items: "not a ram bundle",
+    },
+    Row {
+        about: "no offsets and no map",
+        bundle: ONE,
+        index: r#"{"sections":[{"offset":{"line":0,"column":0},"url":"u"}]}"#,
+        items: "cannot flatten the indexed sourcemap: Section has an unresolved sourcemap: u",
+    },
+    Row {
+        about: "two lines: columns past the last line's width stay on the first",
+        bundle: LINES,
+        index: r#"{"sections":[{"offset":{"line":0,"column":0},"map":{"sources":["a.js"],"mappings":";;;;;AAAA,SAAS;AAAA,CAAC"}}],"x_facebook_offsets":[5]}"#,
+        items: "0.js [xy\nz] {\"file\":\"0.js\",\"mappings\":\"AAAA,SAAS;AAAA\",\"names\":[],\"sources\":[\"a.js\"],\"version\":3}",
+    },
+    Row {
+        about: "an empty last line",
+        bundle: b"\xe5\xd1\x0b\xfb\x01\0\0\0\0\0\0\0\0\0\0\0\x04\0\0\0xy\n\0",
+        index: AT_FIVE,
+        items: "0.js [xy\n] {\"file\":\"0.js\",\"mappings\":\"AAAA,EAAE\",\"names\":[],\"sources\":[\"a.js\"],\"version\":3}",
+    },
+    Row {
+        about: "no text",
+        bundle: b"\xe5\xd1\x0b\xfb\x01\0\0\0\0\0\0\0\0\0\0\0\x01\0\0\0\0",
+        index: AT_FIVE,
+        items: r#"0.js [] {"file":"0.js","mappings":"","names":[],"sources":[],"version":3}"#,
+    },
+    Row {
+        about: "a surrogate pair has two columns",
+        bundle: b"\xe5\xd1\x0b\xfb\x01\0\0\0\0\0\0\0\0\0\0\0\x05\0\0\0\xf0\x9f\x91\x8c\0",
+        index: r#"{"sections":[{"offset":{"line":0,"column":0},"map":{"sources":["a.js"],"mappings":";;;;;AAAA,CAAC,CAAC"}}],"x_facebook_offsets":[5]}"#,
+        items: r#"0.js [👌] {"file":"0.js","mappings":"AAAA,CAAC","names":[],"sources":["a.js"],"version":3}"#,
+    },
+    Row {
+        about: "each line end",
+        bundle: b"\xe5\xd1\x0b\xfb\x01\0\0\0\0\0\0\0\0\0\0\0\x07\0\0\0a\r\nb\rc\0",
+        index: r#"{"sections":[{"offset":{"line":0,"column":0},"map":{"sources":["a.js"],"mappings":";;;;;AAAA,CAAC;AACA,CAAC;AACA,CAAC"}}],"x_facebook_offsets":[5]}"#,
+        items: "0.js [a\r\nb\rc] {\"file\":\"0.js\",\"mappings\":\"AAAA,CAAC;AACA,CAAC;AACA\",\"names\":[],\"sources\":[\"a.js\"],\"version\":3}",
+    },
+    Row {
+        about: "a token at the end",
+        bundle: ONE,
+        index: r#"{"sections":[{"offset":{"line":0,"column":0},"map":{"sources":["a.js"],"mappings":";;;;;AAAA,GAAG"}}],"x_facebook_offsets":[5]}"#,
+        items: r#"0.js [xyz] {"file":"0.js","mappings":"AAAA","names":[],"sources":["a.js"],"version":3}"#,
+    },
+    Row {
+        about: "two tokens at the first position",
+        bundle: ONE,
+        index: r#"{"sections":[{"offset":{"line":0,"column":0},"map":{"sources":["a.js"],"mappings":";;;;;AAAA,AAAC"}}],"x_facebook_offsets":[5]}"#,
+        items: r#"0.js [xyz] {"file":"0.js","mappings":"AAAA,AAAC","names":[],"sources":["a.js"],"version":3}"#,
+    },
+    Row {
+        about: "a token before the module alone",
+        bundle: ONE,
+        index: r#"{"sections":[{"offset":{"line":0,"column":0},"map":{"sources":["a.js"],"mappings":";;;AAAA"}}],"x_facebook_offsets":[5]}"#,
+        items: r#"0.js [xyz] {"file":"0.js","mappings":"","names":[],"sources":[],"version":3}"#,
+    },
+    Row {
+        about: "a token after the first position alone",
+        bundle: ONE,
+        index: r#"{"sections":[{"offset":{"line":0,"column":0},"map":{"sources":["a.js"],"mappings":";;;;;CAAA"}}],"x_facebook_offsets":[5]}"#,
+        items: "invalid ram bundle module entry",
+    },
+    Row {
+        about: "two modules on one line",
+        bundle: b"\xe5\xd1\x0b\xfb\x02\0\0\0\0\0\0\0\0\0\0\0\x04\0\0\0\x04\0\0\0\x03\0\0\0xyz\0uv\0",
+        index: r#"{"sections":[{"offset":{"line":0,"column":0},"map":{"sources":["a.js"],"mappings":";;;;;AAAA,EAAE;AAAA"}}],"x_facebook_offsets":[5,5]}"#,
+        items: r#"0.js [xyz] {"file":"0.js","mappings":"AAAA,EAAE","names":[],"sources":["a.js"],"version":3} | 1.js [uv] {"file":"1.js","mappings":"AAAA","names":[],"sources":["a.js"],"version":3}"#,
+    },
+    Row {
+        about: "modules whose bytes overlap, and offsets out of order",
+        bundle: b"\xe5\xd1\x0b\xfb\x02\0\0\0\0\0\0\0\0\0\0\0\x04\0\0\0\x01\0\0\0\x03\0\0\0xyz\0",
+        index: r#"{"sections":[{"offset":{"line":0,"column":0},"map":{"sources":["a.js"],"mappings":";;;;;AAAA,EAAE;AAAA"}}],"x_facebook_offsets":[6,5]}"#,
+        items: r#"0.js [xyz] {"file":"0.js","mappings":"AAAE","names":[],"sources":["a.js"],"version":3} | 1.js [yz] {"file":"1.js","mappings":"AAAA","names":[],"sources":["a.js"],"version":3}"#,
+    },
+    Row {
+        about: "a module that is missing, one with a length of 0, one that is not UTF-8, and one more",
+        bundle: b"\xe5\xd1\x0b\xfb\x04\0\0\0\0\0\0\0\0\0\0\0\0\0\0\0\x03\0\0\0\0\0\0\0\0\0\0\0\x02\0\0\0\x02\0\0\0\x04\0\0\0\xff\0xyz\0",
+        index: r#"{"sections":[{"offset":{"line":0,"column":0},"map":{"sources":["a.js"],"mappings":";;;;;AAAA,EAAE;AAAA"}}],"x_facebook_offsets":[9,5,5,5]}"#,
+        items: r#"invalid ram bundle module entry | invalid ram bundle module entry | 3.js [xyz] {"file":"3.js","mappings":"AAAA,EAAE","names":[],"sources":["a.js"],"version":3}"#,
+    },
+    Row {
+        about: "an offset less than modules",
+        bundle: b"\xe5\xd1\x0b\xfb\x02\0\0\0\0\0\0\0\0\0\0\0\x04\0\0\0\x04\0\0\0\x03\0\0\0xyz\0uv\0",
+        index: AT_FIVE,
+        items: r#"0.js [xyz] {"file":"0.js","mappings":"AAAA,EAAE","names":[],"sources":["a.js"],"version":3} | invalid ram bundle module entry"#,
+    },
+    Row {
+        about: "a null offset before another",
+        bundle: b"\xe5\xd1\x0b\xfb\x02\0\0\0\0\0\0\0\0\0\0\0\x04\0\0\0\x04\0\0\0\x03\0\0\0xyz\0uv\0",
+        index: r#"{"sections":[{"offset":{"line":0,"column":0},"map":{"sources":["a.js"],"mappings":";;;;;AAAA,EAAE;AAAA"}}],"x_facebook_offsets":[null,5]}"#,
+        items: r#"1.js [uv] {"file":"1.js","mappings":"AAAA","names":[],"sources":["a.js"],"version":3}"#,
+    },
+    Row {
+        about: "the last line",
+        bundle: b"\xe5\xd1\x0b\xfb\x01\0\0\0\0\0\0\0\0\0\0\0\x04\0\0\0xyz\0",
+        index: r#"{"sections":[{"offset":{"line":4294967295,"column":0},"map":{"sources":["a.js"],"mappings":"AAAA,SAAS"}}],"x_facebook_offsets":[4294967295]}"#,
+        items: r#"0.js [xyz] {"file":"0.js","mappings":"AAAA","names":[],"sources":["a.js"],"version":3}"#,
+    },
+    Row {
+        about: "a text that passes the last line",
+        bundle: b"\xe5\xd1\x0b\xfb\x01\0\0\0\0\0\0\0\0\0\0\0\x04\0\0\0x\ny\0",
+        index: r#"{"sections":[{"offset":{"line":4294967295,"column":0},"map":{"sources":["a.js"],"mappings":"AAAA,SAAS"}}],"x_facebook_offsets":[4294967295]}"#,
+        items: "0.js [x\ny] {\"file\":\"0.js\",\"mappings\":\"AAAA,SAAS\",\"names\":[],\"sources\":[\"a.js\"],\"version\":3}",
+    },
+    Row {
+        about: "sources and names in the order of first use",
+        bundle: ONE,
+        index: r#"{"sections":[{"offset":{"line":0,"column":0},"map":{"sourceRoot":"r","sources":["a.js","b.js"],"sourcesContent":["A","B"],"names":["n","m"],"ignoreList":[0,1],"mappings":";;;;;ACAAC,CDAAD"}}],"x_facebook_offsets":[5]}"#,
+        items: r#"0.js [xyz] {"file":"0.js","mappings":"AAAAA,CCAAC","names":["m","n"],"sources":["r/b.js","r/a.js"],"sourcesContent":["B","A"],"version":3}"#,
+    },
+    Row {
+        about: "a token without a source",
+        bundle: ONE,
+        index: r#"{"sections":[{"offset":{"line":0,"column":0},"map":{"sources":["a.js"],"mappings":";;;;;A,EAAA"}}],"x_facebook_offsets":[5]}"#,
+        items: r#"0.js [xyz] {"file":"0.js","mappings":"A,EAAA","names":[],"sources":["a.js"],"version":3}"#,
+    },
+    Row {
+        about: "two sections",
+        bundle: ONE,
+        index: r#"{"sections":[{"offset":{"line":5,"column":0},"map":{"sources":["a.js"],"mappings":"AAAA"}},{"offset":{"line":5,"column":2},"map":{"sources":["b.js"],"mappings":"AAAA"}}],"x_facebook_offsets":[5]}"#,
+        items: r#"0.js [xyz] {"file":"0.js","mappings":"AAAA,ECAA","names":[],"sources":["a.js","b.js"],"version":3}"#,
+    },
+    Row {
+        about: "a bundle of five numbers and three modules",
+        bundle: b"\xe5\xd1\x0b\xfb\x05\0\0\0\x06\0\0\0\x06\0\0\0\x03\0\0\0\0\0\0\0\0\0\0\0\0\0\0\0\0\0\0\0\x09\0\0\0\x02\0\0\0\x0b\0\0\0\x03\0\0\0var a;ab\0c\0de\0",
+        index: r#"{"sections":[{"offset":{"line":0,"column":0},"map":{"sources":["a.js"],"sourcesContent":["A"],"mappings":"AAAA"}},{"offset":{"line":1,"column":0},"map":{"sources":["b.js"],"mappings":"AAAA,CAAC"}},{"offset":{"line":2,"column":0},"map":{"sources":["c.js"],"mappings":"AAAA,CAAC"}}],"x_facebook_offsets":[0,null,null,1,2],"x_metro_module_paths":["a.js","b.js","c.js","d.js","e.js","f.js","g.js"]}"#,
+        items: r#"0.js [ab] {"file":"0.js","mappings":"AAAA","names":[],"sources":["a.js"],"sourcesContent":["A"],"version":3} | 3.js [c] {"file":"3.js","mappings":"AAAA","names":[],"sources":["b.js"],"version":3} | 4.js [de] {"file":"4.js","mappings":"AAAA,CAAC","names":[],"sources":["c.js"],"version":3}"#,
+    },
+    Row {
+        about: "a table of 4294967295 entries that is not there",
+        bundle: b"\xe5\xd1\x0b\xfb\xff\xff\xff\xff\x02\0\0\0",
+        index: AT_FIVE,
+        items: "invalid ram bundle module entry | invalid ram bundle module entry | invalid ram bundle module entry | invalid ram bundle module entry | invalid ram bundle module entry | invalid ram bundle module entry | invalid ram bundle module entry | invalid ram bundle module entry | invalid ram bundle module entry",
+    },
+];
+
+fn parts_text(alloc: Global, name: &str, source: &str, map: SourceMap) -> Result<String> {
+    let record = record_told(alloc, map.into_raw_sourcemap())?;
+    Ok(format!(in alloc; "{name} [{source}] {record}")?)
+}
+
+// The name, the text and the map of a module, or its error.
+fn item_text(alloc: Global, item: Result<(String, SourceView, SourceMap)>) -> Result<String> {
+    match item {
+        Ok((name, view, map)) => parts_text(alloc, name.as_str(), view.source(), map),
+        Err(fault) => fault_told(alloc, Err::<(), Error>(fault)),
+    }
+}
+
+// The first nine items.
+fn items_text(alloc: Global, items: SplitRamBundleModuleIter<'_>) -> Result<String> {
+    let mut text = String::new(alloc);
+    for item in items.take(9) {
+        if !text.is_empty() {
+            text.push_str(" | ")?;
+        }
+        text.push_str(item_text(alloc, item)?.as_str())?;
+    }
+    Ok(text)
+}
+
+// All of them, or why the bundle is not split.
+fn split_text(alloc: Global, bundle: &RamBundle<'_>, index: &SourceMapIndex) -> Result<String> {
+    match split_ram_bundle(alloc, bundle, index) {
+        Ok(items) => items_text(alloc, items),
+        Err(fault) => fault_told(alloc, Err::<(), Error>(fault)),
+    }
+}
+
+fn read_and_split(alloc: Global, bytes: &[u8], text: &str) -> Result<String> {
+    let index = index_of(alloc, text)?;
+    split_text(alloc, &RamBundle::parse_indexed_from_slice(bytes)?, &*index)
+}
+
+#[test]
+fn bundles_are_split(rt: HostRuntime) {
+    for row in &ROWS {
+        let items = read_and_split(rt.alloc(), row.bundle, row.index);
+        check(&rt, row.about, items, row.items);
+    }
+}
+
+static ITEMS: [&str; 3] = [
+    r#"0.js [xyz] {"file":"0.js","mappings":"AAAAA,EAAE","names":["n"],"sources":["a.js"],"sourcesContent":["A"],"version":3}"#,
+    r#"1.js [uv] {"file":"1.js","mappings":"AAAE","names":[],"sources":["a.js"],"sourcesContent":["A"],"version":3}"#,
+    r#"2.js [w] {"file":"2.js","mappings":"AACEA","names":["n"],"sources":["a.js"],"sourcesContent":["A"],"version":3}"#,
+];
+
+// Whether an item is the wanted one, or was refused for lack of memory.
+fn is_wanted_or_refused(
+    alloc: Global,
+    item: Result<(String, SourceView, SourceMap)>,
+    want: &str,
+) -> bool {
+    match item_text(alloc, item) {
+        Ok(text) => text.as_str() == want,
+        Err(Error::OutOfMemory) => true,
+        Err(_) => false,
+    }
+}
+
+// How many of the three modules are items as they should be, refused ones among them.
+fn wanted_items(alloc: Global, bundle: &RamBundle<'_>, index: &SourceMapIndex) -> Result<usize> {
+    let items = split_ram_bundle(alloc, &*bundle, index)?;
+    let mut count = 0usize;
+    for (item, want) in items.zip(&ITEMS) {
+        if is_wanted_or_refused(alloc, item, want) {
+            count = count.saturating_add(1);
+        }
+    }
+    Ok(count)
+}
+
+fn split_where_memory_fails(alloc: Global) -> Result<String> {
+    let index = index_of(alloc, LINE_BY_LINE)?;
+    let bundle = RamBundle::parse_indexed_from_slice(THREE)?;
+    // where memory runs out before the first item, the bundle is split again
+    let count = match wanted_items(alloc, &bundle, &*index) {
+        Err(Error::OutOfMemory) => wanted_items(alloc, &bundle, &*index)?,
+        other => other?,
+    };
+    let again = split_text(alloc, &bundle, &*index)?;
+    Ok(format!(in alloc; "{count} | {again}")?)
+}
+
+// Where one allocation of the test is refused, the item that asked for it is lost alone, and the bundle
+// is split whole once there is memory again.
+#[test]
+fn a_refused_item_costs_no_other(rt: HostRuntime) {
+    check(
+        &rt,
+        "items",
+        split_where_memory_fails(rt.alloc()),
+        r#"3 | 0.js [xyz] {"file":"0.js","mappings":"AAAAA,EAAE","names":["n"],"sources":["a.js"],"sourcesContent":["A"],"version":3} | 1.js [uv] {"file":"1.js","mappings":"AAAE","names":[],"sources":["a.js"],"sourcesContent":["A"],"version":3} | 2.js [w] {"file":"2.js","mappings":"AACEA","names":["n"],"sources":["a.js"],"sourcesContent":["A"],"version":3}"#,
+    );
+}

@@ -1,0 +1,151 @@
+// Writers that take a byte a write, are interrupted, take none or fail, and buffers that are
+// consumed, for maps of each kind.
+use crate::checks::check;
+use crate::maps::map_of;
+use sourcemap::encoder::encode;
+use sourcemap::errors::{Error, Result};
+use sourcemap::types::DecodedMap;
+use sourcemap_test_writers::{HaltingWriter, NarrowWriter};
+use std::alloc::Global;
+use std::io::{BufWriter, Write};
+use std::process::Abort;
+use std::str;
+
+// A regular map, a Hermes map and an index, as they are written.
+static WRITTEN: [&str; 3] = [
+    r#"{"mappings":"A","names":[],"sources":[],"version":3}"#,
+    r#"{"mappings":"AAAA","names":[],"sources":["a.js"],"version":3,"x_facebook_sources":[null]}"#,
+    r#"{"sections":[{"map":null,"offset":{"column":4,"line":1},"url":"u"}],"sources":null,"version":3}"#,
+];
+
+// The writer that a map is written to.
+#[derive(Clone, Copy)]
+enum Way {
+    // one that fails after so many bytes
+    Failing(Option<usize>),
+    // one that is interrupted before each byte, and takes no more than so many
+    Halting(Option<usize>),
+    // a buffer, which is consumed
+    Buffered,
+    // the same, for a map of any kind
+    AnyBuffered,
+}
+
+// By the call of its own kind.
+fn put<W: Write + Drop>(map: &DecodedMap, writer: W) -> Result<()> {
+    match map {
+        DecodedMap::Regular(map) => map.to_writer(writer),
+        DecodedMap::Hermes(map) => map.to_writer(writer),
+        DecodedMap::Index(map) => map.to_writer(writer),
+    }
+}
+
+fn held_told(alloc: Global, held: &[u8], outcome: Result<()>) -> Result<String> {
+    let held = str::from_utf8(held)?;
+    match outcome {
+        Ok(()) => Ok(String::from_str(alloc, held)?),
+        Err(Error::OutOfMemory) => Err(Error::OutOfMemory),
+        Err(error) => Ok(format!(in alloc; "{held} {error}")?),
+    }
+}
+
+fn narrow(alloc: Global, left: Option<usize>) -> NarrowWriter {
+    NarrowWriter {
+        held: Vec::new(alloc),
+        left,
+    }
+}
+
+fn by_failing(alloc: Global, map: &DecodedMap, left: Option<usize>) -> Result<String> {
+    let mut writer = narrow(alloc, left);
+    let outcome = put(map, &mut writer);
+    held_told(alloc, writer.held.as_slice(), outcome)
+}
+
+fn by_halting(alloc: Global, map: &DecodedMap, left: Option<usize>) -> Result<String> {
+    let mut writer = HaltingWriter {
+        held: Vec::new(alloc),
+        left,
+        is_interrupted: false,
+    };
+    let outcome = put(map, &mut writer);
+    held_told(alloc, writer.held.as_slice(), outcome)
+}
+
+fn put_buffered(alloc: Global, map: &DecodedMap, writer: &mut NarrowWriter) -> Result<()> {
+    put(map, BufWriter::new(alloc, writer)?)
+}
+
+fn encode_buffered(alloc: Global, map: &DecodedMap, writer: &mut NarrowWriter) -> Result<()> {
+    encode(alloc, map, BufWriter::new(alloc, writer)?)
+}
+
+fn by_buffer(alloc: Global, map: &DecodedMap, is_any: bool) -> Result<String> {
+    let mut writer = narrow(alloc, None);
+    let outcome = if is_any {
+        encode_buffered(alloc, map, &mut writer)
+    } else {
+        put_buffered(alloc, map, &mut writer)
+    };
+    held_told(alloc, writer.held.as_slice(), outcome)
+}
+
+fn told(alloc: Global, map: &DecodedMap, way: Way) -> Result<String> {
+    match way {
+        Way::Failing(left) => by_failing(alloc, map, left),
+        Way::Halting(left) => by_halting(alloc, map, left),
+        Way::Buffered => by_buffer(alloc, map, false),
+        Way::AnyBuffered => by_buffer(alloc, map, true),
+    }
+}
+
+fn written(alloc: Global, text: &str, way: Way) -> Result<String> {
+    told(alloc, &*map_of(alloc, text)?, way)
+}
+
+static WHOLE: [Way; 4] = [
+    Way::Failing(None),
+    Way::Halting(None),
+    Way::Buffered,
+    Way::AnyBuffered,
+];
+
+#[test]
+fn all_bytes_are_written(rt: HostRuntime) {
+    for text in WRITTEN.iter() {
+        for way in WHOLE.iter() {
+            check(&rt, text, written(rt.alloc(), text, *way), text);
+        }
+    }
+}
+
+// So many characters of a text, and what is said behind them.
+fn cut(alloc: Global, text: &str, most: usize, error: &str) -> Result<String> {
+    let mut told = String::new(alloc);
+    for letter in text.chars().take(most) {
+        told.push(letter)?;
+    }
+    told.push(' ')?;
+    told.push_str(error)?;
+    Ok(told)
+}
+
+fn check_cut(rt: &impl Abort, alloc: Global, text: &str, way: Way, want: Result<String>) {
+    match want {
+        Ok(want) => check(rt, text, written(alloc, text, way), want.as_str()),
+        Err(error) => check(rt, text, Err(error), ""),
+    }
+}
+
+#[test]
+fn each_write_may_fail_or_take_nothing(rt: HostRuntime) {
+    let alloc = rt.alloc();
+    for text in WRITTEN.iter() {
+        for most in 0..text.len() {
+            let failed = cut(alloc, text, most, "broken pipe");
+            check_cut(&rt, alloc, text, Way::Failing(Some(most)), failed);
+            let full = cut(alloc, text, most, "failed to write whole buffer");
+            check_cut(&rt, alloc, text, Way::Halting(Some(most)), full);
+        }
+    }
+}

@@ -1,0 +1,278 @@
+// Texts at the limits of what is read, memory that runs out, and files that cannot be read, in runs.
+use crate::memory::unless_out;
+use crate::runs::{MAP, is_run, words_of};
+use crate::shelves::Shelf;
+use sourcemap::Error;
+use sourcemap_commands::program::run;
+use sourcemap_test_writers::HaltingReader;
+use std::alloc::Global;
+use std::cell::Cell;
+use std::io::ErrorKind;
+use std::rt::Files;
+use std::test::Fail;
+
+const NO_JSON: &str = "bad json: the text is not JSON\n";
+
+const NO_MEMORY: &str = "out of memory\n";
+
+// Whether words are answered with this text on a map that is read whole, with this status.
+fn is_answered(
+    rt: &HostRuntime,
+    line: &str,
+    map: &str,
+    status: u8,
+    text: &str,
+) -> Result<bool, Fail> {
+    let words = words_of(rt.alloc(), line)?;
+    is_run(rt, words.as_slice(), map, status, text, 0)
+}
+
+#[test]
+fn proper_beginnings_of_a_map_are_no_json(rt: HostRuntime) -> Result<(), Fail> {
+    for end in 0..MAP.len() {
+        let beginning = MAP.get(..end).unwrap_or("{}");
+        assert!(rt;
+            is_answered(&rt, "tokens", beginning, 1, NO_JSON)?,
+            "{end} bytes"
+        );
+    }
+    Ok(())
+}
+
+const INNERMOST: &str = r#"{"sources":["a.js"],"mappings":"AAAA"}"#;
+
+const OPENED: &str = r#"{"sections":[{"offset":{"line":0,"column":0},"map":"#;
+
+const FLAT: &str = r#"{"mappings":"AAAA","names":[],"sources":["a.js"],"version":3}
+"#;
+
+// So many indexes in one another.
+fn nested(alloc: Global, depth: usize) -> Result<String, Error> {
+    let head = OPENED.repeat(alloc, depth)?;
+    let tail = "}]}".repeat(alloc, depth)?;
+    Ok(format!(in alloc; "{head}{INNERMOST}{tail}")?)
+}
+
+// How many indexes stand in one another, words, the status and the text of the run.
+static NESTED: [(usize, &str, u8, &str); 4] = [
+    (20, "lookup 0 0", 0, "a.js:0:0\n"),
+    (20, "flatten", 0, FLAT),
+    (100, "lookup 0 0", 1, NO_JSON),
+    (100, "flatten", 1, NO_JSON),
+];
+
+#[test]
+fn indexes_in_one_another_are_read_to_some_depth(rt: HostRuntime) -> Result<(), Fail> {
+    for (depth, line, status, text) in NESTED.iter() {
+        let map = nested(rt.alloc(), *depth)?;
+        assert!(rt;
+            is_answered(&rt, line, map.as_str(), *status, text)?,
+            "{depth} {line}"
+        );
+    }
+    Ok(())
+}
+
+#[test]
+fn tokens_at_one_position_are_looked_up(rt: HostRuntime) -> Result<(), Fail> {
+    let tokens = ",AAAC".repeat(rt.alloc(), 99_999)?;
+    let map = format!(in rt.alloc(); r#"{{"sources":["a.js"],"mappings":"AAAA{tokens}"}}"#)?;
+    assert!(rt; is_answered(&rt, "lookup 0 0", map.as_str(), 0, "a.js:0:0\n")?);
+    assert!(rt; is_answered(&rt, "lookup 0 1", map.as_str(), 0, "a.js:0:99999\n")?);
+    Ok(())
+}
+
+// A reader of the map that is interrupted before each byte and fails after so many reads.
+fn halting(reads: usize, kind: ErrorKind) -> HaltingReader<'static> {
+    HaltingReader::new(MAP.as_bytes(), reads, kind)
+}
+
+// The status and the text of a run over these files, where they are wanted.
+fn ends<F: Files>(
+    rt: &HostRuntime,
+    files: &F,
+    line: &str,
+    reader: &mut HaltingReader<'_>,
+    (status, text): (u8, &str),
+) -> Result<bool, Fail> {
+    let words = words_of(rt.alloc(), line)?;
+    let mut output = Vec::new(rt.alloc());
+    let ended = run(files, rt.alloc(), words.as_slice(), reader, &mut output)?;
+    if text != NO_MEMORY {
+        unless_out(ended, output.as_slice())?;
+    }
+    Ok(ended == status && output.as_slice() == text.as_bytes())
+}
+
+fn reader_ends(
+    rt: &HostRuntime,
+    reads: usize,
+    kind: ErrorKind,
+    want: (u8, &str),
+) -> Result<bool, Fail> {
+    let mut reader = HaltingReader::new(MAP.as_bytes(), reads, kind);
+    ends(rt, rt, "lookup 0 5", &mut reader, want)
+}
+
+#[test]
+fn reads_that_fail_are_told(rt: HostRuntime) -> Result<(), Fail> {
+    for reads in 0..=MAP.len() {
+        assert!(rt;
+            reader_ends(&rt, reads, ErrorKind::OutOfMemory, (1, NO_MEMORY))?,
+            "no memory after {reads} bytes"
+        );
+        assert!(rt;
+            reader_ends(&rt, reads, ErrorKind::TimedOut, (1, "timed out\n"))?,
+            "{reads} bytes"
+        );
+    }
+    let answer = (0, "coolstuff.js:0:4 name=x\n");
+    assert!(rt; reader_ends(&rt, usize::MAX, ErrorKind::TimedOut, answer)?);
+    Ok(())
+}
+
+// What a row is about, words, the bytes of the file, after how many of them a read fails and with
+// which kind, whether the file fails so where it is opened, and the status and the text of the run.
+type Row = (
+    &'static str,
+    &'static str,
+    &'static [u8],
+    Option<usize>,
+    ErrorKind,
+    bool,
+    (u8, &'static str),
+);
+
+static FILES: [Row; 10] = [
+    (
+        "no rights",
+        "compose a.map",
+        b"{}",
+        None,
+        ErrorKind::PermissionDenied,
+        true,
+        (1, "permission denied\n"),
+    ),
+    (
+        "no rights",
+        "trace a.map",
+        b"0:5",
+        None,
+        ErrorKind::PermissionDenied,
+        true,
+        (1, "permission denied\n"),
+    ),
+    (
+        "a folder",
+        "compose a.map",
+        b"",
+        Some(0),
+        ErrorKind::IsADirectory,
+        false,
+        (1, "is a directory\n"),
+    ),
+    (
+        "a folder",
+        "trace a.map",
+        b"",
+        Some(0),
+        ErrorKind::IsADirectory,
+        false,
+        (1, "is a directory\n"),
+    ),
+    (
+        "no memory to open",
+        "compose a.map",
+        b"{}",
+        None,
+        ErrorKind::OutOfMemory,
+        true,
+        (1, NO_MEMORY),
+    ),
+    (
+        "no memory to open",
+        "trace a.map",
+        b"0:5",
+        None,
+        ErrorKind::OutOfMemory,
+        true,
+        (1, NO_MEMORY),
+    ),
+    (
+        "no memory to read",
+        "compose a.map",
+        b"{}",
+        Some(1),
+        ErrorKind::OutOfMemory,
+        false,
+        (1, NO_MEMORY),
+    ),
+    (
+        "no memory to read",
+        "trace a.map",
+        b"0:5",
+        Some(1),
+        ErrorKind::OutOfMemory,
+        false,
+        (1, NO_MEMORY),
+    ),
+    (
+        "not UTF-8",
+        "compose a.map",
+        b"{\"file\":\"\xff\"}",
+        None,
+        ErrorKind::Other,
+        false,
+        (1, NO_JSON),
+    ),
+    (
+        "not UTF-8",
+        "trace a.map",
+        b"\xff:5\n0:5",
+        None,
+        ErrorKind::Other,
+        false,
+        (0, "bad position\ncoolstuff.js:0:4 name=x\n"),
+    ),
+];
+
+fn file_ends(rt: &HostRuntime, row: &Row) -> Result<bool, Fail> {
+    let (_, line, bytes, left, kind, is_shut, want) = *row;
+    let files = Shelf {
+        path: "a.map",
+        bytes,
+        left,
+        kind,
+        is_shut,
+        is_opened: Cell::new(false),
+    };
+    let mut reader = HaltingReader::new(MAP.as_bytes(), usize::MAX, ErrorKind::TimedOut);
+    ends(rt, &files, line, &mut reader, want)
+}
+
+// The row at this index.
+fn row_ends(rt: &HostRuntime, at: usize) -> Result<bool, Fail> {
+    match FILES.get(at) {
+        Some(row) => file_ends(rt, row),
+        None => Ok(false),
+    }
+}
+
+#[test]
+fn files_that_cannot_be_read_are_told(rt: HostRuntime) -> Result<(), Fail> {
+    for at in 0..FILES.len() {
+        assert!(rt; row_ends(&rt, at)?, "row {at}");
+    }
+    Ok(())
+}
+
+// A folder of the system, which is opened and fails where it is read.
+#[test]
+fn a_folder_is_no_file(rt: HostRuntime) -> Result<(), Fail> {
+    let told = (1, "Is a directory (os error 21)\n");
+    for line in ["compose .", "trace ."] {
+        let mut reader = HaltingReader::new(MAP.as_bytes(), usize::MAX, ErrorKind::TimedOut);
+        assert!(rt; ends(&rt, &rt, line, &mut reader, told)?, "{line}");
+    }
+    Ok(())
+}
