@@ -15,16 +15,17 @@ questions. The reference program has words for the same:
     built    the columns, and those in the source, of the tokens of a map that is built of such pairs
     references
              for each question what asking_references.py says
+    bundles  for each question what asking_bundles.py says
 """
 import collections, json, pathlib, re, shutil, subprocess, sys, tempfile
-from asking_references import FUNCTIONS, USES
+import asking_bundles, asking_references
 from comparing import CRATES, answer
 
 PROGRAM = '''//! Answers questions about texts and maps, each in a line.
 #![tactic(auto)]
 
 use serde_json::Value;
-''' + USES + '''use sourcemap::{
+''' + asking_references.USES + asking_bundles.USES + '''use sourcemap::{
     DecodedMap, Error, Result, RewriteOptions, SourceMap, SourceMapBuilder, SourceMapIndex, SourceView, decode_data_url, decode_slice,
 };
 use std::alloc::Global;
@@ -121,7 +122,7 @@ fn tell_built<W: io::Write>(alloc: Global, case: &Value, output: &mut W) -> Resu
     }
     Ok(output.write_all("\\n".as_bytes())?)
 }
-''' + FUNCTIONS + '''
+''' + asking_references.FUNCTIONS + asking_bundles.FUNCTIONS + '''
 fn part<'a>(case: &'a Value, key: &str) -> Option<&'a str> {
     case.get(key).and_then(Value::as_str)
 }
@@ -156,6 +157,7 @@ fn tell<F: Files, W: io::Write>(rt: &F, alloc: Global, case: &Value, output: &mu
         "contents" => tell_contents(rt, SourceMap::from_slice(alloc, bytes)?, output),
         "built" => tell_built(alloc, case, output),
         "references" => put_answers(rt, alloc, case, output),
+        "bundles" => put_bundle_answers(rt, alloc, case, output),
         _ => tell_answers(alloc, case, map, text, output),
     }
 }
@@ -178,9 +180,9 @@ fn main(rt: HostRuntime) -> Result<()> {
 Case = collections.namedtuple('Case', 'name word record text questions lines')
 # the libraries that the program calls
 LIBRARIES = 'sourcemap sourcemap_index serde_json'
-# how many bytes `rt try` gives a program, and how many lines are asked for in one run of it, so that they have less
-# than the 1 MB that it may print
-MOST, MOST_LINES = 64 << 20, 1000
+# how many bytes `rt try` gives a program; and how many bytes and lines are asked with in one run of it, if not with a
+# single case, so that the run is short and the lines have less than the 1 MB that it may print
+MOST, MOST_AT_ONCE, MOST_LINES = 64 << 20, 4 << 20, 1000
 # the name of a run's input, over what it prints
 RUN = re.compile('^== [0-9]{6}\n', re.M)
 
@@ -200,7 +202,7 @@ def inputs_of(cases):
     part, counts, size = [], [], 0
     for case in cases:
         data = data_of(case)
-        if part and (size + len(data) + 2 > MOST or sum(counts) + case.lines > MOST_LINES):
+        if part and (size + len(data) + 2 > MOST_AT_ONCE or sum(counts) + case.lines > MOST_LINES):
             yield b'[' + b','.join(part) + b']', counts
             part, counts, size = [], [], 0
         part.append(data)
@@ -221,7 +223,8 @@ def printed_here(inputs, folder):
     pathlib.Path(folder, 'crates.txt').write_text(f'{below}\nasking: {LIBRARIES}\n')
     for number, data in enumerate(inputs):
         (given / f'{number:06}').write_bytes(data)
-    ended = subprocess.run(['rt', 'try', '--seconds', '3000', '--steps', '100000000000', '--cases', str(given)], cwd=source.parent,
+    # `rt try` compiles the program, and runs it on an interpreter too, which would take hours: that ends at its first step
+    ended = subprocess.run(['rt', 'try', '--seconds', '3000', '--steps', '1', '--cases', str(given)], cwd=source.parent,
                            stdin=subprocess.DEVNULL, stdout=subprocess.PIPE)
     if ended.returncode:
         sys.exit(ended.stdout[-3000:].decode(errors='replace'))

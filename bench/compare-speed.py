@@ -1,8 +1,8 @@
 #!/usr/bin/env python3
 """Times this library and a reference program side by side, and writes the ratios as Markdown.
 
-    bench/compare-speed.py REFERENCE [MAP..] [--pairs FOLDER] [--views] [--rounds N] [--no-made] [--lookups N..]
-                           [--growth N..] [--instructions]
+    bench/compare-speed.py REFERENCE [MAP..] [--pairs FOLDER] [--views] [--bundles] [--rounds N] [--no-made] [--no-maps]
+                           [--lookups N..] [--growth N..] [--instructions]
 
 REFERENCE       bench/reference, which is then built, from the public registry if it needs one; or a program
                 over the Rust crate that knows its words `bench OPERATION N`, `stat`, and `slice` and
@@ -14,16 +14,18 @@ MAP             maps to take, as files, index maps too; without any, those that 
 --views         views of texts, made and walked along line by line, and walks back along tokens that guess names: in
                 a made line, and in each regular map of those above that has its generated text beside it, as a.js
                 beside a.js.map or a.map
+--bundles       made RAM bundles, split by their index maps
 --rounds        rounds of each figure, of which the least counts (7)
 --no-made       no small and odd maps, and no indexes
+--no-maps       no maps at all
 --lookups       tokens of made maps, in lines of ten and in one line, of which only lookups are timed
                 (300 1000 5000 20000 100000 2300000), and none for 0
 --growth        tokens of the smallest of four made maps, each with twice the tokens of the one before;
                 a table for each such number (75000 250000), and none for 0
 --instructions  counts instructions with valgrind too, which is slow
 
-The programs of this repository are built where they are missing. SOURCEMAP_TOOL, SOURCEMAP_BENCH and, for views,
-SOURCEMAP_BENCH_VIEWS in the environment name others in their place.
+The programs of this repository are built where they are missing. SOURCEMAP_TOOL, SOURCEMAP_BENCH and, for views and
+bundles, SOURCEMAP_BENCH_VIEWS and SOURCEMAP_BENCH_BUNDLES in the environment name others in their place.
 
 An operation's time is that of a process that repeats it often, less that of one that does it once, by the
 number of repetitions between: so process start, the reading of the map, its first decoding and the drawing
@@ -36,7 +38,7 @@ that the two programs do not share is told on standard error, and the status is 
 as they come; a cell has the ratio and, in brackets, the figure here.
 """
 import argparse, json, os, pathlib, shutil, subprocess, sys, tempfile
-from comparing import BENCH, BENCH_VIEWS, CRATES, TOOL, build_missing, reference_program, text_beside
+from comparing import BENCH, BENCH_BUNDLES, BENCH_VIEWS, CRATES, TOOL, build_missing, reference_program, text_beside
 from composing import Token, written
 from index_maps import LAST, is_index, record_of
 from walks import TOKENS
@@ -46,8 +48,13 @@ OPERATIONS = ['decode', 'decode-reader', 'lookup', 'tokens', 'encode', 'rewrite'
 INDEX_OPERATIONS = ['decode', 'decode-reader', 'lookup', 'encode', 'flatten']
 TITLES = {'decode': 'decode a slice', 'decode-reader': 'decode a reader', 'lookup': '1,000,000 lookups',
           'tokens': 'all tokens', 'encode': 'encode', 'rewrite': 'copy and rewrite', 'flatten': 'flatten',
-          'compose': 'copy and compose', 'lines': 'a view and all its lines', 'names': 'walks over all tokens'}
+          'compose': 'copy and compose', 'lines': 'a view and all its lines', 'names': 'walks over all tokens', 'split': 'flatten and split'}
 OF_VIEWS = ['lines', 'names']
+# the programs of the operations that BENCH does not know
+PROGRAMS = {**dict.fromkeys(OF_VIEWS, BENCH_VIEWS), 'split': BENCH_BUNDLES}
+BUNDLES = {'2,500 modules': ['2500', '250000'], '5,000 modules': ['5000', '500000'], '10,000 modules': ['10000', '1000000'],
+           '5,000 modules in one section': ['5000', '500000', '--sections', '1'],
+           '5,000 modules with contents': ['5000', '500000', '--contents', '2000']}
 COUNTED = ['decode', 'decode-reader', 'encode']
 RUNS = (['lookup', '3', '100'], ['rewrite'])
 INDEX_RUNS = (['lookup', '3', '100'], ['flatten'])
@@ -111,7 +118,7 @@ class Pair:
     """Both programs, and whether a checksum differed."""
 
     def __init__(self, reference):
-        self.commands = {'here': lambda op, n: [BENCH_VIEWS if op in OF_VIEWS else BENCH, op, str(n)],
+        self.commands = {'here': lambda op, n: [PROGRAMS.get(op, BENCH), op, str(n)],
                          'reference': lambda op, n: [reference, 'bench', op, str(n)]}
         self.reference = reference
         self.is_different = False
@@ -292,6 +299,26 @@ def view_table(programs, paths, rounds):
     table.show('Views')
 
 
+def made_bundle(words, folder):
+    path = os.path.join(folder, 'bundle')
+    with open(path, 'wb') as sink:
+        subprocess.run([sys.executable, SCRIPTS / 'make-bundle.py', *words], stdout=sink, check=True)
+    return path
+
+
+def bundle_table(programs, rounds, is_counted):
+    """Bundles split by their index maps; memory is that of a process that reads both and splits once."""
+    table = Table(['Bundle', 'Size', TITLES['split'], 'its most memory', *(['instructions'] * is_counted)])
+    with tempfile.TemporaryDirectory() as folder:
+        for name, words in BUNDLES.items():
+            path = made_bundle(words, folder)
+            peaks = tuple(peak(command('split', 1), path) for command in programs.commands.values())
+            cells = [cell(programs.times(path, 'split', rounds), 'ms', 1e3), cell(peaks, 'MB', 1)]
+            cells += [cell(programs.counts(path, 'split'), 'million', 1)] if is_counted else []
+            table.add([name, f'{os.path.getsize(path) / 1e6:.1f} MB', *cells])
+    table.show('RAM bundles')
+
+
 def lookup_table(programs, counts, rounds):
     table = Table(['Tokens', 'in lines of ten', 'in one line'])
     with tempfile.TemporaryDirectory() as folder:
@@ -332,23 +359,27 @@ def main():
     words.add_argument('maps', nargs='*')
     words.add_argument('--pairs', type=pathlib.Path)
     words.add_argument('--views', action='store_true')
+    words.add_argument('--bundles', action='store_true')
     words.add_argument('--rounds', type=int, default=7)
     words.add_argument('--no-made', action='store_true')
+    words.add_argument('--no-maps', action='store_true')
     words.add_argument('--lookups', type=int, nargs='+', default=[300, 1000, 5000, 20000, 100000, 2300000])
     words.add_argument('--growth', type=int, nargs='+', default=[75000, 250000])
     words.add_argument('--instructions', action='store_true')
     given = words.parse_args()
-    build_missing()
-    if given.views:
-        build_missing([BENCH_VIEWS])
+    build_missing([BENCH_VIEWS] * given.views + [BENCH_BUNDLES] * given.bundles)
+    if not given.no_maps:
+        build_missing()
     programs = Pair(reference_program(given.reference))
     with tempfile.TemporaryDirectory() as folder:
-        paths = given.maps or gathered_maps(folder)
-        if not given.no_made:
+        paths = [] if given.no_maps else given.maps or gathered_maps(folder)
+        if not given.no_made and not given.no_maps:
             paths += [made_map(made, folder, name) for name, made in MADE.items()]
         map_tables(programs, paths, given.rounds, given.instructions)
         if given.views:
             view_table(programs, paths, given.rounds)
+    if given.bundles:
+        bundle_table(programs, given.rounds, given.instructions)
     if given.pairs:
         pair_table(programs, sorted(given.pairs.rglob('*.original.map')), given.rounds)
     lookup_table(programs, filter(None, given.lookups), given.rounds)

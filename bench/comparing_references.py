@@ -1,5 +1,6 @@
-"""What compare-references.py and compare-loading.py share: questions that are asked of the library, of the reference
-program and of the rules, and reasons for differences, each of which has to lead to the reference's answer."""
+"""What compare-references.py, compare-loading.py and compare-bundles.py share: questions that are asked of the library,
+of the reference program and of the rules, and reasons for differences, each of which has to lead to the reference's
+answer."""
 import collections, itertools, json, pathlib, sys, tempfile
 from asking import Case, asked_here
 from comparing import answer, noted, report
@@ -9,12 +10,12 @@ MOST_SHOWN = 10
 OPEN = object()
 
 
-def answered_there(reference, questions):
-    """The answer of the reference program to each question."""
+def answered_there(reference, questions, word):
+    """The answer of the reference program to each question, which it is asked by a word."""
     with tempfile.TemporaryDirectory() as folder:
         file = pathlib.Path(folder, 'questions')
         file.write_text(json.dumps(questions))
-        lines = answer([reference, 'references', str(file)], b'')[1].decode().split('\n')[:-1]
+        lines = answer([reference, word, str(file)], b'')[1].decode().split('\n')[:-1]
     if len(lines) != len(questions):
         sys.exit(f'the reference answers {lines[:3]}')
     return lines
@@ -49,11 +50,11 @@ def notes_of(question, here, there, due, ways):
     yield noted(short(question), as_answer(own), as_answer(other), reason)
 
 
-def compare_answers(reference, questions, due, ways_of):
+def compare_answers(reference, questions, due, ways_of, word='references'):
     """Asks all questions, prints unexplained differences, the first of each reason and all counts, and ends the run.
     `due` says what is due for a question if the reference goes some ways, and `ways_of` which it may go."""
-    there = answered_there(reference, questions)
-    here = asked_here([Case(question[0], 'references', None, None, [question], 1) for question in questions])
+    there = answered_there(reference, questions, word)
+    here = asked_here([Case(question[0], word, None, None, [question], 1) for question in questions])
     counts, asked = collections.Counter(), collections.Counter(question[0] for question in questions)
     for question, (own,), other in zip(questions, here, there):
         for note in notes_of(question, own, other, due, ways_of(question)):

@@ -13,8 +13,9 @@ row of the document whose last column names a word has a trial below, under the 
 `none` there says that the row has no trial. A row that is not as it is told, a row without its trial and a
 trial without its row are printed, and then the status is 1.
 """
-import argparse, collections, json, os, pty, subprocess, sys, tempfile, tty
+import argparse, collections, json, os, pathlib, pty, struct, subprocess, sys, tempfile, tty
 from asking import Case, asked_here, asked_there
+from bundles import MAGIC, NO_INDEX, byte_text
 from comparing import BENCH, CRATES, TOOL, build_missing, is_reordered, reference_program
 from composing import tokens_of_record
 
@@ -74,6 +75,51 @@ def referenced(*question):
     return Case('references', 'references', None, None, [list(question)], 1)
 
 
+# where folders are made, which are removed at the end
+FOLDERS = tempfile.TemporaryDirectory()
+
+
+def bundled(*question):
+    """One question of those of asking_bundles.py."""
+    return Case('bundles', 'bundles', None, None, [list(question)], 1)
+
+
+def folder_of(*names):
+    """The path of a new file bundle with modules in files of these names, each of which holds its own name."""
+    folder = pathlib.Path(tempfile.mkdtemp(dir=FOLDERS.name))
+    modules = folder / 'js-modules'
+    modules.mkdir()
+    (folder / 'main.js').write_text('main')
+    (modules / 'UNBUNDLE').write_bytes(struct.pack('<I', MAGIC))
+    for name in names:
+        (modules / name).write_text(os.fsencode(name).decode(errors='replace'))
+    return str(folder / 'main.js')
+
+
+def split(text, mappings, line=0, offset=5, **more):
+    """The question of a bundle of this module, split by an index map with one section at a line."""
+    code = text.encode() + b'\0'
+    data = struct.pack('<5I', MAGIC, 1, 0, 0, len(code)) + code
+    section = {'offset': {'line': line, 'column': 0}, 'map': {'sources': ['a.js'], 'mappings': mappings, **more}}
+    return bundled('split', byte_text(data), json.dumps({'sections': [section], 'x_facebook_offsets': [offset]}))
+
+
+def split_into(text, *tokens):
+    """The answer to that: the module 0 with tokens on a line, of columns that are those in the source, and maybe a mark."""
+    rows = [[line, column, 0, column, 'a.js', None, bool(mark)] for line, column, *mark in tokens]
+    return compact([['0.js', text, '0.js', [['a.js', None]] if tokens else [], [], rows]])
+
+
+def compact(value):
+    return json.dumps(value, separators=(',', ':'))
+
+
+def has_listed_others(here, there):
+    """Whether two bundles of files have the same modules, some with the text of another file."""
+    parts = [json.loads(text)[1][4] for text in (here, there)]
+    return parts[0] != parts[1] and [number for number, _ in parts[0]] == [number for number, _ in parts[1]]
+
+
 def is_shuffled(here, there):
     """Whether there the same pairs stand by their first numbers, and some of one number in another order."""
     pairs = [[tuple(map(int, pair.split(':'))) for pair in line.split()] for line in (here, there)]
@@ -84,10 +130,12 @@ def named(mappings, **more):
     return {'version': 3, 'sources': ['a.js'], 'names': ['foo'], 'mappings': mappings, **more}
 
 
+# names for the modules 1 to 4, each with up to nine zeros before its number
+ZEROS = [f'{"0" * zeros}{number}.js' for zeros in (3, 1, 5, 0, 9, 2, 4, 7, 6, 8) for number in range(1, 5)]
 PAST_THE_END = 'cannot flatten the indexed sourcemap: a position passes 4294967295'
 PARTLY_READ = 'a JSON text of which a failing reader gave a part, as `{"version":3`'
 COVERED = 'originals `AAAA,CAAC`, an adjustment of 33 tokens in a line, `AAAC`, then `CAAA` 31 times and `CAAD`'
-BUILT = 'tokens added to a builder out of order, more than 32 in a line, some at one place'
+BUILT = 'tokens added to a builder out of order, more than 32 in a line, some at one position'
 SORTED = 'a line of more than 32 segments, out of order, some at one column, as `CAAA` and then `DAAC,CAAC` 16 times'
 TRIALS = {
     'segment `A!`': Trial(
@@ -110,7 +158,7 @@ TRIALS = {
     '`{"debugId":"0123456789abcdef0123456789abcdef1","mappings":""}`': Trial(
         'rewrite', b'{"debugId":"0123456789abcdef0123456789abcdef1","mappings":""}',
         (1, 'bad json: a field has the wrong type'), (0, '"debugId":"01234567-89ab-cdef-0123-456789abcdef-1"')),
-    'JSON faults, as that of `{`': Trial(
+    'JSON errors, as that of `{`': Trial(
         'tokens', b'{', (1, 'bad json: the text is not JSON'), (1, 'bad json: EOF while parsing an object')),
     '`{"version":"x"`': Trial(
         'tokens', b'{"version":"x"', (1, 'bad json: the text is not JSON'), (1, 'bad json: invalid type: string "x"')),
@@ -209,6 +257,28 @@ ASKED = {
     'what the paths `/a`, `C:/a`, `/a/b` have in common': Asked(
         referenced('cut', None, None, [['/a', None], ['C:/a', None], ['/a/b', None]]),
         '[["/a",null],["C:/a",null],["/a/b",null]]', '[["/a",null],["C:/a",null],["b",null]]'),
+    'a file bundle with `+1.js` in `js-modules`': Asked(
+        bundled('folder', folder_of('+1.js'), [1]), compact([True, NO_INDEX]),
+        compact([True, ['Unbundle', 2, ['main'], [[1, '+1.js']], [[1, '+1.js']]]])),
+    'one with `18446744073709551615.js`': Asked(
+        bundled('folder', folder_of('18446744073709551615.js'), [0]), compact([True, NO_INDEX]),
+        compact([True, ['Unbundle', 0, ['main'], [None], []]])),
+    'one with `1.js` and `01.js`': Asked(
+        bundled('folder', folder_of(*ZEROS), [0]),
+        compact([True, ['Unbundle', 5, ['main'], [None], [[number, f'{number}.js'] for number in range(1, 5)]]]), has_listed_others),
+    'one with a name that is not UTF-8': Asked(
+        bundled('folder', folder_of('\udcff.js'), [0]), compact([True, 'InvalidFilename']), compact([True, NO_INDEX])),
+    '11 bytes as an indexed bundle: the text of the error': Asked(
+        bundled('modules', 'x' * 11, [0]), compact([False, 'parse error: 0+12 past 11']), compact([False, 'Scroll'])),
+    'the module `xyz` by mappings `;;;;;AAAA,EAAE`': Asked(
+        split('xyz', ';;;;;AAAA,EAAE'), split_into('xyz', (0, 0), (0, 2)), split_into('xyz', (0, 2))),
+    'the same with range bits `;;;;;C`': Asked(
+        split('xyz', ';;;;;AAAA,EAAE', rangeMappings=';;;;;C'), split_into('xyz', (0, 0), (0, 2, 'range')), split_into('xyz', (0, 2))),
+    'the module of two lines `abcde` and `fg` by mappings `;;;;;AAAA,CAAC,GAAG;AAAJ`': Asked(
+        split('abcde\nfg', ';;;;;AAAA,CAAC,GAAG;AAAJ'), split_into('abcde\nfg', (0, 0), (0, 1), (0, 4), (1, 0)),
+        split_into('abcde\nfg', (0, 1))),
+    'the module of two lines `xyz` and `xyz` at line 4294967295, by mappings `AAAA,CAAC` at that line': Asked(
+        split('xyz\nxyz', 'AAAA,CAAC', 2**32 - 1, 2**32 - 1), split_into('xyz\nxyz', (0, 0), (0, 1)), split_into('xyz\nxyz')),
     BUILT: Asked(
         Case('built', 'built', None, None, [[1, 0], *([column, place] for place in range(1, 33, 2) for column in (0, 1))], 1),
         ' '.join([*(f'0:{place}' for place in range(1, 33, 2)), '1:0', *(f'1:{place}' for place in range(1, 33, 2))]) + ' ', is_shuffled),

@@ -60,8 +60,8 @@ def through_link(words):
 
 
 def unbuilt(words):
-    """A run of the wrapper where nothing is built, in a copy of the files that git knows: its status, the first
-    line that it printed, and what it told. Where it builds it tells so."""
+    """A run of the wrapper on the map where nothing is built, in a copy of the files that git knows: its status, the
+    first line that it printed, and the lines that it wrote to standard error."""
     listed = subprocess.run(['git', 'ls-files', '-z'], cwd=HOME, check=True, stdout=subprocess.PIPE).stdout
     with tempfile.TemporaryDirectory() as folder:
         # a checkout may lack files that git knows
@@ -71,6 +71,13 @@ def unbuilt(words):
             shutil.copy(HOME / name, copy)
         status, printed, told = ended([f'{folder}/sourcemap', *words])
     return status, printed.split(b'\n')[0], told
+
+
+def answered_unproved(words):
+    """The same of words that the program answers: the status, the line, how many lines standard error got, and
+    whether they name the command that proves and builds."""
+    status, printed, told = unbuilt(words)
+    return status, printed, len(told.splitlines()), b'/sourcemap --build\'' in told
 
 
 def within(kilobytes):
@@ -109,6 +116,8 @@ TRIALS = [
     ('a word that is not UTF-8 through it', lambda: through_link([b'lookup', b'0', b'\xff']), (2, USAGE, b'')),
     ('--help where nothing is built', lambda: unbuilt(['--help']), (0, WRAPPER_USAGE, b'')),
     ('no words where nothing is built', lambda: unbuilt([]), (2, WRAPPER_USAGE, b'')),
+    ('an answer where nothing is built', lambda: answered_unproved(LOOKUP), (0, ANSWER.strip(), 1, True)),
+    ('other words where nothing is built', lambda: answered_unproved([b'lookup', b'0']), (2, USAGE.strip(), 1, True)),
     ('want of memory before the run begins', short_of_memory, (1, b'', b'out of memory\n')),
 ]
 

@@ -1,5 +1,6 @@
 //! Answers, by the crate `sourcemap`, the words that the scripts in bench/ ask with.
 
+mod bundles;
 mod draws;
 mod references;
 mod repeat;
@@ -22,11 +23,13 @@ const USAGE: &str = "usage, with a map on standard input:
     [slice | stream] (lookup LINE COL | tokens | rewrite | flatten | compose FILE | shift ROWS)
     | roundtrip | stat | batch FILE | dst FILE | positions N SEED [wild] | bench OPERATION N
     | names QUESTIONS [TEXT] | regular | equal | sections | refused | contents
-or, with nothing there: slices QUESTIONS TEXT | references QUESTIONS | url URL | built PAIRS
+or, with nothing there: slices QUESTIONS TEXT | references QUESTIONS | bundles QUESTIONS | url URL
+    | built PAIRS
 OPERATION: decode | decode-reader | lookup | tokens | encode | rewrite | flatten
     | compose, of two maps on standard input, each on a line
     | lines, of a text there
     | names, of a map on the first line there and behind it the text that it is of
+    | split, of an index map on the first line there and behind it the bundle that it is of
 ";
 
 /// How the map is read, and how JSON text is printed.
@@ -326,6 +329,8 @@ fn answer(form: Form, words: &[&str], output: &mut Output) -> Option<Result<()>>
         }),
         ["references", questions] => questions_in(questions)
             .and_then(|questions| Ok(references::write_answers(&questions, output)?)),
+        ["bundles", questions] => questions_in(questions)
+            .and_then(|questions| Ok(bundles::write_answers(&questions, output)?)),
         ["regular"] => bytes()
             .map_err(Error::from)
             .and_then(|bytes| write_fault(SourceMap::from_slice(&bytes), output)),

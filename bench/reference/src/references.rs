@@ -15,11 +15,12 @@ use std::panic;
 use std::path::Path;
 
 /// The bytes that a text stands for, each character for the byte of its number.
-fn bytes_of(text: &str) -> Vec<u8> {
+pub fn bytes_of(text: &str) -> Vec<u8> {
     text.chars().map(|letter| letter as u8).collect()
 }
 
-fn text_of(bytes: &[u8]) -> String {
+/// A text with a character for each byte.
+pub fn text_of(bytes: &[u8]) -> String {
     bytes.iter().map(|&byte| char::from(byte)).collect()
 }
 

@@ -2,6 +2,7 @@
 
 use crate::draws::Draws;
 use crate::{flat, index, regular};
+use sourcemap::ram_bundle::{split_ram_bundle, RamBundle};
 use sourcemap::{
     decode, decode_slice, DecodedMap, Error, Result, RewriteOptions, SourceMap, SourceView, Token,
 };
@@ -26,6 +27,7 @@ pub enum Operation {
     Compose,
     Lines,
     Names,
+    Split,
 }
 
 fn mixed(sum: u32, number: u32) -> u32 {
@@ -94,6 +96,7 @@ impl Operation {
             "compose" => Operation::Compose,
             "lines" => Operation::Lines,
             "names" => Operation::Names,
+            "split" => Operation::Split,
             _ => return None,
         })
     }
@@ -176,6 +179,18 @@ impl Operation {
                     Ok(names
                         .map(|name| name.map_or(0, |name| short(name.len() + 1)))
                         .fold(sum, mixed))
+                })
+            }
+            Operation::Split => {
+                let end = bytes.iter().position(|&byte| byte == b'\n');
+                let (line, rest) = bytes.split_at(end.unwrap_or(bytes.len()));
+                let map = decode_slice(line).and_then(index)?;
+                let bundle = RamBundle::parse_indexed_from_slice(rest.get(1..).unwrap_or_default())?;
+                rounds(times, |sum| {
+                    split_ram_bundle(&bundle, &map)?.try_fold(sum, |sum, item| {
+                        let (_, view, map) = item?;
+                        Ok(mixed(mixed(sum, short(view.source().len())), map.get_source_count()))
+                    })
                 })
             }
         }

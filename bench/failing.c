@@ -1,0 +1,280 @@
+/* Stands before the C library in a program, and fails its allocations, its reads or its writes, each in
+ * turn. The program is started once; before its own start it is forked for each call that is to fail.
+ *
+ *   FAILING_CALL     allocation, read or write
+ *   FAILING_HOW      fails: this call alone. onward: this call and all behind it.
+ *                    interrupted: this call alone. ends: this call and all behind it move nothing.
+ *                    each_interrupted: every second call, in one run. nothing: none, in one run.
+ *   FAILING_SHORT    if it is set, each read or write moves one byte at most
+ *   FAILING_INPUT    the file that is the standard input of each run
+ *   FAILING_MILLIS   about how long all runs take together, at most, by the time of the one in which no
+ *                    call fails; fewer than 40 runs are made in any case, and all are spread over the calls
+ *   FAILING_SECONDS  after how many seconds a run is ended
+ *
+ * Prints a line with the count of calls that a run has where nothing fails, and then for each way in
+ * which runs ended the status (128 and the signal's number, where one ended it), what stood on standard
+ * output and on standard error, as hexadecimal digits behind an `x`, and which calls failed in these
+ * runs, with 0 for the run in which none did.
+ */
+#define _GNU_SOURCE
+#include <dlfcn.h>
+#include <errno.h>
+#include <fcntl.h>
+#include <stdio.h>
+#include <stdlib.h>
+#include <string.h>
+#include <sys/mman.h>
+#include <sys/resource.h>
+#include <sys/syscall.h>
+#include <sys/uio.h>
+#include <sys/wait.h>
+#include <unistd.h>
+
+enum call { NONE, ALLOCATION, READ, WRITE };
+enum how { FAILS, ONWARD, INTERRUPTED, ENDS, EACH_INTERRUPTED, NOTHING, HOWS };
+
+static const char *const NAMES[HOWS] = {
+    "fails", "onward", "interrupted", "ends", "each_interrupted", "nothing",
+};
+
+static enum call failing = NONE;
+static enum how how;
+static int is_short;
+/* the call that fails, from 1; 0 for none */
+static long at;
+/* how many calls there were: shared with the runs */
+static long *calls;
+
+static void *(*next_malloc)(size_t);
+static void *(*next_calloc)(size_t, size_t);
+static void *(*next_realloc)(void *, size_t);
+static int (*next_memalign)(void **, size_t, size_t);
+static void *(*next_aligned)(size_t, size_t);
+
+/* Whether this call is one of those that fail. */
+static int is_failing(enum call call) {
+    if (call != failing) return 0;
+    long number = ++*calls;
+    if (at == 0 || how == NOTHING) return 0;
+    if (how == EACH_INTERRUPTED) return number % 2 == 1;
+    return how == ONWARD || how == ENDS ? number >= at : number == at;
+}
+
+static void look_up(void) {
+    if (next_malloc) return;
+    next_calloc = dlsym(RTLD_NEXT, "calloc");
+    next_realloc = dlsym(RTLD_NEXT, "realloc");
+    next_memalign = dlsym(RTLD_NEXT, "posix_memalign");
+    next_aligned = dlsym(RTLD_NEXT, "aligned_alloc");
+    next_malloc = dlsym(RTLD_NEXT, "malloc");
+}
+
+static void *none(void) {
+    errno = ENOMEM;
+    return NULL;
+}
+
+void *malloc(size_t size) {
+    look_up();
+    return is_failing(ALLOCATION) ? none() : next_malloc(size);
+}
+
+void *calloc(size_t count, size_t size) {
+    look_up();
+    return is_failing(ALLOCATION) ? none() : next_calloc(count, size);
+}
+
+void *realloc(void *old, size_t size) {
+    look_up();
+    return is_failing(ALLOCATION) ? none() : next_realloc(old, size);
+}
+
+int posix_memalign(void **place, size_t alignment, size_t size) {
+    look_up();
+    return is_failing(ALLOCATION) ? ENOMEM : next_memalign(place, alignment, size);
+}
+
+void *aligned_alloc(size_t alignment, size_t size) {
+    look_up();
+    return is_failing(ALLOCATION) ? none() : next_aligned(alignment, size);
+}
+
+static ssize_t fails_with(int error) {
+    errno = error;
+    return -1;
+}
+
+/* What a read or a write of so many bytes does: -1 and an error, 0 at the end, or how many it may move. */
+static ssize_t allowed(enum call call, size_t size) {
+    if (!is_failing(call)) return is_short && call == failing && size > 1 ? 1 : (ssize_t)size;
+    if (how == INTERRUPTED || how == EACH_INTERRUPTED) return fails_with(EINTR);
+    return how == ENDS ? 0 : fails_with(call == READ ? EIO : ENOSPC);
+}
+
+ssize_t read(int file, void *to, size_t size) {
+    ssize_t most = size == 0 ? 0 : allowed(READ, size);
+    return most <= 0 && size > 0 ? most : syscall(SYS_read, file, to, most);
+}
+
+ssize_t pread(int file, void *to, size_t size, off_t place) {
+    ssize_t most = size == 0 ? 0 : allowed(READ, size);
+    return most <= 0 && size > 0 ? most : syscall(SYS_pread64, file, to, most, place);
+}
+
+ssize_t write(int file, const void *from, size_t size) {
+    ssize_t most = size == 0 ? 0 : allowed(WRITE, size);
+    return most <= 0 && size > 0 ? most : syscall(SYS_write, file, from, most);
+}
+
+ssize_t __read(int file, void *to, size_t size) __attribute__((alias("read")));
+ssize_t pread64(int file, void *to, size_t size, off_t place) __attribute__((alias("pread")));
+ssize_t __write(int file, const void *from, size_t size) __attribute__((alias("write")));
+
+/* The first part that is not empty. */
+ssize_t writev(int file, const struct iovec *parts, int count) {
+    for (int part = 0; part < count; part++)
+        if (parts[part].iov_len > 0) return write(file, parts[part].iov_base, parts[part].iov_len);
+    return 0;
+}
+
+/* A way in which runs ended. */
+struct ending {
+    long runs;
+    long *failed;
+    int status;
+    size_t sizes[2];
+    unsigned char *texts[2];
+    struct ending *next;
+};
+
+static struct ending *endings;
+
+static const char *setting(const char *name, const char *otherwise) {
+    const char *given = getenv(name);
+    return given ? given : otherwise;
+}
+
+static void give_up(const char *why) {
+    dprintf(2, "failing.c: %s\n", why);
+    _exit(99);
+}
+
+static unsigned char *text_of(int file, size_t *size) {
+    *size = lseek(file, 0, SEEK_END);
+    unsigned char *text = next_malloc(*size + 1);
+    if (!text) give_up("no memory");
+    for (size_t done = 0; done < *size;) {
+        ssize_t more = syscall(SYS_pread64, file, text + done, *size - done, done);
+        if (more <= 0) give_up("what a run wrote cannot be read");
+        done += more;
+    }
+    return text;
+}
+
+static int is_same(const struct ending *one, const struct ending *other) {
+    if (one->status != other->status) return 0;
+    for (int i = 0; i < 2; i++)
+        if (one->sizes[i] != other->sizes[i] || memcmp(one->texts[i], other->texts[i], one->sizes[i])) return 0;
+    return 1;
+}
+
+static void note(long call, int status, int const files[2]) {
+    struct ending found = {0, NULL, status, {0, 0}, {NULL, NULL}, NULL};
+    for (int i = 0; i < 2; i++) found.texts[i] = text_of(files[i], &found.sizes[i]);
+    struct ending **place = &endings;
+    while (*place && !is_same(*place, &found)) place = &(*place)->next;
+    if (*place) {
+        free(found.texts[0]);
+        free(found.texts[1]);
+    } else {
+        if (!(*place = next_malloc(sizeof found))) give_up("no memory");
+        **place = found;
+    }
+    struct ending *one = *place;
+    /* room for so many runs, which doubles */
+    if ((one->runs & (one->runs - 1)) == 0) {
+        size_t room = one->runs ? 2 * one->runs : 1;
+        if (!(one->failed = next_realloc(one->failed, room * sizeof *one->failed))) give_up("no memory");
+    }
+    one->failed[one->runs++] = call;
+}
+
+static void tell(long count) {
+    printf("%ld\n", count);
+    for (struct ending *one = endings; one; one = one->next) {
+        printf("%d", one->status);
+        for (int i = 0; i < 2; i++) {
+            printf(" x");
+            for (size_t j = 0; j < one->sizes[i]; j++) printf("%02x", one->texts[i][j]);
+        }
+        for (long i = 0; i < one->runs; i++) printf(" %ld", one->failed[i]);
+        printf("\n");
+    }
+    fflush(stdout);
+}
+
+/* Makes the run in which this call fails. Returns 1 in that, to go on as the program, and 0 here once it
+ * has ended. */
+static int run(enum call call, long number, const char *input, int seconds, int const files[2]) {
+    for (int i = 0; i < 2; i++)
+        if (ftruncate(files[i], 0) || lseek(files[i], 0, SEEK_SET)) give_up("no room for what runs write");
+    *calls = 0;
+    pid_t made = fork();
+    if (made < 0) give_up("no process");
+    if (made == 0) {
+        struct rlimit no_core = {0, 0};
+        setrlimit(RLIMIT_CORE, &no_core);
+        int from = open(input, O_RDONLY);
+        if (from < 0) give_up("no input");
+        dup2(from, 0);
+        close(from);
+        dup2(files[0], 1);
+        dup2(files[1], 2);
+        alarm(seconds);
+        at = number;
+        failing = call;
+        return 1;
+    }
+    int status;
+    while (waitpid(made, &status, 0) < 0)
+        if (errno != EINTR) give_up("a run is lost");
+    note(number, WIFEXITED(status) ? WEXITSTATUS(status) : 128 + WTERMSIG(status), files);
+    return 0;
+}
+
+/* What the run before took, and half a millisecond for its start. */
+static double millis_of_run(void) {
+    struct rusage used;
+    getrusage(RUSAGE_CHILDREN, &used);
+    return 0.5 + 1e3 * (used.ru_utime.tv_sec + used.ru_stime.tv_sec) + 1e-3 * (used.ru_utime.tv_usec + used.ru_stime.tv_usec);
+}
+
+__attribute__((constructor)) static void begin(void) {
+    const char *name = getenv("FAILING_CALL");
+    if (!name) return;
+    look_up();
+    enum call call = !strcmp(name, "allocation") ? ALLOCATION : !strcmp(name, "read") ? READ : WRITE;
+    const char *way = setting("FAILING_HOW", "fails");
+    while (how < HOWS && strcmp(NAMES[how], way)) how++;
+    if (how == HOWS) give_up("no such way to fail");
+    is_short = getenv("FAILING_SHORT") != NULL;
+    const char *input = setting("FAILING_INPUT", "/dev/null");
+    double most = atof(setting("FAILING_MILLIS", "1e12"));
+    int seconds = atoi(setting("FAILING_SECONDS", "60"));
+    unsetenv("FAILING_CALL");
+    unsetenv("LD_PRELOAD");
+    int files[2] = {memfd_create("output", 0), memfd_create("errors", 0)};
+    calls = mmap(NULL, sizeof *calls, PROT_READ | PROT_WRITE, MAP_SHARED | MAP_ANONYMOUS, -1, 0);
+    if (files[0] < 0 || files[1] < 0 || calls == MAP_FAILED) give_up("no room");
+    /* as the program runs where nothing fails */
+    if (run(call, 0, input, seconds, files)) return;
+    most /= millis_of_run();
+    if (most < 40) most = 40;
+    long count = *calls;
+    /* in one run, a call is only to be any */
+    long whole = how == EACH_INTERRUPTED || how == NOTHING ? 1 : count, runs = whole < most ? whole : (long)most;
+    for (long i = 0; i < runs; i++)
+        if (run(call, 1 + i * (whole / runs) + (i < whole % runs ? i : whole % runs), input, seconds, files)) return;
+    tell(count);
+    _exit(0);
+}

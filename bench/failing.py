@@ -1,0 +1,263 @@
+#!/usr/bin/env python3
+"""Runs tests and the program with an allocation, a read or a write that fails, each in turn, as `fail-each.sh`
+says, by the library that that script makes of `failing.c`.
+
+A test whose allocation is refused passes all the same, since what it calls goes on as before or is called
+again, or it ends with the error that memory ran out: as its result, or as the answer in the words of the
+assertion that stops it. A test that hides the cause in a failed assertion counts as a failure. A test of
+which a read or a write is interrupted or moves one byte passes; where one fails or moves nothing, the test ends
+by itself.
+
+The program gives the answer, or says `out of memory` with status 1: on standard output, or on standard error
+alone where the run had not begun. A read that is interrupted or short changes nothing. One that fails is
+refused, with status 1 and the text of the error; where one says that nothing is left, the answer is that for
+the beginning of the input, or of the file, that was read. A write that is interrupted or short changes nothing.
+Where one fails or takes nothing, the status is 1, standard output holds what was written before, and standard
+error tells the error, if it can be written.
+"""
+import argparse, collections, concurrent.futures, os, pathlib, re, subprocess, sys, tempfile
+
+CRATES = pathlib.Path(__file__).resolve().parent.parent / 'crates'
+TOOL = 'sourcemap_tool'
+ABORTED = 128 + 6
+TIMED_OUT = 128 + 14
+# what ends a test by itself: it passes, returns an error or fails an assertion
+ENDED = (0, 101, ABORTED)
+# the error that a test returns, or the answer in the words of an assertion
+OUT_OF_MEMORY = re.compile(
+    rb'^[Ee]rror: .*(OutOfMemory|AllocError|AllocFailed|out of memory)|: OutOfMemory\s*\Z|^ *left: "out of memory"$'
+    rb'|(Err\(|: Ok\(")[^\n]*(OutOfMemory|AllocError|AllocFailed|out of memory)[^\n]*\)\s*\Z', re.MULTILINE)
+
+MAP = ('{"version":3,"sources":["coolstuff.js"],"names":["x","alert"],'
+       '"mappings":"AAAA,GAAIA,GAAI,EACR,IAAIA,GAAK,EAAG,CACVC,MAAM"}')
+FULL = ('{"version":3,"file":"out.js","sourceRoot":"/r","sources":["/a/x.js","b.js",null],"sourcesContent":["x\\n",null,"z"],'
+        '"names":["m",1.5,7],"mappings":"AAAAA,CCAAC;;ACAO,E","rangeMappings":";;B","ignoreList":[1],'
+        '"debugId":"01234567-89ab-cdef-0123-456789abcdef"}')
+HERMES = ('{"sources":["a.js","b.js"],"mappings":"ACAA,CDAA","x_facebook_sources":[null,[{"names":["f","g"],'
+          '"mappings":"AAA,KCC"}]]}')
+INDEX = ('{"file":"f","sections":[{"offset":{"line":0,"column":0},"map":{"sources":["a.js"],"sourcesContent":["x"],'
+         '"mappings":"AAAA"}},{"offset":{"line":10,"column":4},"map":{"sections":[{"offset":{"line":0,"column":1},"map":'
+         '{"sources":["b.js"],"names":["n"],"mappings":"AAAAA;AAAA","ignoreList":[0],"x_facebook_sources":[null]}}]}}]}')
+LINKED = '{"sections":[{"offset":{"line":1,"column":4},"url":"u"}]}'
+LATER = '{"sources":["t.js"],"mappings":"EAAA,EAAI"}'
+POSITIONS = '0:5\n0:18\nx\n1:0\n\n0:4294967296\n7:7'
+
+# the texts of the errors EIO and ENOSPC
+READ_ERROR = b'Input/output error (os error 5)\n'
+WRITE_ERROR = b'No space left on device (os error 28)\n'
+
+Case = collections.namedtuple('Case', 'words input file', defaults=('',))
+# words, of which FILE stands for a file with the last text, and the input
+CASES = [
+    Case('lookup 0 5', MAP), Case('lookup 9 9', FULL), Case('lookup 10 9', INDEX), Case('lookup 0 1', HERMES),
+    Case('tokens', MAP), Case('tokens', FULL), Case('tokens', INDEX),
+    Case('rewrite', MAP), Case('rewrite', FULL), Case('rewrite', HERMES),
+    Case('flatten', INDEX), Case('flatten', LINKED), Case('flatten', MAP),
+    Case('shift 2', INDEX), Case('shift 4294967295', INDEX),
+    Case('compose FILE', MAP, LATER), Case('compose FILE', FULL, MAP), Case('compose FILE', MAP, INDEX),
+    Case('trace FILE', MAP, POSITIONS), Case('trace FILE', INDEX, POSITIONS),
+    Case('lookup 0 0', ")]}'\r\n" + MAP), Case('lookup 0 0', ")]}'\r" + MAP), Case('lookup 0 0', '[]'),
+    Case('lookup 0 0', '{"mappings":"A!"}'), Case('lookup 0', MAP), Case('compose gone.map', MAP),
+]
+
+# which calls fail, how, and whether reads and writes move a byte each
+WAYS_OF_TESTS = [('allocation', 'fails', False), ('allocation', 'onward', False)] + [
+    (call, how, is_short) for call in ('read', 'write') for how, is_short in
+    (('fails', False), ('interrupted', False), ('ends', False), ('nothing', True), ('each_interrupted', False))]
+WAYS_OF_RUNS = [('allocation', 'fails', False), ('allocation', 'onward', False)] + [
+    (call, how, is_short) for call in ('read', 'write') for how in ('fails', 'interrupted', 'ends')
+    for is_short in (False, True)] + [
+    # a text of which each byte is interrupted is given up by the kit's writer after some 64 of them
+    ('read', 'nothing', True), ('read', 'each_interrupted', True),
+    ('write', 'nothing', True), ('write', 'each_interrupted', False)]
+
+Ending = collections.namedtuple('Ending', 'status output errors')
+
+
+class Failing:
+    """Runs programs with calls that fail."""
+
+    def __init__(self, library, millis):
+        self.library, self.millis = library, millis
+
+    def endings(self, command, folder, given, call, how, is_short):
+        """How many calls there are where none fails, and how the run ended in which each failed, 0 for none."""
+        env = {'PATH': '/usr/bin:/bin', 'LANG': 'C.UTF-8', 'LD_PRELOAD': self.library, 'FAILING_CALL': call,
+               'FAILING_HOW': how, 'FAILING_INPUT': given, 'FAILING_MILLIS': str(self.millis), 'FAILING_SECONDS': '60'}
+        if is_short:
+            env['FAILING_SHORT'] = '1'
+        ran = subprocess.run(command, env=env, cwd=folder, stdin=subprocess.DEVNULL, stdout=subprocess.PIPE,
+                             stderr=subprocess.PIPE)
+        if ran.returncode:
+            raise RuntimeError(f'{command[0]} could not be swept: {ran.stderr.decode(errors="replace")[-300:]}')
+        first, *lines = ran.stdout.decode().splitlines()
+        found = {}
+        for line in lines:
+            status, output, errors, *failed = line.split()
+            ending = Ending(int(status), bytes.fromhex(output[1:]), bytes.fromhex(errors[1:]))
+            found.update((int(number), ending) for number in failed)
+        return int(first), found
+
+
+def run(command, folder, given):
+    """How a program ends where nothing fails."""
+    with open(given, 'rb') as it:
+        ran = subprocess.run(command, cwd=folder, stdin=it, stdout=subprocess.PIPE, stderr=subprocess.PIPE,
+                             env={'PATH': '/usr/bin:/bin', 'LANG': 'C.UTF-8'})
+    return Ending(ran.returncode, ran.stdout, ran.stderr)
+
+
+def is_test_well(way, ending, usual):
+    call, how, _ = way
+    if call == 'allocation':
+        text = ending.output + ending.errors
+        return ending == usual or ending.status in (101, ABORTED) and bool(OUT_OF_MEMORY.search(text))
+    if how in ('fails', 'ends'):
+        return ending.status in ENDED
+    return ending == usual
+
+
+def is_memory(ending):
+    return ending in (Ending(1, b'out of memory\n', b''), Ending(1, b'', b'out of memory\n'))
+
+
+class Runs:
+    """How runs of the program may end."""
+
+    def __init__(self, program, folder, case, at):
+        self.program, self.folder, self.case = program, folder, case
+        self.input, self.file = f'{folder}/{at}.input', f'{folder}/{at}.file'
+        self.input_bytes, self.file_bytes = case.input.encode(), case.file.encode()
+        pathlib.Path(self.input).write_bytes(self.input_bytes)
+        pathlib.Path(self.file).write_bytes(self.file_bytes)
+        self.usual = run(self.command(self.file), folder, self.input)
+        self.known = {}
+
+    def command(self, file):
+        return [self.program, *(file if word == 'FILE' else word for word in self.case.words.split())]
+
+    def ends_after(self, count):
+        """How the run ends where so many bytes of its input, and of the file behind it, are read before an end
+        comes. The end of the input itself counts as a byte."""
+        size = len(self.input_bytes)
+        given, file = self.input_bytes[:count], self.file_bytes[:max(count - size - 1, 0)]
+        if (given, file) not in self.known:
+            with tempfile.TemporaryDirectory(dir=self.folder) as folder:
+                pathlib.Path(f'{folder}/input').write_bytes(given)
+                pathlib.Path(f'{folder}/file').write_bytes(file)
+                self.known[given, file] = run(self.command(f'{folder}/file'), folder, f'{folder}/input')
+        return self.known[given, file]
+
+    def ends_at(self, number, is_short):
+        """How the run ends where this read, and each behind it, gives nothing. Each before it gave a byte, or all
+        that there was: the input, its end, the file, its end."""
+        size = len(self.input_bytes)
+        whole = [0, size, size + 1, size + 1 + len(self.file_bytes)]
+        return self.ends_after(number - 1 if is_short else whole[min(number, 4) - 1])
+
+    def is_well(self, way, number, ending):
+        call, how, is_short = way
+        if call == 'allocation':
+            return ending == self.usual or is_memory(ending)
+        if number == 0 or how in ('interrupted', 'each_interrupted', 'nothing'):
+            return ending == self.usual
+        if call == 'read':
+            if how == 'ends':
+                return ending == self.ends_at(number, is_short)
+            return ending == Ending(1, READ_ERROR, b'')
+        written = self.usual.output[:number - 1] if is_short else b''
+        return ending == Ending(1, written, WRITE_ERROR if how == 'fails' else b'')
+
+
+class Tally:
+    """Counts runs that ended well or not, and prints those that did not."""
+
+    def __init__(self):
+        self.passed = self.failed = self.left_out = 0
+        self.shown = collections.Counter()
+
+    def add(self, about, way, calls, found, is_well):
+        call, how, is_short = way
+        self.left_out += max(calls - len(found) + 1, 0) if how not in ('nothing', 'each_interrupted') else 0
+        for number, ending in sorted(found.items()):
+            if is_well(number, ending):
+                self.passed += 1
+                continue
+            self.failed += 1
+            self.shown[about] += 1
+            if self.shown[about] <= 4:
+                text = (ending.output + b' ' + ending.errors).decode(errors='replace').strip()
+                print(f'{about}: {call} {number} of {calls}, {how}{", a byte each" if is_short else ""}: '
+                      f'status {ending.status}, {text[-300:]!r}', flush=True)
+
+
+def tests_of(program):
+    listed = subprocess.run([program, '--list'], stdout=subprocess.PIPE, stdin=subprocess.DEVNULL, check=True)
+    return [line.partition(': ')[0] for line in listed.stdout.decode().splitlines() if line.endswith(': test')]
+
+
+def crates_with_tests():
+    listed = [line.partition(':')[0].split()[0] for line in (CRATES.parent / 'crates.txt').read_text().splitlines()
+              if ':' in line and not line.startswith('#')]
+    return [name for name in listed if any('#[test]' in file.read_text() for file in (CRATES / name).glob('src/**/*.rt'))]
+
+
+def program_of(name):
+    return CRATES / name / 'out' / (name if name == TOOL else f'{name}_tests')
+
+
+def build(name):
+    """Proves and builds a program, or tests, by running them."""
+    words = ['rt', 'run', '--', 'lookup', '0', '0'] if name == TOOL else ['rt', 'test']
+    subprocess.run(words, cwd=CRATES / name, stdin=subprocess.DEVNULL, stdout=sys.stderr)
+
+
+def sweep_test(failing, program, test, way):
+    with tempfile.TemporaryDirectory() as folder:
+        calls, found = failing.endings([program, test], folder, '/dev/null', *way)
+    usual = found[0]
+    well = lambda number, ending: is_test_well(way, ending, usual) and usual.status == 0
+    return f'{pathlib.Path(program).name[:-len("_tests")]} {test}', way, calls, found, well
+
+
+def sweep_run(failing, runs, way):
+    calls, found = failing.endings(runs.command(runs.file), runs.folder, runs.input, *way)
+    return f'{TOOL} {runs.case.words}', way, calls, found, lambda number, ending: runs.is_well(way, number, ending)
+
+
+def main():
+    words = argparse.ArgumentParser(prog='fail-each.sh', description='See the head of fail-each.sh.')
+    words.add_argument('work')
+    words.add_argument('crates', nargs='*')
+    words.add_argument('--build', action='store_true')
+    words.add_argument('--millis', type=float, default=2000)
+    words.add_argument('--jobs', type=int, default=os.cpu_count() or 1)
+    given = words.parse_intermixed_args()
+    names = given.crates or [*crates_with_tests(), TOOL]
+    for name in names:
+        if given.build and not program_of(name).exists():
+            build(name)
+    missing = [name for name in names if not program_of(name).exists()]
+    failing, tally, work = Failing(f'{given.work}/failing.so', given.millis), Tally(), []
+    for name in names:
+        program = str(program_of(name))
+        if name in missing:
+            continue
+        if name == TOOL:
+            every = [Runs(program, given.work, case, at) for at, case in enumerate(CASES)]
+            work += [(sweep_run, runs, way) for runs in every for way in WAYS_OF_RUNS]
+        else:
+            work += [(sweep_test, program, test, way) for test in tests_of(program) for way in WAYS_OF_TESTS]
+    with concurrent.futures.ThreadPoolExecutor(given.jobs) as pool:
+        for done in concurrent.futures.as_completed([pool.submit(how, failing, *on) for how, *on in work]):
+            tally.add(*done.result())
+    if missing:
+        print(f'not built, and so not swept: {" ".join(missing)}')
+    if tally.left_out:
+        print(f'{tally.left_out} calls of long tests were left out; --millis 1e12 takes all of them')
+    print(f'{tally.passed} passed, {tally.failed + len(missing)} failed')
+    return tally.failed > 0 or bool(missing)
+
+
+if __name__ == '__main__':
+    sys.exit(main())

@@ -1,0 +1,563 @@
+#!/usr/bin/env python3
+"""Times what strangers may send: each kind of input at three sizes, each command and each call that it concerns.
+
+    bench/hostile.py [KIND..] [--scale N] [--instructions] [--list]
+
+KIND            kinds to try, or words that their names hold; without one all of them
+--scale         sizes are multiplied by this, as 0.1 or 4 (1)
+--instructions  counts instructions with valgrind in place of processor time; slow, and the same on every run
+--list          prints the kinds, and runs nothing
+
+A kind makes an input of a size, and says what its cost is counted by: its bytes, those of its output, or a product
+that the rules ask for, as of the length of `sourceRoot` and the count of sources. Sizes are N, 2N and 4N. For each run
+a row has the bytes of the input and of the output, the time and the most memory, both less those of the same run of a
+small input; and of the three sizes the growth, as the exponent of the count. A row fails where the time of the largest
+size is more than twice that of the smallest, grown by n log n; where it takes more memory a unit of its count than the
+kind allows; or where the status is none of 0, 1 and 2. The last line is `N passed, M failed`, and the status is 1 if
+any failed.
+
+The programs are sourcemap_tool, sourcemap_bench, sourcemap_bench_views, sourcemap_bench_bundles and
+sourcemap_bench_calls, which are built where they are missing; SOURCEMAP_TOOL, SOURCEMAP_BENCH, SOURCEMAP_BENCH_VIEWS,
+SOURCEMAP_BENCH_BUNDLES and SOURCEMAP_BENCH_CALLS name others. Needs `/usr/bin/time` as GNU has it, and valgrind for
+--instructions.
+"""
+import argparse, base64, collections, json, math, os, pathlib, re, resource, struct, subprocess, sys, tempfile
+from comparing import BENCH, BENCH_VIEWS, CRATES, TOOL, build_missing
+
+SCRIPTS = pathlib.Path(__file__).resolve().parent
+CALLS = os.environ.get('SOURCEMAP_BENCH_CALLS', str(CRATES / 'sourcemap_bench_calls/out/sourcemap_bench_calls'))
+BUNDLES = os.environ.get('SOURCEMAP_BENCH_BUNDLES', str(CRATES / 'sourcemap_bench_bundles/out/sourcemap_bench_bundles'))
+SLACK = 2
+# below these a difference is noise: seconds, instructions, bytes
+LEAST_TIME, LEAST_COUNT, LEAST_MEMORY = 0.02, 5_000_000, 1 << 20
+README = json.dumps({'version': 3, 'sources': ['coolstuff.js'], 'names': ['x', 'alert'],
+                     'mappings': 'AAAA,GAAIA,GAAI,EACR,IAAIA,GAAK,EAAG,CACVC,MAAM'})
+FLAT_COMMANDS = ['lookup 0 5', 'tokens', 'rewrite', 'compose small.map', 'trace small.txt']
+INDEX_COMMANDS = ['lookup 0 5', 'flatten', 'shift 1', 'trace small.txt']
+FLAT_WORDS = ['decode 1', 'decode-reader 1', 'lookup 1', 'tokens 1', 'encode 1', 'rewrite 1']
+INDEX_WORDS = ['decode 1', 'decode-reader 1', 'lookup 1', 'encode 1', 'flatten 1']
+
+# what is run: a program, its words, and how many bytes of stack it has for a size, all that there is if None
+Run = collections.namedtuple('Run', 'program words stack', defaults=[None])
+# a kind of input: what makes it of a size, its smallest size, its runs, the memory that it may take of each unit of its
+# count, and the count, by the size, the bytes of the input and those of the output
+Kind = collections.namedtuple('Kind', 'name make size runs memory count')
+KINDS = []
+
+
+def kind(name, size, runs, memory, count=lambda size, given, told: given):
+    def added(make):
+        KINDS.append(Kind(name, make, size, runs, memory, count))
+        return make
+    return added
+
+
+def of_tool(*words):
+    return [Run(TOOL, each.split()) for each in words]
+
+
+def of_bench(*words):
+    return [Run(BENCH, each.split()) for each in words]
+
+
+def of_calls(*words):
+    return [Run(CALLS, each.split()) for each in words]
+
+
+FLAT = of_tool(*FLAT_COMMANDS) + of_bench(*FLAT_WORDS)
+INDEX = of_tool(*INDEX_COMMANDS) + of_bench(*INDEX_WORDS)
+DECODES = of_tool('lookup 0 5', 'tokens') + of_bench('decode 1', 'decode-reader 1') + of_calls('detect', 'detect-reader')
+
+
+def with_output(size, given, told):
+    return given + told
+
+
+def text_of(record):
+    return json.dumps(record, separators=(',', ':'), ensure_ascii=False).encode()
+
+
+def digits(number):
+    raw, text = 2 * abs(number) + (number < 0), ''
+    while raw >= 32:
+        text, raw = text + DIGITS[raw % 32 + 32], raw // 32
+    return text + DIGITS[raw]
+
+
+DIGITS = 'ABCDEFGHIJKLMNOPQRSTUVWXYZabcdefghijklmnopqrstuvwxyz0123456789+/'
+
+
+def flat(mappings, **more):
+    return text_of({'version': 3, 'sources': ['a.js'], 'names': ['x'], 'mappings': mappings, **more})
+
+
+def index(sections):
+    return text_of({'version': 3, 'sections': [{'offset': {'line': line, 'column': column}, **part}
+                                               for line, column, part in sections]})
+
+
+def small(mappings='AAAA'):
+    return {'map': {'version': 3, 'sources': ['a.js'], 'names': [], 'mappings': mappings}}
+
+
+def colliding(what, count):
+    return subprocess.run([SCRIPTS / 'colliding.py', what, str(count)], stdout=subprocess.PIPE, check=True).stdout
+
+
+# texts that collide in a hash of a fixed seed
+
+@kind('colliding sources', 10_000, FLAT, 24)
+def _(size):
+    return colliding('sources', size)
+
+
+@kind('colliding names', 10_000, FLAT, 24)
+def _(size):
+    return colliding('names', size)
+
+
+@kind('colliding sections', 10_000, INDEX, 24)
+def _(size):
+    return colliding('index', size)
+
+
+@kind('colliding lines', 10_000, of_calls('builder', 'intern'), 24)
+def _(size):
+    return colliding('lines', size)
+
+
+# mappings
+
+@kind('one huge segment', 1_000_000, DECODES, 6)
+def _(size):
+    return flat('A' * size)
+
+
+@kind('one number without an end', 1_000_000, DECODES, 6)
+def _(size):
+    return flat('g' * size)
+
+
+@kind('empty segments and lines', 1_000_000, FLAT, 24)
+def _(size):
+    return flat(',;' * (size // 2))
+
+
+@kind('falling tokens', 200_000, FLAT, 40)
+def _(size):
+    return flat('D,' * size + 'A')
+
+
+@kind('equal tokens', 200_000, FLAT, 40)
+def _(size):
+    return flat('AAAC,' * size + 'AAAA')
+
+
+@kind('a token in turn on two lines far apart', 100_000, FLAT, 60)
+def _(size):
+    return flat(';'.join('gBAAC,DAAD' for _ in range(size)))
+
+
+@kind('range bits without tokens', 1_000_000, FLAT, 6)
+def _(size):
+    return flat('A', rangeMappings='A' * size)
+
+
+@kind('ids that name nothing', 200_000, DECODES, 40)
+def _(size):
+    return text_of({'version': 3, 'sources': [], 'names': [], 'mappings': 'A,' * size + 'CAAA'})
+
+
+@kind('names that are missing', 200_000, FLAT, 40)
+def _(size):
+    return text_of({'version': 3, 'sources': ['a.js'], 'names': ['x'], 'mappings': 'AAAA,' + 'CAAA,' * size + 'AAAAC'})
+
+
+# records
+
+@kind('numbers as names', 200_000, FLAT, 52)
+def _(size):
+    return text_of({'version': 3, 'sources': ['a.js'], 'names': [0] * size, 'mappings': 'AAAA'})
+
+
+@kind('empty contents', 100_000, FLAT, 56)
+def _(size):
+    return text_of({'version': 3, 'sources': ['a'] * size, 'sourcesContent': [''] * size, 'names': [],
+                    'mappings': 'AAAA,' + 'CCAA,' * (size - 1) + 'C'})
+
+
+@kind('doubled keys', 100_000, DECODES, 24)
+def _(size):
+    return b'{"version":3,"sources":[],"mappings":"",' + b'"names":[],' * size + b'"names":[]}'
+
+
+@kind('many keys', 100_000, DECODES, 40)
+def _(size):
+    return text_of({**{f'{number}': 0 for number in range(size)}, 'version': 3, 'sources': [], 'names': [], 'mappings': ''})
+
+
+@kind('objects in a key that nothing reads', 100_000, DECODES, 140)
+def _(size):
+    return b'{"version":3,"sources":[],"names":[],"mappings":"","x":[' + b'{"":0},' * size + b'{"":0}]}'
+
+
+@kind('arrays in a key that nothing reads', 200_000, DECODES, 24)
+def _(size):
+    return b'{"version":3,"sources":[],"names":[],"mappings":"","x":[' + b'[],' * size + b'[]]}'
+
+
+@kind('deep arrays', 500_000, DECODES, 8)
+def _(size):
+    return b'[' * size + b']' * size
+
+
+@kind('escapes', 200_000, FLAT, 8)
+def _(size):
+    return b'{"version":3,"sources":["' + b'\\u0041' * size + b'"],"names":["x"],"mappings":"AAAA"}'
+
+
+@kind('escapes that are cut short', 200_000, DECODES, 8)
+def _(size):
+    return b'{"version":3,"sources":["' + b'\\ud83d' * size
+
+
+@kind('junk without an end', 1_000_000, DECODES, 6)
+def _(size):
+    return b')]}' + b'x' * size
+
+
+@kind('junk of returns', 1_000_000, DECODES, 6)
+def _(size):
+    return b')]}' + b'\r\n' * size + README.encode()
+
+
+@kind('white space', 1_000_000, DECODES, 6)
+def _(size):
+    return b' ' * size + README.encode()
+
+
+@kind('ids to ignore', 200_000, FLAT, 24)
+def _(size):
+    return flat('AAAA', ignoreList=[0] * size)
+
+
+# products that the rules ask for
+
+@kind('sourceRoot times sources', 2_000, FLAT, 4, lambda size, given, told: size * size + given)
+def _(size):
+    return text_of({'version': 3, 'sourceRoot': 'r' * size, 'sources': ['a'] * size, 'names': [], 'mappings': 'AAAA'})
+
+
+@kind('tokens of one long source', 1_000, FLAT, 8, with_output)
+def _(size):
+    return text_of({'version': 3, 'sources': ['s' * size], 'names': [], 'mappings': 'AAAA,' + 'CAAA,' * size + 'C'})
+
+
+@kind('a far line', 4_000_000, of_tool('flatten') + of_bench('flatten 1', 'encode 1'), 4, lambda size, given, told: size)
+def _(size):
+    return index([(0, 0, small()), (size, 0, small())])
+
+
+# index maps
+
+@kind('sections in falling order', 20_000, INDEX, 40)
+def _(size):
+    return index([(size - number, 0, small()) for number in range(size)])
+
+
+@kind('sections of one offset', 20_000, INDEX, 40)
+def _(size):
+    return index([(0, 0, small()) for _ in range(size)])
+
+
+@kind('sections without a map', 50_000, INDEX, 60)
+def _(size):
+    return index([(number, 0, {'url': 'u'}) for number in range(size)])
+
+
+@kind('sections of nothing', 50_000, INDEX, 60)
+def _(size):
+    return b'{"version":3,"sections":[' + b'{"offset":{"line":0,"column":0}},' * size + b'{"offset":{"line":0,"column":0}}]}'
+
+
+@kind('a large map in forty indexes', 100_000, INDEX, 40)
+def _(size):
+    record = flat('CAAA,' * size + 'C').decode()
+    for _ in range(40):
+        record = '{"version":3,"sections":[{"offset":{"line":0,"column":0},"map":' + record + '}]}'
+    return record.encode()
+
+
+@kind('indexes too deep for text', 20_000, DECODES, 24)
+def _(size):
+    opening, closing = b'{"version":3,"sections":[{"offset":{"line":0,"column":0},"map":', b'}]}'
+    return opening * size + README.encode() + closing * size
+
+
+# function maps
+
+@kind('function maps of one line', 100_000, FLAT, 60)
+def _(size):
+    scopes = [[{'names': ['f', 'g'], 'mappings': 'AAA,' + 'CCA,CDA,' * size + 'C'}]]
+    return flat('AAAA', x_facebook_sources=scopes)
+
+
+@kind('function maps without names', 50_000, FLAT, 60)
+def _(size):
+    return text_of({'version': 3, 'sources': ['a'] * size, 'names': [], 'mappings': 'AAAA',
+                    'x_facebook_sources': [[{'names': [], 'mappings': ';'}]] * size})
+
+
+# two inputs
+
+@kind('positions by the million', 250_000, of_tool('trace FILE'), 24)
+def _(size):
+    return README.encode(), ''.join(f'{number % 7}:{number % 1000}\n' for number in range(size)).encode()
+
+
+@kind('positions on one line without an end', 1_000_000, of_tool('trace FILE'), 24)
+def _(size):
+    return README.encode(), b'1' * size
+
+
+@kind('an adjustment from one position', 200_000, of_tool('compose FILE'), 60)
+def _(size):
+    return flat('AAAA,' + 'CAAC,' * size + 'C'), flat('AAAA,' + 'CAAA,' * size + 'C')
+
+
+@kind('an adjustment in falling order', 200_000, of_tool('compose FILE'), 60)
+def _(size):
+    return flat('AAAA,' + 'CAAC,' * size + 'C'), flat(f'AAA{digits(size)},' + 'CAAD,' * size + 'C')
+
+
+# generated texts
+
+def map_and_text(columns, text):
+    return flat('AAAA,' + 'CAAC,' * (columns - 1) + 'CAAC') + b'\n' + text
+
+
+VIEWS = of_calls('walk') + [Run(BENCH_VIEWS, ['names', '1'])]
+
+
+@kind('one long identifier, a token at each column', 50_000, VIEWS, 40)
+def _(size):
+    return map_and_text(size, b'a' * size)
+
+
+@kind('white space, a token at each column', 50_000, VIEWS, 40)
+def _(size):
+    return map_and_text(size, b' ' * size)
+
+
+@kind('pairs of surrogates, a token at each column', 50_000, VIEWS, 40)
+def _(size):
+    return map_and_text(2 * size, '\U0001d51e'.encode() * size)
+
+
+@kind('names at the end of a line of letters', 500_000, VIEWS, 40)
+def _(size):
+    return flat('AAAA,' + digits(size - 1) + 'AAC,' + 'AAAC,' * 200 + 'AAAC') + b'\n' + b'a' * size
+
+
+@kind('lines without text', 1_000_000, of_calls('view', 'locate', 'locate-reader', 'locate-view') + [Run(BENCH_VIEWS, ['lines', '1'])], 12)
+def _(size):
+    return b'\n' * size
+
+
+@kind('references to nothing', 50_000, of_calls('locate', 'locate-reader', 'locate-view'), 12)
+def _(size):
+    return b' //# sourceMappingURL=a.map\n//# sourceMappingURL' * size
+
+
+@kind('a reference without an end', 1_000_000, of_calls('locate', 'locate-reader', 'locate-view', 'resolve', 'resolve-path'), 24)
+def _(size):
+    return b'//# sourceMappingURL=' + b'a/' * (size // 2)
+
+
+# URLs and paths
+
+@kind('a path of dots', 200_000, of_calls('resolve', 'resolve-path', 'relative'), 24)
+def _(size):
+    return b'//# sourceMappingURL=' + b'../' * size
+
+
+@kind('long paths', 200_000, of_calls('relative', 'prefix'), 24)
+def _(size):
+    return b'/a' * size + b'/b\n' + b'/a' * size + b'/c'
+
+
+@kind('a data URL', 1_000_000, of_calls('data-url', 'embedded'), 12)
+def _(size):
+    record = flat('A' * size)
+    return b'data:application/json;base64,' + base64.b64encode(record)
+
+
+@kind('a data URL of nothing', 1_000_000, of_calls('data-url', 'embedded'), 12)
+def _(size):
+    return b'data:application/json;base64,' + b'=' * size
+
+
+# bundles
+
+def bundle(count, startup, entries, code=b''):
+    return struct.pack('<III', 0xFB0BD1E5, count, startup) + b''.join(struct.pack('<II', *each) for each in entries) + code
+
+
+@kind('a bundle whose modules are one text', 20_000, of_calls('bundle'), 24)
+def _(size):
+    return bundle(size, 0, [(0, size)] * size, b'x' * size)
+
+
+@kind('a bundle whose entries lie', 100_000, of_calls('bundle'), 12)
+def _(size):
+    return bundle(size, 0xFFFFFFFF, [(0xFFFFFFFF, 0xFFFFFFFF)] * size)
+
+
+@kind('a bundle of nothing', 100_000, of_calls('bundle'), 12)
+def _(size):
+    return bundle(size, 0, [(0, 0)] * size)
+
+
+SPLITS = [Run(BUNDLES, ['split', '1'])]
+
+
+def split_of(offsets, mappings, text, entries):
+    """An index map with the offsets of modules, and a bundle of them."""
+    record = {'version': 3, 'sections': [{'offset': {'line': 0, 'column': 0}, **small(mappings)}], 'x_facebook_offsets': offsets,
+              'x_metro_module_paths': []}
+    return text_of(record) + b'\n' + bundle(len(entries), 0, entries, text)
+
+
+@kind('a bundle of modules of one line each', 20_000, SPLITS, 60)
+def _(size):
+    return split_of([*range(size)], 'AAAA;' * size, b'x;\0' * size, [(3 * number, 3) for number in range(size)])
+
+
+@kind('modules that all stand on one line', 500, SPLITS, 60, lambda size, given, told: size * size + given)
+def _(size):
+    return split_of([0] * size, 'CAAC,' * size + 'C', b'x' * (2 * size) + b'\0', [(0, 2 * size)] * size)
+
+
+# maps that are built in memory
+
+@kind('indexes in one another', 100, [Run(CALLS, ['nest'], lambda size: 10_240 * size)], 20_000, lambda size, given, told: size)
+def _(size):
+    return str(size).encode()
+
+
+class Failed(Exception):
+    pass
+
+
+def inputs_of(made, folder):
+    """The input, and the words for the file beside it."""
+    source, beside = made if isinstance(made, tuple) else (made, None)
+    pathlib.Path(folder, 'small.map').write_text(README)
+    pathlib.Path(folder, 'small.txt').write_text('0:5\n1:0\n')
+    if beside is not None:
+        pathlib.Path(folder, 'FILE').write_bytes(beside)
+    pathlib.Path(folder, 'input').write_bytes(source)
+    return len(source) + len(beside or b'')
+
+
+def with_stack(stack):
+    """What bounds the stack of a process that is to start."""
+    return (lambda: resource.setrlimit(resource.RLIMIT_STACK, (stack, stack))) if stack else None
+
+
+def measured(run, folder, counts, size=None):
+    """The time or the instructions, the most memory, the bytes of the output, and the status of a run."""
+    counted, peak = pathlib.Path(folder, 'counted'), pathlib.Path(folder, 'peak')
+    command = [run.program, *run.words]
+    if counts:
+        command = ['valgrind', '--tool=callgrind', f'--callgrind-out-file={counted}', *command]
+    # a small process starts it, whose memory is not counted for its own
+    command = ['/usr/bin/time', '-o', peak, '-f', '%M', *command]
+    with open(pathlib.Path(folder, 'input'), 'rb') as source, tempfile.TemporaryFile() as sink:
+        process = subprocess.Popen(command, stdin=source, stdout=sink, stderr=subprocess.DEVNULL, cwd=folder,
+                                   preexec_fn=with_stack(run.stack and size and run.stack(size)))
+        _, status, usage = os.wait4(process.pid, 0)
+        process.returncode = os.waitstatus_to_exitcode(status)
+        told = sink.seek(0, os.SEEK_END)
+    cost = usage.ru_utime + usage.ru_stime
+    if counts:
+        cost = int(re.search(r'^summary: (\d+)', counted.read_text(), re.MULTILINE)[1])
+    return cost, int(peak.read_text().split()[-1]) * 1024, told, process.returncode
+
+
+def tried(each, run, base, scale, counts):
+    """A row for each size, and what failed of it."""
+    rows = []
+    for factor in (1, 2, 4):
+        size = max(1, int(each.size * scale)) * factor
+        with tempfile.TemporaryDirectory() as folder:
+            given = inputs_of(each.make(size), folder)
+            cost, memory, told, status = measured(run, folder, counts, size)
+        rows.append((each.count(size, given, told), given, told, cost, max(0, memory - base[1]), status))
+    # a run that is refused at once may cost less than that of a small input
+    spent = base[0] if all(row[3] > base[0] for row in rows) else 0
+    rows = [(*row[:3], row[3] - spent, *row[4:]) for row in rows]
+    return rows, faults_of(each, rows, counts)
+
+
+def faults_of(each, rows, counts):
+    (least, _, _, first, _, _), (most, _, _, last, memory, status) = rows[0], rows[-1]
+    grown = most * math.log(most + 2) / (least * math.log(least + 2))
+    floor = LEAST_COUNT if counts else LEAST_TIME
+    if any(row[-1] not in (0, 1, 2) for row in rows):
+        yield f'status {[row[-1] for row in rows]}'
+    if last > SLACK * grown * max(first, floor / SLACK):
+        yield f'time grows by {last / max(first, 1e-9):.1f}, and n log n by {grown:.1f}'
+    if memory > each.memory * most + LEAST_MEMORY:
+        yield f'{memory / most:.1f} bytes a unit, of {each.memory}'
+
+
+def growth(rows):
+    """The exponent of the time in the count."""
+    (least, _, _, first, _, _), (most, _, _, last, _, _) = rows[0], rows[-1]
+    return math.log(last / first) / math.log(most / least) if first > 0 and last > 0 and most > least else 0
+
+
+def printed(each, run, rows, faults, counts):
+    count, given, told, cost, memory, status = rows[-1]
+    shown = f'{cost / 1e6:.1f} M' if counts else f'{cost * 1e3:.0f} ms'
+    name = pathlib.Path(run.program).name.removeprefix('sourcemap_')
+    print(f'| {each.name} | {name} {" ".join(run.words)} | {given:,} | {told:,} | {shown} | {growth(rows):.2f} '
+          f'| {memory / 1e6:.1f} MB | {memory / count:.1f} | {status} | {"; ".join(faults) or "ok"} |', flush=True)
+
+
+def base_of(run, counts):
+    """What a run of a small input costs."""
+    with tempfile.TemporaryDirectory() as folder:
+        inputs_of((README.encode(), b'0:5\n'), folder)
+        return measured(run, folder, counts)[:2]
+
+
+def main():
+    words = argparse.ArgumentParser(usage=__doc__)
+    words.add_argument('kinds', nargs='*')
+    words.add_argument('--scale', type=float, default=1)
+    words.add_argument('--instructions', action='store_true')
+    words.add_argument('--list', action='store_true')
+    given = words.parse_args()
+    chosen = [each for each in KINDS if not given.kinds or any(word in each.name for word in given.kinds)]
+    if given.list:
+        print('\n'.join(each.name for each in chosen))
+        return
+    build_missing(dict.fromkeys(run.program for each in chosen for run in each.runs))
+    print('| Kind | Run | Input | Output | Time | Growth | Memory | Bytes a unit | Status | |\n|' + '---|' * 10)
+    passed = failed = 0
+    bases = {}
+    for each in chosen:
+        for run in each.runs:
+            key = run.program, *run.words
+            bases[key] = bases.get(key) or base_of(run, given.instructions)
+            rows, faults = tried(each, run, bases[key], given.scale, given.instructions)
+            faults = list(faults)
+            printed(each, run, rows, faults, given.instructions)
+            passed, failed = passed + (not faults), failed + bool(faults)
+    print(f'{passed} passed, {failed} failed')
+    sys.exit(failed > 0)
+
+
+main()

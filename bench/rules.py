@@ -1,0 +1,457 @@
+"""What each command of the program says, by the rules of the formats alone: from the bytes of a map, and of a
+file where one is named, to a status and a text. Stated here anew; takes nothing from the programs that are
+compared."""
+import json, re
+from composing import DIGITS, Token, composed, digits_of, without_repeats
+from hermes_maps import closest
+from index_maps import LAST, in_order, offset_of, raised
+
+USAGE = ('usage: lookup LINE COL | tokens | rewrite | flatten | compose FILE | shift ROWS | trace FILE\n')
+NUMBER = re.compile(rb'[0-9]+\Z')
+HYPHENATED = re.compile(r'[0-9a-fA-F]{8}(-[0-9a-fA-F]{4}){3}-[0-9a-fA-F]{12}\Z')
+PLAIN = re.compile(r'[0-9a-fA-F]{32}\Z')
+SURROGATE = re.compile('[\ud800-\udfff]')
+LEVELS = 127
+MOST_LINES = 10**5
+
+
+class Refusal(Exception):
+    """A command is refused with this text."""
+
+
+def parse():
+    return Refusal('bad json: the text is not JSON')
+
+
+def shape():
+    return Refusal('bad json: a field has the wrong type')
+
+
+def incompatible():
+    return Refusal('encountered incompatible sourcemap format')
+
+
+class TooLong(Exception):
+    """An answer has too many lines to be made here."""
+
+
+class Fraction:
+    """A number that is no whole one of 64 bits."""
+
+
+def fraction(text):
+    if float(text) in (float('inf'), float('-inf')):
+        raise ValueError(text)
+    return Fraction()
+
+
+def whole(text):
+    number = int(text) if len(text) < 400 else float('inf')
+    if text.startswith('-0') or not -2**63 <= number < 2**64:
+        return fraction(text)
+    return number
+
+
+def no_constant(text):
+    raise ValueError(text)
+
+
+DECODER = json.JSONDecoder(parse_float=fraction, parse_int=whole, parse_constant=no_constant)
+
+
+def is_text(value):
+    return isinstance(value, str)
+
+
+def check_levels(value, left=LEVELS):
+    """Refuses JSON that is too deep, or has half of a surrogate pair."""
+    if isinstance(value, str):
+        if SURROGATE.search(value):
+            raise parse()
+    elif isinstance(value, (list, dict)):
+        if left == 0:
+            raise parse()
+        for part in value if isinstance(value, list) else [*value, *value.values()]:
+            check_levels(part, left - 1)
+
+
+def behind_header(data):
+    """The bytes behind a junk header."""
+    if data[:1] not in (b')', b']', b'}', b"'"):
+        return data
+    end = data.find(b'\n')
+    junk = data if end < 0 else data[:end + 1]
+    at = junk.find(b'\r')
+    while at >= 0:
+        if at + 1 < len(junk) and junk[at + 1] != 10:
+            raise Refusal('invalid data')
+        at = junk.find(b'\r', at + 1)
+    return b'' if end < 0 else data[end:]
+
+
+def json_of(data):
+    try:
+        text = behind_header(data).decode('utf-8')
+        # what stands before and behind the value
+        value, end = DECODER.raw_decode(text, len(text) - len(text.lstrip(' \t\n\r')))
+        if text[end:].strip(' \t\n\r'):
+            raise parse()
+    except (ValueError, RecursionError, OverflowError):
+        raise parse() from None
+    check_levels(value)
+    return value
+
+
+# Each reads a value as what a key holds; what is null or missing is None.
+
+def u32(value):
+    if isinstance(value, bool) or not isinstance(value, int) or not 0 <= value <= LAST:
+        raise shape()
+    return value
+
+
+def text(value):
+    if not is_text(value):
+        raise shape()
+    return value
+
+
+def listed(item):
+    def read(value):
+        if not isinstance(value, list):
+            raise shape()
+        return [item(each) for each in value]
+    return read
+
+
+def optional(item):
+    return lambda value: None if value is None else item(value)
+
+
+def keyed(value, **keys):
+    if not isinstance(value, dict):
+        raise shape()
+    return {key: read(value.get(key)) for key, read in keys.items()}
+
+
+def any_value(value):
+    return value
+
+
+def debug_id(value):
+    if not is_text(value) or not (HYPHENATED.match(value) or PLAIN.match(value)):
+        raise shape()
+    digits = value.replace('-', '').lower()
+    return '-'.join((digits[:8], digits[8:12], digits[12:16], digits[16:20], digits[20:]))
+
+
+def section(value):
+    return keyed(value, offset=lambda it: keyed(it, line=u32, column=u32), url=optional(text), map=optional(record))
+
+
+def scopes(value):
+    return keyed(value, names=listed(text), mappings=text)
+
+
+def record(value):
+    found = keyed(
+        value, version=optional(u32), file=any_value, sources=optional(listed(optional(text))),
+        sourceRoot=optional(text), sourcesContent=optional(listed(optional(text))),
+        sections=optional(listed(section)), names=optional(listed(any_value)), rangeMappings=optional(text),
+        mappings=optional(text), ignoreList=optional(listed(u32)), x_facebook_offsets=optional(listed(optional(u32))),
+        x_metro_module_paths=optional(listed(text)),
+        x_facebook_sources=optional(listed(optional(listed(scopes)))),
+        debugId=optional(debug_id), debug_id=optional(debug_id))
+    found['debugId'] = found['debugId'] or found['debug_id']
+    return found
+
+
+def name_text(value):
+    if isinstance(value, int) and not isinstance(value, bool):
+        return str(value)
+    return value if is_text(value) else ''
+
+
+def digit(byte):
+    at = DIGITS.find(chr(byte))
+    if at < 0:
+        raise Refusal(f'invalid base64 character: {chr(byte)}')
+    return at
+
+
+def numbers(segment):
+    """The numbers of a segment, or its first fault."""
+    found, raw, length = [], 0, 0
+    for byte in segment:
+        six = digit(byte)
+        raw, length = raw | (six & 31) << 5 * length, length + 1
+        if length > 13 or raw >= 2**63:
+            raise Refusal('vlq decode caused an overflow')
+        if six < 32:
+            found.append(-(raw >> 1) if raw & 1 else raw >> 1)
+            raw, length = 0, 0
+    if length:
+        raise Refusal('leftover cur/shift in vlq decode')
+    return found
+
+
+class Map:
+    """A regular map, or one with scopes."""
+
+    def __init__(self, found):
+        self.file = None if found['file'] is None else found['file'] if is_text(found['file']) else '<invalid>'
+        self.root, self.debug_id = found['sourceRoot'], found['debugId']
+        self.texts = [it or '' for it in found['sources'] or []]
+        self.names = [name_text(it) for it in found['names'] or []]
+        self.contents = ((found['sourcesContent'] or []) + [None] * len(self.texts))[:len(self.texts)]
+        self.ignored = sorted(set(found['ignoreList'] or []))
+        self.scopes = found['x_facebook_sources']
+        self.tokens = self.read(found['mappings'] or '', found['rangeMappings'] or '')
+
+    def read(self, mappings, ranges):
+        tokens, there = [], [0, 0, 0, 0]
+        marks = ranges.encode().split(b';')
+        for line, row in enumerate(mappings.encode().split(b';')):
+            if not row:
+                continue
+            bits = [digit(byte) for byte in marks[line]] if line < len(marks) else []
+            column = 0
+            for place, segment in enumerate(row.split(b',')):
+                if not segment:
+                    continue
+                first, *rest = numbers(segment)
+                if len(rest) not in (0, 3, 4):
+                    raise Refusal(f'got {len(rest) + 1} segments, expected 4 or 5')
+                column = (column + first) % 2**32
+                for at, step in enumerate(rest):
+                    there[at] = (there[at] + step) % 2**32
+                    if at == 0 and there[0] >= len(self.texts):
+                        raise Refusal(f'bad reference to source #{there[0]}')
+                if len(rest) == 4 and there[3] >= len(self.names):
+                    raise Refusal(f'bad reference to name #{there[3]}')
+                source, source_line, source_column = there[:3] if rest else (LAST, LAST, LAST)
+                is_range = place // 6 < len(bits) and bool(bits[place // 6] >> place % 6 & 1)
+                tokens.append(Token(line, column, source_line, source_column, source,
+                                    there[3] if len(rest) == 4 else LAST, is_range))
+        return sorted(tokens, key=lambda token: token[:2])
+
+    def shown(self, source):
+        """A source's text behind its root."""
+        text = self.texts[source]
+        if not self.root or text.startswith(('/', 'http:', 'https:')):
+            return text
+        root = self.root[:-1] if self.root.endswith('/') else self.root
+        return f'{root}/{text}'
+
+    def named(self, token):
+        return self.names[token.name] if token.name < len(self.names) else None
+
+    def printed(self, token, distance=0):
+        source = self.shown(token.source) if token.source < len(self.texts) else '<unknown>'
+        name = self.named(token)
+        return (f'{source}:{token.source_line}:{min(token.source_column + distance, LAST)}'
+                + ('' if name is None else f' name={name}'))
+
+    def looked_up(self, line, column):
+        token = closest(self.tokens, lambda it: it[:2], (line, column))
+        if token is None:
+            return 'none'
+        return self.printed(token, column - token.column if token.is_range and token.line == line else 0)
+
+    def value(self):
+        """The record that the map is written as."""
+        mappings, marks = self.written()
+        parts = {'version': 3, 'file': self.file, 'sourceRoot': self.root, 'debugId': self.debug_id,
+                 'rangeMappings': marks, 'x_facebook_sources': self.scopes}
+        parts = {key: part for key, part in parts.items() if part is not None}
+        parts.update(sources=self.texts, names=self.names, mappings=mappings)
+        if any(it is not None for it in self.contents):
+            parts['sourcesContent'] = self.contents
+        if self.ignored:
+            parts['ignoreList'] = self.ignored
+        return parts
+
+    def written(self):
+        tokens = [token if token.source != LAST and token.name < len(self.names) else token._replace(name=LAST)
+                  for token in without_repeats(self.tokens)]
+        last = self.tokens[-1].line if self.tokens else 0
+        if last > MOST_LINES:
+            raise TooLong()
+        lines, columns, there = [[] for _ in range(last + 1)], [0] * (last + 1), [0, 0, 0, 0]
+        for token in tokens:
+            segment = digits_of(token.column - columns[token.line])
+            if token.source != LAST:
+                here = [token.source, token.source_line, token.source_column] + [token.name] * (token.name != LAST)
+                segment += ''.join(digits_of(part - old) for part, old in zip(here, there))
+                there = here + there[len(here):]
+            columns[token.line] = token.column
+            lines[token.line].append((segment, token.is_range))
+        marks = [''.join(DIGITS[sum(row[at + bit][1] << bit for bit in range(6) if at + bit < len(row))]
+                         for at in range(0, len(row), 6)).rstrip('A') for row in lines]
+        return (';'.join(','.join(segment for segment, _ in row) for row in lines),
+                ';'.join(marks) if any(marks) else None)
+
+    def rewritten(self):
+        made = object.__new__(Map)
+        made.file, made.debug_id, made.root, made.ignored = self.file, self.debug_id, None, []
+        sources, names, firsts, contents, tokens = {}, {}, [], {}, []
+        for token in self.tokens:
+            source = name = LAST
+            if token.source < len(self.texts):
+                text = self.shown(token.source)
+                source = sources.setdefault(text, len(sources))
+                if source == len(firsts):
+                    firsts.append(token.source)
+                if self.contents[token.source] is not None:
+                    contents.setdefault(source, self.contents[token.source])
+            if self.named(token) is not None:
+                name = names.setdefault(self.named(token), len(names))
+            tokens.append(token._replace(source=source, name=name))
+        made.texts, made.names, made.tokens = list(sources), list(names), tokens
+        made.contents = [contents.get(source) for source in range(len(sources))]
+        made.scopes = None if self.scopes is None else [
+            self.scopes[old] if old < len(self.scopes) else None for old in firsts]
+        return made
+
+
+class Index:
+    def __init__(self, found):
+        self.file = None if found['file'] is None else found['file'] if is_text(found['file']) else '<invalid>'
+        self.debug_id, self.offsets, self.paths = (
+            found['debugId'], found['x_facebook_offsets'], found['x_metro_module_paths'])
+        # in the order of the text, in which the first fault counts
+        sections = [{**it, 'map': None if it['map'] is None else map_of(it['map'])} for it in found['sections']]
+        self.sections = in_order(sections)
+
+    def looked_up(self, line, column):
+        at = closest(self.sections, offset_of, (line, column))
+        if at is None or at['map'] is None:
+            return 'none'
+        offset = offset_of(at)
+        return at['map'].looked_up(line - offset[0], column - offset[1] if line == offset[0] else column)
+
+    def flat(self):
+        made = object.__new__(Map)
+        made.file, made.debug_id, made.root, made.scopes = self.file, None, None, None
+        sources, names, contents, ignored, tokens = {}, {}, {}, set(), []
+        for each in self.sections:
+            if each['map'] is None:
+                url = '<unknown url>' if each['url'] is None else each['url']
+                raise Refusal(f'cannot flatten the indexed sourcemap: Section has an unresolved sourcemap: {url}')
+            inner = each['map'].flat() if isinstance(each['map'], Index) else each['map']
+            ids = []
+            for source in range(len(inner.texts)):
+                ids.append(sources.setdefault(inner.shown(source), len(sources)))
+                if inner.contents[source] is not None:
+                    contents[ids[-1]] = inner.contents[source]
+            name_ids = [names.setdefault(name, len(names)) for name in inner.names]
+            for token in inner.tokens:
+                line, column = raised(offset_of(each), token[:2])
+                if max(line, column) > LAST:
+                    raise Refusal('cannot flatten the indexed sourcemap: a position passes 4294967295')
+                source = ids[token.source] if token.source < len(ids) else LAST
+                name = name_ids[token.name] if token.name < len(name_ids) else LAST
+                if token.source in inner.ignored:
+                    ignored.add(source)
+                tokens.append(token._replace(line=line, column=column, source=source, name=name))
+        made.texts, made.names, made.ignored = list(sources), list(names), sorted(ignored)
+        made.contents = [contents.get(source) for source in range(len(sources))]
+        made.tokens = sorted(tokens, key=lambda token: token[:2])
+        return made
+
+    def shifted(self, rows):
+        if any(it['offset']['line'] + rows > LAST for it in self.sections):
+            raise incompatible()
+        for it in self.sections:
+            it['offset'] = {'line': it['offset']['line'] + rows, 'column': it['offset']['column']}
+
+    def value(self):
+        parts = {'version': 3, 'file': self.file, 'debugId': self.debug_id, 'x_facebook_offsets': self.offsets,
+                 'x_metro_module_paths': self.paths}
+        parts = {key: part for key, part in parts.items() if part is not None}
+        sections = [{'offset': it['offset'], 'url': it['url'], 'map': it['map'] and it['map'].value()}
+                    for it in self.sections]
+        return {**parts, 'sources': None, 'sections': sections}
+
+
+def map_of(found):
+    return Map(found) if found['sections'] is None else Index(found)
+
+
+def decoded(data):
+    return map_of(record(json_of(data)))
+
+
+def line_of(found):
+    return json.dumps(found.value(), ensure_ascii=False, separators=(',', ':'), sort_keys=True) + '\n'
+
+
+def is_regular(found):
+    return isinstance(found, Map) and found.scopes is None
+
+
+def tokens_told(found):
+    if isinstance(found, Index):
+        raise incompatible()
+    return ''.join(f'{token.line}:{token.column} {found.printed(token)}{" range" if token.is_range else ""}\n'
+                   for token in found.tokens)
+
+
+def adjusted(found, other):
+    if not is_regular(found) or not is_regular(other):
+        raise incompatible()
+    found.tokens = composed(found.tokens, other.tokens)
+    if found.tokens is None:
+        raise incompatible()
+    return found
+
+
+def position_told(found, line):
+    numbers = line.split(b':')
+    if len(numbers) != 2 or not all(NUMBER.match(number) and len(number.lstrip(b'0')) <= 10
+                                    and int(number) <= LAST for number in numbers):
+        return 'bad position'
+    return found.looked_up(*map(int, numbers))
+
+
+def traced(found, positions):
+    lines = positions.split(b'\n')
+    return ''.join(position_told(found, line) + '\n' for line in (lines if lines[-1] else lines[:-1]))
+
+
+def number_of(word):
+    word = word.encode('utf-8', 'surrogateescape')
+    return int(word) if NUMBER.match(word) and len(word.lstrip(b'0')) <= 10 and int(word) <= LAST else None
+
+
+def said(words, data, file):
+    """What the command of these words says, None if they are no command's."""
+    numbers = [number_of(word) for word in words[1:]]
+    verb = words[0] if words else None
+    known = {'lookup': 2, 'tokens': 0, 'rewrite': 0, 'flatten': 0, 'compose': 1, 'shift': 1, 'trace': 1}
+    if known.get(verb) != len(numbers) or verb in ('lookup', 'shift') and None in numbers:
+        return None
+    found = decoded(data)
+    if verb == 'lookup':
+        return found.looked_up(*numbers) + '\n'
+    if verb == 'tokens':
+        return tokens_told(found)
+    if verb == 'compose':
+        return line_of(adjusted(found, decoded(file)))
+    if verb == 'trace':
+        return traced(found, file)
+    if (verb == 'rewrite') != isinstance(found, Map):
+        raise incompatible()
+    if verb == 'shift':
+        found.shifted(numbers[0])
+        return line_of(found)
+    return line_of(found.rewritten() if verb == 'rewrite' else found.flat())
+
+
+def ended(words, data, file=b''):
+    """The status and the text of a run."""
+    try:
+        told = said(words, data, file)
+    except Refusal as refused:
+        return 1, f'{refused}\n'.encode()
+    return (2, USAGE.encode()) if told is None else (0, told.encode())
