@@ -11,16 +11,16 @@ use std::alloc::Global;
 use std::process::Abort;
 use std::str;
 
-// What a row is about, a map, and what it is written as.
-type Row = (&'static str, &'static str, &'static str);
+/// What a row is about, a map, and what it is written as.
+pub type Row = (&'static str, &'static str, &'static str);
 
-const BARE: Row = (
+pub const BARE: Row = (
     "a token without a source",
     r#"{"mappings":"A"}"#,
     r#"{"mappings":"A","names":[],"sources":[],"version":3}"#,
 );
 
-static WRITTEN: [Row; 11] = [
+pub static WRITTEN: [Row; 11] = [
     BARE,
     (
         "a token with a source before one without",
@@ -78,7 +78,8 @@ fn record(alloc: Global, text: &str) -> Result<RawSourceMap> {
     RawSourceMap::from_owned(alloc, Value::from_str(alloc, text)?)
 }
 
-fn regular(alloc: Global, text: &str) -> Made {
+/// A map that is decoded from this JSON text.
+pub fn regular(alloc: Global, text: &str) -> Made {
     let record = record(alloc, text)?;
     boxed(alloc, decode_regular(alloc, record))
 }
@@ -205,7 +206,8 @@ fn held_told(alloc: Global, text: &str, call: Call, left: Option<usize>) -> Resu
     outcome_told(alloc, writer.held.as_slice(), outcome)
 }
 
-fn outcome_told(alloc: Global, held: &[u8], outcome: Result<()>) -> Result<String> {
+/// What a writer holds, or that and the error's text.
+pub fn outcome_told(alloc: Global, held: &[u8], outcome: Result<()>) -> Result<String> {
     match outcome {
         Ok(()) => Ok(String::from_str(alloc, str::from_utf8(held)?)?),
         Err(fault) => fault_told(alloc, held, &fault),
@@ -237,8 +239,8 @@ fn bytes_are_written_one_by_one(rt: HostRuntime) {
     }
 }
 
-// What a writer holds that fails after some bytes of this text, and the fault.
-fn cut(alloc: Global, text: &str, most: usize) -> Result<String> {
+/// What a writer holds that fails after some bytes of this text, and the fault.
+pub fn cut(alloc: Global, text: &str, most: usize) -> Result<String> {
     let mut told = String::new(alloc);
     for letter in text.chars().take(most) {
         told.push(letter)?;

@@ -5,6 +5,7 @@
 pub mod adjusting;
 pub mod building;
 pub mod data_urls;
+pub mod exporting;
 pub mod faults;
 pub mod finding;
 pub mod flattening;

@@ -8,6 +8,7 @@ use sourcemap::{
 use sourcemap_uses::adjusting::place_behind;
 use sourcemap_uses::building::place_once_written;
 use sourcemap_uses::data_urls::inline_map;
+use sourcemap_uses::exporting::export;
 use sourcemap_uses::faults::{Advice, advise, exit_status};
 use sourcemap_uses::finding::{FoundMap, find_map};
 use sourcemap_uses::flattening::is_kept_flat;
@@ -435,5 +436,20 @@ fn lines_are_counted_by_their_ends(rt: HostRuntime) -> std::result::Result<(), F
         let view = SourceView::new(rt.alloc(), text)?;
         assert_eq!(rt; line_total(&view), want);
     }
+    Ok(())
+}
+
+// What the text of a map is written as, piece by piece.
+fn exported(alloc: Global, text: &str) -> Result<Vec<u8>> {
+    let mut file = Vec::new(alloc);
+    export(alloc, &*map_of(alloc, text.as_bytes())?, &mut file)?;
+    Ok(file)
+}
+
+#[test]
+fn an_exported_map_is_its_text(rt: HostRuntime) -> std::result::Result<(), Fail> {
+    let text = r#"{"file":"f","mappings":";A","names":[],"sources":[],"version":3}"#;
+    let file = exported(rt.alloc(), text)?;
+    assert_eq!(rt; file.as_slice(), text.as_bytes());
     Ok(())
 }

@@ -1,0 +1,175 @@
+// Maps that are written in parts: the bytes that `encode_to` writes, far lines, and writers that
+// take little, are interrupted or fail.
+use crate::checks::check;
+use crate::samples::{Made, NONE, made, mixed, ranged, readme};
+use crate::writing::{BARE, WRITTEN, cut, outcome_told, regular};
+use sourcemap::encoder::{encode_in_parts, encode_to_vec};
+use sourcemap::{Result, SourceMap};
+use sourcemap_test_writers::{HaltingWriter, NarrowWriter};
+use std::alloc::Global;
+use std::io::Write;
+use std::process::Abort;
+use std::{io, str};
+
+// The line of the far token.
+const FAR: u32 = 300_000_000;
+
+// Counts the ends of lines, keeps the other bytes, and knows the longest write.
+#[derive(Drop)]
+struct LineCounter {
+    line_ends: u64,
+    others: Vec<u8>,
+    longest: usize,
+}
+
+fn are_line_ends(buf: &[u8]) -> bool {
+    buf.first() == Some(&b';') && buf.last() == Some(&b';')
+}
+
+impl Write for LineCounter {
+    // A piece that begins and ends with an end of a line is taken to hold nothing else, so that
+    // many of them are counted fast.
+    fn write(&mut self, buf: &[u8]) -> io::Result<usize> {
+        self.longest = self.longest.max(buf.len());
+        if are_line_ends(buf) {
+            self.line_ends = self.line_ends.wrapping_add(buf.len() as u64);
+            return Ok(buf.len());
+        }
+        for byte in buf {
+            match byte {
+                b';' => self.line_ends = self.line_ends.wrapping_add(1),
+                byte => self.others.push(*byte)?,
+            }
+        }
+        Ok(buf.len())
+    }
+
+    fn flush(&mut self) -> io::Result<()> {
+        Ok(())
+    }
+}
+
+fn far(alloc: Global) -> Made {
+    let row = ((FAR, 0), (NONE, NONE, NONE), NONE, true);
+    made(alloc, &[row], &[], &[])
+}
+
+// The other bytes, how many lines end, and that no write was long.
+fn far_told(alloc: Global) -> Result<String> {
+    let map = far(alloc)?;
+    let mut writer = LineCounter {
+        line_ends: 0,
+        others: Vec::new(alloc),
+        longest: 0,
+    };
+    encode_in_parts(alloc, &*map, &mut writer)?;
+    let others = str::from_utf8(writer.others.as_slice())?;
+    let is_short = writer.longest <= 1 << 16;
+    Ok(format!(in alloc; "{others} {} {is_short}", writer.line_ends)?)
+}
+
+#[test]
+fn far_lines_take_little_memory(rt: HostRuntime) {
+    // by hand: the ends of 300,000,000 lines in each of the two texts
+    let want =
+        r#"{"file":"f","mappings":"A","names":[],"rangeMappings":"B","sources":[],"version":3} 600000000 true"#;
+    check(&rt, "a far line", far_told(rt.alloc()), want);
+}
+
+// What a writer holds that takes a byte a write and so many of them.
+fn held_told(alloc: Global, map: &SourceMap, left: Option<usize>) -> Result<String> {
+    let mut writer = NarrowWriter {
+        held: Vec::new(alloc),
+        left,
+    };
+    let outcome = encode_in_parts(alloc, map, &mut writer);
+    outcome_told(alloc, writer.held.as_slice(), outcome)
+}
+
+fn decoded_told(alloc: Global, text: &str, left: Option<usize>) -> Result<String> {
+    held_told(alloc, &*regular(alloc, text)?, left)
+}
+
+#[test]
+fn parts_are_the_text(rt: HostRuntime) {
+    let alloc = rt.alloc();
+    for (about, text, want) in WRITTEN.iter() {
+        check(&rt, about, decoded_told(alloc, text, None), want);
+        check(&rt, about, decoded_told(alloc, want, None), want);
+    }
+}
+
+// The same bytes as `encode_to_vec` answers, for a map with tokens of all kinds.
+fn check_same(rt: &impl Abort, alloc: Global, about: &str, map: Made) {
+    let outcome = match map {
+        Ok(map) => same_told(alloc, &*map),
+        Err(error) => Err(error),
+    };
+    check(rt, about, outcome, "true");
+}
+
+fn same_told(alloc: Global, map: &SourceMap) -> Result<String> {
+    let whole = encode_to_vec(alloc, map)?;
+    let mut parts = Vec::new(alloc);
+    encode_in_parts(alloc, map, &mut parts)?;
+    let is_same = whole.as_slice() == parts.as_slice();
+    Ok(format!(in alloc; "{is_same}")?)
+}
+
+#[test]
+fn parts_are_the_text_of_made_maps(rt: HostRuntime) {
+    let alloc = rt.alloc();
+    check_same(&rt, alloc, "the map of the documentation", readme(alloc));
+    check_same(&rt, alloc, "a range token behind a repeat", ranged(alloc));
+    check_same(&rt, alloc, "sources, a name and a range", mixed(alloc));
+    check_same(&rt, alloc, "many tokens", many(alloc));
+}
+
+// Tokens that take several pieces, and a text that is longer than a piece.
+fn many(alloc: Global) -> Made {
+    let text = many_text(alloc)?;
+    regular(alloc, text.as_str())
+}
+
+fn many_text(alloc: Global) -> Result<String> {
+    let mut text = String::from_str(alloc, r#"{"sources":["a"],"sourceRoot":"r","mappings":""#)?;
+    for _segment in 0..2000 {
+        text.push_str("ggggBAAA,C;;")?;
+    }
+    text.push_str(r#"","sourcesContent":[""#)?;
+    for _letter in 0..9000 {
+        text.push_str(r"\n")?;
+    }
+    text.push_str(r#""]}"#)?;
+    Ok(text)
+}
+
+#[test]
+fn parts_end_where_a_write_fails(rt: HostRuntime) {
+    let alloc = rt.alloc();
+    let (about, text, want) = BARE;
+    for taken in 0..want.len() {
+        let due = cut(alloc, want, taken).expect(&rt, "memory");
+        let told = decoded_told(alloc, text, Some(taken));
+        check(&rt, about, told, due.as_str());
+    }
+}
+
+fn halted_told(alloc: Global, text: &str, left: Option<usize>) -> Result<String> {
+    let map = regular(alloc, text)?;
+    let mut writer = HaltingWriter {
+        held: Vec::new(alloc),
+        left,
+        is_interrupted: false,
+    };
+    let outcome = encode_in_parts(alloc, &*map, &mut writer);
+    outcome_told(alloc, writer.held.as_slice(), outcome)
+}
+
+#[test]
+fn parts_are_written_past_interruptions(rt: HostRuntime) {
+    let (about, text, want) = BARE;
+    check(&rt, about, halted_told(rt.alloc(), text, None), want);
+    let due = "{\"m failed to write whole buffer";
+    check(&rt, about, halted_told(rt.alloc(), text, Some(3)), due);
+}

@@ -1,0 +1,7 @@
+pub mod BufferedLemmas
+pub mod ListLemmas
+pub mod MemberLemmas
+pub mod PlainLemmas
+pub mod SegmentLemmas
+pub mod ValueLemmas
+pub mod WholeLemmas

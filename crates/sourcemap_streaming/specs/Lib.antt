@@ -1,0 +1,3 @@
+pub mod Buffered
+pub mod Members
+pub mod Segments

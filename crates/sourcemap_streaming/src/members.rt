@@ -1,0 +1,56 @@
+//! Members of an object, in the order of their keys.
+ghost use Rattle.std.specs.Prelude.{◌≡◌, ◌||◌, is_some, option_copied, option_map, true, IfErr, IfOk, OnOk, string_bytes};
+ghost use Rattle.serde_json.specs.Data.{string};
+ghost use Rattle.sourcemap_errors.specs.Answer.{UnlessMemory};
+ghost use Rattle.sourcemap_regular.specs.Write.{IsIo};
+ghost use Rattle.sourcemap_streaming.specs.Buffered.{Grows};
+ghost use Rattle.sourcemap_streaming.specs.Members.{key_text, part, IsPlainEntry};
+
+use crate::buffered::put;
+use crate::texts::{put_comma, put_text};
+use sourcemap_errors::errors::Result;
+use std::alloc::Global;
+use std::io::Write;
+
+/// Puts a key with its colon, and a comma first where a member stands before.
+pub(crate) fn put_key<W: Write>(
+    alloc: Global,
+    writer: &mut W,
+    buffer: &mut String,
+    later: bool,
+    key: &str,
+) -> Result<()>
+    ensures text { OnOk result (Grows (W.contents writer.old) (string_bytes buffer.old)
+        (W.contents writer.new) (string_bytes buffer.new) (key_text later key.now)) }
+    ensures fault { IfErr result (λ e. UnlessMemory e (IsIo e)) }
+{
+    put_comma(writer, buffer, later)?;
+    put_text(alloc, writer, buffer, key)?;
+    put(writer, buffer, ":")
+}
+
+/// Puts a member that is a text, if there is one. Returns whether a member stands before what comes
+/// next.
+pub(crate) fn put_text_if<W: Write>(
+    alloc: Global,
+    writer: &mut W,
+    buffer: &mut String,
+    later: bool,
+    key: &str,
+    text: Option<&str>,
+) -> Result<bool>
+    ensures text { OnOk result (Grows (W.contents writer.old) (string_bytes buffer.old)
+        (W.contents writer.new) (string_bytes buffer.new)
+        (part later (key.now, option_map string (option_copied text.entry)))) }
+    ensures later { IfOk result (λ next. next ≡ (later || is_some text.entry)) }
+    ensures is_plain { OnOk result
+        (IsPlainEntry (key.now, option_map string (option_copied text.entry))) }
+    ensures fault { IfErr result (λ e. UnlessMemory e (IsIo e)) }
+{
+    let Some(text) = text else {
+        return Ok(later);
+    };
+    put_key(alloc, writer, buffer, later, key)?;
+    put_text(alloc, writer, buffer, text)?;
+    Ok(true)
+}

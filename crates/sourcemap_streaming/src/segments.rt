@@ -1,0 +1,182 @@
+//! The text of mappings, token by token.
+ghost use Rattle.std.specs.Prelude.{◌≡◌, [], ◌∷◌, ◌^◌, ◌<◌, option_copied, OnOk, IfErr, string_bytes};
+ghost use Rattle.sourcemap_errors.specs.Answer.{UnlessMemory};
+ghost use Rattle.sourcemap_errors.specs.declared.errors.Error.TheVariants.{OutOfMemory};
+ghost use Rattle.sourcemap_lists.specs.Tokens.{AreInOrder};
+ghost use Rattle.sourcemap_mappings.specs.Buffer.{Adds};
+ghost use Rattle.sourcemap_mappings.specs.Write.{difference, has_source, has_name, numbers};
+ghost use Rattle.sourcemap_mappings.specs.WriteSteps.{HasSmallPlaces, repeats, follows, gap, at_line, next_base};
+ghost use Rattle.sourcemap_regular.specs.Write.{IsIo};
+ghost use Rattle.sourcemap_streaming.specs.Buffered.{Grows, GrowsBy};
+ghost use Rattle.sourcemap_streaming.specs.Segments.{IsMappingsText};
+
+use crate::buffered::{flush_piece, put, put_line_ends};
+use sourcemap_digits::vlq::push_number;
+use sourcemap_errors::errors::Result;
+use sourcemap_lists::tokens::{NO_ID, RawToken};
+use std::io::Write;
+
+// What the first segment is taken against.
+const START: RawToken = RawToken {
+    dst_line: 0,
+    dst_col: 0,
+    src_line: 0,
+    src_col: 0,
+    src_id: 0,
+    name_id: 0,
+    is_range: false,
+};
+
+// The column alone tells most tokens apart.
+pub(crate) fn is_repeat(previous: Option<&RawToken>, token: &RawToken) -> bool
+    ensures { result ≡ repeats (option_copied previous.entry) token.now }
+{
+    match previous {
+        Some(before) => token.dst_col == before.dst_col && *token == *before,
+        None => false,
+    }
+}
+
+fn follows_on(previous: Option<&RawToken>, token: &RawToken) -> bool
+    ensures { result ≡ follows (option_copied previous.entry) token.now }
+{
+    match previous {
+        Some(before) => before.dst_line == token.dst_line,
+        None => false,
+    }
+}
+
+fn has_source(token: RawToken) -> bool
+    ensures { result ≡ has_source token }
+{
+    token.src_id != NO_ID
+}
+
+fn has_name(token: RawToken, names: u32) -> bool
+    ensures { result ≡ has_name names token }
+{
+    token.src_id != NO_ID && token.name_id < names
+}
+
+// Puts what stands between two segments, where the text has come to this line.
+fn put_gap<W: Write>(
+    writer: &mut W,
+    buffer: &mut String,
+    previous: Option<&RawToken>,
+    line: u32,
+    token: &RawToken,
+) -> Result<()>
+    ensures text { OnOk result (Grows (W.contents writer.old) (string_bytes buffer.old)
+        (W.contents writer.new) (string_bytes buffer.new)
+        (gap (option_copied previous.entry) line token.now)) }
+    ensures small { token.now.dst_line < 2 ^ 32 }
+    ensures fault { IfErr result (λ e. UnlessMemory e (IsIo e)) }
+{
+    let count = token.dst_line.saturating_sub(line);
+    if follows_on(previous, token) {
+        return put(writer, buffer, ",");
+    }
+    put_line_ends(writer, buffer, count)
+}
+
+// Appends the digits of a difference.
+fn push_difference(text: &mut String, number: u32, against: u32) -> Result<()>
+    ensures text { OnOk result (Adds (difference number against ∷ []) (string_bytes text.old)
+        (string_bytes text.new)) }
+    ensures small { number < 2 ^ 32 }
+    ensures memory { IfErr result (λ e. e ≡ OutOfMemory) }
+{
+    push_number(text, i64::from(number) - i64::from(against))
+}
+
+// Appends the segment of a token on the line of `against`, which moves on to what the segment after
+// it is taken against.
+fn push_segment(
+    text: &mut String,
+    against: &mut RawToken,
+    token: &RawToken,
+    names: u32,
+) -> Result<()>
+    ensures text { OnOk result (Adds (numbers names against.old token.now) (string_bytes text.old)
+        (string_bytes text.new)) }
+    ensures small { OnOk result (HasSmallPlaces token.now) }
+    ensures next { OnOk result (against.new ≡ next_base names against.old token.now) }
+    ensures memory { IfErr result (λ e. e ≡ OutOfMemory) }
+{
+    push_difference(text, token.dst_col, against.dst_col)?;
+    against.dst_line = token.dst_line;
+    against.dst_col = token.dst_col;
+    if !has_source(*token) {
+        return Ok(());
+    }
+    push_difference(text, token.src_id, against.src_id)?;
+    against.src_id = token.src_id;
+    push_difference(text, token.src_line, against.src_line)?;
+    against.src_line = token.src_line;
+    push_difference(text, token.src_col, against.src_col)?;
+    against.src_col = token.src_col;
+    if has_name(*token, names) {
+        push_difference(text, token.name_id, against.name_id)?;
+        against.name_id = token.name_id;
+    }
+    Ok(())
+}
+
+// Turns what a segment is taken against to a line.
+fn turn_to(against: &mut RawToken, line: u32)
+    ensures { against.new ≡ at_line against.old line }
+{
+    if against.dst_line != line {
+        against.dst_line = line;
+        against.dst_col = 0;
+    }
+}
+
+// Puts the segment of a token and what stands before it.
+fn put_token<W: Write>(
+    writer: &mut W,
+    buffer: &mut String,
+    against: &mut RawToken,
+    previous: Option<&RawToken>,
+    token: &RawToken,
+    names: u32,
+) -> Result<()>
+    ensures text { OnOk result (GrowsBy (Adds (numbers names
+        (at_line against.old token.now.dst_line) token.now)
+        (gap (option_copied previous.entry) against.old.dst_line token.now))
+        (W.contents writer.old) (string_bytes buffer.old)
+        (W.contents writer.new) (string_bytes buffer.new)) }
+    ensures small { OnOk result ((token.now.dst_line < 2 ^ 32) × HasSmallPlaces token.now) }
+    ensures next { OnOk result (against.new
+        ≡ next_base names (at_line against.old token.now.dst_line) token.now) }
+    ensures fault { IfErr result (λ e. UnlessMemory e (IsIo e)) }
+{
+    put_gap(writer, buffer, previous, against.dst_line, token)?;
+    turn_to(against, token.dst_line);
+    push_segment(buffer, against, token, names)?;
+    flush_piece(writer, buffer)
+}
+
+/// Puts the text of mappings of some tokens in order, for a map of so many names.
+pub(crate) fn put_mappings<W: Write>(
+    writer: &mut W,
+    buffer: &mut String,
+    tokens: &[RawToken],
+    names: u32,
+) -> Result<()>
+    requires { AreInOrder tokens.now }
+    ensures text { OnOk result (GrowsBy (IsMappingsText names tokens.now)
+        (W.contents writer.old) (string_bytes buffer.old)
+        (W.contents writer.new) (string_bytes buffer.new)) }
+    ensures fault { IfErr result (λ e. UnlessMemory e (IsIo e)) }
+{
+    let mut against = START;
+    let mut previous = None;
+    for token in tokens {
+        if !is_repeat(previous, token) {
+            put_token(writer, buffer, &mut against, previous, token, names)?;
+        }
+        previous = Some(token);
+    }
+    Ok(())
+}
