@@ -8,8 +8,10 @@ use crate::command::Operation;
 use crate::draws::drawn_positions;
 use crate::sums::{lookup_sum, mixed, token_sum};
 use sourcemap::encoder::encode_to_vec;
-use sourcemap::{DecodedMap, Error, Result, SourceMap, SourceMapIndex, decode, decode_slice};
-use sourcemap_commands::regular::{regular_of, rewritten};
+use sourcemap::{
+    DecodedMap, Error, Result, RewriteOptions, SourceMap, SourceMapIndex, decode, decode_slice,
+};
+use sourcemap_commands::maps::into_regular;
 use std::alloc::Global;
 use std::rt::Files;
 
@@ -42,7 +44,7 @@ fn map_of(alloc: Global, bytes: &[u8]) -> Result<Box<DecodedMap>> {
 
 // The regular map that bytes hold.
 fn regular_map(alloc: Global, bytes: &[u8]) -> Result<Box<SourceMap>> {
-    Ok(Box::new(alloc, regular_of(decode_slice(alloc, bytes)?)?)?)
+    Ok(Box::new(alloc, into_regular(decode_slice(alloc, bytes)?)?)?)
 }
 
 // The regular maps that the first two lines hold.
@@ -164,7 +166,7 @@ fn round<F: Files>(rt: &F, alloc: Global, work: &Work, sum: u32) -> Result<u32>
         Work::Tokens(map) => Ok(token_sum(&**map, sum)),
         Work::Encode(map) => text_sum(alloc, &**map, sum),
         Work::Rewrite(map) => {
-            let new = rewritten(rt, (**map).clone()?)?;
+            let new = (**map).clone()?.rewrite(rt, &RewriteOptions::default())?;
             Ok(mixed(sum, new.get_source_count()))
         }
         Work::Flatten(index) => flat_sum(&**index, sum),

@@ -1,3 +1,3 @@
 pub mod CommandLemmas
 pub mod ProgramLemmas
-pub mod RegularLemmas
+pub mod MapsLemmas

@@ -19,7 +19,7 @@ use Rattle.sourcemap.specs.declared.errors.Error.TheVariants.{BadJson, CannotFla
 use Rattle.sourcemap_index.specs.declared.family.DecodedMap.{DecodedMap}
 use Rattle.sourcemap_trace.specs.Trace.{trace_of}
 use Rattle.sourcemap_commands.specs.Command.{AskFor, IsOfMaps, IsSameCommand, TakesAdjustment}
-use Rattle.sourcemap_commands.specs.Program.{AskForNone, CommandAnswers, Ending, answered, misused, Ends, FileDecodes, MayBeRead, MayEnd, IsCutShort, IsReply, IsReplyOf, IsReplyTo, IsReported, IsRefusal, IsWriteFault, IsFoundLine, IsJsonLine, IsNoIndex, OnlyAsks, PrintsMap, Runs, Says, SaysWith, ShiftAnswer, WithFile, adjusted_by, file_read, found_text, newline, rewritten_leaf, traced}
+use Rattle.sourcemap_commands.specs.Program.{AskForNone, ReturnsOnBytes, Ending, answered, misused, Ends, FileDecodes, MayBeRead, MayEnd, IsCutShort, IsReply, IsReplyOf, IsReplyTo, IsPrinted, IsRefusal, IsWriteError, IsLookupLine, IsJsonLine, IsNotIndex, PrintsMap, Runs, Returns, ReturnsWithFile, ShiftAnswer, WithFile, adjusted_by, file_read, found_text, newline, rewritten_leaf, traced}
 use Rattle.sourcemap_commands.specs.declared.command.Command.{Command}
 use Rattle.sourcemap_commands.specs.declared.command.Command.TheVariants.{Compose, Flatten, Lookup, Rewrite, Shift, Tokens, Trace}
 use Rattle.sourcemap_commands.specs.declared.program.Reply.{Reply}
@@ -31,30 +31,30 @@ use Rattle.sourcemap_trees.proofs.MapTreeLemmas.{section_list-from}
 use Rattle.sourcemap_trees.proofs.WellFormedLemmas.{decoded_well, well_formed_in_order}
 use Rattle.sourcemap_commands.proofs.CommandLemmas.{command_once}
 
--- want of memory excuses anything, and nothing else does
-no_memory : (e : Error) (P : Type 0) → e ≡ OutOfMemory → UnlessMemory e P
+-- out of memory excuses anything, and nothing else does
+pub no_memory : (e : Error) (P : Type 0) → e ≡ OutOfMemory → UnlessMemory e P
 no_memory e P is = rw is tt
 
 with_memory : (e : Error) (P : Type 0) → e ≢ OutOfMemory → UnlessMemory e P → P
 with_memory OutOfMemory P is h = absurd (is refl)
 with_memory _ P is h = h
 
--- From what a command says to the reply.
+-- From what a command returns to the reply.
 
--- a map's line, or want of memory
+-- a map's line, or out of memory
 prints_map : (t : MapTree) (r : Result (String Global) Error)
     → MatchResult r (λ text. IsJsonLine t (string_bytes text)) (λ e. e ≡ OutOfMemory)
     → IsAnswer string_bytes (PrintsMap t) r
 prints_map t (Ok text) h = h
 prints_map t (Err e) h = no_memory e (PrintsMap t (Err e)) h
 
-pub says_rewritten : (l new : LeafMap) (t : MapTree) (r : Result (String Global) Error) → new ≡ rewritten_leaf l → t ≡ leaf new
+pub returns_rewritten : (l new : LeafMap) (t : MapTree) (r : Result (String Global) Error) → new ≡ rewritten_leaf l → t ≡ leaf new
     → MatchResult r (λ text. IsJsonLine t (string_bytes text)) (λ e. e ≡ OutOfMemory)
-    → IsAnswer string_bytes (Says Rewrite (leaf l) None) r
-says_rewritten l new t r is of h =
+    → IsAnswer string_bytes (Returns Rewrite (leaf l) None) r
+returns_rewritten l new t r is of h =
     subst (λ x. IsAnswer string_bytes (PrintsMap x) r) (of ∙ ap leaf is) (prints_map t r h)
 
--- what comes of a first answer, and of its fault
+-- what follows from a first answer, and from its error
 then_made : {X : Type 0} (First : Result X Error → Type 0) (Next : X → Result (List ℕ) Error → Type 0) (x : X)
     (r : Result (String Global) Error) → First (Ok x) → IsAnswer string_bytes (Next x) r
     → IsAnswer string_bytes (Then First Next) r
@@ -73,25 +73,25 @@ then_prints First m t r made of h =
     then_made First (λ m a. PrintsMap (leaf (regular m)) a) m r made
     (subst (λ x. IsAnswer string_bytes (PrintsMap x) r) of (prints_map t r h))
 
-pub says_flat : (i : IndexValue) (m : MapValue) (t : MapTree) (r : Result (String Global) Error)
+pub returns_flat : (i : IndexValue) (m : MapValue) (t : MapTree) (r : Result (String Global) Error)
     → FlatAnswer (index_tree i) (Ok m) → t ≡ leaf (regular m)
     → MatchResult r (λ text. IsJsonLine t (string_bytes text)) (λ e. e ≡ OutOfMemory)
-    → IsAnswer string_bytes (Says Flatten (index_tree i) None) r
-says_flat i m t r made of h = then_prints (FlatAnswer (index_tree i)) m t r made of h
+    → IsAnswer string_bytes (Returns Flatten (index_tree i) None) r
+returns_flat i m t r made of h = then_prints (FlatAnswer (index_tree i)) m t r made of h
 
-pub says_no_flat : (i : IndexValue) (e : Error) → UnlessMemory e (FlatAnswer (index_tree i) (Err e))
-    → UnlessMemory e (Says Flatten (index_tree i) None (Err e))
-says_no_flat i e h = then_refused (FlatAnswer (index_tree i)) (λ m a. PrintsMap (leaf (regular m)) a) e h
+pub returns_no_flat : (i : IndexValue) (e : Error) → UnlessMemory e (FlatAnswer (index_tree i) (Err e))
+    → UnlessMemory e (Returns Flatten (index_tree i) None (Err e))
+returns_no_flat i e h = then_refused (FlatAnswer (index_tree i)) (λ m a. PrintsMap (leaf (regular m)) a) e h
 
-pub says_adjusted : (path : String Global) (t : MapTree) (other : Option MapTree) (m : MapValue) (u : MapTree)
+pub returns_adjusted : (path : String Global) (t : MapTree) (other : Option MapTree) (m : MapValue) (u : MapTree)
     (r : Result (String Global) Error) → adjusted_by t other ≡ Ok m → u ≡ leaf (regular m)
     → MatchResult r (λ text. IsJsonLine u (string_bytes text)) (λ e. e ≡ OutOfMemory)
-    → IsAnswer string_bytes (Says (Compose path) t other) r
-says_adjusted path t other m u r made of h = then_prints (λ a. a ≡ adjusted_by t other) m u r (sym made) of h
+    → IsAnswer string_bytes (Returns (Compose path) t other) r
+returns_adjusted path t other m u r made of h = then_prints (λ a. a ≡ adjusted_by t other) m u r (sym made) of h
 
-pub says_no_adjusted : (path : String Global) (t : MapTree) (other : Option MapTree) (e : Error)
-    → UnlessMemory e (adjusted_by t other ≡ Err e) → UnlessMemory e (Says (Compose path) t other (Err e))
-says_no_adjusted path t other e h =
+pub returns_no_adjusted : (path : String Global) (t : MapTree) (other : Option MapTree) (e : Error)
+    → UnlessMemory e (adjusted_by t other ≡ Err e) → UnlessMemory e (Returns (Compose path) t other (Err e))
+returns_no_adjusted path t other e h =
     then_refused (λ a. a ≡ adjusted_by t other) (λ m a. PrintsMap (leaf (regular m)) a) e (UnlessMemory-weaker e (λ is. sym is) h)
 
 none_adjusted : (t : MapTree) → adjusted_by t None ≡ Err IncompatibleSourceMap
@@ -100,52 +100,43 @@ none_adjusted (leaf (hermes h)) = refl
 none_adjusted (index parts ss) = refl
 
 -- one map alone is adjusted by none
-pub says_alone : (path : String Global) (t : MapTree) → Says (Compose path) t None (Err IncompatibleSourceMap)
+pub says_alone : (path : String Global) (t : MapTree) → Returns (Compose path) t None (Err IncompatibleSourceMap)
 says_alone path t = inr (sym (none_adjusted t))
 
 -- a second map is that of `compose`
 pub says_of_two : {X : Type 0} (x : X) (command : Command) (t u : MapTree) (r : Result (String Global) Error)
     → TakesAdjustment command (Some x)
-    → ((path : String Global) → IsAnswer string_bytes (Says (Compose path) t (Some u)) r)
-    → IsAnswer string_bytes (Says command t (Some u)) r
+    → ((path : String Global) → IsAnswer string_bytes (Returns (Compose path) t (Some u)) r)
+    → IsAnswer string_bytes (Returns command t (Some u)) r
 says_of_two x (Compose path) t u r takes h = h path
 says_of_two x command t u r takes h = absurd cc
 
 -- the sections of an index as its tree has them
-says_shift : (rows : ℕ) (i : IndexValue) (answer : Result (List ℕ) Error) → ShiftAnswer rows i.parts i.sections answer
-    → Says (Shift rows) (index_tree i) None answer
-says_shift rows i answer h = subst (λ ss. ShiftAnswer rows i.parts ss answer) (sym (section_list-from i.sections)) h
+returns_shift : (rows : ℕ) (i : IndexValue) (answer : Result (List ℕ) Error) → ShiftAnswer rows i.parts i.sections answer
+    → Returns (Shift rows) (index_tree i) None answer
+returns_shift rows i answer h = subst (λ ss. ShiftAnswer rows i.parts ss answer) (sym (section_list-from i.sections)) h
 
-pub says_shifted : (rows : ℕ) (i : IndexValue) (t : MapTree) (r : Result (String Global) Error) → HaveRowsLeft rows i.sections
+pub returns_shifted : (rows : ℕ) (i : IndexValue) (t : MapTree) (r : Result (String Global) Error) → HaveRowsLeft rows i.sections
     → t ≡ index i.parts (sections_from (shifted rows i.sections))
     → MatchResult r (λ text. IsJsonLine t (string_bytes text)) (λ e. e ≡ OutOfMemory)
-    → IsAnswer string_bytes (Says (Shift rows) (index_tree i) None) r
-says_shifted rows i t (Ok text) left of h =
-    says_shift rows i (Ok (string_bytes text)) (inl (left, subst (λ x. IsJsonLine x (string_bytes text)) of h))
-says_shifted rows i t (Err e) left of h = no_memory e (Says (Shift rows) (index_tree i) None (Err e)) h
+    → IsAnswer string_bytes (Returns (Shift rows) (index_tree i) None) r
+returns_shifted rows i t (Ok text) left of h =
+    returns_shift rows i (Ok (string_bytes text)) (inl (left, subst (λ x. IsJsonLine x (string_bytes text)) of h))
+returns_shifted rows i t (Err e) left of h = no_memory e (Returns (Shift rows) (index_tree i) None (Err e)) h
 
-pub says_no_shift : (rows : ℕ) (i : IndexValue) → ¬ HaveRowsLeft rows i.sections
-    → Says (Shift rows) (index_tree i) None (Err IncompatibleSourceMap)
-says_no_shift rows i past = says_shift rows i (Err IncompatibleSourceMap) (inr (past, refl))
+pub returns_no_shift : (rows : ℕ) (i : IndexValue) → ¬ HaveRowsLeft rows i.sections
+    → Returns (Shift rows) (index_tree i) None (Err IncompatibleSourceMap)
+returns_no_shift rows i past = returns_shift rows i (Err IncompatibleSourceMap) (inr (past, refl))
 
--- of a map that is no index nothing flat is said
-pub no_index_flat : (t : MapTree) (e : Error) → (e ≡ IncompatibleSourceMap) × IsNoIndex t → UnlessMemory e (Says Flatten t None (Err e))
+-- a map that is no index is not flattened
+pub no_index_flat : (t : MapTree) (e : Error) → (e ≡ IncompatibleSourceMap) × IsNotIndex t → UnlessMemory e (Returns Flatten t None (Err e))
 no_index_flat (leaf l) e (is, other) = rw is refl
 no_index_flat (index parts ss) e (is, other) = absurd other
 
 -- nor is it shifted
-pub no_index_shift : (rows : ℕ) (t : MapTree) (e : Error) → (e ≡ IncompatibleSourceMap) × IsNoIndex t → UnlessMemory e (Says (Shift rows) t None (Err e))
+pub no_index_shift : (rows : ℕ) (t : MapTree) (e : Error) → (e ≡ IncompatibleSourceMap) × IsNotIndex t → UnlessMemory e (Returns (Shift rows) t None (Err e))
 no_index_shift rows (leaf l) e (is, other) = rw is refl
 no_index_shift rows (index parts ss) e (is, other) = absurd other
-
--- what makes no map and takes no positions only asks
-pub only_asks : (command : Command) → IsOfMaps command → command ≢ Rewrite → command ≢ Flatten
-    → ((rows : ℕ) → command ≢ Shift rows) → OnlyAsks command
-only_asks Rewrite of_maps rewrites flattens shifts = absurd (rewrites refl)
-only_asks Flatten of_maps rewrites flattens shifts = absurd (flattens refl)
-only_asks (Shift rows) of_maps rewrites flattens shifts = absurd (shifts rows refl)
-only_asks (Trace path) of_maps rewrites flattens shifts = of_maps
-only_asks command of_maps rewrites flattens shifts = tt
 
 -- what takes no positions is of maps
 pub of_maps : (command : Command) → ((path : String Global) → command ≢ Trace path) → IsOfMaps command
@@ -169,7 +160,7 @@ pub may_be_read : (known : Option (List ℕ)) (r : Result (Vec ℕ Global) Error
 may_be_read known (Ok bytes) h = tt
 may_be_read known (Err e) h = h
 
--- a fault of opening a file is one of a reader
+-- an error of opening a file is one of a reader
 pub may_not_open : (cause : IoError) (e : Error) → FromIo cause e → UnlessRead e ⊥
 may_not_open cause OutOfMemory h = tt
 may_not_open cause (Io kept) (same, other) = inr (refl, subst (λ x. error_kind x ≢ NoMemory) (sym same) other)
@@ -183,48 +174,53 @@ file_of_map held bytes r read h =
     with_file held (λ file. Ok bytes ≡ file) (λ file. IsAnswer map_tree (FileDecodes file) r)
     (λ file is. subst (λ x. IsAnswer map_tree (FileDecodes x) r) is h) read
 
-pub file_of_fault : (held : Option (Result (List ℕ) Error)) (e : Error)
+pub file_of_error : (held : Option (Result (List ℕ) Error)) (e : Error)
     → WithFile held (λ file. Err e ≡ file) → WithFile held (λ file. UnlessMemory e (FileDecodes file (Err e)))
-file_of_fault held e read =
+file_of_error held e read =
     with_file held (λ file. Err e ≡ file) (λ file. UnlessMemory e (FileDecodes file (Err e)))
     (λ file is. subst (λ x. UnlessMemory e (FileDecodes x (Err e))) is (UnlessMemory-from e refl)) read
 
--- what is said of a map and of the one in a file, or of why there is none in it
-pub said_of_two : (path : String Global) (file : Result (List ℕ) Error) (t u : MapTree) (r : Result (String Global) Error)
-    → FileDecodes file (Ok u) → IsAnswer string_bytes (Says (Compose path) t (Some u)) r
-    → IsAnswer string_bytes (SaysWith file (Compose path) t) r
-said_of_two path file t u r is h = then_made (FileDecodes file) (λ other a. Says (Compose path) t (Some other) a) u r is h
+-- a map is adjusted by the one in a file, or there is none in it
+pub composes_with : (path : String Global) (file : Result (List ℕ) Error) (t u : MapTree) (r : Result (String Global) Error)
+    → FileDecodes file (Ok u) → IsAnswer string_bytes (Returns (Compose path) t (Some u)) r
+    → IsAnswer string_bytes (ReturnsWithFile file (Compose path) t) r
+composes_with path file t u r is h = then_made (FileDecodes file) (λ other a. Returns (Compose path) t (Some other) a) u r is h
 
-pub said_of_fault : (path : String Global) (file : Result (List ℕ) Error) (t : MapTree) (e : Error)
-    → UnlessMemory e (FileDecodes file (Err e)) → UnlessMemory e (SaysWith file (Compose path) t (Err e))
-said_of_fault path file t e is = then_refused (FileDecodes file) (λ other a. Says (Compose path) t (Some other) a) e is
+pub composes_with_none : (path : String Global) (file : Result (List ℕ) Error) (t : MapTree) (e : Error)
+    → UnlessMemory e (FileDecodes file (Err e)) → UnlessMemory e (ReturnsWithFile file (Compose path) t (Err e))
+composes_with_none path file t e is = then_refused (FileDecodes file) (λ other a. Returns (Compose path) t (Some other) a) e is
 
-pub said_with_file : (held : Option (Result (List ℕ) Error)) (path : String Global) (t : MapTree)
-    (found : Result DecodedMap Error) (r : Result (String Global) Error)
-    → ((path : String Global) (file : Result (List ℕ) Error) → IsAnswer map_tree (FileDecodes file) found
-    → IsAnswer string_bytes (SaysWith file (Compose path) t) r)
-    → WithFile held (λ file. IsAnswer map_tree (FileDecodes file) found)
-    → WithFile held (λ file. IsAnswer string_bytes (SaysWith file (Compose path) t) r)
-said_with_file held path t found r said of =
-    with_file held (λ file. IsAnswer map_tree (FileDecodes file) found) (λ file. IsAnswer string_bytes (SaysWith file (Compose path) t) r)
-    (said path) of
+-- the same, for what a file may give
+pub composes_with_file : (held : Option (Result (List ℕ) Error)) (path : String Global) (t u : MapTree) (r : Result (String Global) Error)
+    → WithFile held (λ file. FileDecodes file (Ok u)) → IsAnswer string_bytes (Returns (Compose path) t (Some u)) r
+    → WithFile held (λ file. IsAnswer string_bytes (ReturnsWithFile file (Compose path) t) r)
+composes_with_file held path t u r is h =
+    with_file held (λ file. FileDecodes file (Ok u)) (λ file. IsAnswer string_bytes (ReturnsWithFile file (Compose path) t) r)
+    (λ file is. composes_with path file t u r is h) is
 
--- what is said of one map, whatever is in a file
-pub said_of_one : (held : Option (Result (List ℕ) Error)) (command : Command) (t : MapTree) (r : Result (String Global) Error)
+pub composes_with_no_file : (held : Option (Result (List ℕ) Error)) (path : String Global) (t : MapTree) (e : Error)
+    → WithFile held (λ file. UnlessMemory e (FileDecodes file (Err e)))
+    → WithFile held (λ file. UnlessMemory e (ReturnsWithFile file (Compose path) t (Err e)))
+composes_with_no_file held path t e is =
+    with_file held (λ file. UnlessMemory e (FileDecodes file (Err e))) (λ file. UnlessMemory e (ReturnsWithFile file (Compose path) t (Err e)))
+    (λ file is. composes_with_none path file t e is) is
+
+-- what a command returns for one map, whatever is in a file
+pub returns_alone : (held : Option (Result (List ℕ) Error)) (command : Command) (t : MapTree) (r : Result (String Global) Error)
     → ((path : String Global) → command ≢ Compose path) → ((path : String Global) → command ≢ Trace path)
-    → IsAnswer string_bytes (Says command t None) r
-    → WithFile held (λ file. IsAnswer string_bytes (SaysWith file command t) r)
-said_of_one held (Compose path) t r other none h = absurd (other path refl)
-said_of_one held (Trace path) t r other none h = absurd (none path refl)
-said_of_one held command t r other none h = any_file held (λ file. IsAnswer string_bytes (SaysWith file command t) r) (λ file. h)
+    → IsAnswer string_bytes (Returns command t None) r
+    → WithFile held (λ file. IsAnswer string_bytes (ReturnsWithFile file command t) r)
+returns_alone held (Compose path) t r other none h = absurd (other path refl)
+returns_alone held (Trace path) t r other none h = absurd (none path refl)
+returns_alone held command t r other none h = any_file held (λ file. IsAnswer string_bytes (ReturnsWithFile file command t) r) (λ file. h)
 
--- what is said of a map in order and of positions in a file
-pub said_of_positions : (held : Option (Result (List ℕ) Error)) (path : String Global) (t : MapTree) (r : Result (String Global) Error)
+-- what is returned for a map in order and positions in a file
+pub returns_trace : (held : Option (Result (List ℕ) Error)) (path : String Global) (t : MapTree) (r : Result (String Global) Error)
     → IsInOrder t → WithFile held (λ file. IsInOrder t → IsAnswer string_bytes (λ a. a ≡ traced t file) r)
-    → WithFile held (λ file. IsAnswer string_bytes (SaysWith file (Trace path) t) r)
-said_of_positions held path t r ordered h =
+    → WithFile held (λ file. IsAnswer string_bytes (ReturnsWithFile file (Trace path) t) r)
+returns_trace held path t r ordered h =
     with_file held (λ file. IsInOrder t → IsAnswer string_bytes (λ a. a ≡ traced t file) r)
-    (λ file. IsAnswer string_bytes (SaysWith file (Trace path) t) r) (λ file says. says ordered) h
+    (λ file. IsAnswer string_bytes (ReturnsWithFile file (Trace path) t) r) (λ file says. says ordered) h
 
 -- the text of the answers to the positions that were read, or why they were not
 pub traced_read : (held : Option (Result (List ℕ) Error)) (positions : List ℕ) (t : MapTree) (r : Result (String Global) Error)
@@ -247,46 +243,41 @@ traced_unread held t e read =
     with_file held (λ file. Err e ≡ file) (λ file. IsInOrder t → UnlessMemory e (Err e ≡ traced t file))
     (λ file is. subst (λ x. IsInOrder t → UnlessMemory e (Err e ≡ traced t x)) is (λ ordered. UnlessMemory-from e refl)) read
 
--- what is said of the map that bytes hold
-pub answer_of_map : (held : Option (Result (List ℕ) Error)) (command : Command) (bytes : List ℕ) (m : MapTree) (r : Result (String Global) Error)
-    → BytesDecode bytes (Ok m) → WithFile held (λ file. IsAnswer string_bytes (SaysWith file command m) r)
-    → WithFile held (λ file. IsAnswer string_bytes (CommandAnswers command bytes file) r)
-answer_of_map held command bytes m r stand h =
-    with_file held (λ file. IsAnswer string_bytes (SaysWith file command m) r) (λ file. IsAnswer string_bytes (CommandAnswers command bytes file) r)
-    (λ file says. then_made (BytesDecode bytes) (λ t a. SaysWith file command t a) m r stand says) h
+-- what a command returns for the map that bytes hold
+pub returns_on_map : (held : Option (Result (List ℕ) Error)) (command : Command) (bytes : List ℕ) (m : MapTree) (r : Result (String Global) Error)
+    → BytesDecode bytes (Ok m) → WithFile held (λ file. IsAnswer string_bytes (ReturnsWithFile file command m) r)
+    → WithFile held (λ file. IsAnswer string_bytes (ReturnsOnBytes command bytes file) r)
+returns_on_map held command bytes m r stand h =
+    with_file held (λ file. IsAnswer string_bytes (ReturnsWithFile file command m) r) (λ file. IsAnswer string_bytes (ReturnsOnBytes command bytes file) r)
+    (λ file says. then_made (BytesDecode bytes) (λ t a. ReturnsWithFile file command t a) m r stand says) h
 
 -- what keeps bytes from holding a map
-pub answer_of_fault : (held : Option (Result (List ℕ) Error)) (command : Command) (bytes : List ℕ) (e : Error)
-    → UnlessMemory e (BytesDecode bytes (Err e)) → WithFile held (λ file. UnlessMemory e (CommandAnswers command bytes file (Err e)))
-answer_of_fault held command bytes e h =
-    any_file held (λ file. UnlessMemory e (CommandAnswers command bytes file (Err e)))
-    (λ file. then_refused (BytesDecode bytes) (λ t a. SaysWith file command t a) e h)
+pub returns_on_no_map : (held : Option (Result (List ℕ) Error)) (command : Command) (bytes : List ℕ) (e : Error)
+    → UnlessMemory e (BytesDecode bytes (Err e)) → WithFile held (λ file. UnlessMemory e (ReturnsOnBytes command bytes file (Err e)))
+returns_on_no_map held command bytes e h =
+    any_file held (λ file. UnlessMemory e (ReturnsOnBytes command bytes file (Err e)))
+    (λ file. then_refused (BytesDecode bytes) (λ t a. ReturnsWithFile file command t a) e h)
 
 reply_on_file : (words : List (List ℕ)) (bytes : List ℕ) (file : Result (List ℕ) Error) (command : Command)
     (answer : Result (String Global) Error) (r : Result Reply Error)
-    → AskFor words command → IsAnswer string_bytes (CommandAnswers command bytes file) answer
+    → AskFor words command → IsAnswer string_bytes (ReturnsOnBytes command bytes file) answer
     → MatchResult r (IsReplyOf answer) (λ e. e ≡ OutOfMemory)
     → MatchResult r (IsReplyTo words bytes file) (λ e. e ≡ OutOfMemory)
 reply_on_file words bytes file command answer (Err e) asked given is = is
 reply_on_file words bytes file command (Ok text) (Ok reply) asked given is =
     (answered (Ok (string_bytes text)), (command, asked, given), is)
 reply_on_file words bytes file command (Err e) (Ok reply) asked given is =
-    (answered (Err e), (command, asked, with_memory e (CommandAnswers command bytes file (Err e)) is.0 given), is.1)
+    (answered (Err e), (command, asked, with_memory e (ReturnsOnBytes command bytes file (Err e)) is.0 given), is.1)
 
 pub reply_of_command : (held : Option (Result (List ℕ) Error)) (words : List (List ℕ)) (bytes : List ℕ) (command : Command)
     (answer : Result (String Global) Error) (r : Result Reply Error)
-    → AskFor words command → WithFile held (λ file. IsAnswer string_bytes (CommandAnswers command bytes file) answer)
+    → AskFor words command → WithFile held (λ file. IsAnswer string_bytes (ReturnsOnBytes command bytes file) answer)
     → MatchResult r (IsReplyOf answer) (λ e. e ≡ OutOfMemory)
     → WithFile held (λ file. MatchResult r (IsReplyTo words bytes file) (λ e. e ≡ OutOfMemory))
 reply_of_command held words bytes command answer r asked given is =
-    with_file held (λ file. IsAnswer string_bytes (CommandAnswers command bytes file) answer)
+    with_file held (λ file. IsAnswer string_bytes (ReturnsOnBytes command bytes file) answer)
     (λ file. MatchResult r (IsReplyTo words bytes file) (λ e. e ≡ OutOfMemory))
     (λ file says. reply_on_file words bytes file command answer r asked says is) given
-
-pub no_reply : (held : Option (Result (List ℕ) Error)) (words : List (List ℕ)) (bytes : List ℕ) (r : Result Reply Error) (e : Error)
-    → r ≡ Err e → e ≡ OutOfMemory → WithFile held (λ file. MatchResult r (IsReplyTo words bytes file) (λ e. e ≡ OutOfMemory))
-no_reply held words bytes r e is out =
-    any_file held (λ file. MatchResult r (IsReplyTo words bytes file) (λ e. e ≡ OutOfMemory)) (λ file. rw is out)
 
 -- the reply to other words is the usage
 pub reply_to_others : (held : Option (Result (List ℕ) Error)) (words : List (List ℕ)) (bytes : List ℕ) (r : Result Reply Error)
@@ -298,7 +289,7 @@ reply_to_others held words bytes (Err e) none is = any_file held (λ file. e ≡
 
 -- Words and bytes have one reply.
 
--- two answers that print alike: one value, or faults of which each prints what the other does
+-- two answers that print alike: one value, or errors of which each prints what the other does
 abbrev PrintAlike : {X : Type 0} → (a b : Result X Error) → Type 0
 PrintAlike (Ok s) (Ok t) = s ≡ t
 PrintAlike (Err e) (Err f) = (text : List ℕ) → IsRefusal e text → IsRefusal f text
@@ -330,13 +321,13 @@ maps_alike t (Ok a) (Ok b) p q = json_once t a b p q
 maps_alike t (Err e) b p q = absurd p
 maps_alike t (Ok a) (Err f) p q = absurd q
 
-found_alike : (t : MapTree) (p : ℕ × ℕ) (a b : Result (List ℕ) Error) → IsInOrder t → IsOkAnd a (IsFoundLine t p) → IsOkAnd b (IsFoundLine t p) → PrintAlike a b
+found_alike : (t : MapTree) (p : ℕ × ℕ) (a b : Result (List ℕ) Error) → IsInOrder t → IsOkAnd a (IsLookupLine t p) → IsOkAnd b (IsLookupLine t p) → PrintAlike a b
 found_alike t p (Ok a) (Ok b) ordered (x, is, of) (y, is', of') =
     is ∙ ap (λ found. found_text found ++ newline) (of ordered ∙ sym (of' ordered)) ∙ sym is'
 found_alike t p (Err e) b ordered h k = absurd h
 found_alike t p (Ok a) (Err f) ordered h k = absurd k
 
--- faults of one text
+-- errors of one text
 texts_alike : (e f : Error) → error_text e ≡ error_text f → (text : List ℕ) → IsRefusal e text → IsRefusal f text
 texts_alike e f same text refused =
     (refused.0, subst (λ said. IfSome said (λ line. refused.0 ≡ line)) same refused.1, refused.2)
@@ -366,22 +357,22 @@ prints_alike : (First : Result MapValue Error → Type 0) → ((a b : Result Map
 prints_alike First one a b p q =
     then_alike First (λ m a. PrintsMap (leaf (regular m)) a) one (λ m a b made p q. maps_alike (leaf (regular m)) a b p q) a b p q
 
--- of a map in order a command says one thing
-says_alike : (command : Command) (t : MapTree) (other : Option MapTree) (a b : Result (List ℕ) Error) → IsInOrder t
-    → Says command t other a → Says command t other b → PrintAlike a b
-says_alike (Lookup line col) t other a b ordered p q = found_alike t (line, col) a b ordered p q
-says_alike Tokens (leaf l) other a b ordered p q = alike a b (p ∙ sym q)
-says_alike Tokens (index parts ss) other a b ordered p q = alike a b (p ∙ sym q)
-says_alike Rewrite (leaf l) other a b ordered p q = maps_alike (leaf (rewritten_leaf l)) a b p q
-says_alike Rewrite (index parts ss) other a b ordered p q = alike a b (p ∙ sym q)
-says_alike Flatten (leaf l) other a b ordered p q = alike a b (p ∙ sym q)
-says_alike Flatten (index parts ss) other a b ordered p q =
+-- for a map in order a command returns one text or error
+returns_alike : (command : Command) (t : MapTree) (other : Option MapTree) (a b : Result (List ℕ) Error) → IsInOrder t
+    → Returns command t other a → Returns command t other b → PrintAlike a b
+returns_alike (Lookup line col) t other a b ordered p q = found_alike t (line, col) a b ordered p q
+returns_alike Tokens (leaf l) other a b ordered p q = alike a b (p ∙ sym q)
+returns_alike Tokens (index parts ss) other a b ordered p q = alike a b (p ∙ sym q)
+returns_alike Rewrite (leaf l) other a b ordered p q = maps_alike (leaf (rewritten_leaf l)) a b p q
+returns_alike Rewrite (index parts ss) other a b ordered p q = alike a b (p ∙ sym q)
+returns_alike Flatten (leaf l) other a b ordered p q = alike a b (p ∙ sym q)
+returns_alike Flatten (index parts ss) other a b ordered p q =
     prints_alike (FlatAnswer (index parts ss)) (flat_once (index parts ss)) a b p q
-says_alike (Compose path) t other a b ordered p q =
+returns_alike (Compose path) t other a b ordered p q =
     prints_alike (λ a. a ≡ adjusted_by t other) (λ a b h k. alike a b (h ∙ sym k)) a b p q
-says_alike (Shift rows) (leaf l) other a b ordered p q = alike a b (p ∙ sym q)
-says_alike (Shift rows) (index parts ss) other a b ordered p q = shift_alike rows parts (section_list ss) a b p q
-says_alike (Trace path) t other a b ordered p q = absurd p
+returns_alike (Shift rows) (leaf l) other a b ordered p q = alike a b (p ∙ sym q)
+returns_alike (Shift rows) (index parts ss) other a b ordered p q = shift_alike rows parts (section_list ss) a b p q
+returns_alike (Trace path) t other a b ordered p q = absurd p
 
 reply_alike : (a b : Result (List ℕ) Error) → PrintAlike a b → (reply : Reply) → IsReply (answered a) reply → IsReply (answered b) reply
 reply_alike (Ok a) (Ok b) same reply is = (is.0 ∙ same, is.1)
@@ -407,13 +398,13 @@ file_alike : (file : Result (List ℕ) Error) (a b : Result MapTree Error) → F
 file_alike (Ok bytes) a b h k = bytes_alike bytes a b h k
 file_alike (Err e) a b h k = alike a b (h ∙ sym k)
 
-says_with_alike : (file : Result (List ℕ) Error) (command : Command) (t : MapTree) (a b : Result (List ℕ) Error) → IsInOrder t
-    → SaysWith file command t a → SaysWith file command t b → PrintAlike a b
-says_with_alike file (Compose path) t a b ordered p q =
-    then_alike (FileDecodes file) (λ other a. Says (Compose path) t (Some other) a) (file_alike file)
-    (λ other a b held p q. says_alike (Compose path) t (Some other) a b ordered p q) a b p q
-says_with_alike file (Trace path) t a b ordered p q = alike a b (p ∙ sym q)
-says_with_alike file command t a b ordered p q = says_alike command t None a b ordered p q
+returns_with_alike : (file : Result (List ℕ) Error) (command : Command) (t : MapTree) (a b : Result (List ℕ) Error) → IsInOrder t
+    → ReturnsWithFile file command t a → ReturnsWithFile file command t b → PrintAlike a b
+returns_with_alike file (Compose path) t a b ordered p q =
+    then_alike (FileDecodes file) (λ other a. Returns (Compose path) t (Some other) a) (file_alike file)
+    (λ other a b held p q. returns_alike (Compose path) t (Some other) a b ordered p q) a b p q
+returns_with_alike file (Trace path) t a b ordered p q = alike a b (p ∙ sym q)
+returns_with_alike file command t a b ordered p q = returns_alike command t None a b ordered p q
 
 -- a map that bytes stand for is in order
 bytes_in_order : (bytes : List ℕ) (t : MapTree) → BytesDecode bytes (Ok t) → IsInOrder t
@@ -426,17 +417,17 @@ bytes_in_order bytes t (inr none) = absurd none
 
 -- a command with another buffer for its path answers the same
 same_command : (c d : Command) (bytes : List ℕ) (file a : Result (List ℕ) Error) → IsSameCommand c d
-    → CommandAnswers c bytes file a → CommandAnswers d bytes file a
+    → ReturnsOnBytes c bytes file a → ReturnsOnBytes d bytes file a
 same_command (Compose path) (Compose other) bytes file a same h = h
 same_command (Trace path) (Trace other) bytes file a same h = h
-same_command c d bytes file a same h = subst (λ x. CommandAnswers x bytes file a) same h
+same_command c d bytes file a same h = subst (λ x. ReturnsOnBytes x bytes file a) same h
 
 pub replies_alike : (words : List (List ℕ)) (bytes : List ℕ) (file : Result (List ℕ) Error) (a b : Ending)
     → Ends words bytes file a → Ends words bytes file b → (reply : Reply) → IsReply a reply → IsReply b reply
 replies_alike words bytes file (answered a) (answered b) (c, asked, says) (d, asked', says') reply is =
     let due = same_command d c bytes file b (command_once words d c asked' asked) says' in
-    let both = then_alike (BytesDecode bytes) (λ t a. SaysWith file c t a) (bytes_alike bytes)
-    (λ t a b held p q. says_with_alike file c t a b (bytes_in_order bytes t held) p q) a b says due in
+    let both = then_alike (BytesDecode bytes) (λ t a. ReturnsWithFile file c t a) (bytes_alike bytes)
+    (λ t a b held p q. returns_with_alike file c t a b (bytes_in_order bytes t held) p q) a b says due in
     reply_alike a b both reply is
 replies_alike words bytes file (answered a) misused p none reply is = absurd (none p.0 p.1)
 replies_alike words bytes file misused (answered b) none q reply is = absurd (none q.0 q.1)
@@ -458,12 +449,9 @@ some_bytes (Some told) = (told, refl)
 pub out_of_memory : (words : List (List ℕ)) (e : Error) → e ≡ OutOfMemory → IsCutShort words e
 out_of_memory words e is = no_memory e _ is
 
--- words that ask for a command have the input read
-pub bytes_read : (words : List (List ℕ)) (command : Command) (input : Option (List ℕ)) (r : Result (Vec ℕ Global) Error)
-    → AskFor words command → MatchResult r (λ bytes. IfSome input (λ known. bytes.items ≡ known)) (λ e. UnlessRead e ⊥)
-    → MatchResult r (λ bytes. AskForNone words ⊎ IfSome input (λ known. bytes.items ≡ known)) (IsCutShort words)
-bytes_read words command input (Ok bytes) asked h = inr h
-bytes_read words command input (Err e) asked h = UnlessMemory-from e (command, asked, h)
+-- words ask for a command, and reading the input failed
+pub reading_failed : (words : List (List ℕ)) (command : Command) (e : Error) → AskFor words command → UnlessRead e ⊥ → IsCutShort words e
+reading_failed words command e asked h = UnlessMemory-from e (command, asked, h)
 
 -- the reply to other words is the same on all bytes
 any_bytes : (words : List (List ℕ)) (a b : List ℕ) (file : Result (List ℕ) Error) (reply : Reply) → AskForNone words
@@ -506,7 +494,7 @@ told_short words e said (inr out) h = out_of_memory words said out
 pub runs : (words : List (List ℕ)) (input : Option (List ℕ)) (made : Result Reply Error)
     (old new : Option (List ℕ)) (result : Result ℕ Error)
     → Reading input (λ bytes. WithFile None (λ file. MatchResult made (IsReplyTo words bytes file) (IsCutShort words)))
-    → MatchResult result (λ status. IsReported made status old new) IsWriteFault
+    → MatchResult result (λ status. IsPrinted made status old new) IsWriteError
     → IfOk result (λ status. Runs words input status old new)
 runs words input (Ok reply) old new (Ok status) (bytes, told, (file, may, (ending, ends, is))) said =
     (bytes, told, (file, may, (ending, may_end words bytes file ending ends, said.0 ∙ is.1, (string_bytes reply.text, is.0, said.1))))

@@ -20,7 +20,7 @@ AskFor words (Compose path) = words ≡ codes "compose" ∷ string_bytes path �
 AskFor words (Shift rows) = (r : List ℕ) × (words ≡ codes "shift" ∷ r ∷ []) × IsNumber r rows
 AskFor words (Trace path) = words ≡ codes "trace" ∷ string_bytes path ∷ []
 
--- two commands are one; a path in memory may have more room than another
+-- two commands are one; buffers of equal paths may differ in capacity
 abbrev pub IsSameCommand : Command → Command → Type 0
 IsSameCommand (Compose path) (Compose other) = string_bytes path ≡ string_bytes other
 IsSameCommand (Trace path) (Trace other) = string_bytes path ≡ string_bytes other

@@ -36,19 +36,19 @@ abbrev pub found_text : Option TokenValue → List ℕ
 found_text (Some token) = token_text (says token)
 found_text None = codes "none"
 
--- what tells a range token from another
+-- what follows the text of a range token
 abbrev pub range_mark : TokenValue → List ℕ
 range_mark t = if t.raw.is_range then codes " range" else []
 
--- the line of a token: its place in the generated text, its text, and whether it is a range token
+-- the line of a token: its generated position, its text, and whether it is a range token
 abbrev pub token_line : TokenValue → List ℕ
 token_line t =
     decimal t.raw.dst_line ++ codes ":" ++ decimal t.raw.dst_col ++ codes " "
     ++ token_text (says t) ++ range_mark t ++ newline
 
 -- the line of the closest token; of an index in no order, of some token or of none
-abbrev pub IsFoundLine : MapTree → ℕ × ℕ → List ℕ → Type 0
-IsFoundLine t p text = (found : Option TokenValue) × (text ≡ found_text found ++ newline) × (IsInOrder t → found ≡ lookup t p)
+abbrev pub IsLookupLine : MapTree → ℕ × ℕ → List ℕ → Type 0
+IsLookupLine t p text = (found : Option TokenValue) × (text ≡ found_text found ++ newline) × (IsInOrder t → found ≡ lookup t p)
 
 -- the compact JSON text that a map is written as, and a newline
 abbrev pub IsJsonLine : MapTree → List ℕ → Type 0
@@ -64,14 +64,14 @@ ShiftAnswer rows parts ss answer =
     ⊎ ((¬ HaveRowsLeft rows ss) × (answer ≡ Err IncompatibleSourceMap))
 
 -- a map that is not regular
-abbrev pub IsOfOtherKind : MapTree → Type 0
-IsOfOtherKind (leaf (regular _)) = ⊥
-IsOfOtherKind _ = Unit {0}
+abbrev pub IsNotRegular : MapTree → Type 0
+IsNotRegular (leaf (regular _)) = ⊥
+IsNotRegular _ = Unit {0}
 
 -- a map that is no index
-abbrev pub IsNoIndex : MapTree → Type 0
-IsNoIndex (index _ _) = ⊥
-IsNoIndex _ = Unit {0}
+abbrev pub IsNotIndex : MapTree → Type 0
+IsNotIndex (index _ _) = ⊥
+IsNotIndex _ = Unit {0}
 
 -- a regular map adjusted by another one; maps of other kinds are refused
 abbrev pub adjusted_by : MapTree → Option MapTree → Result MapValue Error
@@ -88,44 +88,36 @@ abbrev pub traced : MapTree → (file : Result (List ℕ) Error) → Result (Lis
 traced t (Ok positions) = Ok (trace_of (meaning t) positions)
 traced t (Err e) = Err e
 
--- a command that makes no map of the one that it is asked of alone
-abbrev pub OnlyAsks : Command → Type 0
-OnlyAsks Rewrite = ⊥
-OnlyAsks Flatten = ⊥
-OnlyAsks (Shift _) = ⊥
-OnlyAsks (Trace _) = ⊥
-OnlyAsks _ = Unit {0}
-
--- what a command says of a map, and of a second one where it takes one: its text, or why it refuses, a
--- map of the wrong kind before all else; what `trace` says is said of positions too, and not here
-abbrev pub Says : Command → MapTree → Option MapTree → Result (List ℕ) Error → Type 0
-Says (Lookup line col) t _ answer = IsOkAnd answer (IsFoundLine t (line, col))
-Says Tokens (leaf l) _ answer = answer ≡ Ok (flat_map token_line (tokens_from (held l) 0))
-Says Tokens (index _ _) _ answer = answer ≡ Err IncompatibleSourceMap
-Says Rewrite (leaf l) _ answer = PrintsMap (leaf (rewritten_leaf l)) answer
-Says Rewrite (index _ _) _ answer = answer ≡ Err IncompatibleSourceMap
-Says Flatten (leaf _) _ answer = answer ≡ Err IncompatibleSourceMap
-Says Flatten (index parts ss) _ answer = Then (FlatAnswer (index parts ss)) (λ m a. PrintsMap (leaf (regular m)) a) answer
-Says (Compose _) t adjustment answer = Then (λ a. a ≡ adjusted_by t adjustment) (λ m a. PrintsMap (leaf (regular m)) a) answer
-Says (Shift _) (leaf _) _ answer = answer ≡ Err IncompatibleSourceMap
-Says (Shift rows) (index parts ss) _ answer = ShiftAnswer rows parts (section_list ss) answer
-Says (Trace _) _ _ _ = ⊥
+-- what a command returns for a map, and for an adjustment where it takes one: its text, or an error, that of
+-- a map of the wrong kind first; `trace` also needs positions, and returns nothing here
+abbrev pub Returns : Command → MapTree → Option MapTree → Result (List ℕ) Error → Type 0
+Returns (Lookup line col) t _ answer = IsOkAnd answer (IsLookupLine t (line, col))
+Returns Tokens (leaf l) _ answer = answer ≡ Ok (flat_map token_line (tokens_from (held l) 0))
+Returns Tokens (index _ _) _ answer = answer ≡ Err IncompatibleSourceMap
+Returns Rewrite (leaf l) _ answer = PrintsMap (leaf (rewritten_leaf l)) answer
+Returns Rewrite (index _ _) _ answer = answer ≡ Err IncompatibleSourceMap
+Returns Flatten (leaf _) _ answer = answer ≡ Err IncompatibleSourceMap
+Returns Flatten (index parts ss) _ answer = Then (FlatAnswer (index parts ss)) (λ m a. PrintsMap (leaf (regular m)) a) answer
+Returns (Compose _) t adjustment answer = Then (λ a. a ≡ adjusted_by t adjustment) (λ m a. PrintsMap (leaf (regular m)) a) answer
+Returns (Shift _) (leaf _) _ answer = answer ≡ Err IncompatibleSourceMap
+Returns (Shift rows) (index parts ss) _ answer = ShiftAnswer rows parts (section_list ss) answer
+Returns (Trace _) _ _ _ = ⊥
 
 -- the map in a file, given its bytes or why they could not be read; or why there is none
 abbrev pub FileDecodes : Result (List ℕ) Error → Result MapTree Error → Type 0
-FileDecodes (Ok bytes) held = BytesDecode bytes held
-FileDecodes (Err e) held = held ≡ Err e
+FileDecodes (Ok bytes) decoded = BytesDecode bytes decoded
+FileDecodes (Err e) decoded = decoded ≡ Err e
 
--- what a command says of a map, and of the map or the positions in its file where it takes one
-abbrev pub SaysWith : Result (List ℕ) Error → Command → MapTree → Result (List ℕ) Error → Type 0
-SaysWith file (Compose path) t answer = Then (FileDecodes file) (λ other a. Says (Compose path) t (Some other) a) answer
-SaysWith file (Trace _) t answer = answer ≡ traced t file
-SaysWith file command t answer = Says command t None answer
+-- what a command returns for a map, and for the map or the positions in its file where it takes one
+abbrev pub ReturnsWithFile : Result (List ℕ) Error → Command → MapTree → Result (List ℕ) Error → Type 0
+ReturnsWithFile file (Compose path) t answer = Then (FileDecodes file) (λ other a. Returns (Compose path) t (Some other) a) answer
+ReturnsWithFile file (Trace _) t answer = answer ≡ traced t file
+ReturnsWithFile file command t answer = Returns command t None answer
 
--- what a command says of the map that bytes stand for, or why they stand for none; that comes before
--- all that is said of the file
-abbrev pub CommandAnswers : Command → (bytes : List ℕ) → (file : Result (List ℕ) Error) → Result (List ℕ) Error → Type 0
-CommandAnswers command bytes file answer = Then (BytesDecode bytes) (λ t a. SaysWith file command t a) answer
+-- what a command returns for the map that bytes stand for, or why they stand for none; that error comes
+-- before those of the file
+abbrev pub ReturnsOnBytes : Command → (bytes : List ℕ) → (file : Result (List ℕ) Error) → Result (List ℕ) Error → Type 0
+ReturnsOnBytes command bytes file answer = Then (BytesDecode bytes) (λ t a. ReturnsWithFile file command t a) answer
 
 -- Runs: words, and bytes that hold a map; for `compose` and `trace` also those of a file, or why they could
 -- not be read.
@@ -142,13 +134,13 @@ pub data Ending : Type 0 where
 -- how a run of these words on these bytes ends, and on those of the file
 abbrev pub Ends : List (List ℕ) → (bytes : List ℕ) → (file : Result (List ℕ) Error) → Ending → Type 0
 Ends words bytes file (answered answer) =
-    (command : Command) × AskFor words command × CommandAnswers command bytes file answer
+    (command : Command) × AskFor words command × ReturnsOnBytes command bytes file answer
 Ends words bytes file misused = AskForNone words
 
--- the line of a refusal; std does not say what its own faults print
+-- the line of an error; std does not say what its own errors print
 abbrev pub IsRefusal : Error → List ℕ → Type 0
 IsRefusal e text =
-    (line : List ℕ) × IfSome (error_text e) (λ said. line ≡ said) × (text ≡ line ++ newline)
+    (line : List ℕ) × IfSome (error_text e) (λ known. line ≡ known) × (text ≡ line ++ newline)
 
 abbrev pub status_of : Ending → ℕ
 status_of (answered (Ok _)) = 0
@@ -168,7 +160,7 @@ IsReply ending reply = Prints ending (string_bytes reply.text) × (reply.status 
 abbrev pub IsReplyTo : List (List ℕ) → (bytes : List ℕ) → (file : Result (List ℕ) Error) → Reply → Type 0
 IsReplyTo words bytes file reply = (ending : Ending) × Ends words bytes file ending × IsReply ending reply
 
--- the reply to a command that was answered; want of memory has none
+-- the reply to a command that was answered; out of memory has none
 abbrev pub IsReplyOf : Result (String Global) Error → Reply → Type 0
 IsReplyOf (Ok text) reply = IsReply (answered (Ok (string_bytes text))) reply
 IsReplyOf (Err e) reply = (e ≢ OutOfMemory) × IsReply (answered (Err e)) reply
@@ -181,12 +173,12 @@ abbrev pub file_read : Result (Vec ℕ Global) Error → Result (List ℕ) Error
 file_read (Ok bytes) = Ok bytes.items
 file_read (Err e) = Err e
 
--- what a reading of a file may give: bytes, or a fault of a reader
+-- what reading a file may return: bytes, or an error of a reader
 abbrev pub MayBeRead : Result (List ℕ) Error → Type 0
 MayBeRead (Ok bytes) = Unit {0}
 MayBeRead (Err e) = UnlessRead e ⊥
 
--- a fact of what a file gives: what is at hand of it, or else what a reading may give
+-- a fact of what is read of a file: what was preloaded, or else what reading may return
 abbrev pub WithFile : Option (Result (List ℕ) Error) → (Result (List ℕ) Error → Type 0) → Type 0
 WithFile (Some file) P = P file
 WithFile None P = (file : Result (List ℕ) Error) × MayBeRead file × P file
@@ -200,22 +192,22 @@ abbrev pub MayEnd : List (List ℕ) → (bytes : List ℕ) → (file : Result (L
 MayEnd words bytes file (answered (Err e)) = Ends words bytes file (answered (Err e)) ⊎ IsCutShort words e
 MayEnd words bytes file ending = Ends words bytes file ending
 
--- a refusal was printed, or, where memory ran out for its text, that it did
+-- an error was printed, or, where memory ran out for its text, out of memory
 abbrev pub PrintsRefusal : Error → Option (List ℕ) → Option (List ℕ) → Type 0
-PrintsRefusal e old new = (said : Error) × ((said ≡ e) ⊎ (said ≡ OutOfMemory))
-    × ((printed : List ℕ) × IsRefusal said printed × Appends old new printed)
+PrintsRefusal e old new = (reported : Error) × ((reported ≡ e) ⊎ (reported ≡ OutOfMemory))
+    × ((printed : List ℕ) × IsRefusal reported printed × Appends old new printed)
 
 -- a reply, or why there is none, was printed, and the run ended with this status
-abbrev pub IsReported : Result Reply Error → ℕ → Option (List ℕ) → Option (List ℕ) → Type 0
-IsReported (Ok reply) status old new =
+abbrev pub IsPrinted : Result Reply Error → ℕ → Option (List ℕ) → Option (List ℕ) → Type 0
+IsPrinted (Ok reply) status old new =
     (status ≡ reply.status) × Appends old new (string_bytes reply.text)
-IsReported (Err e) status old new = (status ≡ 1) × PrintsRefusal e old new
+IsPrinted (Err e) status old new = (status ≡ 1) × PrintsRefusal e old new
 
--- a fault of a writer
-abbrev pub IsWriteFault : Error → Type 0
-IsWriteFault e = (cause : IoError) × FromIo cause e
+-- an error of a writer
+abbrev pub IsWriteError : Error → Type 0
+IsWriteError e = (cause : IoError) × FromIo cause e
 
--- what a run of these words on a reader's bytes did: a reader that does not tell its bytes has some
+-- what a run of these words on a reader's bytes did: a reader whose bytes are unknown has some
 abbrev pub Runs : List (List ℕ) → Option (List ℕ) → ℕ → Option (List ℕ) → Option (List ℕ) → Type 0
 Runs words input status old new = Reading input (λ bytes. WithFile None (λ file.
     (ending : Ending) × MayEnd words bytes file ending

@@ -1,8 +1,9 @@
-//! What the program does: the words that it is asked with, and what it prints of a map.
+//! The commands of the program: how words ask for them, and what a run prints for a map.
 #![tactic(auto)]
 
 pub mod command;
-pub mod hermes;
+pub mod files;
+pub mod maps;
+pub mod output;
 pub mod program;
-pub mod regular;
 pub mod system;

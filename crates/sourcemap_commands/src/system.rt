@@ -1,44 +1,41 @@
-//! Where the program meets the system: the words that it is started with, and faults that no run
-//! can print on its output.
+//! Where the program meets the system: its arguments, and errors reported on standard error.
 ghost use Rattle.std.specs.Prelude.{◌≡◌, IfErr, OnOk, IsTrue, ◌↔◌};
-ghost use Rattle.sourcemap_commands.specs.Program.{IsWriteFault};
-ghost use Rattle.sourcemap_commands.specs.System.{IsReaderGone, IsTold};
+ghost use Rattle.sourcemap_commands.specs.Program.{IsWriteError};
+ghost use Rattle.sourcemap_commands.specs.System.{IsErrorPrinted, IsReaderGone};
 
 use sourcemap::{Error, Result};
 use std::env::Env;
 use std::io::{ErrorKind, Write};
 use std::{env, io};
 
-/// The words that the program is started with, behind its name. Where one of them is not UTF-8
-/// there are none, since no command has such a word, and none ask for no command either. Want of
-/// memory is `OutOfMemory`.
+/// The arguments of the process after the program's name. If one is not UTF-8, the list is empty:
+/// no command has such a word, and an empty list asks for no command either. Returns `OutOfMemory`
+/// if memory runs out.
 pub fn words<R: Env + AllocGlobal>(rt: &R) -> Result<Vec<String>> {
     match env::args(rt) {
         Ok(all) => Ok(all.skip(1).collect(rt.alloc())?),
-        Err(fault) if fault.kind() == ErrorKind::InvalidData => Ok(Vec::new(rt.alloc())),
-        Err(fault) => Err(fault.into()),
+        Err(error) if error.kind() == ErrorKind::InvalidData => Ok(Vec::new(rt.alloc())),
+        Err(error) => Err(error.into()),
     }
 }
 
-// Whether whoever reads what is printed has gone away.
 fn is_reader_gone(error: &Error) -> bool
     ensures { IsTrue result ↔ IsReaderGone error.now }
 {
-    matches!(error, Error::Io(fault) if fault.kind() == ErrorKind::BrokenPipe)
+    matches!(error, Error::Io(cause) if cause.kind() == ErrorKind::BrokenPipe)
 }
 
-/// Tells a fault that kept a run from ending, on a writer for faults: its text and a newline, but
-/// nothing where whoever reads the output has gone away, since nobody is left to be told. The only
-/// error is a fault of that writer, and none comes where nothing is told.
-pub fn tell<W: Write>(error: &Error, faults: &mut W) -> Result<()>
-    ensures told { OnOk result (¬ IsReaderGone error.now
-        → IsTold error.now (W.contents faults.old) (W.contents faults.new)) }
-    ensures quiet { IsReaderGone error.now → faults.new ≡ faults.old }
-    ensures fault { IfErr result (λ e. IsWriteFault e × ¬ IsReaderGone error.now) }
+/// Writes the text of an error that ended a run, and a newline. Writes nothing, and succeeds, if the
+/// reader of the output is gone (`BrokenPipe`). The only error is one of the writer.
+pub fn report_error<W: Write>(error: &Error, output: &mut W) -> Result<()>
+    ensures printed { OnOk result (¬ IsReaderGone error.now
+        → IsErrorPrinted error.now (W.contents output.old) (W.contents output.new)) }
+    ensures quiet { IsReaderGone error.now → output.new ≡ output.old }
+    ensures error { IfErr result (λ e. IsWriteError e × ¬ IsReaderGone error.now) }
 {
     if is_reader_gone(error) {
         return Ok(());
     }
-    writeln!(faults, "{error}")?;
+    writeln!(output, "{error}")?;
     Ok(())
 }

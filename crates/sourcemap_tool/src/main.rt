@@ -3,12 +3,12 @@
 
 use sourcemap::Result;
 use sourcemap_commands::program::run;
-use sourcemap_commands::system::{tell, words};
+use sourcemap_commands::system::{report_error, words};
 use std::io;
 use std::process::ExitCode;
 
-// Reads the words and runs them on standard input and output.
-fn ran(rt: &HostRuntime) -> Result<u8> {
+// Runs the arguments on standard input and output.
+fn run_arguments(rt: &HostRuntime) -> Result<u8> {
     let words = words(rt)?;
     run(
         rt,
@@ -20,11 +20,11 @@ fn ran(rt: &HostRuntime) -> Result<u8> {
 }
 
 fn main(rt: HostRuntime) -> ExitCode {
-    match ran(&rt) {
+    match run_arguments(&rt) {
         Ok(status) => ExitCode::from(status),
         Err(error) => {
-            // Where standard error fails too, the status alone is left to say so.
-            let _told = tell(&error, &mut rt.stderr());
+            // If standard error fails too, the status alone reports the error.
+            let _reported = report_error(&error, &mut rt.stderr());
             ExitCode::FAILURE
         }
     }

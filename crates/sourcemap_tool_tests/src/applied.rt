@@ -2,7 +2,7 @@
 use crate::runs::TWO;
 use sourcemap::{DecodedMap, Error, decode_slice};
 use sourcemap_commands::command::Command;
-use sourcemap_commands::program::apply;
+use sourcemap_commands::output::apply;
 use std::test::Fail;
 
 const RANGED: &str = r#"{"sources":["a.js"],"mappings":"AAAO","rangeMappings":"B"}"#;

@@ -1,9 +1,9 @@
-// Readers and writers that fail, and what is told of faults beside the output.
+// Readers and writers that fail, and errors that are reported beside the output.
 use crate::memory::{unless_cut_out, unless_out};
 use crate::runs::{MAP, USAGE, words_of};
 use sourcemap::{Error, decode};
 use sourcemap_commands::program::run;
-use sourcemap_commands::system::tell;
+use sourcemap_commands::system::report_error;
 use sourcemap_test_writers::NarrowWriter;
 use std::io;
 use std::io::{ErrorKind, Read};
@@ -110,28 +110,28 @@ fn a_writer_that_fails_ends_the_run(rt: HostRuntime) -> Result<(), Fail> {
     Ok(())
 }
 
-// Whether this is told of a fault, and as much of it as it takes on each writer that takes less.
-fn is_told(rt: &HostRuntime, fault: &Error, want: &[u8]) -> Result<bool, Fail> {
-    let mut faults = narrow(rt, None);
-    tell(fault, &mut faults)?;
-    let mut is_so = faults.held.as_slice() == want;
+// Whether this is reported of an error, and as much of it as it takes on each writer that takes less.
+fn is_reported_as(rt: &HostRuntime, error: &Error, want: &[u8]) -> Result<bool, Fail> {
+    let mut output = narrow(rt, None);
+    report_error(error, &mut output)?;
+    let mut is_so = output.held.as_slice() == want;
     for left in 0..want.len() {
-        let mut faults = narrow(rt, Some(left));
-        let told = tell(fault, &mut faults);
-        if matches!(told, Err(Error::OutOfMemory)) {
+        let mut output = narrow(rt, Some(left));
+        let reported = report_error(error, &mut output);
+        if matches!(reported, Err(Error::OutOfMemory)) {
             return Err(Error::OutOfMemory.into());
         }
-        is_so &= told.is_err() & (faults.held.as_slice() == &want[..left]);
+        is_so &= reported.is_err() & (output.held.as_slice() == &want[..left]);
     }
     Ok(is_so)
 }
 
 #[test]
-fn faults_are_told_unless_the_reader_is_gone(rt: HostRuntime) -> Result<(), Fail> {
+fn errors_are_reported_unless_the_reader_is_gone(rt: HostRuntime) -> Result<(), Fail> {
     let gone = Error::from(io::Error::from(ErrorKind::BrokenPipe));
     let full = Error::from(io::Error::from(ErrorKind::StorageFull));
-    assert!(rt; is_told(&rt, &gone, b"")?);
-    assert!(rt; is_told(&rt, &full, b"no storage space\n")?);
-    assert!(rt; is_told(&rt, &Error::OutOfMemory, b"out of memory\n")?);
+    assert!(rt; is_reported_as(&rt, &gone, b"")?);
+    assert!(rt; is_reported_as(&rt, &full, b"no storage space\n")?);
+    assert!(rt; is_reported_as(&rt, &Error::OutOfMemory, b"out of memory\n")?);
     Ok(())
 }

@@ -2,7 +2,8 @@
 use crate::memory::unless_out;
 use sourcemap::decode_slice;
 use sourcemap_commands::command::{Command, parse_words};
-use sourcemap_commands::program::{apply, reply_to, run};
+use sourcemap_commands::output::apply;
+use sourcemap_commands::program::{reply_to, run};
 use std::alloc::{AllocError, Global};
 use std::test::Fail;
 

@@ -5,6 +5,6 @@ use Rattle.sourcemap_commands.proofs.program.run.Goals as goal
 
 pub returns-clause-answer : goal.returns-clause-answer
 returns-clause-answer g c =
-    runs (map string_bytes c.args.words.now) (g.R.Read.remaining c.args.input.now) c.reply_from-made.result
-    (g.W.Write.contents c.args.output.now) (g.W.Write.contents c.report.new.output) c.report.result
-    c.reply_from-made.ensures.answer c.report.ensures
+    runs (map string_bytes c.args.words.now) (g.R.Read.remaining c.args.input.now) c.reply_to_input-reply.result
+    (g.W.Write.contents c.args.output.now) (g.W.Write.contents c.print_reply.new.output) c.print_reply.result
+    c.reply_to_input-reply.ensures.answer c.print_reply.ensures
