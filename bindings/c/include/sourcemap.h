@@ -1,0 +1,500 @@
+/*
+** sourcemap.h - JavaScript source maps (revision 3, index maps, Hermes maps,
+** RAM bundles), from a library whose every function is proved.
+**
+** CONVENTIONS
+**
+** Lines and columns count from 0. Columns count UTF-16 units. Texts are UTF-8
+** bytes with a length; none ends with a zero byte unless this page says so.
+**
+** A handle is a small struct in the caller's memory. It begins as zeros
+** (SM_EMPTY), which hold nothing. A call that fills a handle drops what the
+** handle held before; a call that fails leaves each handle as it was. A handle
+** that is full owns memory until sm_close(). Never copy a handle: pass its
+** address.
+**
+** Most calls return a code: SM_OK, or why they failed. Those that take an
+** sm_error also write the code, the numbers and the printed text of the error
+** there. On success the sm_error is as it was. Any of these may return
+** SM_OUT_OF_MEMORY, which is an error like the others: nothing has changed, and
+** the same call may be made again. Two calls differ: sm_builder_finish() empties
+** its builder, and sm_builder_add_tokens() may have added some. A call that fails
+** writes nothing but its sm_error. Where several errors apply, it names one.
+**
+** A text that a call writes to an sm_text is not copied. It points into the
+** handle that it was asked of (the name that sm_function_name() writes into its
+** map), and is valid until a call changes, fills or closes that handle. Calls
+** whose comment says "changes" change their first handle; all others leave it as
+** it is.
+**
+** WHAT THE CALLER OWES
+**
+** The calls are proved for arguments that are what their types say:
+**
+**   - A pointer is not null, also where the length beside it is 0. It points to
+**     as many initialised values as the length says. An sm_text that a call
+**     writes begins as SM_TEXT_EMPTY, any other struct as zeros.
+**   - What two arguments of one call point to does not overlap.
+**   - A handle is used by one call at a time. It may be handed to another
+**     thread, with the synchronisation that the platform asks for. Handles do
+**     not share anything that can be seen: each thread may use its own. With
+**     sm_share() two handles hold one map without a copy of it.
+**   - malloc, realloc and free belong together, and align as C asks.
+**   - No call is made in a signal handler.
+*/
+#ifndef SOURCEMAP_H
+#define SOURCEMAP_H
+
+#include <stdbool.h>
+#include <stddef.h>
+#include <stdint.h>
+
+#ifdef __cplusplus
+extern "C" {
+#endif
+
+/* The release of the crate whose names and answers this library has, and the
+** version of this interface. sm_interface() returns the one that was linked. */
+#define SM_VERSION "9.3.2"
+#define SM_INTERFACE 1u
+
+/* The id that names nothing, and the line or column of no original position. */
+#define SM_NONE UINT32_MAX
+
+/*
+** CODES
+**
+** A code is one of these. The second group is of this interface alone.
+*/
+typedef uint32_t sm_code;
+
+#define SM_OK 0u
+#define SM_IO 1u                    /* a junk header is faulty, or a line before a reference is not UTF-8 */
+#define SM_UTF8 2u                  /* bytes that should be text are not UTF-8 */
+#define SM_RANGE 3u                 /* a range passes the end of a bundle: start, size, length */
+#define SM_BAD_JSON 4u              /* number 0: not JSON; 1: a field has the wrong type */
+#define SM_VLQ_LEFTOVER 5u          /* a segment ends within a number */
+#define SM_VLQ_NO_VALUES 6u         /* a segment has no number */
+#define SM_VLQ_OVERFLOW 7u          /* a number of a segment is too large */
+#define SM_BAD_SEGMENT_SIZE 8u      /* a segment has `number` numbers, not 1, 4 or 5 */
+#define SM_BAD_SOURCE_REFERENCE 9u  /* a segment names source `number`, which does not exist */
+#define SM_BAD_NAME_REFERENCE 10u   /* a segment names name `number`, which does not exist */
+#define SM_INCOMPATIBLE 11u         /* the map is of another kind, or past a limit */
+#define SM_INVALID_DATA_URL 12u     /* the text is no data URL of a source map */
+#define SM_CANNOT_FLATTEN 13u       /* an index map can't become one regular map; the text says why */
+#define SM_INVALID_BUNDLE_MAGIC 14u /* a bundle does not begin with its magic number */
+#define SM_INVALID_BUNDLE_INDEX 15u /* a bundle has no module of that number */
+#define SM_INVALID_BUNDLE_ENTRY 16u /* a bundle's entry of a module is faulty */
+#define SM_NOT_A_BUNDLE 17u         /* there is no bundle */
+#define SM_INVALID_RANGE_INDEX 18u  /* kept; no call returns it */
+#define SM_INVALID_BASE64 19u       /* `number` is the character that is no digit */
+#define SM_OUT_OF_MEMORY 20u        /* memory ran out */
+
+#define SM_ABSENT 32u               /* there is none: no token, text, id or module */
+#define SM_WRONG_KIND 33u           /* the handle is empty, or what it holds has no such call */
+#define SM_PAST_LIMIT 34u           /* a line would pass 4294967295 */
+
+/* What a handle holds, as sm_kind() returns it. */
+#define SM_KIND_EMPTY 0u
+#define SM_KIND_REGULAR 1u
+#define SM_KIND_INDEX 2u
+#define SM_KIND_HERMES 3u
+#define SM_KIND_BUILDER 4u
+#define SM_KIND_VIEW 5u
+#define SM_KIND_BUNDLE 6u
+#define SM_KIND_SPLIT 7u
+#define SM_KIND_BYTES 8u
+
+/*
+** TYPES
+*/
+
+/* A handle. Its fields are the library's own. The other names say what a call
+** expects in it; the struct is one, and a handle may hold anything in turn. */
+typedef struct sm_handle {
+    void *at;
+    bool full;
+} sm_handle;
+
+typedef sm_handle sm_map;     /* a map of any kind */
+typedef sm_handle sm_builder; /* a map that is being built */
+typedef sm_handle sm_view;    /* a text with the table of its lines */
+typedef sm_handle sm_bundle;  /* a RAM bundle */
+typedef sm_handle sm_split;   /* the modules of a RAM bundle with their maps */
+typedef sm_handle sm_bytes;   /* a text that a call made */
+
+#define SM_EMPTY { 0, false }
+
+/* A borrowed text. */
+typedef struct sm_text {
+    const uint8_t *at;
+    size_t length;
+} sm_text;
+
+#define SM_TEXT_EMPTY { (const uint8_t *)"", 0 }
+
+/* Why a call failed. `text` holds the printed text and a zero byte after it; of
+** a longer text its first SM_ERROR_TEXT - 1 bytes, which may end within a
+** character. `text_length` is the length of the whole text. Numbers that the code does not use are 0. */
+#define SM_ERROR_TEXT 256
+
+typedef struct sm_error {
+    sm_code code;
+    uint32_t number;
+    uint64_t start;
+    uint64_t size;
+    uint64_t length;
+    size_t text_length;
+    uint8_t text[SM_ERROR_TEXT];
+} sm_error;
+
+/* A generated position. */
+typedef struct sm_position {
+    uint32_t line;
+    uint32_t column;
+} sm_position;
+
+/* A token: a generated position, the original position that it maps to, and
+** what it names. `source` and `name` are ids, or SM_NONE. In a map that was
+** opened, a token without a source has SM_NONE as its original line and column.
+** An id may name nothing, as names do after sm_remove_names(), and any id of a map
+** that was built: ask sm_source() and sm_name() before it is used as an index. */
+typedef struct sm_token {
+    uint32_t line;
+    uint32_t column;
+    uint32_t original_line;
+    uint32_t original_column;
+    uint32_t source;
+    uint32_t name;
+    bool is_range;
+} sm_token;
+
+/* The answer to a position: `found` says whether there is a closest token, at
+** the position or before it. The token is as it stands in its map, but that the
+** `original_column` of a range token on the line asked counts on to the position.
+** Of an index map, `line` and `column` count from where the section that answered
+** begins, and `source` and `name` are ids in its map. Where sm_lookup_many()
+** finds nothing, all else is 0. */
+typedef struct sm_found {
+    sm_token token;
+    bool found;
+} sm_found;
+
+/* How many items a map has. An index map has sections alone; the others have
+** no sections. 4294967295 stands for more, too. */
+typedef struct sm_counts {
+    uint32_t tokens;
+    uint32_t sources;
+    uint32_t names;
+    uint32_t ignored;
+    uint32_t sections;
+} sm_counts;
+
+/* A debug id: the 16 bytes of a UUID, in the order in which it is printed. */
+typedef struct sm_debug_id {
+    uint8_t bytes[16];
+} sm_debug_id;
+
+/* Where a section of an index map begins, and whether it holds a map and a URL. */
+typedef struct sm_section_start {
+    uint32_t line;
+    uint32_t column;
+    bool has_map;
+    bool has_url;
+} sm_section_start;
+
+/*
+** OPEN, SHARE AND CLOSE
+*/
+
+/* Returns SM_INTERFACE of the linked library. */
+uint32_t sm_interface(void);
+
+/* Returns what the handle holds: one of SM_KIND_... */
+uint32_t sm_kind(sm_handle *handle);
+
+/* Drops what the handle holds, if anything. It is empty afterwards, and may be
+** filled anew. */
+void sm_close(sm_handle *handle);
+
+/* Fills `map` with the map that these bytes hold: JSON, after a junk header if
+** there is one. The bytes are not kept. Fails with the first error of the
+** bytes: SM_IO, SM_BAD_JSON, SM_VLQ_..., SM_BAD_..., SM_INVALID_BASE64,
+** SM_INCOMPATIBLE. Bytes that are not UTF-8, and JSON deeper than 127 levels, are
+** SM_BAD_JSON with number 0. */
+sm_code sm_open(sm_map *map, const uint8_t *bytes, size_t length, sm_error *error);
+
+/* Fills `map` with the map in a `data:` URL. Fails with SM_INVALID_DATA_URL, or
+** as sm_open() does of the bytes in it; with SM_UTF8 if the URL is not UTF-8. */
+sm_code sm_open_url(sm_map *map, const uint8_t *url, size_t length, sm_error *error);
+
+/* Fills `other` with the map that `map` holds, without a copy. Each of the two
+** handles may then be used by a thread of its own; a change of one is not seen
+** by the other. Fails with SM_WRONG_KIND if `map` holds no map. */
+sm_code sm_share(sm_map *map, sm_map *other, sm_error *error);
+
+/* Writes whether the bytes hold a source map, by the keys of their JSON value. */
+sm_code sm_is_source_map(const uint8_t *bytes, size_t length, bool *answer, sm_error *error);
+
+/*
+** WHAT A MAP SAYS
+**
+** Of these, SM_ABSENT says that there is no such text, id or debug id, and
+** SM_WRONG_KIND that the handle holds no map. An index map has a file, a debug id
+** of its own, and sections; its sources and tokens are those of its sections
+** (sm_section()), or of the map that sm_flatten() makes.
+*/
+
+sm_code sm_count(sm_map *map, sm_counts *counts);
+sm_code sm_file(sm_map *map, sm_text *text);
+sm_code sm_source_root(sm_map *map, sm_text *text);
+sm_code sm_get_debug_id(sm_map *map, sm_debug_id *id);
+
+/* The source of this id, resolved against `sourceRoot`; the name; the contents. */
+sm_code sm_source(sm_map *map, uint32_t id, sm_text *text);
+sm_code sm_name(sm_map *map, uint32_t id, sm_text *text);
+sm_code sm_contents(sm_map *map, uint32_t id, sm_text *text);
+
+/* Writes the ids of the ignore list, in rising order, from number `first` on, as
+** many as there are and fit. Returns how many it wrote, 0 of an index map. An id
+** may name no source. */
+size_t sm_ignore_list(sm_map *map, uint32_t first, uint32_t *ids, size_t length);
+
+/* Writes the tokens of a map in order, from token `first` on, as many as there
+** are and fit. Returns how many it wrote, 0 of an index map. */
+size_t sm_tokens(sm_map *map, uint32_t first, sm_token *tokens, size_t length);
+
+/* Of the index map of a RAM bundle: writes the line at which each module begins,
+** from module `first` on, as many as there are and fit, SM_NONE for a number
+** without a module. `written` is how many. SM_ABSENT if the map has no such list,
+** SM_WRONG_KIND of a map that is no index map; then nothing is written. */
+sm_code sm_module_offsets(sm_map *map, uint32_t first, uint32_t *offsets, size_t length, size_t *written);
+
+/* The path of a module. SM_ABSENT if the map has no such list or no such module,
+** SM_WRONG_KIND of a map that is no index map. */
+sm_code sm_module_path(sm_map *map, uint32_t id, sm_text *text);
+
+/*
+** LOOK UP
+**
+** The closest token to a position is the first one at the position, or else the
+** last one before it, whichever line it stands on. In a map without sections, a
+** caller who wants a token of the same line compares `token.line`. In an index
+** map the section that begins last at the position or before it answers, of
+** several at the very position the first; a section without a map answers
+** nothing.
+*/
+
+/* Returns SM_OK and writes the closest token, or SM_ABSENT where there is none,
+** or SM_WRONG_KIND. Then nothing is written, and `found->found` may be that of an
+** earlier call: look at the code. */
+sm_code sm_lookup(sm_map *map, uint32_t line, uint32_t column, sm_found *found);
+
+/* Answers each position in turn, as many as stand in both arrays. Returns how
+** many it answered: 0 if the handle holds no map. */
+size_t sm_lookup_many(sm_map *map, const sm_position *positions, size_t count, sm_found *found, size_t length);
+
+/* The source, resolved against `sourceRoot`, and the name of the closest token,
+** of a map of any kind. SM_ABSENT where there is no token, or it has none. */
+sm_code sm_lookup_source(sm_map *map, uint32_t line, uint32_t column, sm_text *text);
+sm_code sm_lookup_name(sm_map *map, uint32_t line, uint32_t column, sm_text *text);
+
+/* Fills `text` with the answers to a list of positions, LINE:COLUMN on each
+** line, both counted from 0: for each a line SOURCE:LINE:COLUMN, with
+** ` name=NAME` if there is a name, or `none`, or `bad position`. SOURCE is
+** `<unknown>` where the token has none; LINE and COLUMN are 4294967295 then, of a
+** map that was opened. */
+sm_code sm_trace(sm_map *map, const uint8_t *positions, size_t length, sm_bytes *text, sm_error *error);
+
+/* The name of the function that a position stands in. A Hermes map has it
+** itself, for line 0; of other maps it is guessed from the generated text in
+** `view` and the minified name of the function. SM_ABSENT where there is none;
+** SM_WRONG_KIND of a map that needs a view where `view` holds none; SM_UTF8 if
+** the minified name is not UTF-8. A Hermes map looks at neither `minified` nor
+** `view`; of one whose functions stand out of order some name or none comes. An
+** index map guesses along the section that answers, also where that is a Hermes
+** map. */
+sm_code sm_function_name(sm_map *map, uint32_t line, uint32_t column, const uint8_t *minified, size_t length,
+                         sm_view *view, sm_text *text);
+
+/* The name of the function at an offset of the bytecode, of a Hermes map.
+** SM_WRONG_KIND of any other. */
+sm_code sm_hermes_function_name(sm_map *map, uint32_t offset, sm_text *text);
+
+/*
+** CHANGE
+**
+** Each of these changes `map`. Where the map is shared it is copied first, so
+** that no other handle sees the change. A text that is not UTF-8 is SM_UTF8.
+*/
+
+/* Keeps only the sources, names and contents that tokens use, in the order of
+** their first use, resolved against `sourceRoot`, which goes, as does the ignore
+** list. Removes the names if `with_names` is false, the contents if
+** `with_contents` is. From each source the first of `prefixes` that it begins with
+** is cut, completed by `/`. The prefix `~` stands for the longest folder that all
+** sources which are absolute paths have in common, before `sourceRoot`, and is
+** tried last. Hermes maps keep their scopes; of sources with one text those of the
+** one used first. SM_WRONG_KIND of an index map. */
+sm_code sm_rewrite(sm_map *map, bool with_names, bool with_contents, const sm_text *prefixes, size_t count,
+                   sm_error *error);
+
+/* Makes an index map one regular map. Where each section, with its tokens, stands
+** before the next section, that answers wherever the index map does, and the
+** same. SM_CANNOT_FLATTEN if a section has no map, there are too many sources or
+** names, or a position would pass 4294967295; SM_WRONG_KIND of other maps. */
+sm_code sm_flatten(sm_map *map, sm_error *error);
+
+/* Adjusts a regular map by `adjustment`, the regular map of a later text made
+** of this one: positions of the later text then answer. SM_INCOMPATIBLE if a
+** token would pass column 4294967295; SM_WRONG_KIND if either is not regular. */
+sm_code sm_compose(sm_map *map, sm_map *adjustment, sm_error *error);
+
+/* Moves each section of an index map so many lines further down.
+** SM_PAST_LIMIT if one would pass line 4294967295, SM_WRONG_KIND of other maps. */
+sm_code sm_shift(sm_map *map, uint32_t lines, sm_error *error);
+
+/* Sets or removes a part. A removed text is one with `present` false; its bytes
+** are then not read, but the pointer is still not null: pass "" and 0. Of an index
+** map the file and the debug id alone can be set, the others are SM_WRONG_KIND.
+** sm_set_source() sets the text before it is resolved against `sourceRoot`.
+** SM_ABSENT if there is no source of that id. */
+sm_code sm_set_file(sm_map *map, bool present, const uint8_t *text, size_t length, sm_error *error);
+sm_code sm_set_source_root(sm_map *map, bool present, const uint8_t *text, size_t length, sm_error *error);
+sm_code sm_set_debug_id(sm_map *map, bool present, const sm_debug_id *id, sm_error *error);
+sm_code sm_set_source(sm_map *map, uint32_t id, const uint8_t *text, size_t length, sm_error *error);
+sm_code sm_set_contents(sm_map *map, uint32_t id, bool present, const uint8_t *text, size_t length, sm_error *error);
+sm_code sm_ignore_source(sm_map *map, uint32_t id, sm_error *error);
+sm_code sm_remove_names(sm_map *map, sm_error *error);
+
+/*
+** WRITE
+*/
+
+/* Fills `text` with the map as JSON, or as a `data:` URL. A token on line L is
+** written after L bytes of `;`, 4 GB at the most: look at the last token before
+** a map of a stranger is written. */
+sm_code sm_write(sm_map *map, sm_bytes *text, sm_error *error);
+sm_code sm_write_url(sm_map *map, sm_bytes *text, sm_error *error);
+
+/* The text that a call put into the handle. */
+sm_code sm_bytes_text(sm_bytes *bytes, sm_text *text);
+
+/*
+** SECTIONS OF AN INDEX MAP
+*/
+
+/* Where a section begins, and its URL. SM_ABSENT if there is no such section or
+** URL, SM_WRONG_KIND of a map that is no index map. */
+sm_code sm_section_start_of(sm_map *map, uint32_t id, sm_section_start *start);
+sm_code sm_section_url(sm_map *map, uint32_t id, sm_text *text);
+
+/* Fills `section` with a copy of the map of a section. SM_ABSENT if there is no
+** such section, or it has no map. */
+sm_code sm_section(sm_map *map, uint32_t id, sm_map *section, sm_error *error);
+
+/*
+** BUILD
+**
+** The calls change `builder`. Equal texts get one id; ids count from 0. SM_UTF8 of
+** a text that is not UTF-8, SM_ABSENT if there is no source of that id,
+** SM_INCOMPATIBLE past 4294967295 texts, SM_WRONG_KIND if the handle holds no
+** builder.
+*/
+
+sm_code sm_builder_new(sm_builder *builder, bool has_file, const uint8_t *file, size_t length, sm_error *error);
+sm_code sm_builder_set_source_root(sm_builder *builder, bool present, const uint8_t *text, size_t length,
+                                   sm_error *error);
+sm_code sm_builder_set_debug_id(sm_builder *builder, bool present, const sm_debug_id *id, sm_error *error);
+sm_code sm_builder_add_source(sm_builder *builder, const uint8_t *text, size_t length, uint32_t *id, sm_error *error);
+sm_code sm_builder_add_name(sm_builder *builder, const uint8_t *text, size_t length, uint32_t *id, sm_error *error);
+sm_code sm_builder_set_contents(sm_builder *builder, uint32_t id, bool present, const uint8_t *text, size_t length,
+                                sm_error *error);
+sm_code sm_builder_ignore_source(sm_builder *builder, uint32_t id, sm_error *error);
+
+/* Adds tokens, in any order. Ids that the builder does not have are kept, and
+** name nothing; a map with a source id that names nothing is written, and refused
+** when it is opened again: SM_BAD_SOURCE_REFERENCE. The original position of a
+** token without a source is not written. Returns how many were added: all, or
+** fewer if memory ran out or the handle holds no builder (`error` says which); the
+** call may be made again with the rest. */
+size_t sm_builder_add_tokens(sm_builder *builder, const sm_token *tokens, size_t count, sm_error *error);
+
+/* Fills `map` with the map that was built, and empties `builder`. On
+** SM_OUT_OF_MEMORY `builder` is empty too; a handle that holds no builder stays as
+** it is, SM_WRONG_KIND. */
+sm_code sm_builder_finish(sm_builder *builder, sm_map *map, sm_error *error);
+
+/*
+** GENERATED TEXTS
+*/
+
+/* Fills `view` with a copy of a text. SM_UTF8 if it is not UTF-8. */
+sm_code sm_view_open(sm_view *view, const uint8_t *text, size_t length, sm_error *error);
+sm_code sm_view_text(sm_view *view, sm_text *text);
+sm_code sm_view_count(sm_view *view, size_t *lines);
+
+/* A line without its end, and a slice of one: `span` UTF-16 units from column
+** `column` on. A column inside of a pair of units stands for the one after the
+** pair. SM_ABSENT if there is no such line or slice. */
+sm_code sm_view_line(sm_view *view, uint32_t line, sm_text *text);
+sm_code sm_view_slice(sm_view *view, uint32_t line, uint32_t column, uint32_t span, sm_text *text);
+
+/* Fills `url` with the first reference to a map in a generated text, without
+** white space around it; `is_legacy` says whether its comment begins with `//@`.
+** SM_ABSENT if there is none, SM_IO if a line up to there is not UTF-8. */
+sm_code sm_locate_reference(const uint8_t *text, size_t length, sm_bytes *url, bool *is_legacy, sm_error *error);
+
+/* Fills `result` with the URL that a reference leads to from the URL of its
+** text, or the path from the path of its text. SM_ABSENT if it leads nowhere: a
+** `data:` URL, a base that is no URL, for sm_resolve_path() a path that does not
+** begin with `/`, or texts of 2^28 bytes and more. SM_UTF8 if either is not
+** UTF-8. */
+sm_code sm_resolve(const uint8_t *url, size_t length, const uint8_t *base, size_t base_length, sm_bytes *result,
+                   sm_error *error);
+sm_code sm_resolve_path(const uint8_t *url, size_t length, const uint8_t *base, size_t base_length, sm_bytes *result,
+                        sm_error *error);
+
+/* Fills `path` with the path that leads from the folder of the file `base` to
+** the file `target`. SM_UTF8 if either is not UTF-8. */
+sm_code sm_relative_path(const uint8_t *base, size_t base_length, const uint8_t *target, size_t target_length,
+                         sm_bytes *path, sm_error *error);
+
+/*
+** RAM BUNDLES
+*/
+
+/* Fills `bundle` with an indexed RAM bundle, whose bytes are copied. SM_RANGE
+** below 12 bytes, SM_INVALID_BUNDLE_MAGIC of other bytes. sm_bundle_count() writes
+** how many numbers modules have, missing ones too; sm_bundle_startup() the startup
+** code, SM_RANGE past the end. */
+sm_code sm_bundle_open(sm_bundle *bundle, const uint8_t *bytes, size_t length, sm_error *error);
+sm_code sm_bundle_count(sm_bundle *bundle, size_t *modules);
+sm_code sm_bundle_startup(sm_bundle *bundle, sm_text *bytes, sm_error *error);
+
+/* The bytes of a module. SM_ABSENT if the module of that number is missing,
+** SM_INVALID_BUNDLE_INDEX if the number is past the last, SM_RANGE past the end,
+** SM_INVALID_BUNDLE_ENTRY of a faulty entry. The bytes need not be UTF-8. */
+sm_code sm_bundle_module(sm_bundle *bundle, size_t id, sm_text *bytes, sm_error *error);
+
+/* Fills `split` with the modules of a bundle, each with its name, its text and
+** its map, by the index map of the bundle. Items count from 0, and are not
+** numbered as modules are: a missing module, and one with no line in the index
+** map, has none. SM_NOT_A_BUNDLE if the index map has no list of lines,
+** SM_CANNOT_FLATTEN as sm_flatten(). A faulty module is an item too, which fails
+** with SM_INVALID_BUNDLE_ENTRY. Twelve bytes may claim 4294967295 modules: look at
+** sm_bundle_count() before a bundle of a stranger is split. */
+sm_code sm_bundle_split(sm_bundle *bundle, sm_map *index, sm_split *split, sm_error *error);
+sm_code sm_split_count(sm_split *split, size_t *items);
+
+/* The name and the text of an item, and its map, which is shared and not
+** copied. An item that could not be made fails with its error. SM_ABSENT if
+** there is no such item. */
+sm_code sm_split_item(sm_split *split, size_t item, sm_text *name, sm_text *text, sm_error *error);
+sm_code sm_split_map(sm_split *split, size_t item, sm_map *map, sm_error *error);
+
+#ifdef __cplusplus
+}
+#endif
+
+#endif

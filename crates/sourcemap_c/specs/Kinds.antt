@@ -1,0 +1,64 @@
+-- What a handle holds, by its kind.
+use Rattle.std.specs.Prelude.{◌≡◌, ℕ, List, Option, Some, None}
+use Rattle.std.specs.Arc.{arc_value, arc_with_value}
+use Rattle.std.specs.declared.alloc.Global.{Global}
+use Rattle.std.specs.declared.sync.Arc.{Arc}
+use Rattle.sourcemap_trees.specs.MapTree.{regular, hermes, MapTree, leaf, index}
+use Rattle.sourcemap_index.specs.Family.{map_tree}
+use Rattle.sourcemap_index.specs.declared.family.DecodedMap.{DecodedMap}
+use Rattle.sourcemap_builder.specs.Builder.{BuilderValue}
+use Rattle.sourcemap_c.specs.declared.kinds.Kind.{Kind}
+use Rattle.sourcemap_handles.specs.declared.held.Held.{Held}
+use Rattle.sourcemap_handles.specs.declared.held.Held.TheVariants.{Map, Builder, View, Bundle, Split, Bytes}
+
+-- the map that a handle holds
+abbrev pub tree_in : Option Held → Option MapTree
+tree_in (Some (Map map)) = Some (map_tree (arc_value map))
+tree_in _ = None
+
+abbrev pub builder_in : Option Held → Option BuilderValue
+builder_in (Some (Builder builder)) = Some builder
+builder_in _ = None
+
+abbrev pub view_in : Option Held → Option (List ℕ)
+view_in (Some (View view)) = Some view
+view_in _ = None
+
+abbrev pub bytes_in : Option Held → Option (List ℕ)
+bytes_in (Some (Bytes bytes)) = Some bytes.items
+bytes_in _ = None
+
+-- the same `Arc`, with a map of the same value
+abbrev pub IsSameMap : (old new : Arc DecodedMap Global) → Type 0
+IsSameMap old new = (new ≡ arc_with_value old (arc_value new)) × (map_tree (arc_value new) ≡ map_tree (arc_value old))
+
+-- it holds the same: the same `Arc` of a map, or the very same of any other kind
+abbrev pub IsAsBefore : (old new : Option Held) → Type 0
+IsAsBefore (Some (Map old)) (Some (Map new)) = IsSameMap old new
+IsAsBefore old new = new ≡ old
+
+abbrev pub tree_kind : MapTree → Kind
+tree_kind (leaf (regular _)) = Kind.Regular
+tree_kind (index _ _) = Kind.Index
+tree_kind (leaf (hermes _)) = Kind.Hermes
+
+abbrev pub kind_of : Option Held → Kind
+kind_of None = Kind.Empty
+kind_of (Some (Map map)) = tree_kind (map_tree (arc_value map))
+kind_of (Some (Builder _)) = Kind.Builder
+kind_of (Some (View _)) = Kind.View
+kind_of (Some (Bundle _)) = Kind.Bundle
+kind_of (Some (Split _)) = Kind.Split
+kind_of (Some (Bytes _)) = Kind.Bytes
+
+-- SM_KIND_... of the header
+abbrev pub number_of : Kind → ℕ
+number_of Kind.Empty = 0
+number_of Kind.Regular = 1
+number_of Kind.Index = 2
+number_of Kind.Hermes = 3
+number_of Kind.Builder = 4
+number_of Kind.View = 5
+number_of Kind.Bundle = 6
+number_of Kind.Split = 7
+number_of Kind.Bytes = 8

@@ -1,0 +1,15 @@
+pub mod Codes
+pub mod Kinds
+pub mod Opening
+pub mod Lookup
+pub mod Writing
+pub mod Asking
+pub mod Changing
+pub mod Making
+pub mod Building
+pub mod Sections
+pub mod Bundles
+pub mod References
+pub mod Functions
+pub mod Ids
+pub mod Offsets

@@ -1,0 +1,16 @@
+-- What a map is written as.
+use Rattle.std.specs.Prelude.{◌≡◌, ℕ, List, Option, Some, None}
+use Rattle.sourcemap_headers.specs.DataUrl.{data_url_of}
+use Rattle.sourcemap_regular.specs.Write.{IsEncoded}
+use Rattle.sourcemap_trees.specs.Encode.{RecordAnswer}
+use Rattle.sourcemap_trees.specs.MapTree.{MapTree}
+
+-- the JSON text of the map
+abbrev pub HoldsText : Option MapTree → Option (List ℕ) → Type 0
+HoldsText (Some t) (Some text) = IsEncoded (RecordAnswer t) text
+HoldsText _ _ = ⊥
+
+-- the data URL of its JSON text
+abbrev pub HoldsUrl : Option MapTree → Option (List ℕ) → Type 0
+HoldsUrl (Some t) held = (text : List ℕ) × IsEncoded (RecordAnswer t) text × (held ≡ Some (data_url_of text))
+HoldsUrl None held = ⊥

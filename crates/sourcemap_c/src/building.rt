@@ -1,0 +1,534 @@
+//! Maps in handles that are built.
+ghost use Rattle.std.specs.Prelude.{◌≡◌, ◌<◌, ◌≤◌, Err, IfSome, IsSomeAnd, None, Ok, Some, is_some, length, true};
+ghost use Rattle.std.specs.Option.{option_copied};
+ghost use Rattle.sourcemap_builder.specs.Builder.{built, empty_builder, with_name, with_source, with_token};
+ghost use Rattle.sourcemap_errors.specs.Answer.{Changes};
+ghost use Rattle.sourcemap_handles.specs.Handles.{held_in};
+ghost use Rattle.sourcemap_handles.specs.Layout.{raw_token};
+ghost use Rattle.sourcemap_trees.specs.MapTree.{leaf, regular};
+ghost use Rattle.sourcemap_c.specs.Building.{Adds, AddsAll, AddsNot, AreAdded, FailsStep, HasContents, HasId, HasRoot, HoldsStep, Ignores, StepsTo, with_tokens};
+ghost use Rattle.sourcemap_c.specs.Codes.{Answers, Does, NoError, OfLibrary, OfLibraryOrKind, OrNoText, text_if};
+ghost use Rattle.sourcemap_c.specs.Kinds.{builder_in, tree_in};
+
+use crate::codes::{id_if, text_if, text_in};
+use crate::kinds::put_map;
+use sourcemap::jsontypes::DebugId;
+use sourcemap::{DecodedMap, RawToken, Result, SourceMapBuilder};
+use sourcemap_handles::errors::{ErrorReport, Failure, Outcome, finish};
+use sourcemap_handles::layout::{IdBytes, MapToken};
+use sourcemap_handles::{Handle, Held};
+use std::alloc::Global;
+
+/// A step in which a builder is changed.
+#[derive(Clone, Copy)]
+enum Step<'a> {
+    Root(Option<&'a str>),
+    Id(Option<DebugId>),
+    Contents(u32, Option<&'a str>),
+    Ignored(u32),
+}
+
+/// Fills a handle with a builder of nothing but the name of the generated file.
+#[unsafe(no_mangle)]
+pub extern "C" fn sm_builder_new(
+    alloc: Global,
+    builder: &mut Handle,
+    has_file: bool,
+    file: &[u8],
+    error: &mut ErrorReport,
+) -> u32
+    ensures { Answers result error.old error.new
+        (builder_in (held_in builder.new) ≡ Some (empty_builder (text_if has_file file.now)))
+        (OrNoText has_file file.now (OfLibrary NoError))
+        (held_in builder.new ≡ held_in builder.old) }
+{
+    finish(alloc, new_builder(alloc, builder, has_file, file), error)
+}
+
+fn new_builder(alloc: Global, builder: &mut Handle, has_file: bool, file: &[u8]) -> Outcome<()>
+    ensures { Does result
+        (builder_in (held_in builder.new) ≡ Some (empty_builder (text_if has_file file.now)))
+        (OrNoText has_file file.now (OfLibrary NoError))
+        (held_in builder.new ≡ held_in builder.old) }
+{
+    match text_if(has_file, file) {
+        Ok(file) => put_builder(alloc, builder, file),
+        Err(error) => Err(Failure::Library(error)),
+    }
+}
+
+fn put_builder(alloc: Global, builder: &mut Handle, file: Option<&str>) -> Outcome<()>
+    ensures { Does result
+        (builder_in (held_in builder.new) ≡ Some (empty_builder (option_copied file.entry)))
+        (OfLibrary NoError)
+        (held_in builder.new ≡ held_in builder.old) }
+{
+    let new = SourceMapBuilder::new(alloc, file)?;
+    builder.fill(alloc, Held::Builder(new))?;
+    Ok(())
+}
+
+/// Sets or removes the root that sources are resolved against.
+#[unsafe(no_mangle)]
+pub extern "C" fn sm_builder_set_source_root(
+    alloc: Global,
+    builder: &mut Handle,
+    present: bool,
+    text: &[u8],
+    error: &mut ErrorReport,
+) -> u32
+    ensures { Answers result error.old error.new
+        (HoldsStep (HasRoot (text_if present text.now)) (held_in builder.old) (held_in builder.new))
+        (OrNoText present text.now (FailsStep (HasRoot (text_if present text.now)) (builder_in (held_in builder.old))))
+        (held_in builder.new ≡ held_in builder.old) }
+{
+    finish(alloc, set_source_root(alloc, builder, present, text), error)
+}
+
+fn set_source_root(alloc: Global, builder: &mut Handle, present: bool, text: &[u8]) -> Outcome<()>
+    ensures { Does result
+        (HoldsStep (HasRoot (text_if present text.now)) (held_in builder.old) (held_in builder.new))
+        (OrNoText present text.now (FailsStep (HasRoot (text_if present text.now)) (builder_in (held_in builder.old))))
+        (held_in builder.new ≡ held_in builder.old) }
+{
+    match text_if(present, text) {
+        Ok(text) => step_in(alloc, builder, &Step::Root(text)),
+        Err(error) => Err(Failure::Library(error)),
+    }
+}
+
+/// Sets or removes the debug id.
+#[unsafe(no_mangle)]
+pub extern "C" fn sm_builder_set_debug_id(
+    alloc: Global,
+    builder: &mut Handle,
+    present: bool,
+    id: &IdBytes,
+    error: &mut ErrorReport,
+) -> u32
+    ensures { Answers result error.old error.new
+        (HoldsStep (HasId (text_if present id.now.bytes)) (held_in builder.old) (held_in builder.new))
+        (FailsStep (HasId (text_if present id.now.bytes)) (builder_in (held_in builder.old)))
+        (held_in builder.new ≡ held_in builder.old) }
+{
+    finish(alloc, set_id(alloc, builder, present, id), error)
+}
+
+fn set_id(alloc: Global, builder: &mut Handle, present: bool, id: &IdBytes) -> Outcome<()>
+    ensures { Does result
+        (HoldsStep (HasId (text_if present id.now.bytes)) (held_in builder.old) (held_in builder.new))
+        (FailsStep (HasId (text_if present id.now.bytes)) (builder_in (held_in builder.old)))
+        (held_in builder.new ≡ held_in builder.old) }
+{
+    let id = id_if(present, id);
+    step_in(alloc, builder, &Step::Id(id))
+}
+
+/// Adds a source, and writes its id.
+#[unsafe(no_mangle)]
+pub extern "C" fn sm_builder_add_source(
+    alloc: Global,
+    builder: &mut Handle,
+    text: &[u8],
+    id: &mut u32,
+    error: &mut ErrorReport,
+) -> u32
+    ensures { Answers result error.old error.new
+        (Adds (λ b. b.interned) with_source text.now id.new (held_in builder.old) (held_in builder.new))
+        (OrNoText true text.now (AddsNot (λ b. b.interned) text.now (builder_in (held_in builder.old))))
+        ((held_in builder.new ≡ held_in builder.old) × (id.new ≡ id.old)) }
+{
+    finish(alloc, add_source(alloc, builder, text, id), error)
+}
+
+fn add_source(alloc: Global, builder: &mut Handle, text: &[u8], id: &mut u32) -> Outcome<()>
+    ensures { Does result
+        (Adds (λ b. b.interned) with_source text.now id.new (held_in builder.old) (held_in builder.new))
+        (OrNoText true text.now (AddsNot (λ b. b.interned) text.now (builder_in (held_in builder.old))))
+        ((held_in builder.new ≡ held_in builder.old) × (id.new ≡ id.old)) }
+{
+    match text_in(text) {
+        Ok(text) => add_source_of(alloc, builder, text, id),
+        Err(error) => Err(Failure::Library(error)),
+    }
+}
+
+fn add_source_of(alloc: Global, builder: &mut Handle, text: &str, id: &mut u32) -> Outcome<()>
+    ensures { Does result
+        (Adds (λ b. b.interned) with_source text.now id.new (held_in builder.old) (held_in builder.new))
+        (AddsNot (λ b. b.interned) text.now (builder_in (held_in builder.old)))
+        ((held_in builder.new ≡ held_in builder.old) × (id.new ≡ id.old)) }
+{
+    match builder.take(alloc) {
+        Some(mut held) => {
+            let outcome = add_source_to(&mut held, text, id);
+            builder.put(held);
+            outcome
+        }
+        None => Err(Failure::WrongKind),
+    }
+}
+
+fn add_source_to(held: &mut Held, text: &str, id: &mut u32) -> Outcome<()>
+    ensures { Does result
+        (Adds (λ b. b.interned) with_source text.now id.new (Some held.old) (Some held.new))
+        (AddsNot (λ b. b.interned) text.now (builder_in (Some held.old)))
+        ((held.new ≡ held.old) × (id.new ≡ id.old)) }
+{
+    match held {
+        Held::Builder(builder) => {
+            *id = builder.add_source(text)?;
+            Ok(())
+        }
+        _ => Err(Failure::WrongKind),
+    }
+}
+
+/// Adds a name, and writes its id.
+#[unsafe(no_mangle)]
+pub extern "C" fn sm_builder_add_name(
+    alloc: Global,
+    builder: &mut Handle,
+    text: &[u8],
+    id: &mut u32,
+    error: &mut ErrorReport,
+) -> u32
+    ensures { Answers result error.old error.new
+        (Adds (λ b. b.names) with_name text.now id.new (held_in builder.old) (held_in builder.new))
+        (OrNoText true text.now (AddsNot (λ b. b.names) text.now (builder_in (held_in builder.old))))
+        ((held_in builder.new ≡ held_in builder.old) × (id.new ≡ id.old)) }
+{
+    finish(alloc, add_name(alloc, builder, text, id), error)
+}
+
+fn add_name(alloc: Global, builder: &mut Handle, text: &[u8], id: &mut u32) -> Outcome<()>
+    ensures { Does result
+        (Adds (λ b. b.names) with_name text.now id.new (held_in builder.old) (held_in builder.new))
+        (OrNoText true text.now (AddsNot (λ b. b.names) text.now (builder_in (held_in builder.old))))
+        ((held_in builder.new ≡ held_in builder.old) × (id.new ≡ id.old)) }
+{
+    match text_in(text) {
+        Ok(text) => add_name_of(alloc, builder, text, id),
+        Err(error) => Err(Failure::Library(error)),
+    }
+}
+
+fn add_name_of(alloc: Global, builder: &mut Handle, text: &str, id: &mut u32) -> Outcome<()>
+    ensures { Does result
+        (Adds (λ b. b.names) with_name text.now id.new (held_in builder.old) (held_in builder.new))
+        (AddsNot (λ b. b.names) text.now (builder_in (held_in builder.old)))
+        ((held_in builder.new ≡ held_in builder.old) × (id.new ≡ id.old)) }
+{
+    match builder.take(alloc) {
+        Some(mut held) => {
+            let outcome = add_name_to(&mut held, text, id);
+            builder.put(held);
+            outcome
+        }
+        None => Err(Failure::WrongKind),
+    }
+}
+
+fn add_name_to(held: &mut Held, text: &str, id: &mut u32) -> Outcome<()>
+    ensures { Does result
+        (Adds (λ b. b.names) with_name text.now id.new (Some held.old) (Some held.new))
+        (AddsNot (λ b. b.names) text.now (builder_in (Some held.old)))
+        ((held.new ≡ held.old) × (id.new ≡ id.old)) }
+{
+    match held {
+        Held::Builder(builder) => {
+            *id = builder.add_name(text)?;
+            Ok(())
+        }
+        _ => Err(Failure::WrongKind),
+    }
+}
+
+/// Sets or removes the contents of a source.
+#[unsafe(no_mangle)]
+pub extern "C" fn sm_builder_set_contents(
+    alloc: Global,
+    builder: &mut Handle,
+    id: u32,
+    present: bool,
+    text: &[u8],
+    error: &mut ErrorReport,
+) -> u32
+    ensures { Answers result error.old error.new
+        (HoldsStep (HasContents id (text_if present text.now)) (held_in builder.old) (held_in builder.new))
+        (OrNoText present text.now (FailsStep (HasContents id (text_if present text.now)) (builder_in (held_in builder.old))))
+        (held_in builder.new ≡ held_in builder.old) }
+{
+    finish(
+        alloc,
+        set_contents(alloc, builder, id, present, text),
+        error,
+    )
+}
+
+fn set_contents(
+    alloc: Global,
+    builder: &mut Handle,
+    id: u32,
+    present: bool,
+    text: &[u8],
+) -> Outcome<()>
+    ensures { Does result
+        (HoldsStep (HasContents id (text_if present text.now)) (held_in builder.old) (held_in builder.new))
+        (OrNoText present text.now (FailsStep (HasContents id (text_if present text.now)) (builder_in (held_in builder.old))))
+        (held_in builder.new ≡ held_in builder.old) }
+{
+    match text_if(present, text) {
+        Ok(text) => step_in(alloc, builder, &Step::Contents(id, text)),
+        Err(error) => Err(Failure::Library(error)),
+    }
+}
+
+/// Puts a source on the ignore list.
+#[unsafe(no_mangle)]
+pub extern "C" fn sm_builder_ignore_source(
+    alloc: Global,
+    builder: &mut Handle,
+    id: u32,
+    error: &mut ErrorReport,
+) -> u32
+    ensures { Answers result error.old error.new
+        (HoldsStep (Ignores id) (held_in builder.old) (held_in builder.new))
+        (FailsStep (Ignores id) (builder_in (held_in builder.old)))
+        (held_in builder.new ≡ held_in builder.old) }
+{
+    finish(alloc, step_in(alloc, builder, &Step::Ignored(id)), error)
+}
+
+fn step_in(alloc: Global, handle: &mut Handle, step: &Step<'_>) -> Outcome<()>
+    ensures { Does result
+        (HoldsStep (StepsTo step.now) (held_in handle.old) (held_in handle.new))
+        (FailsStep (StepsTo step.now) (builder_in (held_in handle.old)))
+        (held_in handle.new ≡ held_in handle.old) }
+{
+    match handle.take(alloc) {
+        Some(mut held) => {
+            let outcome = step_held(&mut held, step);
+            handle.put(held);
+            outcome
+        }
+        None => Err(Failure::WrongKind),
+    }
+}
+
+fn step_held(held: &mut Held, step: &Step<'_>) -> Outcome<()>
+    ensures { Does result
+        (HoldsStep (StepsTo step.now) (Some held.old) (Some held.new))
+        (FailsStep (StepsTo step.now) (builder_in (Some held.old)))
+        (held.new ≡ held.old) }
+{
+    match held {
+        Held::Builder(builder) => step_builder(builder, step),
+        _ => Err(Failure::WrongKind),
+    }
+}
+
+fn step_builder(builder: &mut SourceMapBuilder, step: &Step<'_>) -> Outcome<()>
+    ensures { Does result
+        (StepsTo step.now builder.old (Ok builder.new))
+        (λ failure. StepsTo step.now builder.old (Err failure))
+        (builder.new ≡ builder.old) }
+{
+    match step {
+        Step::Root(root) => builder.set_source_root(*root)?,
+        Step::Id(id) => builder.set_debug_id(*id),
+        Step::Contents(id, contents) => return put_contents(builder, *id, *contents),
+        Step::Ignored(id) => return ignore(builder, *id),
+    }
+    Ok(())
+}
+
+fn put_contents(builder: &mut SourceMapBuilder, id: u32, contents: Option<&str>) -> Outcome<()>
+    ensures { Does result
+        (HasContents id (option_copied contents.entry) builder.old (Ok builder.new))
+        (λ failure. HasContents id (option_copied contents.entry) builder.old (Err failure))
+        (builder.new ≡ builder.old) }
+{
+    if builder.get_source(id).is_none() {
+        return Err(Failure::Absent);
+    }
+    builder.set_source_contents(id, contents)?;
+    Ok(())
+}
+
+fn ignore(builder: &mut SourceMapBuilder, id: u32) -> Outcome<()>
+    ensures { Does result
+        (Ignores id builder.old (Ok builder.new))
+        (λ failure. Ignores id builder.old (Err failure))
+        (builder.new ≡ builder.old) }
+{
+    if builder.get_source(id).is_none() {
+        return Err(Failure::Absent);
+    }
+    builder.add_to_ignore_list(id)?;
+    Ok(())
+}
+
+/// Adds tokens, and returns how many were added.
+#[unsafe(no_mangle)]
+pub extern "C" fn sm_builder_add_tokens(
+    alloc: Global,
+    builder: &mut Handle,
+    tokens: &[MapToken],
+    error: &mut ErrorReport,
+) -> usize
+    ensures added { IfSome (builder_in (held_in builder.old))
+        (λ b. builder_in (held_in builder.new) ≡ Some (with_tokens b tokens.now result)) }
+    ensures other { builder_in (held_in builder.old) ≡ None
+        → (result ≡ 0) × (held_in builder.new ≡ held_in builder.old) }
+    ensures bound { result ≤ length tokens.now }
+    ensures all { AddsAll (builder_in (held_in builder.old)) (length tokens.now) result error.old
+        error.new }
+{
+    let (count, outcome) = add_tokens(alloc, builder, tokens);
+    finish(alloc, outcome, error);
+    count
+}
+
+fn add_tokens(alloc: Global, builder: &mut Handle, tokens: &[MapToken]) -> (usize, Outcome<()>)
+    ensures added { IfSome (builder_in (held_in builder.old))
+        (λ b. builder_in (held_in builder.new) ≡ Some (with_tokens b tokens.now result.0)) }
+    ensures other { builder_in (held_in builder.old) ≡ None
+        → (result.0 ≡ 0) × (held_in builder.new ≡ held_in builder.old) }
+    ensures bound { result.0 ≤ length tokens.now }
+    ensures all { AreAdded (builder_in (held_in builder.old)) (length tokens.now) result.0 result.1 }
+{
+    match builder.take(alloc) {
+        Some(mut held) => {
+            let added = add_tokens_to(&mut held, tokens);
+            builder.put(held);
+            added
+        }
+        None => (0, Err(Failure::WrongKind)),
+    }
+}
+
+fn add_tokens_to(held: &mut Held, tokens: &[MapToken]) -> (usize, Outcome<()>)
+    ensures added { IfSome (builder_in (Some held.old))
+        (λ b. builder_in (Some held.new) ≡ Some (with_tokens b tokens.now result.0)) }
+    ensures other { builder_in (Some held.old) ≡ None → (result.0 ≡ 0) × (held.new ≡ held.old) }
+    ensures bound { result.0 ≤ length tokens.now }
+    ensures all { AreAdded (builder_in (Some held.old)) (length tokens.now) result.0 result.1 }
+{
+    match held {
+        Held::Builder(builder) => add_each(builder, tokens),
+        _ => (0, Err(Failure::WrongKind)),
+    }
+}
+
+fn add_each(builder: &mut SourceMapBuilder, tokens: &[MapToken]) -> (usize, Outcome<()>)
+    ensures added { builder.new ≡ with_tokens builder.old tokens.now result.0 }
+    ensures bound { result.0 ≤ length tokens.now }
+    ensures all { AreAdded (Some builder.old) (length tokens.now) result.0 result.1 }
+{
+    let mut count: usize = 0;
+    for token in tokens {
+        if let Err(error) = add_token(builder, *token) {
+            return (count, Err(Failure::Library(error)));
+        }
+        count += 1;
+    }
+    (count, Ok(()))
+}
+
+fn add_token(builder: &mut SourceMapBuilder, token: MapToken) -> Result<()>
+    ensures { Changes result builder.old builder.new (with_token builder.old (raw_token token)) }
+{
+    let RawToken {
+        dst_line,
+        dst_col,
+        src_line,
+        src_col,
+        src_id,
+        name_id,
+        is_range,
+    } = token.to_raw();
+    builder.add_raw(
+        dst_line,
+        dst_col,
+        src_line,
+        src_col,
+        Some(src_id),
+        Some(name_id),
+        is_range,
+    )?;
+    Ok(())
+}
+
+/// Fills a handle with the map that was built, and empties the builder.
+#[unsafe(no_mangle)]
+pub extern "C" fn sm_builder_finish(
+    alloc: Global,
+    builder: &mut Handle,
+    map: &mut Handle,
+    error: &mut ErrorReport,
+) -> u32
+    ensures built { Answers result error.old error.new
+        (IsSomeAnd (builder_in (held_in builder.old))
+        (λ b. tree_in (held_in map.new) ≡ Some (leaf (regular (built b)))))
+        (OfLibraryOrKind NoError (builder_in (held_in builder.old) ≡ None))
+        (held_in map.new ≡ held_in map.old) }
+    ensures emptied { IfSome (builder_in (held_in builder.old))
+        (λ _. held_in builder.new ≡ None) }
+    ensures other { builder_in (held_in builder.old) ≡ None
+        → held_in builder.new ≡ held_in builder.old }
+{
+    finish(alloc, finish_builder(alloc, builder, map), error)
+}
+
+fn finish_builder(alloc: Global, builder: &mut Handle, map: &mut Handle) -> Outcome<()>
+    ensures built { Does result
+        (IsSomeAnd (builder_in (held_in builder.old))
+        (λ b. tree_in (held_in map.new) ≡ Some (leaf (regular (built b)))))
+        (OfLibraryOrKind NoError (builder_in (held_in builder.old) ≡ None))
+        (held_in map.new ≡ held_in map.old) }
+    ensures emptied { IfSome (builder_in (held_in builder.old))
+        (λ _. held_in builder.new ≡ None) }
+    ensures other { builder_in (held_in builder.old) ≡ None
+        → held_in builder.new ≡ held_in builder.old }
+{
+    match take_builder(alloc, builder) {
+        Some(builder) => put_built(alloc, builder, map),
+        None => Err(Failure::WrongKind),
+    }
+}
+
+// Empties a handle that holds a builder; any other stays as it is.
+fn take_builder(alloc: Global, handle: &mut Handle) -> Option<SourceMapBuilder>
+    ensures value { result ≡ builder_in (held_in handle.old) }
+    ensures emptied { IfSome (builder_in (held_in handle.old)) (λ _. held_in handle.new ≡ None) }
+    ensures other { builder_in (held_in handle.old) ≡ None
+        → held_in handle.new ≡ held_in handle.old }
+{
+    if !holds_builder(handle) {
+        return None;
+    }
+    match Box::into_inner(handle.take(alloc)?) {
+        Held::Builder(builder) => Some(builder),
+        _ => None,
+    }
+}
+
+fn holds_builder(handle: &mut Handle) -> bool
+    ensures builder { result ≡ is_some (builder_in (held_in handle.old)) }
+    ensures kept { held_in handle.new ≡ held_in handle.old }
+{
+    matches!(handle.get(), Some(Held::Builder(_)))
+}
+
+fn put_built(alloc: Global, builder: SourceMapBuilder, map: &mut Handle) -> Outcome<()>
+    ensures { Does result
+        (tree_in (held_in map.new) ≡ Some (leaf (regular (built builder))))
+        (OfLibrary NoError)
+        (held_in map.new ≡ held_in map.old) }
+{
+    match builder.into_sourcemap() {
+        Ok(built) => put_map(alloc, map, DecodedMap::Regular(built)),
+        Err(error) => Err(Failure::Library(error)),
+    }
+}

@@ -1,0 +1,147 @@
+//! Lists of positions that are answered, and names of functions.
+ghost use Rattle.std.specs.Prelude.{◌≡◌, None, Some};
+ghost use Rattle.std.specs.Option.{option_copied};
+ghost use Rattle.sourcemap_handles.specs.Handles.{held_in};
+ghost use Rattle.sourcemap_index.specs.Family.{map_tree};
+ghost use Rattle.sourcemap_c.specs.Codes.{Answers, Does, NoError, OfLibrary, OfLibraryOrKind};
+ghost use Rattle.sourcemap_c.specs.Functions.{Guesses, IsTrace, Names, NamesAt, NamesIn};
+ghost use Rattle.sourcemap_c.specs.Kinds.{bytes_in, tree_in, view_in};
+
+use crate::codes::{WRONG_KIND, put_text, text_in};
+use crate::kinds::{map_in, put_bytes};
+use crate::views::view_in;
+use sourcemap::{DecodedMap, SourceView};
+use sourcemap_handles::Handle;
+use sourcemap_handles::errors::{Code, ErrorReport, Failure, Outcome, finish};
+use sourcemap_trace::trace_text;
+use std::alloc::Global;
+
+/// Fills a handle with the answers of a map to a list of positions.
+#[unsafe(no_mangle)]
+pub extern "C" fn sm_trace(
+    alloc: Global,
+    map: &mut Handle,
+    positions: &[u8],
+    text: &mut Handle,
+    error: &mut ErrorReport,
+) -> u32
+    ensures trace { Answers result error.old error.new
+        (IsTrace (tree_in (held_in map.old)) positions.now (bytes_in (held_in text.new)))
+        (OfLibraryOrKind NoError (tree_in (held_in map.old) ≡ None))
+        (held_in text.new ≡ held_in text.old) }
+    ensures kept { held_in map.new ≡ held_in map.old }
+{
+    finish(alloc, trace(alloc, map, positions, text), error)
+}
+
+fn trace(alloc: Global, map: &mut Handle, positions: &[u8], text: &mut Handle) -> Outcome<()>
+    ensures trace { Does result
+        (IsTrace (tree_in (held_in map.old)) positions.now (bytes_in (held_in text.new)))
+        (OfLibraryOrKind NoError (tree_in (held_in map.old) ≡ None))
+        (held_in text.new ≡ held_in text.old) }
+    ensures kept { held_in map.new ≡ held_in map.old }
+{
+    match map_in(map) {
+        Some(map) => put_trace(alloc, map, positions, text),
+        None => Err(Failure::WrongKind),
+    }
+}
+
+fn put_trace(alloc: Global, map: &DecodedMap, positions: &[u8], text: &mut Handle) -> Outcome<()>
+    ensures { Does result
+        (IsTrace (Some (map_tree map.now)) positions.now (bytes_in (held_in text.new)))
+        (OfLibrary NoError)
+        (held_in text.new ≡ held_in text.old) }
+{
+    match trace_text(alloc, map, positions) {
+        Ok(answers) => put_bytes(alloc, text, answers.into_bytes()),
+        Err(error) => Err(Failure::Library(error)),
+    }
+}
+
+/// The name of the function that a position stands in.
+#[unsafe(no_mangle)]
+pub extern "C" fn sm_function_name<'a>(
+    map: &'a mut Handle,
+    line: u32,
+    column: u32,
+    minified: &[u8],
+    view: &mut Handle,
+    text: &mut &'a [u8],
+) -> u32
+    ensures name { NamesIn (tree_in (held_in map.old)) (view_in (held_in view.old)) minified.now
+        (line, column) result text.old.now text.new.now }
+    ensures kept { held_in view.new ≡ held_in view.old }
+{
+    match map_in(map) {
+        Some(map) => put_name(map, line, column, minified, view_in(view), text),
+        None => WRONG_KIND,
+    }
+}
+
+fn put_name<'a>(
+    map: &'a DecodedMap,
+    line: u32,
+    column: u32,
+    minified: &[u8],
+    view: Option<&SourceView>,
+    text: &mut &'a [u8],
+) -> u32
+    ensures { Names (map_tree map.now) (option_copied view.entry) minified.now (line, column) result
+        text.old.now text.new.now }
+{
+    match map {
+        DecodedMap::Hermes(_) => put_text(
+            map.get_original_function_name(line, column, None, None),
+            text,
+        ),
+        DecodedMap::Regular(_) | DecodedMap::Index(_) => match view {
+            Some(view) => put_guess(map, line, column, minified, view, text),
+            None => WRONG_KIND,
+        },
+    }
+}
+
+fn put_guess<'a>(
+    map: &'a DecodedMap,
+    line: u32,
+    column: u32,
+    minified: &[u8],
+    view: &SourceView,
+    text: &mut &'a [u8],
+) -> u32
+    ensures { Guesses (map_tree map.now) view.now minified.now (line, column) result text.old.now
+        text.new.now }
+{
+    match text_in(minified) {
+        Ok(minified) => put_text(
+            map.get_original_function_name(line, column, Some(minified), Some(view)),
+            text,
+        ),
+        Err(_) => Code::Utf8.number(),
+    }
+}
+
+/// The name of the function at an offset of the bytecode.
+#[unsafe(no_mangle)]
+pub extern "C" fn sm_hermes_function_name<'a>(
+    map: &'a mut Handle,
+    offset: u32,
+    text: &mut &'a [u8],
+) -> u32
+    ensures { NamesAt (tree_in (held_in map.old)) offset result text.old.now text.new.now }
+{
+    match map_in(map) {
+        Some(map) => put_name_at(map, offset, text),
+        None => WRONG_KIND,
+    }
+}
+
+fn put_name_at<'a>(map: &'a DecodedMap, offset: u32, text: &mut &'a [u8]) -> u32
+    ensures { NamesAt (Some (map_tree map.now)) offset result text.old.now text.new.now }
+{
+    match map {
+        DecodedMap::Hermes(map) => put_text(map.get_original_function_name(offset), text),
+        DecodedMap::Regular(_) | DecodedMap::Index(_) => WRONG_KIND,
+    }
+}

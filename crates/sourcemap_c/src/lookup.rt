@@ -1,0 +1,134 @@
+//! Positions that are looked up.
+ghost use Rattle.std.specs.Prelude.{◌≡◌, ◌<◌, ◌≤◌, ℕ, IfSome, None, Some, length, min, option_and_then, option_map, slice_get, unwrap_or};
+ghost use Rattle.std.specs.Option.{option_copied};
+ghost use Rattle.sourcemap_handles.specs.Handles.{held_in};
+ghost use Rattle.sourcemap_handles.specs.Layout.{found_in};
+ghost use Rattle.sourcemap_index.specs.Family.{map_tree};
+ghost use Rattle.sourcemap_trees.specs.Meaning.{meaning};
+ghost use Rattle.sourcemap_trees.specs.WellFormed.{IsInOrder};
+ghost use Rattle.sourcemap_c.specs.Codes.{IsSaid, Says};
+ghost use Rattle.sourcemap_c.specs.Kinds.{tree_in};
+ghost use Rattle.sourcemap_c.specs.Lookup.{AreAnswered, SaysOf, answer_at, found_at, name_at, source_at};
+
+use crate::codes::{ABSENT, OK, WRONG_KIND, put_text};
+use crate::kinds::map_in;
+use sourcemap::DecodedMap;
+use sourcemap_handles::Handle;
+use sourcemap_handles::layout::{Found, Position};
+
+/// Writes the closest token to a position.
+#[unsafe(no_mangle)]
+pub extern "C" fn sm_lookup(map: &mut Handle, line: u32, column: u32, found: &mut Found) -> u32
+    ensures answer { SaysOf (λ t. found_at t (line, column)) (tree_in (held_in map.old))
+        result found.old found.new }
+    ensures kept { held_in map.new ≡ held_in map.old }
+{
+    match map_in(map) {
+        Some(map) => look_up(map, line, column, found),
+        None => WRONG_KIND,
+    }
+}
+
+fn look_up(map: &DecodedMap, line: u32, column: u32, found: &mut Found) -> u32
+    ensures answer { IsInOrder (map_tree map.now)
+        → Says (Some (found_at (map_tree map.now) (line, column))) result found.old found.new }
+    ensures said { IsSaid result found.old found.new }
+{
+    match map.lookup_token(line, column) {
+        Some(token) => {
+            *found = Found::of(Some(&token));
+            OK
+        }
+        None => ABSENT,
+    }
+}
+
+/// Writes the answers to positions, as many as stand in both arrays, and returns how many.
+#[unsafe(no_mangle)]
+pub extern "C" fn sm_lookup_many(
+    map: &mut Handle,
+    positions: &[Position],
+    found: &mut [Found],
+) -> usize
+    ensures count { result ≡ unwrap_or
+        (option_map (λ _. min (length positions.now) (length found.old)) (tree_in (held_in map.old))) 0 }
+    ensures each { IfSome (tree_in (held_in map.old)) (λ t. IsInOrder t
+        → AreAnswered t positions.now found.new result) }
+    ensures rest { (i : ℕ) → result ≤ i → slice_get found.new i ≡ slice_get found.old i }
+    ensures kept { held_in map.new ≡ held_in map.old }
+{
+    match map_in(map) {
+        Some(map) => look_up_each(map, positions, found),
+        None => 0,
+    }
+}
+
+fn look_up_each(map: &DecodedMap, positions: &[Position], found: &mut [Found]) -> usize
+    ensures count { result ≡ min (length positions.now) (length found.old) }
+    ensures each { IsInOrder (map_tree map.now)
+        → AreAnswered (map_tree map.now) positions.now found.new result }
+    ensures rest { (i : ℕ) → result ≤ i → slice_get found.new i ≡ slice_get found.old i }
+{
+    let count = positions.len().min(found.len());
+    for i in 0..count {
+        found[i] = answer(map, positions[i]);
+    }
+    count
+}
+
+fn answer(map: &DecodedMap, position: Position) -> Found
+    ensures { IsInOrder (map_tree map.now) → result ≡ answer_at (map_tree map.now) position }
+{
+    match map.lookup_token(position.line, position.column) {
+        Some(token) => Found::of(Some(&token)),
+        None => Found::none(),
+    }
+}
+
+/// The source of the closest token.
+#[unsafe(no_mangle)]
+pub extern "C" fn sm_lookup_source<'a>(
+    map: &'a mut Handle,
+    line: u32,
+    column: u32,
+    text: &mut &'a [u8],
+) -> u32
+    ensures { SaysOf (λ t. source_at t (line, column)) (tree_in (held_in map.old))
+        result text.old.now text.new.now }
+{
+    match map_in(map) {
+        Some(map) => put_text(source_at(map, line, column), text),
+        None => WRONG_KIND,
+    }
+}
+
+fn source_at(map: &DecodedMap, line: u32, column: u32) -> Option<&str>
+    ensures { IsInOrder (map_tree map.now)
+        → option_copied result ≡ source_at (map_tree map.now) (line, column) }
+{
+    map.lookup_token(line, column)?.get_source()
+}
+
+/// The name of the closest token.
+#[unsafe(no_mangle)]
+pub extern "C" fn sm_lookup_name<'a>(
+    map: &'a mut Handle,
+    line: u32,
+    column: u32,
+    text: &mut &'a [u8],
+) -> u32
+    ensures { SaysOf (λ t. name_at t (line, column)) (tree_in (held_in map.old))
+        result text.old.now text.new.now }
+{
+    match map_in(map) {
+        Some(map) => put_text(name_at(map, line, column), text),
+        None => WRONG_KIND,
+    }
+}
+
+fn name_at(map: &DecodedMap, line: u32, column: u32) -> Option<&str>
+    ensures { IsInOrder (map_tree map.now)
+        → option_copied result ≡ name_at (map_tree map.now) (line, column) }
+{
+    map.lookup_token(line, column)?.get_name()
+}

@@ -1,0 +1,292 @@
+//! Maps in handles that are made anew: rewritten, made flat, or adjusted by another one.
+ghost use Rattle.std.specs.Prelude.{◌≡◌, Err, IsSomeAnd, MatchResult, Ok, Some, false, map as list_map};
+ghost use Rattle.std.specs.List.{All};
+ghost use Rattle.std.specs.Str.{IsUtf8};
+ghost use Rattle.sourcemap_errors.specs.Answer.{Gives, UnlessMemory as UnlessOutOfMemory};
+ghost use Rattle.sourcemap_errors.specs.declared.errors.Error.TheVariants.{OutOfMemory};
+ghost use Rattle.sourcemap_handles.specs.Handles.{held_in};
+ghost use Rattle.sourcemap_hermes.specs.Map.{hermes_value};
+ghost use Rattle.sourcemap_hermes.specs.Rewrite.{rewritten as hermes_rewritten};
+ghost use Rattle.sourcemap_index.specs.Family.{map_tree};
+ghost use Rattle.sourcemap_regular.specs.Adjust.{adjusted};
+ghost use Rattle.sourcemap_regular.specs.Rewrite.{removal_of, rewritten};
+ghost use Rattle.sourcemap_trees.specs.MapTree.{leaf, regular};
+ghost use Rattle.sourcemap_c.specs.Changing.{FailsAs, HoldsNew, IsAdjustedBy, IsFlat, IsRewritten};
+ghost use Rattle.sourcemap_c.specs.Codes.{Answers, Does, UnlessMemory};
+ghost use Rattle.sourcemap_c.specs.Kinds.{tree_in};
+ghost use Rattle.sourcemap_c.specs.Making.{HasNoText, OrNoPrefix, removal};
+
+use crate::codes::text_in;
+use crate::kinds::{map_in, put_map};
+use sourcemap::{DecodedMap, Result, RewriteOptions, SourceMap, SourceMapHermes};
+use sourcemap_handles::Handle;
+use sourcemap_handles::errors::{ErrorReport, Failure, Outcome, finish};
+use sourcemap_handles::no_files::NoFiles;
+use std::alloc::Global;
+
+/// Makes an index the regular map that answers alike.
+#[unsafe(no_mangle)]
+pub extern "C" fn sm_flatten(alloc: Global, map: &mut Handle, error: &mut ErrorReport) -> u32
+    ensures { Answers result error.old error.new
+        (HoldsNew IsFlat (held_in map.old) (held_in map.new))
+        (FailsAs IsFlat (tree_in (held_in map.old)))
+        (held_in map.new ≡ held_in map.old) }
+{
+    finish(alloc, flatten(alloc, map), error)
+}
+
+fn flatten(alloc: Global, map: &mut Handle) -> Outcome<()>
+    ensures { Does result
+        (HoldsNew IsFlat (held_in map.old) (held_in map.new))
+        (FailsAs IsFlat (tree_in (held_in map.old)))
+        (held_in map.new ≡ held_in map.old) }
+{
+    match flat_in(map) {
+        Ok(flat) => put_map(alloc, map, flat),
+        Err(failure) => Err(failure),
+    }
+}
+
+fn flat_in(map: &mut Handle) -> Outcome<DecodedMap>
+    ensures flat { MatchResult result
+        (λ flat. IsSomeAnd (tree_in (held_in map.old)) (λ t. IsFlat t (Ok (map_tree flat))))
+        (λ failure. UnlessMemory failure (FailsAs IsFlat (tree_in (held_in map.old)) failure)) }
+    ensures kept { held_in map.new ≡ held_in map.old }
+{
+    match map_in(map) {
+        Some(map) => flat(map),
+        None => Err(Failure::WrongKind),
+    }
+}
+
+fn flat(map: &DecodedMap) -> Outcome<DecodedMap>
+    ensures { MatchResult result (λ flat. IsFlat (map_tree map.now) (Ok (map_tree flat)))
+        (λ failure. UnlessMemory failure (IsFlat (map_tree map.now) (Err failure))) }
+{
+    match map {
+        DecodedMap::Index(index) => match index.flatten() {
+            Ok(flat) => Ok(DecodedMap::Regular(flat)),
+            Err(error) => Err(Failure::Library(error)),
+        },
+        DecodedMap::Regular(_) | DecodedMap::Hermes(_) => Err(Failure::WrongKind),
+    }
+}
+
+/// Adjusts a regular map by another one.
+#[unsafe(no_mangle)]
+pub extern "C" fn sm_compose(
+    alloc: Global,
+    map: &mut Handle,
+    adjustment: &mut Handle,
+    error: &mut ErrorReport,
+) -> u32
+    ensures adjusted { Answers result error.old error.new
+        (HoldsNew (IsAdjustedBy (tree_in (held_in adjustment.old)))
+        (held_in map.old) (held_in map.new))
+        (FailsAs (IsAdjustedBy (tree_in (held_in adjustment.old))) (tree_in (held_in map.old)))
+        (held_in map.new ≡ held_in map.old) }
+    ensures kept { held_in adjustment.new ≡ held_in adjustment.old }
+{
+    finish(alloc, compose(alloc, map, adjustment), error)
+}
+
+fn compose(alloc: Global, map: &mut Handle, adjustment: &mut Handle) -> Outcome<()>
+    ensures adjusted { Does result
+        (HoldsNew (IsAdjustedBy (tree_in (held_in adjustment.old)))
+        (held_in map.old) (held_in map.new))
+        (FailsAs (IsAdjustedBy (tree_in (held_in adjustment.old))) (tree_in (held_in map.old)))
+        (held_in map.new ≡ held_in map.old) }
+    ensures kept { held_in adjustment.new ≡ held_in adjustment.old }
+{
+    match composed_in(map, adjustment) {
+        Ok(composed) => put_map(alloc, map, composed),
+        Err(failure) => Err(failure),
+    }
+}
+
+fn composed_in(map: &mut Handle, adjustment: &mut Handle) -> Outcome<DecodedMap>
+    ensures composed { MatchResult result
+        (λ new. IsSomeAnd (tree_in (held_in map.old))
+        (λ t. IsAdjustedBy (tree_in (held_in adjustment.old)) t (Ok (map_tree new))))
+        (λ failure. UnlessMemory failure
+        (FailsAs (IsAdjustedBy (tree_in (held_in adjustment.old))) (tree_in (held_in map.old))
+        failure)) }
+    ensures kept { held_in map.new ≡ held_in map.old }
+    ensures adjustment_kept { held_in adjustment.new ≡ held_in adjustment.old }
+{
+    match map_in(map) {
+        Some(map) => composed_by(map, adjustment),
+        None => Err(Failure::WrongKind),
+    }
+}
+
+fn composed_by(map: &DecodedMap, adjustment: &mut Handle) -> Outcome<DecodedMap>
+    ensures composed { MatchResult result
+        (λ new. IsAdjustedBy (tree_in (held_in adjustment.old)) (map_tree map.now)
+        (Ok (map_tree new)))
+        (λ failure. UnlessMemory failure
+        (IsAdjustedBy (tree_in (held_in adjustment.old)) (map_tree map.now) (Err failure))) }
+    ensures adjustment_kept { held_in adjustment.new ≡ held_in adjustment.old }
+{
+    match map_in(adjustment) {
+        Some(DecodedMap::Regular(adjustment)) => composed_with(map, adjustment),
+        _ => Err(Failure::WrongKind),
+    }
+}
+
+fn composed_with(map: &DecodedMap, adjustment: &SourceMap) -> Outcome<DecodedMap>
+    ensures { MatchResult result
+        (λ new. IsAdjustedBy (Some (leaf (regular adjustment.now))) (map_tree map.now)
+        (Ok (map_tree new)))
+        (λ failure. UnlessMemory failure
+        (IsAdjustedBy (Some (leaf (regular adjustment.now))) (map_tree map.now) (Err failure))) }
+{
+    match map {
+        DecodedMap::Regular(map) => match composed(map, adjustment) {
+            Ok(composed) => Ok(DecodedMap::Regular(composed)),
+            Err(error) => Err(Failure::Library(error)),
+        },
+        DecodedMap::Index(_) | DecodedMap::Hermes(_) => Err(Failure::WrongKind),
+    }
+}
+
+fn composed(map: &SourceMap, adjustment: &SourceMap) -> Result<SourceMap>
+    ensures { Gives (λ m. m) result (adjusted map.now adjustment.now) }
+{
+    let mut copy = map.clone()?;
+    copy.adjust_mappings(adjustment)?;
+    Ok(copy)
+}
+
+/// Makes a map one with what its tokens use alone.
+#[unsafe(no_mangle)]
+pub extern "C" fn sm_rewrite(
+    alloc: Global,
+    map: &mut Handle,
+    with_names: bool,
+    with_contents: bool,
+    prefixes: &[&[u8]],
+    error: &mut ErrorReport,
+) -> u32
+    ensures { let texts = list_map (λ prefix. prefix.now) prefixes.now in
+        let Rewritten = IsRewritten (removal with_names with_contents texts) in
+        Answers result error.old error.new
+        (All IsUtf8 texts × HoldsNew Rewritten (held_in map.old) (held_in map.new))
+        (OrNoPrefix texts (FailsAs Rewritten (tree_in (held_in map.old))))
+        (held_in map.new ≡ held_in map.old) }
+{
+    finish(
+        alloc,
+        rewrite(alloc, map, with_names, with_contents, prefixes),
+        error,
+    )
+}
+
+fn rewrite(
+    alloc: Global,
+    map: &mut Handle,
+    with_names: bool,
+    with_contents: bool,
+    prefixes: &[&[u8]],
+) -> Outcome<()>
+    ensures { let texts = list_map (λ prefix. prefix.now) prefixes.now in
+        let Rewritten = IsRewritten (removal with_names with_contents texts) in
+        Does result
+        (All IsUtf8 texts × HoldsNew Rewritten (held_in map.old) (held_in map.new))
+        (OrNoPrefix texts (FailsAs Rewritten (tree_in (held_in map.old))))
+        (held_in map.new ≡ held_in map.old) }
+{
+    match texts_in(alloc, prefixes) {
+        Ok(prefixes) => rewrite_by(alloc, map, with_names, with_contents, prefixes.as_slice()),
+        Err(error) => Err(Failure::Library(error)),
+    }
+}
+
+fn texts_in<'a>(alloc: Global, texts: &[&'a [u8]]) -> Result<Vec<&'a str>>
+    ensures { MatchResult result
+        (λ found. let found = list_map (λ text. text.now) found.items in
+        (found ≡ list_map (λ text. text.now) texts.now) × All IsUtf8 found)
+        (λ e. UnlessOutOfMemory e (HasNoText (list_map (λ text. text.now) texts.now) e)) }
+{
+    let mut found = Vec::with_capacity(alloc, texts.len())?;
+    for text in texts {
+        found.push(text_in(text)?)?;
+    }
+    Ok(found)
+}
+
+fn rewrite_by(
+    alloc: Global,
+    map: &mut Handle,
+    with_names: bool,
+    with_contents: bool,
+    prefixes: &[&str],
+) -> Outcome<()>
+    ensures { let texts = list_map (λ prefix. prefix.now) prefixes.now in
+        let Rewritten = IsRewritten (removal with_names with_contents texts) in
+        Does result
+        (HoldsNew Rewritten (held_in map.old) (held_in map.new))
+        (FailsAs Rewritten (tree_in (held_in map.old)))
+        (held_in map.new ≡ held_in map.old) }
+{
+    let options = RewriteOptions {
+        with_names,
+        with_source_contents: with_contents,
+        load_local_source_contents: false,
+        base_path: None,
+        strip_prefixes: prefixes,
+        current_dir: None,
+    };
+    match rewritten_in(map, &options) {
+        Ok(rewritten) => put_map(alloc, map, rewritten),
+        Err(failure) => Err(failure),
+    }
+}
+
+fn rewritten_in(map: &mut Handle, options: &RewriteOptions<'_>) -> Outcome<DecodedMap>
+    requires { options.now.load_local_source_contents ≡ false }
+    ensures rewritten { MatchResult result
+        (λ new. IsSomeAnd (tree_in (held_in map.old))
+        (λ t. IsRewritten (removal_of options.now) t (Ok (map_tree new))))
+        (λ failure. UnlessMemory failure
+        (FailsAs (IsRewritten (removal_of options.now)) (tree_in (held_in map.old)) failure)) }
+    ensures kept { held_in map.new ≡ held_in map.old }
+{
+    match map_in(map) {
+        Some(map) => rewritten(map, options),
+        None => Err(Failure::WrongKind),
+    }
+}
+
+fn rewritten(map: &DecodedMap, options: &RewriteOptions<'_>) -> Outcome<DecodedMap>
+    requires { options.now.load_local_source_contents ≡ false }
+    ensures { MatchResult result
+        (λ new. IsRewritten (removal_of options.now) (map_tree map.now) (Ok (map_tree new)))
+        (λ failure. UnlessMemory failure
+        (IsRewritten (removal_of options.now) (map_tree map.now) (Err failure))) }
+{
+    match map {
+        DecodedMap::Regular(map) => Ok(DecodedMap::Regular(rewritten_regular(map, options)?)),
+        DecodedMap::Hermes(map) => Ok(DecodedMap::Hermes(rewritten_hermes(map, options)?)),
+        DecodedMap::Index(_) => Err(Failure::WrongKind),
+    }
+}
+
+fn rewritten_regular(map: &SourceMap, options: &RewriteOptions<'_>) -> Result<SourceMap>
+    requires { options.now.load_local_source_contents ≡ false }
+    ensures { MatchResult result (λ new. new ≡ rewritten (removal_of options.now) map.now)
+        (λ e. e ≡ OutOfMemory) }
+{
+    let copy = map.clone()?;
+    copy.rewrite(&NoFiles, options)
+}
+
+fn rewritten_hermes(map: &SourceMapHermes, options: &RewriteOptions<'_>) -> Result<SourceMapHermes>
+    requires { options.now.load_local_source_contents ≡ false }
+    ensures { MatchResult result (λ new.
+        hermes_value new ≡ hermes_rewritten (removal_of options.now) (hermes_value map.now))
+        (λ e. e ≡ OutOfMemory) }
+{
+    let copy = map.clone()?;
+    copy.rewrite(&NoFiles, options)
+}

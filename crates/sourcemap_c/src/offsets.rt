@@ -1,0 +1,152 @@
+//! What an index map knows of the modules of its bundle, and paths between files.
+ghost use Rattle.std.specs.Prelude.{◌≡◌, ◌≤◌, ◌-◌, ℕ, Some, length, min, slice_get};
+ghost use Rattle.std.specs.Option.{option_and_then, option_copied};
+ghost use Rattle.sourcemap_handles.specs.Handles.{held_in};
+ghost use Rattle.sourcemap_index.specs.Family.{index_value, map_tree};
+ghost use Rattle.sourcemap_places.specs.RelativePaths.{relative_path};
+ghost use Rattle.sourcemap_c.specs.Asking.{AreFrom};
+ghost use Rattle.sourcemap_c.specs.Codes.{Answers, Does, NoError, OfLibrary, Says};
+ghost use Rattle.sourcemap_c.specs.Kinds.{bytes_in, tree_in};
+ghost use Rattle.sourcemap_c.specs.Offsets.{AreTexts, IsNoTextOf, WritesLines, lines_in, or_none, path_in};
+
+use crate::codes::{ABSENT, OK, WRONG_KIND, put_text, text_in};
+use crate::kinds::{map_in, put_bytes};
+use sourcemap::{DecodedMap, SourceMapIndex, make_relative_path};
+use sourcemap_handles::Handle;
+use sourcemap_handles::errors::{ErrorReport, Failure, Outcome, finish};
+use std::alloc::Global;
+
+// SM_NONE of the header.
+const NONE: u32 = u32::MAX;
+
+/// Writes the first lines of the modules of a bundle, from module `first` on, and how many it wrote.
+#[unsafe(no_mangle)]
+pub extern "C" fn sm_module_offsets(
+    map: &mut Handle,
+    first: u32,
+    offsets: &mut [u32],
+    written: &mut usize,
+) -> u32
+    ensures lines { WritesLines (lines_in (tree_in (held_in map.old))) first result
+        offsets.old offsets.new written.old written.new }
+    ensures kept { held_in map.new ≡ held_in map.old }
+{
+    match map_in(map) {
+        Some(map) => put_lines(map, first as usize, offsets, written),
+        None => WRONG_KIND,
+    }
+}
+
+fn put_lines(map: &DecodedMap, first: usize, offsets: &mut [u32], written: &mut usize) -> u32
+    ensures { WritesLines (lines_in (Some (map_tree map.now))) first result
+        offsets.old offsets.new written.old written.new }
+{
+    match map {
+        DecodedMap::Index(index) => put_lines_of(index, first, offsets, written),
+        DecodedMap::Regular(_) | DecodedMap::Hermes(_) => WRONG_KIND,
+    }
+}
+
+fn put_lines_of(
+    index: &SourceMapIndex,
+    first: usize,
+    offsets: &mut [u32],
+    written: &mut usize,
+) -> u32
+    ensures { WritesLines (Some (index_value index.now).parts.x_facebook_offsets) first result
+        offsets.old offsets.new written.old written.new }
+{
+    match index.x_facebook_offsets() {
+        Some(lines) => {
+            *written = put_numbers(lines, first, offsets);
+            OK
+        }
+        None => ABSENT,
+    }
+}
+
+fn put_numbers(lines: &[Option<u32>], first: usize, offsets: &mut [u32]) -> usize
+    ensures count { result ≡ min (length offsets.old) (length lines.now - first) }
+    ensures each { AreFrom or_none first lines.now offsets.new result }
+    ensures rest { (i : ℕ) → result ≤ i → slice_get offsets.new i ≡ slice_get offsets.old i }
+{
+    let count = lines.len().saturating_sub(first).min(offsets.len());
+    for i in 0..count {
+        offsets[i] = lines[first + i].unwrap_or(NONE);
+    }
+    count
+}
+
+/// The path of a module of a bundle.
+#[unsafe(no_mangle)]
+pub extern "C" fn sm_module_path<'a>(map: &'a mut Handle, id: u32, text: &mut &'a [u8]) -> u32
+    ensures { Says (path_in id (tree_in (held_in map.old))) result text.old.now text.new.now }
+{
+    match map_in(map) {
+        Some(map) => put_path(map, id as usize, text),
+        None => WRONG_KIND,
+    }
+}
+
+fn put_path<'a>(map: &'a DecodedMap, id: usize, text: &mut &'a [u8]) -> u32
+    ensures { Says (path_in id (Some (map_tree map.now))) result text.old.now text.new.now }
+{
+    match map {
+        DecodedMap::Index(index) => put_text(path_of(index, id), text),
+        DecodedMap::Regular(_) | DecodedMap::Hermes(_) => WRONG_KIND,
+    }
+}
+
+fn path_of(index: &SourceMapIndex, id: usize) -> Option<&str>
+    ensures { option_copied result ≡ option_and_then (λ paths. slice_get paths id)
+        (index_value index.now).parts.x_metro_module_paths }
+{
+    let path = index.x_metro_module_paths()?.get(id)?;
+    Some(path.as_str())
+}
+
+/// Fills a handle with the path that leads from the folder of one file to another.
+#[unsafe(no_mangle)]
+pub extern "C" fn sm_relative_path(
+    alloc: Global,
+    base: &[u8],
+    target: &[u8],
+    path: &mut Handle,
+    error: &mut ErrorReport,
+) -> u32
+    ensures { Answers result error.old error.new
+        (AreTexts base.now target.now
+        × (bytes_in (held_in path.new) ≡ Some (relative_path base.now target.now)))
+        (OfLibrary (IsNoTextOf base.now target.now))
+        (held_in path.new ≡ held_in path.old) }
+{
+    finish(alloc, put_relative(alloc, base, target, path), error)
+}
+
+fn put_relative(alloc: Global, base: &[u8], target: &[u8], path: &mut Handle) -> Outcome<()>
+    ensures { Does result
+        (AreTexts base.now target.now
+        × (bytes_in (held_in path.new) ≡ Some (relative_path base.now target.now)))
+        (OfLibrary (IsNoTextOf base.now target.now))
+        (held_in path.new ≡ held_in path.old) }
+{
+    match text_in(base) {
+        Ok(base) => match text_in(target) {
+            Ok(target) => put_path_between(alloc, base, target, path),
+            Err(error) => Err(Failure::Library(error)),
+        },
+        Err(error) => Err(Failure::Library(error)),
+    }
+}
+
+fn put_path_between(alloc: Global, base: &str, target: &str, path: &mut Handle) -> Outcome<()>
+    ensures { Does result
+        (bytes_in (held_in path.new) ≡ Some (relative_path base.now target.now))
+        (OfLibrary NoError)
+        (held_in path.new ≡ held_in path.old) }
+{
+    match make_relative_path(alloc, base, target) {
+        Ok(found) => put_bytes(alloc, path, found.into_bytes()),
+        Err(error) => Err(Failure::Library(error)),
+    }
+}

@@ -1,0 +1,189 @@
+//! Handles that are opened, shared and closed.
+ghost use Rattle.std.specs.Prelude.{◌≡◌, ◌↔◌, ◌≢◌, Err, IsTrue, None, Ok, Some};
+ghost use Rattle.std.specs.Str.{IsUtf8};
+ghost use Rattle.sourcemap_detection.specs.Detection.{AreMap};
+ghost use Rattle.sourcemap_handles.specs.Handles.{held_in};
+ghost use Rattle.sourcemap_index.specs.Decode.{BytesDecode, UrlDecodes};
+ghost use Rattle.sourcemap_index.specs.Family.{map_tree};
+ghost use Rattle.sourcemap_trees.specs.MapTree.{MapTree};
+ghost use Rattle.sourcemap_trees.specs.WellFormed.{IsWellFormed};
+ghost use Rattle.sourcemap_c.specs.Codes.{Answers, Does, NoError, OfLibrary, OfLibraryOrKind};
+ghost use Rattle.sourcemap_c.specs.Kinds.{kind_of, number_of, tree_in};
+ghost use Rattle.sourcemap_c.specs.Opening.{AreNoUrl, Holds};
+
+use crate::codes::text_in;
+use crate::kinds::{kind_of, put_map, put_shared};
+use sourcemap::{DecodedMap, Error, decode_data_url, decode_slice, is_sourcemap_slice};
+use sourcemap_handles::errors::{ErrorReport, Failure, Outcome, finish};
+use sourcemap_handles::{Handle, Held};
+use std::alloc::Global;
+use std::sync::Arc;
+
+// SM_INTERFACE of the header.
+const INTERFACE: u32 = 1;
+
+/// The version of the interface.
+#[unsafe(no_mangle)]
+pub extern "C" fn sm_interface() -> u32
+    ensures { result ≡ 1 }
+{
+    INTERFACE
+}
+
+/// The kind of what a handle holds.
+#[unsafe(no_mangle)]
+pub extern "C" fn sm_kind(handle: &mut Handle) -> u32
+    ensures kind { result ≡ number_of (kind_of (held_in handle.old)) }
+    ensures kept { held_in handle.new ≡ held_in handle.old }
+{
+    kind_of(handle.get()).number()
+}
+
+/// Drops what a handle holds.
+#[unsafe(no_mangle)]
+pub extern "C" fn sm_close(alloc: Global, handle: &mut Handle)
+    ensures { held_in handle.new ≡ None }
+{
+    handle.close(alloc);
+}
+
+/// Fills a handle with the map that bytes hold.
+#[unsafe(no_mangle)]
+pub extern "C" fn sm_open(
+    alloc: Global,
+    map: &mut Handle,
+    bytes: &[u8],
+    error: &mut ErrorReport,
+) -> u32
+    ensures { Answers result error.old error.new
+        (Holds (BytesDecode bytes.now) (held_in map.new))
+        (OfLibrary (λ e. BytesDecode bytes.now (Err e)))
+        (held_in map.new ≡ held_in map.old) }
+{
+    finish(alloc, open(alloc, map, bytes), error)
+}
+
+fn open(alloc: Global, map: &mut Handle, bytes: &[u8]) -> Outcome<()>
+    ensures { Does result
+        (Holds (BytesDecode bytes.now) (held_in map.new))
+        (OfLibrary (λ e. BytesDecode bytes.now (Err e)))
+        (held_in map.new ≡ held_in map.old) }
+{
+    match decode_slice(alloc, bytes) {
+        Ok(decoded) => put_map(alloc, map, decoded),
+        Err(error) => Err(Failure::Library(error)),
+    }
+}
+
+/// Fills a handle with the map that a data URL holds.
+#[unsafe(no_mangle)]
+pub extern "C" fn sm_open_url(
+    alloc: Global,
+    map: &mut Handle,
+    url: &[u8],
+    error: &mut ErrorReport,
+) -> u32
+    ensures { Answers result error.old error.new
+        (IsUtf8 url.now × Holds (UrlDecodes url.now) (held_in map.new))
+        (OfLibrary (AreNoUrl url.now))
+        (held_in map.new ≡ held_in map.old) }
+{
+    finish(alloc, open_url(alloc, map, url), error)
+}
+
+fn open_url(alloc: Global, map: &mut Handle, url: &[u8]) -> Outcome<()>
+    ensures { Does result
+        (IsUtf8 url.now × Holds (UrlDecodes url.now) (held_in map.new))
+        (OfLibrary (AreNoUrl url.now))
+        (held_in map.new ≡ held_in map.old) }
+{
+    match text_in(url) {
+        Ok(url) => open_text(alloc, map, url),
+        Err(error) => Err(Failure::Library(error)),
+    }
+}
+
+fn open_text(alloc: Global, map: &mut Handle, url: &str) -> Outcome<()>
+    ensures { Does result
+        (Holds (UrlDecodes url.now) (held_in map.new))
+        (OfLibrary (λ e. UrlDecodes url.now (Err e)))
+        (held_in map.new ≡ held_in map.old) }
+{
+    match decode_data_url(alloc, url) {
+        Ok(decoded) => put_map(alloc, map, decoded),
+        Err(error) => Err(Failure::Library(error)),
+    }
+}
+
+/// Fills a handle with the map of another one, which both hold then.
+#[unsafe(no_mangle)]
+pub extern "C" fn sm_share(
+    alloc: Global,
+    map: &mut Handle,
+    other: &mut Handle,
+    error: &mut ErrorReport,
+) -> u32
+    ensures shared { Answers result error.old error.new
+        ((tree_in (held_in map.old) ≢ None) × (tree_in (held_in other.new) ≡ tree_in (held_in map.old)))
+        (OfLibraryOrKind NoError (tree_in (held_in map.old) ≡ None))
+        (held_in other.new ≡ held_in other.old) }
+    ensures kept { held_in map.new ≡ held_in map.old }
+{
+    finish(alloc, share(alloc, map, other), error)
+}
+
+fn share(alloc: Global, map: &mut Handle, other: &mut Handle) -> Outcome<()>
+    ensures shared { Does result
+        ((tree_in (held_in map.old) ≢ None) × (tree_in (held_in other.new) ≡ tree_in (held_in map.old)))
+        (OfLibraryOrKind NoError (tree_in (held_in map.old) ≡ None))
+        (held_in other.new ≡ held_in other.old) }
+    ensures kept { held_in map.new ≡ held_in map.old }
+{
+    match map.get() {
+        Some(Held::Map(map)) => put_another(alloc, map, other),
+        _ => Err(Failure::WrongKind),
+    }
+}
+
+fn put_another(alloc: Global, map: &Arc<DecodedMap>, other: &mut Handle) -> Outcome<()>
+    ensures { Does result
+        (tree_in (held_in other.new) ≡ tree_in (Some (Held.Map map.now)))
+        (OfLibrary NoError)
+        (held_in other.new ≡ held_in other.old) }
+{
+    match Arc::try_clone(map) {
+        Ok(map) => put_shared(alloc, other, map),
+        Err(_) => Err(Failure::Library(Error::OutOfMemory)),
+    }
+}
+
+/// Writes whether bytes hold a map.
+#[unsafe(no_mangle)]
+pub extern "C" fn sm_is_source_map(
+    alloc: Global,
+    bytes: &[u8],
+    answer: &mut bool,
+    error: &mut ErrorReport,
+) -> u32
+    ensures { Answers result error.old error.new
+        (IsTrue answer.new ↔ AreMap bytes.now)
+        (OfLibrary NoError)
+        (answer.new ≡ answer.old) }
+{
+    finish(alloc, is_source_map(alloc, bytes, answer), error)
+}
+
+fn is_source_map(alloc: Global, bytes: &[u8], answer: &mut bool) -> Outcome<()>
+    ensures { Does result
+        (IsTrue answer.new ↔ AreMap bytes.now)
+        (OfLibrary NoError)
+        (answer.new ≡ answer.old) }
+{
+    match is_sourcemap_slice(alloc, bytes) {
+        Ok(is_map) => {
+            *answer = is_map;
+            Ok(())
+        }
+        Err(error) => Err(Failure::Library(error)),
+    }
+}

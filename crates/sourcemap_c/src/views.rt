@@ -1,0 +1,123 @@
+//! Texts with the tables of their lines.
+ghost use Rattle.std.specs.Prelude.{◌≡◌, None, Some, length, option_map, slice_get};
+ghost use Rattle.std.specs.Borrow.{sem};
+ghost use Rattle.std.specs.Option.{option_copied};
+ghost use Rattle.sourcemap_handles.specs.Handles.{EndsAsBefore, held_in};
+ghost use Rattle.sourcemap_views.specs.Lines.{line_bodies};
+ghost use Rattle.sourcemap_views.specs.Sourceview.{view_slice};
+ghost use Rattle.sourcemap_c.specs.Codes.{Answers, Does, IsNoText, NoError, OfLibrary, Says};
+ghost use Rattle.sourcemap_c.specs.Kinds.{view_in};
+
+use crate::codes::{OK, WRONG_KIND, put_text, text_in};
+use sourcemap::SourceView;
+use sourcemap_handles::errors::{ErrorReport, Failure, Outcome, finish};
+use sourcemap_handles::{Handle, Held};
+use std::alloc::Global;
+
+/// The view in a handle.
+pub(crate) fn view_in<'a>(handle: &'a mut Handle) -> Option<&'a SourceView>
+    ensures* after { sem 𝓛 (EndsAsBefore handle.entry) }
+    ensures value { option_copied result ≡ view_in (held_in handle.old) }
+{
+    match handle.get() {
+        Some(Held::View(view)) => Some(view),
+        _ => None,
+    }
+}
+
+/// Fills a handle with a view of a copy of a text.
+#[unsafe(no_mangle)]
+pub extern "C" fn sm_view_open(
+    alloc: Global,
+    view: &mut Handle,
+    text: &[u8],
+    error: &mut ErrorReport,
+) -> u32
+    ensures { Answers result error.old error.new
+        (view_in (held_in view.new) ≡ Some text.now)
+        (OfLibrary (IsNoText text.now))
+        (held_in view.new ≡ held_in view.old) }
+{
+    finish(alloc, open(alloc, view, text), error)
+}
+
+fn open(alloc: Global, view: &mut Handle, text: &[u8]) -> Outcome<()>
+    ensures { Does result
+        (view_in (held_in view.new) ≡ Some text.now)
+        (OfLibrary (IsNoText text.now))
+        (held_in view.new ≡ held_in view.old) }
+{
+    match text_in(text) {
+        Ok(text) => open_text(alloc, view, text),
+        Err(error) => Err(Failure::Library(error)),
+    }
+}
+
+fn open_text(alloc: Global, view: &mut Handle, text: &str) -> Outcome<()>
+    ensures { Does result
+        (view_in (held_in view.new) ≡ Some text.now)
+        (OfLibrary NoError)
+        (held_in view.new ≡ held_in view.old) }
+{
+    let made = SourceView::new(alloc, text)?;
+    view.fill(alloc, Held::View(made))?;
+    Ok(())
+}
+
+/// The text of a view.
+#[unsafe(no_mangle)]
+pub extern "C" fn sm_view_text<'a>(view: &'a mut Handle, text: &mut &'a [u8]) -> u32
+    ensures { Says (option_map (λ source. Some source) (view_in (held_in view.old)))
+        result text.old.now text.new.now }
+{
+    match view_in(view) {
+        Some(view) => put_text(Some(view.source()), text),
+        None => WRONG_KIND,
+    }
+}
+
+/// Writes how many lines a view has.
+#[unsafe(no_mangle)]
+pub extern "C" fn sm_view_count(view: &mut Handle, lines: &mut usize) -> u32
+    ensures lines { Says (option_map (λ source. Some (length (line_bodies source)))
+        (view_in (held_in view.old))) result lines.old lines.new }
+    ensures kept { held_in view.new ≡ held_in view.old }
+{
+    match view_in(view) {
+        Some(view) => {
+            *lines = view.line_count();
+            OK
+        }
+        None => WRONG_KIND,
+    }
+}
+
+/// A line, without its end.
+#[unsafe(no_mangle)]
+pub extern "C" fn sm_view_line<'a>(view: &'a mut Handle, line: u32, text: &mut &'a [u8]) -> u32
+    ensures { Says (option_map (λ source. slice_get (line_bodies source) line)
+        (view_in (held_in view.old))) result text.old.now text.new.now }
+{
+    match view_in(view) {
+        Some(view) => put_text(view.get_line(line), text),
+        None => WRONG_KIND,
+    }
+}
+
+/// So many UTF-16 units of a line from a column on.
+#[unsafe(no_mangle)]
+pub extern "C" fn sm_view_slice<'a>(
+    view: &'a mut Handle,
+    line: u32,
+    column: u32,
+    span: u32,
+    text: &mut &'a [u8],
+) -> u32
+    ensures { Says (option_map (λ source. view_slice source line column span)
+        (view_in (held_in view.old))) result text.old.now text.new.now }
+{
+    match view_in(view) {
+        Some(view) => put_text(view.get_line_slice(line, column, span), text),
+        None => WRONG_KIND,
+    }
+}

@@ -1,0 +1,128 @@
+//! Maps written as texts.
+ghost use Rattle.std.specs.Prelude.{◌≡◌, None, Some, ℕ, List, option_map};
+ghost use Rattle.sourcemap_headers.specs.DataUrl.{data_url_of};
+ghost use Rattle.sourcemap_handles.specs.Handles.{held_in};
+ghost use Rattle.sourcemap_index.specs.Family.{map_tree};
+ghost use Rattle.sourcemap_c.specs.Codes.{Answers, Does, NoError, OfLibrary, OfLibraryOrKind, Says};
+ghost use Rattle.sourcemap_c.specs.Kinds.{bytes_in, tree_in};
+ghost use Rattle.sourcemap_c.specs.Writing.{HoldsText, HoldsUrl};
+
+use crate::codes::{OK, WRONG_KIND};
+use crate::kinds::{map_in, put_bytes};
+use sourcemap::DecodedMap;
+use sourcemap::decoder::data_url;
+use sourcemap::encoder::encode_to_vec;
+use sourcemap_handles::errors::{ErrorReport, Failure, Outcome, finish};
+use sourcemap_handles::{Handle, Held};
+use std::alloc::Global;
+
+/// Fills a handle with the JSON text of a map.
+#[unsafe(no_mangle)]
+pub extern "C" fn sm_write(
+    alloc: Global,
+    map: &mut Handle,
+    text: &mut Handle,
+    error: &mut ErrorReport,
+) -> u32
+    ensures written { Answers result error.old error.new
+        (HoldsText (tree_in (held_in map.old)) (bytes_in (held_in text.new)))
+        (OfLibraryOrKind NoError (tree_in (held_in map.old) ≡ None))
+        (held_in text.new ≡ held_in text.old) }
+    ensures kept { held_in map.new ≡ held_in map.old }
+{
+    finish(alloc, write(alloc, map, text), error)
+}
+
+fn write(alloc: Global, map: &mut Handle, text: &mut Handle) -> Outcome<()>
+    ensures written { Does result
+        (HoldsText (tree_in (held_in map.old)) (bytes_in (held_in text.new)))
+        (OfLibraryOrKind NoError (tree_in (held_in map.old) ≡ None))
+        (held_in text.new ≡ held_in text.old) }
+    ensures kept { held_in map.new ≡ held_in map.old }
+{
+    match map_in(map) {
+        Some(map) => put_encoded(alloc, map, text),
+        None => Err(Failure::WrongKind),
+    }
+}
+
+fn put_encoded(alloc: Global, map: &DecodedMap, text: &mut Handle) -> Outcome<()>
+    ensures { Does result
+        (HoldsText (Some (map_tree map.now)) (bytes_in (held_in text.new)))
+        (OfLibrary NoError)
+        (held_in text.new ≡ held_in text.old) }
+{
+    match encode_to_vec(alloc, map) {
+        Ok(encoded) => put_bytes(alloc, text, encoded),
+        Err(error) => Err(Failure::Library(error)),
+    }
+}
+
+/// Fills a handle with the data URL of a map.
+#[unsafe(no_mangle)]
+pub extern "C" fn sm_write_url(
+    alloc: Global,
+    map: &mut Handle,
+    text: &mut Handle,
+    error: &mut ErrorReport,
+) -> u32
+    ensures written { Answers result error.old error.new
+        (HoldsUrl (tree_in (held_in map.old)) (bytes_in (held_in text.new)))
+        (OfLibraryOrKind NoError (tree_in (held_in map.old) ≡ None))
+        (held_in text.new ≡ held_in text.old) }
+    ensures kept { held_in map.new ≡ held_in map.old }
+{
+    finish(alloc, write_url(alloc, map, text), error)
+}
+
+fn write_url(alloc: Global, map: &mut Handle, text: &mut Handle) -> Outcome<()>
+    ensures written { Does result
+        (HoldsUrl (tree_in (held_in map.old)) (bytes_in (held_in text.new)))
+        (OfLibraryOrKind NoError (tree_in (held_in map.old) ≡ None))
+        (held_in text.new ≡ held_in text.old) }
+    ensures kept { held_in map.new ≡ held_in map.old }
+{
+    match map_in(map) {
+        Some(map) => put_url(alloc, map, text),
+        None => Err(Failure::WrongKind),
+    }
+}
+
+fn put_url(alloc: Global, map: &DecodedMap, text: &mut Handle) -> Outcome<()>
+    ensures { Does result
+        (HoldsUrl (Some (map_tree map.now)) (bytes_in (held_in text.new)))
+        (OfLibrary NoError)
+        (held_in text.new ≡ held_in text.old) }
+{
+    match encode_to_vec(alloc, map) {
+        Ok(encoded) => put_url_of(alloc, encoded.as_slice(), text),
+        Err(error) => Err(Failure::Library(error)),
+    }
+}
+
+fn put_url_of(alloc: Global, encoded: &[u8], text: &mut Handle) -> Outcome<()>
+    ensures { Does result
+        (bytes_in (held_in text.new) ≡ Some (data_url_of encoded.now))
+        (OfLibrary NoError)
+        (held_in text.new ≡ held_in text.old) }
+{
+    match data_url(alloc, encoded) {
+        Ok(url) => put_bytes(alloc, text, url.into_bytes()),
+        Err(error) => Err(Failure::Library(error)),
+    }
+}
+
+/// The text in a handle.
+#[unsafe(no_mangle)]
+pub extern "C" fn sm_bytes_text<'a>(bytes: &'a mut Handle, text: &mut &'a [u8]) -> u32
+    ensures { Says (option_map (λ held. Some held) (bytes_in (held_in bytes.old)))
+        result text.old.now text.new.now }
+{
+    match bytes.get() {
+        Some(Held::Bytes(bytes)) => {
+            *text = bytes.as_slice();
+            OK
+        }
+        _ => WRONG_KIND,
+    }
+}

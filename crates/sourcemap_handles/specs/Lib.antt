@@ -1,0 +1,5 @@
+pub mod Errors
+pub mod Handles
+pub mod Layout
+pub mod Lending
+pub mod Seal
