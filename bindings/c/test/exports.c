@@ -1,0 +1,293 @@
+#include "exports.h"
+
+static const uint8_t NO_BYTES[1] = { 0 };
+
+static sm_error error;
+static sm_text text;
+
+/* Of a text that was written before, the handle may be closed. */
+static void clear_text(void)
+{
+    static const sm_text EMPTY = SM_TEXT_EMPTY;
+    text = EMPTY;
+}
+
+static sm_code count_code(size_t count)
+{
+    return count > 0 ? SM_OK : SM_WRONG_KIND;
+}
+
+/* The code of a call that fills a handle, which it closes again. */
+#define FILLING(name, filled, call)        \
+    static sm_code name(sm_handle *handle) \
+    {                                      \
+        sm_handle filled = SM_EMPTY;       \
+        sm_code code = call;               \
+        sm_close(&filled);                 \
+        return code;                       \
+    }
+
+#define ASKING(name, call)                 \
+    static sm_code name(sm_handle *handle) \
+    {                                      \
+        clear_text();                      \
+        return call;                       \
+    }
+
+#define WRITING(name, type, value, call)   \
+    static sm_code name(sm_handle *handle) \
+    {                                      \
+        type value = { 0 };                \
+        return call;                       \
+    }
+
+FILLING(share, other, sm_share(handle, &other, &error))
+WRITING(count, sm_counts, counts, sm_count(handle, &counts))
+ASKING(file, sm_file(handle, &text))
+ASKING(source_root, sm_source_root(handle, &text))
+WRITING(get_debug_id, sm_debug_id, id, (id.bytes[0] = 0, sm_get_debug_id(handle, &id)))
+ASKING(source, sm_source(handle, 0, &text))
+ASKING(name_of, sm_name(handle, 0, &text))
+ASKING(contents, sm_contents(handle, 0, &text))
+ASKING(lookup_source, sm_lookup_source(handle, 0, 0, &text))
+ASKING(lookup_name, sm_lookup_name(handle, 0, 0, &text))
+ASKING(hermes_function_name, sm_hermes_function_name(handle, 0, &text))
+FILLING(trace, answers, sm_trace(handle, BYTES("0:0\n"), &answers, &error))
+ASKING(rewrite, sm_rewrite(handle, true, true, &text, 0, &error))
+ASKING(flatten, sm_flatten(handle, &error))
+ASKING(shift, sm_shift(handle, 1, &error))
+ASKING(set_file, sm_set_file(handle, false, NO_BYTES, 0, &error))
+ASKING(set_source_root, sm_set_source_root(handle, false, NO_BYTES, 0, &error))
+WRITING(set_debug_id, sm_debug_id, id, (id.bytes[0] = 0, sm_set_debug_id(handle, false, &id, &error)))
+ASKING(set_source, sm_set_source(handle, 0, BYTES("a"), &error))
+ASKING(set_contents, sm_set_contents(handle, 0, false, NO_BYTES, 0, &error))
+ASKING(ignore_source, sm_ignore_source(handle, 0, &error))
+ASKING(remove_names, sm_remove_names(handle, &error))
+FILLING(write_json, json, sm_write(handle, &json, &error))
+FILLING(write_url, url, sm_write_url(handle, &url, &error))
+ASKING(bytes_text, sm_bytes_text(handle, &text))
+WRITING(section_start_of, sm_section_start, start, sm_section_start_of(handle, 0, &start))
+ASKING(section_url, sm_section_url(handle, 0, &text))
+ASKING(module_path, sm_module_path(handle, 0, &text))
+FILLING(section, map, sm_section(handle, 0, &map, &error))
+ASKING(builder_set_source_root, sm_builder_set_source_root(handle, false, NO_BYTES, 0, &error))
+WRITING(builder_set_debug_id, sm_debug_id, id, (id.bytes[0] = 0, sm_builder_set_debug_id(handle, false, &id, &error)))
+WRITING(builder_add_source, uint32_t, id, sm_builder_add_source(handle, BYTES("a.js"), &id, &error))
+WRITING(builder_add_name, uint32_t, id, sm_builder_add_name(handle, BYTES("n"), &id, &error))
+ASKING(builder_set_contents, sm_builder_set_contents(handle, 0, false, NO_BYTES, 0, &error))
+ASKING(builder_ignore_source, sm_builder_ignore_source(handle, 0, &error))
+FILLING(builder_finish, map, sm_builder_finish(handle, &map, &error))
+ASKING(view_text, sm_view_text(handle, &text))
+WRITING(view_count, size_t, lines, sm_view_count(handle, &lines))
+ASKING(view_line, sm_view_line(handle, 0, &text))
+ASKING(view_slice, sm_view_slice(handle, 0, 0, 0, &text))
+WRITING(bundle_count, size_t, modules, sm_bundle_count(handle, &modules))
+ASKING(bundle_startup, sm_bundle_startup(handle, &text, &error))
+ASKING(bundle_module, sm_bundle_module(handle, 0, &text, &error))
+WRITING(split_count, size_t, items, sm_split_count(handle, &items))
+FILLING(split_map, map, sm_split_map(handle, 0, &map, &error))
+
+static sm_code ignore_list(sm_handle *handle)
+{
+    uint32_t ids[1] = { 0 };
+    return count_code(sm_ignore_list(handle, 0, ids, 1));
+}
+
+static sm_code tokens(sm_handle *handle)
+{
+    sm_token found[1] = { { 0 } };
+    return count_code(sm_tokens(handle, 0, found, 1));
+}
+
+static sm_code module_offsets(sm_handle *handle)
+{
+    uint32_t offsets[1] = { 0 };
+    size_t written = 0;
+    return sm_module_offsets(handle, 0, offsets, 1, &written);
+}
+
+static sm_code lookup(sm_handle *handle)
+{
+    sm_found found = { { 0 }, false };
+    return sm_lookup(handle, 0, 0, &found);
+}
+
+static sm_code lookup_many(sm_handle *handle)
+{
+    static const sm_position POSITIONS[1] = { { 0, 0 } };
+    sm_found found[1] = { { { 0 }, false } };
+    return count_code(sm_lookup_many(handle, POSITIONS, 1, found, 1));
+}
+
+/* The handle as the map, as the adjustment, as the bundle, as the index map, and as the view of a call. */
+static sm_code call_with(sm_handle *handle, uint32_t kind, sm_code (*call)(sm_handle *handle, sm_handle *other))
+{
+    sm_handle other = SM_EMPTY;
+    sm_code code;
+    fill(&other, kind);
+    code = call(handle, &other);
+    sm_close(&other);
+    return code;
+}
+
+static sm_code compose_both(sm_handle *map, sm_handle *adjustment)
+{
+    return sm_compose(map, adjustment, &error);
+}
+
+static sm_code compose_reversed(sm_handle *adjustment, sm_handle *map)
+{
+    return sm_compose(map, adjustment, &error);
+}
+
+static sm_code split_both(sm_handle *bundle, sm_handle *index)
+{
+    sm_split split = SM_EMPTY;
+    sm_code code = sm_bundle_split(bundle, index, &split, &error);
+    sm_close(&split);
+    return code;
+}
+
+static sm_code split_reversed(sm_handle *index, sm_handle *bundle)
+{
+    return split_both(bundle, index);
+}
+
+static sm_code name_both(sm_handle *map, sm_handle *view)
+{
+    return sm_function_name(map, 0, 0, BYTES("b"), view, &text);
+}
+
+static sm_code name_reversed(sm_handle *view, sm_handle *map)
+{
+    return name_both(map, view);
+}
+
+ASKING(compose, call_with(handle, SM_KIND_REGULAR, compose_both))
+ASKING(compose_adjustment, call_with(handle, SM_KIND_REGULAR, compose_reversed))
+ASKING(bundle_split, call_with(handle, SM_KIND_INDEX, split_both))
+ASKING(bundle_split_index, call_with(handle, SM_KIND_BUNDLE, split_reversed))
+ASKING(function_name, call_with(handle, SM_KIND_VIEW, name_both))
+ASKING(function_name_view, call_with(handle, SM_KIND_REGULAR, name_reversed))
+
+static sm_code builder_add_tokens(sm_handle *handle)
+{
+    sm_token token = { 0 };
+    error.code = SM_OK;
+    return sm_builder_add_tokens(handle, &token, 1, &error) == 1 ? SM_OK : error.code;
+}
+
+static sm_code split_item(sm_handle *handle)
+{
+    sm_text other = SM_TEXT_EMPTY;
+    clear_text();
+    return sm_split_item(handle, 0, &text, &other, &error);
+}
+
+const struct export_row EXPORTS[] = {
+    { "sm_share", share, MAPS, false },
+    { "sm_count", count, MAPS, false },
+    { "sm_file", file, MAPS, false },
+    { "sm_source_root", source_root, MAPS, false },
+    { "sm_get_debug_id", get_debug_id, MAPS, false },
+    { "sm_source", source, MAPS, false },
+    { "sm_name", name_of, MAPS, false },
+    { "sm_contents", contents, MAPS, false },
+    { "sm_ignore_list", ignore_list, LISTS, false },
+    { "sm_tokens", tokens, LISTS, false },
+    { "sm_lookup", lookup, MAPS, false },
+    { "sm_lookup_many", lookup_many, MAPS, false },
+    { "sm_lookup_source", lookup_source, MAPS, false },
+    { "sm_lookup_name", lookup_name, MAPS, false },
+    { "sm_trace", trace, MAPS, false },
+    { "sm_function_name", function_name, MAPS, false },
+    { "sm_function_name, its view", function_name_view, KIND(SM_KIND_VIEW), false },
+    { "sm_hermes_function_name", hermes_function_name, KIND(SM_KIND_HERMES), false },
+    { "sm_rewrite", rewrite, LISTS, true },
+    { "sm_flatten", flatten, KIND(SM_KIND_INDEX), true },
+    { "sm_compose", compose, KIND(SM_KIND_REGULAR), true },
+    { "sm_compose, its adjustment", compose_adjustment, KIND(SM_KIND_REGULAR), false },
+    { "sm_shift", shift, KIND(SM_KIND_INDEX), true },
+    { "sm_set_file", set_file, MAPS, true },
+    { "sm_set_source_root", set_source_root, LISTS, true },
+    { "sm_set_debug_id", set_debug_id, MAPS, true },
+    { "sm_set_source", set_source, LISTS, true },
+    { "sm_set_contents", set_contents, LISTS, true },
+    { "sm_ignore_source", ignore_source, LISTS, true },
+    { "sm_remove_names", remove_names, LISTS, true },
+    { "sm_write", write_json, MAPS, false },
+    { "sm_write_url", write_url, MAPS, false },
+    { "sm_bytes_text", bytes_text, KIND(SM_KIND_BYTES), false },
+    { "sm_section_start_of", section_start_of, KIND(SM_KIND_INDEX), false },
+    { "sm_section_url", section_url, KIND(SM_KIND_INDEX), false },
+    { "sm_module_offsets", module_offsets, KIND(SM_KIND_INDEX), false },
+    { "sm_module_path", module_path, KIND(SM_KIND_INDEX), false },
+    { "sm_section", section, KIND(SM_KIND_INDEX), false },
+    { "sm_builder_set_source_root", builder_set_source_root, KIND(SM_KIND_BUILDER), true },
+    { "sm_builder_set_debug_id", builder_set_debug_id, KIND(SM_KIND_BUILDER), true },
+    { "sm_builder_add_source", builder_add_source, KIND(SM_KIND_BUILDER), true },
+    { "sm_builder_add_name", builder_add_name, KIND(SM_KIND_BUILDER), true },
+    { "sm_builder_set_contents", builder_set_contents, KIND(SM_KIND_BUILDER), true },
+    { "sm_builder_ignore_source", builder_ignore_source, KIND(SM_KIND_BUILDER), true },
+    { "sm_builder_add_tokens", builder_add_tokens, KIND(SM_KIND_BUILDER), true },
+    { "sm_builder_finish", builder_finish, KIND(SM_KIND_BUILDER), true },
+    { "sm_view_text", view_text, KIND(SM_KIND_VIEW), false },
+    { "sm_view_count", view_count, KIND(SM_KIND_VIEW), false },
+    { "sm_view_line", view_line, KIND(SM_KIND_VIEW), false },
+    { "sm_view_slice", view_slice, KIND(SM_KIND_VIEW), false },
+    { "sm_bundle_count", bundle_count, KIND(SM_KIND_BUNDLE), false },
+    { "sm_bundle_startup", bundle_startup, KIND(SM_KIND_BUNDLE), false },
+    { "sm_bundle_module", bundle_module, KIND(SM_KIND_BUNDLE), false },
+    { "sm_bundle_split", bundle_split, KIND(SM_KIND_BUNDLE), false },
+    { "sm_bundle_split, its index map", bundle_split_index, KIND(SM_KIND_INDEX), false },
+    { "sm_split_count", split_count, KIND(SM_KIND_SPLIT), false },
+    { "sm_split_item", split_item, KIND(SM_KIND_SPLIT), false },
+    { "sm_split_map", split_map, KIND(SM_KIND_SPLIT), false },
+};
+const size_t EXPORTS_COUNT = sizeof EXPORTS / sizeof EXPORTS[0];
+
+static void fill_split(sm_handle *handle)
+{
+    sm_bundle bundle = SM_EMPTY;
+    sm_map index = SM_EMPTY;
+    fill(&bundle, SM_KIND_BUNDLE);
+    fill(&index, SM_KIND_INDEX);
+    CHECK_NUMBER(sm_bundle_split(&bundle, &index, handle, &error), SM_OK);
+    sm_close(&bundle);
+    sm_close(&index);
+}
+
+void fill(sm_handle *handle, uint32_t kind)
+{
+    bool is_legacy = false;
+    switch (kind) {
+    case SM_KIND_EMPTY:
+        sm_close(handle);
+        break;
+    case SM_KIND_REGULAR:
+        OPEN(handle, FULL_MAP);
+        break;
+    case SM_KIND_INDEX:
+        OPEN(handle, BUNDLE_MAP);
+        break;
+    case SM_KIND_HERMES:
+        OPEN(handle, "{\"mappings\":\"AAAA\",\"sources\":[\"a.js\"],\"ignoreList\":[0],\"x_facebook_sources\":[]}");
+        break;
+    case SM_KIND_BUILDER:
+        CHECK_NUMBER(sm_builder_new(handle, false, NO_BYTES, 0, &error), SM_OK);
+        break;
+    case SM_KIND_VIEW:
+        CHECK_NUMBER(sm_view_open(handle, BYTES("abc"), &error), SM_OK);
+        break;
+    case SM_KIND_BUNDLE:
+        CHECK_NUMBER(sm_bundle_open(handle, BYTES(BUNDLE), &error), SM_OK);
+        break;
+    case SM_KIND_SPLIT:
+        fill_split(handle);
+        break;
+    case SM_KIND_BYTES:
+        CHECK_NUMBER(sm_locate_reference(BYTES("//# sourceMappingURL=a"), handle, &is_legacy, &error), SM_OK);
+        break;
+    }
+    CHECK_NUMBER(sm_kind(handle), kind);
+}

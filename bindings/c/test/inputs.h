@@ -1,0 +1,63 @@
+/* The maps, texts and bundles that the tests are about. */
+#ifndef INPUTS_H
+#define INPUTS_H
+
+#include "check.h"
+
+/* Nine tokens of one source:
+**   0:0  from 0:0          0:8  from 1:0          0:17 from 1:12
+**   0:3  from 0:4  x       0:12 from 1:4  x       0:18 from 2:2  alert
+**   0:6  from 0:8          0:15 from 1:9          0:24 from 2:8 */
+#define README_MAPPINGS "AAAA,GAAIA,GAAI,EACR,IAAIA,GAAK,EAAG,CACVC,MAAM"
+#define README_MAP \
+    "{\"mappings\":\"" README_MAPPINGS "\",\"names\":[\"x\",\"alert\"],\"sources\":[\"coolstuff.js\"],\"version\":3}"
+
+/* Every part that a regular map can have. Its tokens: 0:0 from 0:0 of source 0, a range token 0:4 from 1:2 of
+** source 1 with name 0, and 1:2 without a source. */
+#define FULL_MAP \
+    "{\"debugId\":\"00000000-0000-0000-0000-00000000002a\",\"file\":\"out.js\",\"ignoreList\":[1]," \
+    "\"mappings\":\"AAAA,ICCEA;E\",\"names\":[\"n\"],\"rangeMappings\":\"C;\",\"sourceRoot\":\"root\"," \
+    "\"sources\":[\"a.js\",\"/b.js\"],\"sourcesContent\":[\"let a;\",null],\"version\":3}"
+
+/* Sections at 0:0 and at 10:4, each with one token at its begin. */
+#define INDEX_MAP \
+    "{\"file\":\"all.js\",\"sections\":[{\"map\":{\"mappings\":\"AAAA\",\"names\":[],\"sources\":[\"a.js\"]," \
+    "\"version\":3},\"offset\":{\"column\":0,\"line\":0},\"url\":null},{\"map\":{\"mappings\":\"AAAA\",\"names\":[]," \
+    "\"sources\":[\"b.js\"],\"version\":3},\"offset\":{\"column\":4,\"line\":10},\"url\":null}],\"sources\":null," \
+    "\"version\":3}"
+#define INDEX_MAP_FLAT \
+    "{\"file\":\"all.js\",\"mappings\":\"AAAA;;;;;;;;;;ICAA\",\"names\":[],\"sources\":[\"a.js\",\"b.js\"]," \
+    "\"version\":3}"
+#define INDEX_MAP_SHIFTED_BY_2 \
+    "{\"file\":\"all.js\",\"sections\":[{\"map\":{\"mappings\":\"AAAA\",\"names\":[],\"sources\":[\"a.js\"]," \
+    "\"version\":3},\"offset\":{\"column\":0,\"line\":2},\"url\":null},{\"map\":{\"mappings\":\"AAAA\",\"names\":[]," \
+    "\"sources\":[\"b.js\"],\"version\":3},\"offset\":{\"column\":4,\"line\":12},\"url\":null}],\"sources\":null," \
+    "\"version\":3}"
+
+/* A section with a URL and no map. */
+#define LINKED_MAP "{\"sections\":[{\"offset\":{\"line\":0,\"column\":3},\"url\":\"u\"}]}"
+
+/* The function <global> from 1:0 of its source on, foo from 2:5 on (lines from 1). */
+#define HERMES_MAP \
+    "{\"mappings\":\"AAAA,KACK\",\"names\":[],\"sources\":[\"a.js\"],\"version\":3," \
+    "\"x_facebook_sources\":[[{\"mappings\":\"AAA,KCC\",\"names\":[\"<global>\",\"foo\"]}]]}"
+
+/* The index map of BUNDLE: module 0 begins on line 5. */
+#define BUNDLE_MAP \
+    "{\"sections\":[{\"map\":{\"mappings\":\";;;;;AAAA,EAAE;AAAA\",\"names\":[],\"sources\":[\"a.js\"],\"version\":3}," \
+    "\"offset\":{\"column\":0,\"line\":0},\"url\":null}],\"version\":3,\"x_facebook_offsets\":[5]}"
+
+/* One module, `xyz`, and the startup code `ab`. */
+#define BUNDLE \
+    "\xe5\xd1\x0b\xfb\x01\x00\x00\x00\x02\x00\x00\x00\x02\x00\x00\x00\x04\x00\x00\x00" \
+    "abxyz\x00"
+
+#define OPEN(handle, map) open_map((handle), BYTES(map))
+
+/* Fills `map`, and checks that it is filled. */
+void open_map(sm_map *map, const uint8_t *bytes, size_t length);
+
+/* A literal as a text. */
+sm_text text_of(const char *literal);
+
+#endif

@@ -1,0 +1,149 @@
+/* RAM bundles: modules, startup code, and splitting. */
+#include "inputs.h"
+#include "tests.h"
+
+#include <string.h>
+
+static void test_modules(size_t length)
+{
+    sm_bundle bundle = SM_EMPTY;
+    sm_text bytes = SM_TEXT_EMPTY;
+    sm_error error = { 0 };
+    size_t modules = 99;
+    CHECK_NUMBER(sm_bundle_open(&bundle, (const uint8_t *)BUNDLE, length, &error), SM_OK);
+    CHECK_NUMBER(sm_kind(&bundle), SM_KIND_BUNDLE);
+    CHECK_NUMBER(sm_bundle_count(&bundle, &modules), SM_OK);
+    CHECK_NUMBER(modules, 1);
+    CHECK_NUMBER(sm_bundle_startup(&bundle, &bytes, &error), SM_OK);
+    CHECK_TEXT(bytes, "ab");
+    CHECK_NUMBER(sm_bundle_module(&bundle, 0, &bytes, &error), SM_OK);
+    CHECK_TEXT(bytes, "xyz");
+    CHECK_ERROR(sm_bundle_module(&bundle, 1, &bytes, &error), &error, SM_INVALID_BUNDLE_INDEX,
+                "invalid module index in ram bundle");
+    CHECK_NUMBER(sm_bundle_module(&bundle, SIZE_MAX, &bytes, &error), SM_INVALID_BUNDLE_INDEX);
+    CHECK_TEXT(bytes, "xyz");
+    sm_close(&bundle);
+}
+
+static bool is_range(const sm_error *error, uint64_t start, uint64_t size, uint64_t length)
+{
+    return error->start == start && error->size == size && error->length == length && error->number == 0;
+}
+
+static void test_short_bundles(void)
+{
+    sm_bundle bundle = SM_EMPTY;
+    sm_text bytes = text_of("before");
+    sm_error error = { 0 };
+    CHECK_NUMBER(sm_bundle_open(&bundle, (const uint8_t *)BUNDLE, 11, &error), SM_RANGE);
+    CHECK(is_range(&error, 0, 12, 11));
+    CHECK_ERROR(error.code, &error, SM_RANGE, "parse error: 0+12 past 11");
+    CHECK_NUMBER(sm_kind(&bundle), SM_KIND_EMPTY);
+    CHECK_NUMBER(sm_bundle_open(&bundle, (const uint8_t *)BUNDLE, 24, &error), SM_OK);
+    CHECK_NUMBER(sm_bundle_module(&bundle, 0, &bytes, &error), SM_RANGE);
+    CHECK(is_range(&error, 22, 3, 24));
+    CHECK_ERROR(error.code, &error, SM_RANGE, "parse error: 22+3 past 24");
+    CHECK_NUMBER(sm_bundle_open(&bundle, (const uint8_t *)BUNDLE, 21, &error), SM_OK);
+    CHECK_NUMBER(sm_bundle_startup(&bundle, &bytes, &error), SM_RANGE);
+    CHECK(is_range(&error, 20, 2, 21));
+    CHECK_TEXT(bytes, "before");
+    sm_close(&bundle);
+}
+
+/* Three modules: `a`, a missing one, and one whose entry has no length. */
+#define ODD_BUNDLE \
+    "\xe5\xd1\x0b\xfb\x03\x00\x00\x00\x00\x00\x00\x00" \
+    "\x00\x00\x00\x00\x02\x00\x00\x00\x00\x00\x00\x00\x00\x00\x00\x00\x01\x00\x00\x00\x00\x00\x00\x00" \
+    "a\x00"
+
+static void test_odd_modules(void)
+{
+    sm_bundle bundle = SM_EMPTY;
+    sm_text bytes = SM_TEXT_EMPTY;
+    sm_error error = { 0 };
+    CHECK_ERROR(sm_bundle_open(&bundle, BYTES("let a = 1;;;"), &error), &error, SM_INVALID_BUNDLE_MAGIC,
+                "invalid magic number for ram bundle");
+    CHECK_NUMBER(sm_bundle_open(&bundle, BYTES(ODD_BUNDLE), &error), SM_OK);
+    CHECK_NUMBER(sm_bundle_startup(&bundle, &bytes, &error), SM_OK);
+    CHECK_TEXT(bytes, "");
+    CHECK_NUMBER(sm_bundle_module(&bundle, 0, &bytes, &error), SM_OK);
+    CHECK_TEXT(bytes, "a");
+    CHECK_ERROR(sm_bundle_module(&bundle, 1, &bytes, &error), &error, SM_ABSENT, "there is none");
+    CHECK_ERROR(sm_bundle_module(&bundle, 2, &bytes, &error), &error, SM_INVALID_BUNDLE_ENTRY,
+                "invalid ram bundle module entry");
+    CHECK_TEXT(bytes, "a");
+    sm_close(&bundle);
+}
+
+#define MODULE_MAP "{\"file\":\"0.js\",\"mappings\":\"AAAA,EAAE\",\"names\":[],\"sources\":[\"a.js\"],\"version\":3}"
+
+static void test_splitting(void)
+{
+    sm_bundle bundle = SM_EMPTY;
+    sm_map index = SM_EMPTY, map = SM_EMPTY;
+    sm_split split = SM_EMPTY;
+    sm_text name = SM_TEXT_EMPTY, text = SM_TEXT_EMPTY;
+    sm_error error = { 0 };
+    size_t items = 99;
+    CHECK_NUMBER(sm_bundle_open(&bundle, BYTES(BUNDLE), &error), SM_OK);
+    OPEN(&index, BUNDLE_MAP);
+    CHECK_NUMBER(sm_bundle_split(&bundle, &index, &split, &error), SM_OK);
+    CHECK_NUMBER(sm_kind(&split), SM_KIND_SPLIT);
+    CHECK_HOLDS(&bundle, "a bundle of 1");
+    CHECK_NUMBER(sm_kind(&index), SM_KIND_INDEX);
+    /* the split stands alone */
+    sm_close(&bundle);
+    sm_close(&index);
+    CHECK_NUMBER(sm_split_count(&split, &items), SM_OK);
+    CHECK_NUMBER(items, 1);
+    CHECK_NUMBER(sm_split_item(&split, 0, &name, &text, &error), SM_OK);
+    CHECK_TEXT(name, "0.js");
+    CHECK_TEXT(text, "xyz");
+    CHECK_NUMBER(sm_split_map(&split, 0, &map, &error), SM_OK);
+    CHECK_ERROR(sm_split_item(&split, 1, &name, &text, &error), &error, SM_ABSENT, "there is none");
+    CHECK_ERROR(sm_split_map(&split, 1, &map, &error), &error, SM_ABSENT, "there is none");
+    sm_close(&split);
+    CHECK_HOLDS(&map, MODULE_MAP);
+    sm_close(&map);
+}
+
+/* The items of modules that cannot be split carry their error. */
+static void test_refused_items(void)
+{
+    sm_bundle bundle = SM_EMPTY;
+    sm_map index = SM_EMPTY, map = SM_EMPTY;
+    sm_split split = SM_EMPTY;
+    sm_text name = text_of("before"), text = text_of("before");
+    sm_error error = { 0 };
+    size_t items = 99;
+    CHECK_NUMBER(sm_bundle_open(&bundle, BYTES(ODD_BUNDLE), &error), SM_OK);
+    OPEN(&index, "{\"sections\":[{\"offset\":{\"line\":0,\"column\":0},\"map\":{\"sources\":[\"a.js\"],"
+                 "\"mappings\":\"AAAA\"}}],\"x_facebook_offsets\":[0,1,2]}");
+    CHECK_NUMBER(sm_bundle_split(&bundle, &index, &split, &error), SM_OK);
+    CHECK_NUMBER(sm_split_count(&split, &items), SM_OK);
+    CHECK_NUMBER(items, 2);
+    CHECK_ERROR(sm_split_item(&split, 1, &name, &text, &error), &error, SM_INVALID_BUNDLE_ENTRY,
+                "invalid ram bundle module entry");
+    CHECK_ERROR(sm_split_map(&split, 1, &map, &error), &error, SM_INVALID_BUNDLE_ENTRY,
+                "invalid ram bundle module entry");
+    CHECK_TEXT(name, "before");
+    CHECK_NUMBER(sm_kind(&map), SM_KIND_EMPTY);
+    OPEN(&index, INDEX_MAP);
+    CHECK_ERROR(sm_bundle_split(&bundle, &index, &split, &error), &error, SM_NOT_A_BUNDLE, "not a ram bundle");
+    OPEN(&index, LINKED_MAP);
+    CHECK_NUMBER(sm_bundle_split(&bundle, &index, &split, &error), SM_CANNOT_FLATTEN);
+    CHECK_HOLDS(&split, "a split of 2");
+    sm_close(&bundle);
+    sm_close(&index);
+    sm_close(&split);
+}
+
+void test_bundles(void)
+{
+    test_modules(26);
+    test_modules(25);
+    test_short_bundles();
+    test_odd_modules();
+    test_splitting();
+    test_refused_items();
+}

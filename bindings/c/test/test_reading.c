@@ -1,0 +1,211 @@
+/* Counts, texts by id, the ignore list, tokens, and sections. */
+#include "inputs.h"
+#include "tests.h"
+
+#include <string.h>
+
+static bool are_counts(sm_map *map, uint32_t tokens, uint32_t sources, uint32_t names, uint32_t ignored,
+                       uint32_t sections)
+{
+    sm_counts counts = { 0 };
+    return sm_count(map, &counts) == SM_OK && counts.tokens == tokens && counts.sources == sources
+           && counts.names == names && counts.ignored == ignored && counts.sections == sections;
+}
+
+static void test_counts(void)
+{
+    sm_map map = SM_EMPTY;
+    OPEN(&map, README_MAP);
+    CHECK(are_counts(&map, 9, 1, 2, 0, 0));
+    OPEN(&map, FULL_MAP);
+    CHECK(are_counts(&map, 3, 2, 1, 1, 0));
+    OPEN(&map, HERMES_MAP);
+    CHECK(are_counts(&map, 2, 1, 0, 0, 0));
+    OPEN(&map, INDEX_MAP);
+    CHECK(are_counts(&map, 0, 0, 0, 0, 2));
+    sm_close(&map);
+}
+
+typedef sm_code text_by_id(sm_map *map, uint32_t id, sm_text *text);
+
+/* The text of an id, or none where `wanted` is a null pointer; then `text` is as it was. */
+static void check_by_id(text_by_id *call, sm_map *map, uint32_t id, const char *wanted)
+{
+    sm_text text = text_of("before");
+    CHECK_NUMBER(call(map, id, &text), wanted ? SM_OK : SM_ABSENT);
+    CHECK_TEXT(text, wanted ? wanted : "before");
+}
+
+static void test_texts_by_id(void)
+{
+    sm_map map = SM_EMPTY;
+    OPEN(&map, FULL_MAP);
+    check_by_id(sm_source, &map, 0, "root/a.js");
+    check_by_id(sm_source, &map, 1, "/b.js");
+    check_by_id(sm_source, &map, 2, NULL);
+    check_by_id(sm_source, &map, SM_NONE, NULL);
+    check_by_id(sm_name, &map, 0, "n");
+    check_by_id(sm_name, &map, 1, NULL);
+    check_by_id(sm_contents, &map, 0, "let a;");
+    check_by_id(sm_contents, &map, 1, NULL);
+    check_by_id(sm_contents, &map, 2, NULL);
+    OPEN(&map, "{\"sourceRoot\":\"webpack:///\",\"sources\":[\"./bar.js\"],\"mappings\":\"\"}");
+    check_by_id(sm_source, &map, 0, "webpack:///./bar.js");
+    OPEN(&map, INDEX_MAP);
+    check_by_id(sm_source, &map, 0, NULL);
+    check_by_id(sm_name, &map, 0, NULL);
+    check_by_id(sm_contents, &map, 0, NULL);
+    sm_close(&map);
+}
+
+static void test_file_and_root(void)
+{
+    sm_map map = SM_EMPTY;
+    sm_text text = SM_TEXT_EMPTY;
+    OPEN(&map, FULL_MAP);
+    CHECK_NUMBER(sm_file(&map, &text), SM_OK);
+    CHECK_TEXT(text, "out.js");
+    CHECK_NUMBER(sm_source_root(&map, &text), SM_OK);
+    CHECK_TEXT(text, "root");
+    OPEN(&map, README_MAP);
+    CHECK_NUMBER(sm_file(&map, &text), SM_ABSENT);
+    CHECK_NUMBER(sm_source_root(&map, &text), SM_ABSENT);
+    OPEN(&map, INDEX_MAP);
+    CHECK_NUMBER(sm_file(&map, &text), SM_OK);
+    CHECK_TEXT(text, "all.js");
+    CHECK_NUMBER(sm_source_root(&map, &text), SM_ABSENT);
+    sm_close(&map);
+}
+
+static void test_debug_ids(void)
+{
+    sm_map map = SM_EMPTY;
+    sm_debug_id id = { { 0 } };
+    OPEN(&map, "{\"mappings\":\"\",\"debugId\":\"01234567-89ab-cdef-0123-456789abcdef\"}");
+    CHECK_NUMBER(sm_get_debug_id(&map, &id), SM_OK);
+    CHECK(memcmp(id.bytes, "\x01\x23\x45\x67\x89\xab\xcd\xef\x01\x23\x45\x67\x89\xab\xcd\xef", 16) == 0);
+    /* of both keys debugId counts */
+    OPEN(&map, "{\"mappings\":\"\",\"debug_id\":\"11111111111111111111111111111111\","
+               "\"debugId\":\"00000000000000000000000000000000\"}");
+    CHECK_NUMBER(sm_get_debug_id(&map, &id), SM_OK);
+    CHECK(memcmp(id.bytes, "\0\0\0\0\0\0\0\0\0\0\0\0\0\0\0\0", 16) == 0);
+    OPEN(&map, README_MAP);
+    CHECK_NUMBER(sm_get_debug_id(&map, &id), SM_ABSENT);
+    sm_close(&map);
+}
+
+static void test_ignore_list(void)
+{
+    sm_map map = SM_EMPTY;
+    uint32_t ids[4] = { 7, 7, 7, 7 };
+    OPEN(&map, "{\"sources\":[\"a\",\"b\",\"c\",\"d\"],\"mappings\":\"\",\"ignoreList\":[3,0,2,0]}");
+    CHECK_NUMBER(sm_ignore_list(&map, 0, ids, 4), 3);
+    CHECK(ids[0] == 0 && ids[1] == 2 && ids[2] == 3 && ids[3] == 7);
+    CHECK_NUMBER(sm_ignore_list(&map, 1, ids, 1), 1);
+    CHECK(ids[0] == 2 && ids[1] == 2);
+    CHECK_NUMBER(sm_ignore_list(&map, 3, ids, 4), 0);
+    CHECK_NUMBER(sm_ignore_list(&map, SM_NONE, ids, 4), 0);
+    CHECK_NUMBER(sm_ignore_list(&map, 0, ids, 0), 0);
+    OPEN(&map, INDEX_MAP);
+    CHECK_NUMBER(sm_ignore_list(&map, 0, ids, 4), 0);
+    sm_close(&map);
+}
+
+static void test_tokens(void)
+{
+    sm_map map = SM_EMPTY;
+    sm_token tokens[10] = { { 0 } };
+    OPEN(&map, FULL_MAP);
+    CHECK_NUMBER(sm_tokens(&map, 0, tokens, 10), 3);
+    CHECK_TOKEN(tokens[0], 0, 0, 0, 0, 0, SM_NONE, false);
+    CHECK_TOKEN(tokens[1], 0, 4, 1, 2, 1, 0, true);
+    CHECK_TOKEN(tokens[2], 1, 2, SM_NONE, SM_NONE, SM_NONE, SM_NONE, false);
+    CHECK_TOKEN(tokens[3], 0, 0, 0, 0, 0, 0, false);
+    OPEN(&map, README_MAP);
+    CHECK_NUMBER(sm_tokens(&map, 7, tokens, 10), 2);
+    CHECK_TOKEN(tokens[0], 0, 18, 2, 2, 0, 1, false);
+    CHECK_TOKEN(tokens[1], 0, 24, 2, 8, 0, SM_NONE, false);
+    CHECK_NUMBER(sm_tokens(&map, 1, tokens, 1), 1);
+    CHECK_TOKEN(tokens[0], 0, 3, 0, 4, 0, 0, false);
+    CHECK_TOKEN(tokens[1], 0, 24, 2, 8, 0, SM_NONE, false);
+    CHECK_NUMBER(sm_tokens(&map, 9, tokens, 10), 0);
+    CHECK_NUMBER(sm_tokens(&map, SM_NONE, tokens, 10), 0);
+    CHECK_NUMBER(sm_tokens(&map, 0, tokens, 0), 0);
+    OPEN(&map, INDEX_MAP);
+    CHECK_NUMBER(sm_tokens(&map, 0, tokens, 10), 0);
+    sm_close(&map);
+}
+
+static void test_sections(void)
+{
+    sm_map map = SM_EMPTY, section = SM_EMPTY;
+    sm_section_start start = { 0 };
+    sm_text url = text_of("before");
+    sm_error error = { 0 };
+    OPEN(&map, INDEX_MAP);
+    CHECK_NUMBER(sm_section_start_of(&map, 1, &start), SM_OK);
+    CHECK(start.line == 10 && start.column == 4 && start.has_map && !start.has_url);
+    CHECK_NUMBER(sm_section_start_of(&map, 2, &start), SM_ABSENT);
+    CHECK_NUMBER(sm_section_url(&map, 1, &url), SM_ABSENT);
+    CHECK_NUMBER(sm_section_url(&map, 2, &url), SM_ABSENT);
+    CHECK_TEXT(url, "before");
+    CHECK_NUMBER(sm_section(&map, 1, &section, &error), SM_OK);
+    CHECK_ERROR(sm_section(&map, 2, &section, &error), &error, SM_ABSENT, "there is none");
+    sm_close(&map);
+    /* the section is a copy */
+    CHECK_HOLDS(&section, "{\"mappings\":\"AAAA\",\"names\":[],\"sources\":[\"b.js\"],\"version\":3}");
+    OPEN(&map, LINKED_MAP);
+    CHECK_NUMBER(sm_section_start_of(&map, 0, &start), SM_OK);
+    CHECK(start.line == 0 && start.column == 3 && !start.has_map && start.has_url);
+    CHECK_NUMBER(sm_section_url(&map, 0, &url), SM_OK);
+    CHECK_TEXT(url, "u");
+    CHECK_ERROR(sm_section(&map, 0, &section, &error), &error, SM_ABSENT, "there is none");
+    CHECK_NUMBER(sm_kind(&section), SM_KIND_REGULAR);
+    sm_close(&map);
+    sm_close(&section);
+}
+
+#define MODULES_MAP \
+    "{\"sections\":[],\"x_facebook_offsets\":[5,null,7],\"x_metro_module_paths\":[\"a.js\",\"b.js\"]}"
+
+static void test_modules(void)
+{
+    sm_map map = SM_EMPTY;
+    uint32_t offsets[4] = { 1, 1, 1, 1 };
+    size_t written = 99;
+    sm_text path = text_of("before");
+    OPEN(&map, MODULES_MAP);
+    CHECK_NUMBER(sm_module_offsets(&map, 0, offsets, 4, &written), SM_OK);
+    CHECK_NUMBER(written, 3);
+    CHECK(offsets[0] == 5 && offsets[1] == SM_NONE && offsets[2] == 7 && offsets[3] == 1);
+    CHECK_NUMBER(sm_module_offsets(&map, 2, offsets, 1, &written), SM_OK);
+    CHECK_NUMBER(written, 1);
+    CHECK(offsets[0] == 7 && offsets[1] == SM_NONE);
+    CHECK_NUMBER(sm_module_offsets(&map, 3, offsets, 4, &written), SM_OK);
+    CHECK_NUMBER(written, 0);
+    CHECK_NUMBER(sm_module_path(&map, 2, &path), SM_ABSENT);
+    CHECK_TEXT(path, "before");
+    CHECK_NUMBER(sm_module_path(&map, 1, &path), SM_OK);
+    CHECK_TEXT(path, "b.js");
+    OPEN(&map, INDEX_MAP);
+    written = 99;
+    CHECK_NUMBER(sm_module_offsets(&map, 0, offsets, 4, &written), SM_ABSENT);
+    CHECK_NUMBER(sm_module_path(&map, 0, &path), SM_ABSENT);
+    CHECK(offsets[0] == 7 && written == 99);
+    OPEN(&map, README_MAP);
+    CHECK_NUMBER(sm_module_offsets(&map, 0, offsets, 4, &written), SM_WRONG_KIND);
+    CHECK(offsets[0] == 7 && written == 99);
+    sm_close(&map);
+}
+
+void test_reading(void)
+{
+    test_counts();
+    test_texts_by_id();
+    test_file_and_root();
+    test_debug_ids();
+    test_ignore_list();
+    test_tokens();
+    test_sections();
+    test_modules();
+}

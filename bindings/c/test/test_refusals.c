@@ -1,0 +1,501 @@
+/* Each allocation of a call is refused in turn. Then nothing has changed, every export answers as before, and the same
+** call succeeds. */
+#include "exports.h"
+#include "refusing.h"
+#include "tests.h"
+
+#include <stdio.h>
+#include <stdlib.h>
+#include <string.h>
+
+#define SIZE 8192
+
+struct handles {
+    sm_handle subject, shared, other, out;
+};
+
+struct refusal_row {
+    const char *name;
+    /* Fills the handles that the call takes. */
+    void (*prepare)(struct handles *h);
+    sm_code (*call)(struct handles *h, sm_error *error);
+    sm_code code;
+    /* What subject and out hold after the call; a null pointer: what they held before. */
+    const char *subject, *out;
+};
+
+/* A checksum of what each export answers on a handle of each kind that it is for. */
+static uint64_t answers_of_all(void)
+{
+    uint64_t sum = 1469598103934665603u;
+    size_t row;
+    for (row = 0; row < EXPORTS_COUNT; row++) {
+        uint32_t kind;
+        for (kind = SM_KIND_REGULAR; kind <= SM_KIND_BYTES; kind++) {
+            sm_handle handle = SM_EMPTY;
+            char text[SIZE], *at;
+            if (!(EXPORTS[row].kinds & KIND(kind)))
+                continue;
+            fill(&handle, kind);
+            sum = (sum ^ EXPORTS[row].call(&handle)) * 1099511628211u;
+            describe(&handle, text, sizeof text);
+            for (at = text; *at; at++)
+                sum = (sum ^ (uint8_t)*at) * 1099511628211u;
+            sm_close(&handle);
+        }
+    }
+    return sum;
+}
+
+/*
+** Handles that calls take
+*/
+
+static void prepare_none(struct handles *h)
+{
+    (void)h;
+}
+
+static void prepare_full(struct handles *h)
+{
+    OPEN(&h->subject, FULL_MAP);
+}
+
+static void prepare_index(struct handles *h)
+{
+    OPEN(&h->subject, INDEX_MAP);
+}
+
+static void prepare_linked(struct handles *h)
+{
+    OPEN(&h->subject, LINKED_MAP);
+}
+
+static void prepare_hermes(struct handles *h)
+{
+    OPEN(&h->subject, HERMES_MAP);
+}
+
+/* The same, with a second handle on the map: a change copies it first. */
+static void share(struct handles *h)
+{
+    sm_error error = { 0 };
+    CHECK_NUMBER(sm_share(&h->subject, &h->shared, &error), SM_OK);
+}
+
+static void prepare_shared_full(struct handles *h)
+{
+    prepare_full(h);
+    share(h);
+}
+
+static void prepare_shared_index(struct handles *h)
+{
+    prepare_index(h);
+    share(h);
+}
+
+static void prepare_shared_hermes(struct handles *h)
+{
+    prepare_hermes(h);
+    share(h);
+}
+
+static void prepare_composition(struct handles *h)
+{
+    OPEN(&h->subject, README_MAP);
+    share(h);
+    OPEN(&h->other, "{\"sources\":[\"a\"],\"mappings\":\";AAAA\"}");
+}
+
+static void prepare_bundle(struct handles *h)
+{
+    sm_error error = { 0 };
+    CHECK_NUMBER(sm_bundle_open(&h->subject, BYTES(BUNDLE), &error), SM_OK);
+    OPEN(&h->other, BUNDLE_MAP);
+}
+
+static void prepare_split(struct handles *h)
+{
+    sm_error error = { 0 };
+    prepare_bundle(h);
+    CHECK_NUMBER(sm_bundle_split(&h->subject, &h->other, &h->out, &error), SM_OK);
+    sm_close(&h->subject);
+    h->subject = h->out;
+    memset(&h->out, 0, sizeof h->out);
+}
+
+/*
+** Calls
+*/
+
+#define CALL(name, expression)                                \
+    static sm_code name(struct handles *h, sm_error *error)   \
+    {                                                         \
+        (void)h;                                              \
+        return expression;                                    \
+    }
+
+static const sm_text PREFIX = { (const uint8_t *)"root", 4 };
+static const sm_debug_id ID = { { 0, 0, 0, 0, 0, 0, 0, 0, 0, 0, 0, 0, 0, 0, 0, 42 } };
+
+CALL(open_full, sm_open(&h->out, BYTES(FULL_MAP), error))
+CALL(open_index, sm_open(&h->out, BYTES(INDEX_MAP), error))
+CALL(open_hermes, sm_open(&h->out, BYTES(HERMES_MAP), error))
+CALL(open_bad, sm_open(&h->out, BYTES("{\"sources\":[\"a\",\"b\"],\"mappings\":\"AAAA,AAAAAA\"}"), error))
+CALL(open_url, sm_open_url(&h->out, BYTES("data:application/json;base64,eyJtYXBwaW5ncyI6IkEifQ=="), error))
+CALL(open_bad_url, sm_open_url(&h->out, BYTES("data:application/json;base64,!"), error))
+CALL(share_map, sm_share(&h->subject, &h->out, error))
+CALL(trace, sm_trace(&h->subject, BYTES("0:0\n0:4\n9:9\nx\n"), &h->out, error))
+CALL(rewrite, sm_rewrite(&h->subject, true, true, &PREFIX, 1, error))
+CALL(flatten, sm_flatten(&h->subject, error))
+CALL(compose, sm_compose(&h->subject, &h->other, error))
+CALL(shift, sm_shift(&h->subject, 2, error))
+CALL(set_file, sm_set_file(&h->subject, true, BYTES("f"), error))
+CALL(set_source_root, sm_set_source_root(&h->subject, true, BYTES("r"), error))
+CALL(set_debug_id, sm_set_debug_id(&h->subject, true, &ID, error))
+CALL(set_source, sm_set_source(&h->subject, 0, BYTES("c.js"), error))
+CALL(set_contents, sm_set_contents(&h->subject, 1, true, BYTES("let b;"), error))
+CALL(ignore_source, sm_ignore_source(&h->subject, 0, error))
+CALL(remove_names, sm_remove_names(&h->subject, error))
+CALL(write_json, sm_write(&h->subject, &h->out, error))
+CALL(write_url, sm_write_url(&h->subject, &h->out, error))
+CALL(section, sm_section(&h->subject, 1, &h->out, error))
+CALL(builder_new, sm_builder_new(&h->out, true, BYTES("f"), error))
+CALL(view_open, sm_view_open(&h->out, BYTES("a\nb\r\nc"), error))
+CALL(resolve, sm_resolve(BYTES("../b c"), BYTES("http://x.com/a/b/c"), &h->out, error))
+CALL(resolve_path, sm_resolve_path(BYTES("../b"), BYTES("/a/b/c"), &h->out, error))
+CALL(relative_path, sm_relative_path(BYTES("/a/b/c.js"), BYTES("/a/d/e.map"), &h->out, error))
+CALL(bundle_open, sm_bundle_open(&h->out, BYTES(BUNDLE), error))
+CALL(bundle_split, sm_bundle_split(&h->subject, &h->other, &h->out, error))
+CALL(split_map, sm_split_map(&h->subject, 0, &h->out, error))
+
+static sm_code detect(struct handles *h, sm_error *error)
+{
+    bool is_map = false;
+    sm_code code = sm_is_source_map(BYTES(FULL_MAP), &is_map, error);
+    (void)h;
+    CHECK(is_map == (code == SM_OK));
+    return code;
+}
+
+static sm_code locate(struct handles *h, sm_error *error)
+{
+    bool is_legacy = false;
+    return sm_locate_reference(BYTES("let a;\n//# sourceMappingURL=a.map"), &h->out, &is_legacy, error);
+}
+
+#define FULL_MAP_WITH(file, ignored, mappings, names, root, source, contents)                                          \
+    "{\"debugId\":\"00000000-0000-0000-0000-00000000002a\",\"file\":\"" file "\",\"ignoreList\":[" ignored "],"       \
+    "\"mappings\":\"" mappings "\",\"names\":[" names "],\"rangeMappings\":\"C;\",\"sourceRoot\":\"" root "\","       \
+    "\"sources\":[\"" source "\",\"/b.js\"],\"sourcesContent\":[\"let a;\"," contents "],\"version\":3}"
+#define TOKENS "AAAA,ICCEA;E"
+#define NAME "\"n\""
+#define FULL_MAP_REWRITTEN                                                                                            \
+    "{\"debugId\":\"00000000-0000-0000-0000-00000000002a\",\"file\":\"out.js\",\"mappings\":\"AAAA,ICCEA;E\","        \
+    "\"names\":[\"n\"],\"rangeMappings\":\"C;\",\"sources\":[\"a.js\",\"/b.js\"],"                                    \
+    "\"sourcesContent\":[\"let a;\",null],\"version\":3}"
+#define SECOND_SECTION "{\"mappings\":\"AAAA\",\"names\":[],\"sources\":[\"b.js\"],\"version\":3}"
+#define MODULE_MAP "{\"file\":\"0.js\",\"mappings\":\"AAAA,EAAE\",\"names\":[],\"sources\":[\"a.js\"],\"version\":3}"
+/* README_MAP, its generated text moved one line down */
+#define README_MAP_MOVED \
+    "{\"mappings\":\";" README_MAPPINGS "\",\"names\":[\"x\",\"alert\"],\"sources\":[\"coolstuff.js\"],\"version\":3}"
+#define EMPTY_URL                                 \
+    "data:application/json;charset=utf-8;base64," \
+    "eyJtYXBwaW5ncyI6IiIsIm5hbWVzIjpbXSwic291cmNlcyI6W10sInZlcnNpb24iOjN9"
+
+static void prepare_empty(struct handles *h)
+{
+    OPEN(&h->subject, "{\"mappings\":\"\"}");
+}
+
+#define ALONE_AND_SHARED(name, call, kind, wanted)                    \
+    { name, prepare_##kind, call, SM_OK, wanted, NULL },              \
+    { name " of a shared map", prepare_shared_##kind, call, SM_OK, wanted, NULL }
+
+static const struct refusal_row ROWS[] = {
+    { "open", prepare_none, open_full, SM_OK, NULL, FULL_MAP },
+    { "open an index map", prepare_none, open_index, SM_OK, NULL, INDEX_MAP },
+    { "open a Hermes map", prepare_none, open_hermes, SM_OK, NULL, HERMES_MAP },
+    { "open a bad map", prepare_none, open_bad, SM_BAD_SEGMENT_SIZE, NULL, NULL },
+    { "open a URL", prepare_none, open_url, SM_OK, NULL,
+      "{\"mappings\":\"A\",\"names\":[],\"sources\":[],\"version\":3}" },
+    { "open a bad URL", prepare_none, open_bad_url, SM_INVALID_DATA_URL, NULL, NULL },
+    { "share", prepare_full, share_map, SM_OK, NULL, FULL_MAP },
+    { "detect", prepare_none, detect, SM_OK, NULL, NULL },
+    { "trace", prepare_full, trace, SM_OK, NULL,
+      "root/a.js:0:0\n/b.js:1:2 name=n\n<unknown>:4294967295:4294967295\nbad position\n" },
+    ALONE_AND_SHARED("rewrite", rewrite, full, FULL_MAP_REWRITTEN),
+    ALONE_AND_SHARED("rewrite a Hermes map", rewrite, hermes, NULL),
+    ALONE_AND_SHARED("flatten", flatten, index, INDEX_MAP_FLAT),
+    { "flatten what has no map", prepare_linked, flatten, SM_CANNOT_FLATTEN, NULL, NULL },
+    { "compose", prepare_composition, compose, SM_OK, README_MAP_MOVED, NULL },
+    ALONE_AND_SHARED("shift", shift, index, INDEX_MAP_SHIFTED_BY_2),
+    ALONE_AND_SHARED("set the file", set_file, full, FULL_MAP_WITH("f", "1", TOKENS, NAME, "root", "a.js", "null")),
+    ALONE_AND_SHARED("set the root", set_source_root, full,
+                     FULL_MAP_WITH("out.js", "1", TOKENS, NAME, "r", "a.js", "null")),
+    ALONE_AND_SHARED("set the debug id", set_debug_id, full, NULL),
+    ALONE_AND_SHARED("set a source", set_source, full,
+                     FULL_MAP_WITH("out.js", "1", TOKENS, NAME, "root", "c.js", "null")),
+    ALONE_AND_SHARED("set contents", set_contents, full,
+                     FULL_MAP_WITH("out.js", "1", TOKENS, NAME, "root", "a.js", "\"let b;\"")),
+    ALONE_AND_SHARED("ignore a source", ignore_source, full,
+                     FULL_MAP_WITH("out.js", "0,1", TOKENS, NAME, "root", "a.js", "null")),
+    ALONE_AND_SHARED("remove names", remove_names, full,
+                     FULL_MAP_WITH("out.js", "1", "AAAA,ICCE;E", "", "root", "a.js", "null")),
+    { "write", prepare_full, write_json, SM_OK, NULL, FULL_MAP },
+    { "write an index map", prepare_index, write_json, SM_OK, NULL, INDEX_MAP },
+    { "write a Hermes map", prepare_hermes, write_json, SM_OK, NULL, HERMES_MAP },
+    { "write a URL", prepare_empty, write_url, SM_OK, NULL, EMPTY_URL },
+    { "copy a section", prepare_index, section, SM_OK, NULL, SECOND_SECTION },
+    { "begin to build", prepare_none, builder_new, SM_OK, NULL, "a builder" },
+    { "open a view", prepare_none, view_open, SM_OK, NULL, "a\nb\r\nc" },
+    { "locate", prepare_none, locate, SM_OK, NULL, "a.map" },
+    { "resolve", prepare_none, resolve, SM_OK, NULL, "http://x.com/a/b%20c" },
+    { "resolve a path", prepare_none, resolve_path, SM_OK, NULL, "/a/b" },
+    { "path to a file", prepare_none, relative_path, SM_OK, NULL, "../d/e.map" },
+    { "open a bundle", prepare_none, bundle_open, SM_OK, NULL, "a bundle of 1" },
+    { "split a bundle", prepare_bundle, bundle_split, SM_OK, NULL, "a split of 1" },
+    { "map of an item", prepare_split, split_map, SM_OK, NULL, MODULE_MAP },
+};
+
+struct descriptions {
+    char subject[SIZE], shared[SIZE], other[SIZE], out[SIZE];
+};
+
+static void describe_all(struct handles *h, struct descriptions *d)
+{
+    describe(&h->subject, d->subject, SIZE);
+    describe(&h->shared, d->shared, SIZE);
+    describe(&h->other, d->other, SIZE);
+    describe(&h->out, d->out, SIZE);
+}
+
+static void check_named(bool holds, const char *name, unsigned long n, const char *what)
+{
+    char text[256];
+    snprintf(text, sizeof text, "%s, allocation %lu refused: %s", name, n, what);
+    check(holds, text, __FILE__, __LINE__);
+}
+
+static void check_same(const struct descriptions *got, const char *subject, const char *out,
+                       const struct descriptions *before, const char *name, unsigned long n)
+{
+    check_named(strcmp(got->subject, subject) == 0, name, n, "the subject is not as it should be");
+    check_named(strcmp(got->out, out) == 0, name, n, "what the call fills is not as it should be");
+    check_named(strcmp(got->shared, before->shared) == 0, name, n, "a shared map has changed");
+    check_named(strcmp(got->other, before->other) == 0, name, n, "the other handle has changed");
+}
+
+static void close_all(struct handles *h)
+{
+    sm_close(&h->subject);
+    sm_close(&h->shared);
+    sm_close(&h->other);
+    sm_close(&h->out);
+}
+
+/* Makes the call with allocation `n` refused, and then with memory. Returns whether it came to that allocation. */
+static bool refuse_one(const struct refusal_row *row, unsigned long n, bool and_all_later, uint64_t answers)
+{
+    static struct descriptions before, now;
+    struct handles h = { SM_EMPTY, SM_EMPTY, SM_EMPTY, SM_EMPTY };
+    sm_error error = { 0 };
+    sm_code code;
+    bool was_refused;
+    row->prepare(&h);
+    CHECK_NUMBER(sm_view_open(&h.out, BYTES("before"), &error), SM_OK);
+    describe_all(&h, &before);
+    refuse(n, and_all_later);
+    code = row->call(&h, &error);
+    was_refused = refuse_none() >= n;
+    if (code == SM_OUT_OF_MEMORY) {
+        check_named(was_refused, row->name, n, "out of memory, and none was refused");
+        check_named(error.code == code, row->name, n, "the error does not say so");
+        describe_all(&h, &now);
+        check_same(&now, before.subject, before.out, &before, row->name, n);
+        check_named(answers_of_all() == answers, row->name, n, "afterwards an export answers otherwise");
+        memset(&error, 0, sizeof error);
+        code = row->call(&h, &error);
+    }
+    check_named(code == row->code && error.code == row->code, row->name, n, "the code is another one");
+    describe_all(&h, &now);
+    check_same(&now, row->subject ? row->subject : before.subject, row->out ? row->out : before.out, &before, row->name, n);
+    close_all(&h);
+    return was_refused;
+}
+
+static void test_row(const struct refusal_row *row, unsigned long most, uint64_t answers)
+{
+    int all;
+    for (all = 0; all < 2; all++) {
+        unsigned long n = 1;
+        while (n <= most && refuse_one(row, n, all != 0, answers))
+            n++;
+    }
+}
+
+/*
+** Building
+*/
+
+#define BUILT                                                                                                     \
+    "{\"debugId\":\"00000000-0000-0000-0000-00000000002a\",\"file\":\"out.js\",\"ignoreList\":[1],"               \
+    "\"mappings\":\"AAAA,ICCEA;E\",\"names\":[\"n\"],\"rangeMappings\":\"C;\",\"sourceRoot\":\"root\","           \
+    "\"sources\":[\"a.js\",\"b.js\"],\"sourcesContent\":[null,\"let b;\"],\"version\":3}"
+
+/* Whether a call of a builder is to be made again: memory ran out. Checks that it succeeded otherwise. */
+static bool is_to_repeat(sm_code code, const sm_error *error, unsigned long *failures)
+{
+    if (code == SM_OUT_OF_MEMORY) {
+        CHECK_NUMBER(error->code, SM_OUT_OF_MEMORY);
+        ++*failures;
+        return true;
+    }
+    CHECK_NUMBER(code, SM_OK);
+    return false;
+}
+
+#define REPEAT(call)                                        \
+    do                                                      \
+        code = (call);                                      \
+    while (is_to_repeat(code, &error, failures) && *failures < 10)
+
+/* Builds one map, and makes each call that fails again. Returns how many calls failed. */
+static void build(sm_map *map, unsigned long *failures)
+{
+    sm_builder builder = SM_EMPTY;
+    sm_error error = { 0 };
+    sm_code code;
+    sm_token tokens[3];
+    uint32_t id = SM_NONE;
+    size_t done = 0;
+    tokens[0] = token_of(1, 2, SM_NONE, SM_NONE, SM_NONE, SM_NONE, false);
+    tokens[1] = token_of(0, 4, 1, 2, 1, 0, true);
+    tokens[2] = token_of(0, 0, 0, 0, 0, SM_NONE, false);
+    REPEAT(sm_builder_new(&builder, true, BYTES("out.js"), &error));
+    REPEAT(sm_builder_set_source_root(&builder, true, BYTES("root"), &error));
+    REPEAT(sm_builder_set_debug_id(&builder, true, &ID, &error));
+    REPEAT(sm_builder_add_source(&builder, BYTES("a.js"), &id, &error));
+    CHECK_NUMBER(id, 0);
+    REPEAT(sm_builder_add_source(&builder, BYTES("b.js"), &id, &error));
+    CHECK_NUMBER(id, 1);
+    REPEAT(sm_builder_add_name(&builder, BYTES("n"), &id, &error));
+    CHECK_NUMBER(id, 0);
+    REPEAT(sm_builder_set_contents(&builder, 1, true, BYTES("let b;"), &error));
+    REPEAT(sm_builder_ignore_source(&builder, 1, &error));
+    while (done < 3 && *failures < 10) {
+        size_t added;
+        error.code = SM_OK;
+        added = sm_builder_add_tokens(&builder, tokens + done, 3 - done, &error);
+        done += added;
+        is_to_repeat(error.code, &error, failures);
+    }
+    code = sm_builder_finish(&builder, map, &error);
+    CHECK_NUMBER(sm_kind(&builder), SM_KIND_EMPTY);
+    /* a builder that is finished is gone, so the map is built anew */
+    if (is_to_repeat(code, &error, failures) && *failures < 10)
+        build(map, failures);
+}
+
+static void test_building_refused(unsigned long most)
+{
+    unsigned long n, made = 1;
+    for (n = 1; n <= most && n <= made; n++) {
+        sm_map map = SM_EMPTY;
+        unsigned long failures = 0;
+        refuse(n, false);
+        build(&map, &failures);
+        made = refuse_none();
+        CHECK(failures <= 1);
+        CHECK_HOLDS(&map, BUILT);
+        sm_close(&map);
+    }
+    CHECK(n > 5);
+}
+
+/*
+** A map of many parts, whose opening takes more allocations than the small ones
+*/
+
+#define PARTS 60
+
+static char *map_of_parts(void)
+{
+    char *json = malloc(PARTS * 64 + 256), *at = json;
+    int part;
+    at += sprintf(at, "{\"mappings\":\"");
+    for (part = 0; part < PARTS; part++)
+        at += sprintf(at, "%s", part == 0 ? "AAAAA" : ",CCAAC");
+    at += sprintf(at, "\",\"names\":[");
+    for (part = 0; part < PARTS; part++)
+        at += sprintf(at, "%s\"name%d\"", part == 0 ? "" : ",", part);
+    at += sprintf(at, "],\"sources\":[");
+    for (part = 0; part < PARTS; part++)
+        at += sprintf(at, "%s\"%d.js\"", part == 0 ? "" : ",", part);
+    sprintf(at, "],\"version\":3}");
+    return json;
+}
+
+static void test_many_parts_refused(unsigned long most)
+{
+    char *json = map_of_parts();
+    unsigned long n, made = 1;
+    for (n = 1; n <= most && n <= made; n++) {
+        sm_map map = SM_EMPTY;
+        sm_error error = { 0 };
+        sm_code code;
+        refuse(n, false);
+        code = sm_open(&map, (const uint8_t *)json, strlen(json), &error);
+        made = refuse_none();
+        if (code == SM_OUT_OF_MEMORY) {
+            CHECK_NUMBER(sm_kind(&map), SM_KIND_EMPTY);
+            code = sm_open(&map, (const uint8_t *)json, strlen(json), &error);
+        }
+        CHECK_NUMBER(code, SM_OK);
+        CHECK_HOLDS(&map, json);
+        sm_close(&map);
+    }
+    CHECK(n > 100 || n > most);
+    free(json);
+}
+
+/* What takes no memory succeeds where there is none. */
+static void test_without_memory(void)
+{
+    static const char *const FREE[] = { "sm_count", "sm_file", "sm_source_root", "sm_get_debug_id", "sm_source", "sm_name",
+                                        "sm_contents", "sm_ignore_list", "sm_tokens", "sm_lookup", "sm_lookup_many",
+                                        "sm_lookup_source", "sm_lookup_name", "sm_hermes_function_name", "sm_bytes_text",
+                                        "sm_section_start_of", "sm_section_url", "sm_module_offsets", "sm_module_path", "sm_view_text", "sm_view_count",
+                                        "sm_view_line", "sm_view_slice", "sm_bundle_count", "sm_split_count" };
+    size_t row, name;
+    uint32_t kind;
+    for (row = 0; row < EXPORTS_COUNT; row++) {
+        for (name = 0; name < sizeof FREE / sizeof FREE[0]; name++) {
+            if (strcmp(EXPORTS[row].name, FREE[name]) != 0)
+                continue;
+            for (kind = SM_KIND_EMPTY; kind <= SM_KIND_BYTES; kind++) {
+                sm_handle handle = SM_EMPTY;
+                sm_code code, without;
+                fill(&handle, kind);
+                code = EXPORTS[row].call(&handle);
+                refuse(1, true);
+                without = EXPORTS[row].call(&handle);
+                check_named(refuse_none() == 0 && without == code, FREE[name], 1, "memory is allocated");
+                sm_close(&handle);
+            }
+        }
+    }
+}
+
+void test_refusals(unsigned long most)
+{
+    uint64_t answers = answers_of_all();
+    size_t row;
+    CHECK(answers == answers_of_all());
+    for (row = 0; row < sizeof ROWS / sizeof ROWS[0]; row++)
+        test_row(&ROWS[row], most, answers);
+    test_building_refused(most);
+    test_many_parts_refused(most);
+    test_without_memory();
+}

@@ -1,0 +1,21 @@
+/* The groups of tests. */
+#ifndef TESTS_H
+#define TESTS_H
+
+#include <stdbool.h>
+
+void test_opening(void);
+void test_reading(void);
+void test_lookups(void);
+void test_changes(void);
+void test_building(void);
+void test_texts(void);
+void test_bundles(void);
+void test_wrong_kinds(void);
+/* With `keeps_map` the first handle is closed after all threads, so none of them ever is the only one on the map: a
+** checker of races, which does not see the order that counts of references make, then has nothing to report. */
+void test_threads(bool keeps_map);
+/* Refuses the first `most` allocations in turn. */
+void test_refusals(unsigned long most);
+
+#endif

@@ -1,0 +1,17 @@
+// answers.mjs MAP POSITIONS: for each line LINE:COLUMN of POSITIONS, which a tab may end, the original position; none where
+// the closest token has no source or stands on another line.
+import { readFileSync } from 'node:fs';
+import { FlattenMap, originalPositionFor } from '../node/lib/index.mjs';
+
+function answer({ source, line, column, name }) {
+  if (source === null) return 'none';
+  return `${source}:${line - 1}:${column}${name === null ? '' : ` name=${name}`}`;
+}
+
+const [path, positions] = process.argv.slice(2);
+const map = new FlattenMap(readFileSync(path, 'utf8'));
+const rows = readFileSync(positions, 'utf8').trimEnd().split('\n');
+for (const row of rows) {
+  const [line, column] = row.split('\t')[0].split(':').map(Number);
+  console.log(answer(originalPositionFor(map, { line: line + 1, column })));
+}
