@@ -1,0 +1,88 @@
+//! Finds the C library `sourcemap` and links it.
+//!
+//! The first of these that has it: the folder that `SOURCEMAP_LIBRARY_DIR`
+//! names, `../c/out`, pkg-config, the linker's own folders. In a folder that has
+//! both, the static library is taken, unless `SOURCEMAP_LIBRARY_KIND` is
+//! `shared`.
+
+use std::env;
+use std::path::{Path, PathBuf};
+use std::process::Command;
+
+const LIBRARY_DIR: &str = "SOURCEMAP_LIBRARY_DIR";
+const LIBRARY_KIND: &str = "SOURCEMAP_LIBRARY_KIND";
+
+fn main() {
+    println!("cargo:rerun-if-env-changed={LIBRARY_DIR}");
+    println!("cargo:rerun-if-env-changed={LIBRARY_KIND}");
+    println!("cargo:rerun-if-env-changed=PKG_CONFIG_PATH");
+    println!("cargo:rerun-if-changed=build.rs");
+    if let Some(folder) = env::var_os(LIBRARY_DIR) {
+        let folder = absolute(Path::new(&folder));
+        if !link_from(&folder) {
+            panic!(
+                "{LIBRARY_DIR} is {}, which has no library sourcemap",
+                folder.display()
+            );
+        }
+    } else if !link_from(&beside()) && !link_by_pkg_config() {
+        println!("cargo:rustc-link-lib=sourcemap");
+    }
+}
+
+/// The folder that `bindings/c/build` fills.
+fn beside() -> PathBuf {
+    Path::new(env!("CARGO_MANIFEST_DIR")).join("../c/out")
+}
+
+fn absolute(folder: &Path) -> PathBuf {
+    folder.canonicalize().unwrap_or_else(|_| folder.to_owned())
+}
+
+/// Links the library of a folder, and returns whether the folder has it.
+fn link_from(folder: &Path) -> bool {
+    let archive = folder.join("libsourcemap.a");
+    let shared = ["libsourcemap.so", "libsourcemap.dylib", "sourcemap.dll"]
+        .map(|name| folder.join(name))
+        .into_iter()
+        .find(|path| path.exists());
+    let wants_shared = env::var_os(LIBRARY_KIND).is_some_and(|kind| kind == "shared");
+    let library = match shared {
+        Some(shared) if wants_shared || !archive.exists() => shared,
+        _ => archive.clone(),
+    };
+    println!("cargo:rerun-if-changed={}", library.display());
+    if !library.exists() {
+        return false;
+    }
+    println!("cargo:rustc-link-search=native={}", folder.display());
+    if library == archive {
+        println!("cargo:rustc-link-lib=static=sourcemap");
+    } else {
+        println!("cargo:rustc-link-lib=dylib=sourcemap");
+        // Tests and benches of this package then run without LD_LIBRARY_PATH.
+        println!("cargo:rustc-link-arg=-Wl,-rpath,{}", folder.display());
+    }
+    true
+}
+
+/// Links the library that pkg-config knows, and returns whether it knows one.
+fn link_by_pkg_config() -> bool {
+    let output = Command::new("pkg-config")
+        .args(["--libs", "sourcemap"])
+        .output();
+    let Ok(output) = output else {
+        return false;
+    };
+    if !output.status.success() {
+        return false;
+    }
+    for word in String::from_utf8_lossy(&output.stdout).split_whitespace() {
+        if let Some(folder) = word.strip_prefix("-L") {
+            println!("cargo:rustc-link-search=native={folder}");
+        } else if let Some(library) = word.strip_prefix("-l") {
+            println!("cargo:rustc-link-lib={library}");
+        }
+    }
+    true
+}

@@ -1,0 +1,309 @@
+//! Maps that are put together.
+
+use std::collections::BTreeSet;
+use std::path::Path;
+use std::sync::Arc;
+
+use crate::debug_id::DebugId;
+use crate::errors::Result;
+use crate::handle::BuilderHandle;
+use crate::local;
+use crate::types::{RawToken, SourceMap, Token};
+use crate::utils::must;
+
+/// How many tokens are handed to the library by one call.
+const BLOCK: usize = 1024;
+
+/// A map that is being built. Tokens come in any order.
+///
+/// ```
+/// let mut builder = sourcemap::SourceMapBuilder::new(Some("out.js"));
+/// builder.add(0, 0, 2, 4, Some("a.js"), Some("f"), false);
+/// let map = builder.into_sourcemap();
+/// assert_eq!(map.lookup_token(0, 9).unwrap().to_string(), "a.js:2:4 name=f");
+/// ```
+pub struct SourceMapBuilder {
+    /// Gives sources and names their ids, and takes the tokens.
+    handle: BuilderHandle,
+    file: Option<Arc<str>>,
+    source_root: Option<Arc<str>>,
+    debug_id: Option<DebugId>,
+    sources: Vec<Source>,
+    ignored: BTreeSet<u32>,
+    /// Tokens that the library does not have yet.
+    pending: Vec<RawToken>,
+}
+
+struct Source {
+    /// The text that has the id.
+    added: Arc<str>,
+    /// The text that the map gets.
+    text: Arc<str>,
+    contents: Option<Arc<str>>,
+}
+
+impl SourceMapBuilder {
+    /// Begins a map of a generated file of this name.
+    pub fn new(file: Option<&str>) -> SourceMapBuilder {
+        SourceMapBuilder {
+            handle: must(BuilderHandle::new()),
+            file: file.map(Into::into),
+            source_root: None,
+            debug_id: None,
+            sources: Vec::new(),
+            ignored: BTreeSet::new(),
+            pending: Vec::new(),
+        }
+    }
+
+    /// Begins a map that has these sources and tokens.
+    pub(crate) fn of_parts(
+        file: Option<Arc<str>>,
+        tokens: &[RawToken],
+        names: &[Arc<str>],
+        sources: &[Arc<str>],
+        contents: Vec<Option<Arc<str>>>,
+    ) -> SourceMapBuilder {
+        let mut builder = SourceMapBuilder::new(None);
+        builder.file = file;
+        for (index, source) in sources.iter().enumerate() {
+            builder.add_distinct_source(index, source);
+        }
+        for (source, contents) in builder.sources.iter_mut().zip(contents) {
+            source.contents = contents;
+        }
+        let name_ids: Vec<u32> = names.iter().map(|name| builder.add_name(name)).collect();
+        for token in tokens {
+            let name_id = name_ids.get(token.name_id as usize).copied();
+            builder.add_token_of_ids(RawToken {
+                name_id: name_id.unwrap_or(token.name_id),
+                ..*token
+            });
+        }
+        builder
+    }
+
+    /// Gives the source at this index an id of its own, also if another one has
+    /// its text.
+    fn add_distinct_source(&mut self, index: usize, source: &Arc<str>) {
+        let mut added = source.to_string();
+        while self.add_source(&added) as usize != index {
+            added.push('+');
+        }
+        self.sources[index].text = source.clone();
+    }
+
+    /// Sets or removes the debug id.
+    pub fn set_debug_id(&mut self, debug_id: Option<DebugId>) {
+        self.debug_id = debug_id;
+    }
+
+    /// Sets or removes the name of the generated file.
+    pub fn set_file<T: Into<Arc<str>>>(&mut self, value: Option<T>) {
+        self.file = value.map(Into::into);
+    }
+
+    /// Returns the name of the generated file.
+    pub fn get_file(&self) -> Option<&str> {
+        self.file.as_deref()
+    }
+
+    /// Sets or removes the source root, against which sources are resolved.
+    pub fn set_source_root<T: Into<Arc<str>>>(&mut self, value: Option<T>) {
+        self.source_root = value.map(Into::into);
+    }
+
+    /// Returns the source root.
+    pub fn get_source_root(&self) -> Option<&str> {
+        self.source_root.as_deref()
+    }
+
+    /// Adds a source, and returns its id. Equal texts have one id.
+    pub fn add_source(&mut self, src: &str) -> u32 {
+        let id = must(self.handle.add_source(src));
+        if id as usize == self.sources.len() {
+            let text: Arc<str> = src.into();
+            self.sources.push(Source {
+                added: text.clone(),
+                text,
+                contents: None,
+            });
+        }
+        id
+    }
+
+    /// Sets the text of a source. The id stays that of the text that was added.
+    ///
+    /// # Panics
+    ///
+    /// If there is no source of this id.
+    pub fn set_source(&mut self, src_id: u32, src: &str) {
+        self.sources[src_id as usize].text = src.into();
+    }
+
+    /// Returns the text of a source.
+    pub fn get_source(&self, src_id: u32) -> Option<&str> {
+        self.sources
+            .get(src_id as usize)
+            .map(|source| &*source.text)
+    }
+
+    /// Puts a source on the ignore list.
+    pub fn add_to_ignore_list(&mut self, src_id: u32) {
+        self.ignored.insert(src_id);
+    }
+
+    /// Sets or removes the contents of a source.
+    ///
+    /// # Panics
+    ///
+    /// If there is no source of this id.
+    pub fn set_source_contents(&mut self, src_id: u32, contents: Option<&str>) {
+        self.sources[src_id as usize].contents = contents.map(Into::into);
+    }
+
+    /// Returns the contents of a source.
+    pub fn get_source_contents(&self, src_id: u32) -> Option<&str> {
+        self.sources.get(src_id as usize)?.contents.as_deref()
+    }
+
+    /// Returns whether a source has contents.
+    pub fn has_source_contents(&self, src_id: u32) -> bool {
+        self.get_source_contents(src_id).is_some()
+    }
+
+    /// Reads contents that sources lack from local files, resolved against a
+    /// folder, itself resolved against the current folder. Files that can't be
+    /// read are left out. Returns how many were read.
+    pub fn load_local_source_contents(&mut self, base_path: Option<&Path>) -> Result<usize> {
+        let folder = local::folder(base_path)?;
+        let mut loaded = 0;
+        for source in self
+            .sources
+            .iter_mut()
+            .filter(|source| source.contents.is_none())
+        {
+            source.contents = local::read_source(&folder, &source.added).map(Into::into);
+            loaded += usize::from(source.contents.is_some());
+        }
+        Ok(loaded)
+    }
+
+    /// Adds a name, and returns its id. Equal texts have one id.
+    pub fn add_name(&mut self, name: &str) -> u32 {
+        must(self.handle.add_name(name))
+    }
+
+    /// Adds a token by the texts of its source and its name.
+    #[allow(clippy::too_many_arguments)]
+    pub fn add(
+        &mut self,
+        dst_line: u32,
+        dst_col: u32,
+        src_line: u32,
+        src_col: u32,
+        source: Option<&str>,
+        name: Option<&str>,
+        is_range: bool,
+    ) -> RawToken {
+        let source = source.map(|source| self.add_source(source));
+        let name = name.map(|name| self.add_name(name));
+        self.add_raw(dst_line, dst_col, src_line, src_col, source, name, is_range)
+    }
+
+    /// Adds a token by the ids of its source and its name.
+    #[allow(clippy::too_many_arguments)]
+    pub fn add_raw(
+        &mut self,
+        dst_line: u32,
+        dst_col: u32,
+        src_line: u32,
+        src_col: u32,
+        source: Option<u32>,
+        name: Option<u32>,
+        is_range: bool,
+    ) -> RawToken {
+        let token = RawToken {
+            dst_line,
+            dst_col,
+            src_line,
+            src_col,
+            src_id: source.unwrap_or(!0),
+            name_id: name.unwrap_or(!0),
+            is_range,
+        };
+        self.add_token_of_ids(token);
+        token
+    }
+
+    /// Adds a token of another map, with or without its name.
+    pub fn add_token(&mut self, token: &Token<'_>, with_name: bool) -> RawToken {
+        let name = token.get_name().filter(|_| with_name);
+        self.add(
+            token.get_dst_line(),
+            token.get_dst_col(),
+            token.get_src_line(),
+            token.get_src_col(),
+            token.get_source(),
+            name,
+            token.is_range(),
+        )
+    }
+
+    /// Removes from each source the first of these prefixes that it begins with.
+    /// A prefix ends with `/`, which is added where it lacks.
+    pub fn strip_prefixes<S: AsRef<str>>(&mut self, prefixes: &[S]) {
+        for source in &mut self.sources {
+            let rest = prefixes
+                .iter()
+                .find_map(|prefix| without(&source.text, prefix.as_ref()));
+            if let Some(rest) = rest {
+                source.text = rest.into();
+            }
+        }
+    }
+
+    /// Returns the map.
+    pub fn into_sourcemap(self) -> SourceMap {
+        must(self.finish())
+    }
+
+    fn add_token_of_ids(&mut self, token: RawToken) {
+        self.pending.push(token);
+        if self.pending.len() >= BLOCK {
+            must(self.handle.add_tokens(&mut self.pending));
+        }
+    }
+
+    fn finish(mut self) -> Result<SourceMap> {
+        self.handle.add_tokens(&mut self.pending)?;
+        self.handle.set_source_root(self.source_root.as_deref())?;
+        self.handle.set_debug_id(self.debug_id)?;
+        for (id, source) in (0..).zip(&self.sources) {
+            if let Some(contents) = &source.contents {
+                self.handle.set_contents(id, contents)?;
+            }
+        }
+        let mut map = self.handle.finish()?;
+        map.set_file(self.file.as_deref())?;
+        for (id, source) in (0..).zip(&self.sources) {
+            if source.text != source.added {
+                map.set_source(id, &source.text)?;
+            }
+        }
+        for id in self.ignored {
+            map.ignore_source(id)?;
+        }
+        Ok(SourceMap::of_handle(map))
+    }
+}
+
+/// What comes after a prefix that ends with `/`.
+fn without<'a>(source: &'a str, prefix: &str) -> Option<&'a str> {
+    let rest = source.strip_prefix(prefix)?;
+    if prefix.ends_with('/') {
+        Some(rest)
+    } else {
+        rest.strip_prefix('/')
+    }
+}

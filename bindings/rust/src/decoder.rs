@@ -1,0 +1,31 @@
+//! Maps from their texts.
+
+use std::io::Read;
+
+use crate::errors::Result;
+use crate::handle::MapHandle;
+use crate::types::DecodedMap;
+use crate::utils::read_all;
+
+/// Reads a map of any kind from its JSON text, after a junk header if there is
+/// one. It reads to the end.
+pub fn decode<R: Read>(rdr: R) -> Result<DecodedMap> {
+    decode_slice(&read_all(rdr)?)
+}
+
+/// Reads a map of any kind from its JSON text, after a junk header if there is
+/// one.
+///
+/// ```
+/// use sourcemap::{decode_slice, DecodedMap};
+/// let map = decode_slice(br#"{"version":3,"sections":[]}"#).unwrap();
+/// assert!(matches!(map, DecodedMap::Index(_)));
+/// ```
+pub fn decode_slice(slice: &[u8]) -> Result<DecodedMap> {
+    Ok(DecodedMap::of_handle(MapHandle::open(slice)?))
+}
+
+/// Reads a map of any kind from a `data:` URL of base64.
+pub fn decode_data_url(url: &str) -> Result<DecodedMap> {
+    Ok(DecodedMap::of_handle(MapHandle::open_url(url)?))
+}

@@ -1,0 +1,84 @@
+//! Whether bytes are a map, and which map a generated text refers to.
+
+use std::io::Read;
+use std::path::{Path, PathBuf};
+
+use crate::decoder::decode_data_url;
+use crate::errors::Result;
+use crate::handle::{self, Reference};
+use crate::types::DecodedMap;
+use crate::utils::{must, read_all};
+
+/// A reference from a generated text to its map.
+#[derive(PartialEq, Eq, Debug)]
+pub enum SourceMapRef {
+    /// Of a comment that begins with `//#`.
+    Ref(String),
+    /// Of a comment that begins with `//@`.
+    LegacyRef(String),
+}
+
+impl SourceMapRef {
+    /// Returns the reference as it is in its text.
+    pub fn get_url(&self) -> &str {
+        match self {
+            SourceMapRef::Ref(url) | SourceMapRef::LegacyRef(url) => url,
+        }
+    }
+
+    /// Returns the URL that the reference leads to from the URL of its text.
+    /// `data:` URLs lead nowhere.
+    pub fn resolve(&self, minified_url: &str) -> Option<String> {
+        must(handle::resolve(self.get_url(), minified_url))
+    }
+
+    /// Returns the path that the reference leads to from the path of its text.
+    pub fn resolve_path(&self, minified_path: &Path) -> Option<PathBuf> {
+        resolve_path(self.get_url(), minified_path)
+    }
+
+    /// Returns the map in a `data:` URL, or none of another URL.
+    pub fn get_embedded_sourcemap(&self) -> Result<Option<DecodedMap>> {
+        let url = self.get_url();
+        if url.starts_with("data:") {
+            decode_data_url(url).map(Some)
+        } else {
+            Ok(None)
+        }
+    }
+}
+
+/// The path that a reference leads to from a path that is UTF-8.
+pub(crate) fn resolve_path(reference: &str, base: &Path) -> Option<PathBuf> {
+    must(handle::resolve_path(reference, base.to_str()?)).map(PathBuf::from)
+}
+
+/// Returns the reference to its map that a generated text carries.
+pub fn locate_sourcemap_reference<R: Read>(rdr: R) -> Result<Option<SourceMapRef>> {
+    locate_sourcemap_reference_slice(&read_all(rdr)?)
+}
+
+/// Returns the reference to its map that a generated text carries.
+///
+/// ```
+/// use sourcemap::{locate_sourcemap_reference_slice, SourceMapRef};
+/// let found = locate_sourcemap_reference_slice(b"f();\n//# sourceMappingURL=a.js.map\n");
+/// assert_eq!(found.unwrap(), Some(SourceMapRef::Ref("a.js.map".into())));
+/// ```
+pub fn locate_sourcemap_reference_slice(slice: &[u8]) -> Result<Option<SourceMapRef>> {
+    let found = handle::locate_reference(slice)?;
+    Ok(found.map(|Reference { url, is_legacy }| match is_legacy {
+        true => SourceMapRef::LegacyRef(url),
+        false => SourceMapRef::Ref(url),
+    }))
+}
+
+/// Returns whether a reader yields a map. A reader that fails yields none.
+pub fn is_sourcemap<R: Read>(rdr: R) -> bool {
+    read_all(rdr).is_ok_and(|bytes| is_sourcemap_slice(&bytes))
+}
+
+/// Returns whether bytes are a map, by the keys of their JSON value.
+pub fn is_sourcemap_slice(slice: &[u8]) -> bool {
+    handle::is_source_map(slice).unwrap_or(false)
+}

@@ -1,0 +1,235 @@
+//! The declarations of `sourcemap.h`, in its order.
+//!
+//! What a caller owes stands there, and the module `handle` keeps it.
+
+// The header is declared whole, so that a test can compare both.
+#![allow(dead_code)]
+
+use std::os::raw::c_void;
+
+use crate::debug_id::DebugId;
+use crate::types::RawToken;
+
+pub const SM_INTERFACE: u32 = 1;
+pub const SM_NONE: u32 = u32::MAX;
+
+pub type Code = u32;
+
+pub const SM_OK: Code = 0;
+pub const SM_IO: Code = 1;
+pub const SM_UTF8: Code = 2;
+pub const SM_RANGE: Code = 3;
+pub const SM_BAD_JSON: Code = 4;
+pub const SM_VLQ_LEFTOVER: Code = 5;
+pub const SM_VLQ_NO_VALUES: Code = 6;
+pub const SM_VLQ_OVERFLOW: Code = 7;
+pub const SM_BAD_SEGMENT_SIZE: Code = 8;
+pub const SM_BAD_SOURCE_REFERENCE: Code = 9;
+pub const SM_BAD_NAME_REFERENCE: Code = 10;
+pub const SM_INCOMPATIBLE: Code = 11;
+pub const SM_INVALID_DATA_URL: Code = 12;
+pub const SM_CANNOT_FLATTEN: Code = 13;
+pub const SM_INVALID_BUNDLE_MAGIC: Code = 14;
+pub const SM_INVALID_BUNDLE_INDEX: Code = 15;
+pub const SM_INVALID_BUNDLE_ENTRY: Code = 16;
+pub const SM_NOT_A_BUNDLE: Code = 17;
+pub const SM_INVALID_RANGE_INDEX: Code = 18;
+pub const SM_INVALID_BASE64: Code = 19;
+pub const SM_OUT_OF_MEMORY: Code = 20;
+
+pub const SM_ABSENT: Code = 32;
+pub const SM_WRONG_KIND: Code = 33;
+pub const SM_PAST_LIMIT: Code = 34;
+
+pub const SM_KIND_EMPTY: u32 = 0;
+pub const SM_KIND_REGULAR: u32 = 1;
+pub const SM_KIND_INDEX: u32 = 2;
+pub const SM_KIND_HERMES: u32 = 3;
+pub const SM_KIND_BUILDER: u32 = 4;
+pub const SM_KIND_VIEW: u32 = 5;
+pub const SM_KIND_BUNDLE: u32 = 6;
+pub const SM_KIND_SPLIT: u32 = 7;
+pub const SM_KIND_BYTES: u32 = 8;
+
+/// `sm_handle` and its other names.
+#[repr(C)]
+pub struct Handle {
+    pub at: *mut c_void,
+    pub full: bool,
+}
+
+impl Handle {
+    pub const EMPTY: Handle = Handle {
+        at: std::ptr::null_mut(),
+        full: false,
+    };
+}
+
+/// `sm_text`.
+#[repr(C)]
+pub struct Text {
+    pub at: *const u8,
+    pub length: usize,
+}
+
+impl Text {
+    pub const EMPTY: Text = Text::of(&[]);
+
+    pub const fn of(bytes: &[u8]) -> Text {
+        Text {
+            at: bytes.as_ptr(),
+            length: bytes.len(),
+        }
+    }
+}
+
+pub const SM_ERROR_TEXT: usize = 256;
+
+/// `sm_error`.
+#[repr(C)]
+pub struct Error {
+    pub code: Code,
+    pub number: u32,
+    pub start: u64,
+    pub size: u64,
+    pub length: u64,
+    pub text_length: usize,
+    pub text: [u8; SM_ERROR_TEXT],
+}
+
+impl Error {
+    pub const NONE: Error = Error {
+        code: SM_OK,
+        number: 0,
+        start: 0,
+        size: 0,
+        length: 0,
+        text_length: 0,
+        text: [0; SM_ERROR_TEXT],
+    };
+}
+
+/// `sm_position`.
+#[repr(C)]
+pub struct Position {
+    pub line: u32,
+    pub column: u32,
+}
+
+/// `sm_found`. Its `sm_token` is the crate's [`RawToken`].
+#[repr(C)]
+pub struct Found {
+    pub token: RawToken,
+    pub found: bool,
+}
+
+impl Found {
+    pub const NONE: Found = Found {
+        token: RawToken::ZERO,
+        found: false,
+    };
+}
+
+/// `sm_counts`.
+#[repr(C)]
+#[derive(Default)]
+pub struct Counts {
+    pub tokens: u32,
+    pub sources: u32,
+    pub names: u32,
+    pub ignored: u32,
+    pub sections: u32,
+}
+
+/// `sm_section_start`.
+#[repr(C)]
+#[derive(Default)]
+pub struct SectionStart {
+    pub line: u32,
+    pub column: u32,
+    pub has_map: bool,
+    pub has_url: bool,
+}
+
+#[rustfmt::skip]
+extern "C" {
+    pub fn sm_interface() -> u32;
+    pub fn sm_kind(handle: *mut Handle) -> u32;
+    pub fn sm_close(handle: *mut Handle);
+    pub fn sm_open(map: *mut Handle, bytes: *const u8, length: usize, error: *mut Error) -> Code;
+    pub fn sm_open_url(map: *mut Handle, url: *const u8, length: usize, error: *mut Error) -> Code;
+    pub fn sm_share(map: *mut Handle, other: *mut Handle, error: *mut Error) -> Code;
+    pub fn sm_is_source_map(bytes: *const u8, length: usize, answer: *mut bool, error: *mut Error) -> Code;
+
+    pub fn sm_count(map: *mut Handle, counts: *mut Counts) -> Code;
+    pub fn sm_file(map: *mut Handle, text: *mut Text) -> Code;
+    pub fn sm_source_root(map: *mut Handle, text: *mut Text) -> Code;
+    pub fn sm_get_debug_id(map: *mut Handle, id: *mut DebugId) -> Code;
+    pub fn sm_source(map: *mut Handle, id: u32, text: *mut Text) -> Code;
+    pub fn sm_name(map: *mut Handle, id: u32, text: *mut Text) -> Code;
+    pub fn sm_contents(map: *mut Handle, id: u32, text: *mut Text) -> Code;
+    pub fn sm_ignore_list(map: *mut Handle, first: u32, ids: *mut u32, length: usize) -> usize;
+    pub fn sm_tokens(map: *mut Handle, first: u32, tokens: *mut RawToken, length: usize) -> usize;
+    pub fn sm_module_offsets(map: *mut Handle, first: u32, offsets: *mut u32, length: usize, written: *mut usize) -> Code;
+    pub fn sm_module_path(map: *mut Handle, id: u32, text: *mut Text) -> Code;
+
+    pub fn sm_lookup(map: *mut Handle, line: u32, column: u32, found: *mut Found) -> Code;
+    pub fn sm_lookup_many(map: *mut Handle, positions: *const Position, count: usize, found: *mut Found, length: usize) -> usize;
+    pub fn sm_lookup_source(map: *mut Handle, line: u32, column: u32, text: *mut Text) -> Code;
+    pub fn sm_lookup_name(map: *mut Handle, line: u32, column: u32, text: *mut Text) -> Code;
+    pub fn sm_trace(map: *mut Handle, positions: *const u8, length: usize, text: *mut Handle, error: *mut Error) -> Code;
+    pub fn sm_function_name(map: *mut Handle, line: u32, column: u32, minified: *const u8, length: usize, view: *mut Handle, text: *mut Text) -> Code;
+    pub fn sm_hermes_function_name(map: *mut Handle, offset: u32, text: *mut Text) -> Code;
+
+    pub fn sm_rewrite(map: *mut Handle, with_names: bool, with_contents: bool, prefixes: *const Text, count: usize, error: *mut Error) -> Code;
+    pub fn sm_flatten(map: *mut Handle, error: *mut Error) -> Code;
+    pub fn sm_compose(map: *mut Handle, adjustment: *mut Handle, error: *mut Error) -> Code;
+    pub fn sm_shift(map: *mut Handle, lines: u32, error: *mut Error) -> Code;
+    pub fn sm_set_file(map: *mut Handle, present: bool, text: *const u8, length: usize, error: *mut Error) -> Code;
+    pub fn sm_set_source_root(map: *mut Handle, present: bool, text: *const u8, length: usize, error: *mut Error) -> Code;
+    pub fn sm_set_debug_id(map: *mut Handle, present: bool, id: *const DebugId, error: *mut Error) -> Code;
+    pub fn sm_set_source(map: *mut Handle, id: u32, text: *const u8, length: usize, error: *mut Error) -> Code;
+    pub fn sm_set_contents(map: *mut Handle, id: u32, present: bool, text: *const u8, length: usize, error: *mut Error) -> Code;
+    pub fn sm_ignore_source(map: *mut Handle, id: u32, error: *mut Error) -> Code;
+    pub fn sm_remove_names(map: *mut Handle, error: *mut Error) -> Code;
+
+    pub fn sm_write(map: *mut Handle, text: *mut Handle, error: *mut Error) -> Code;
+    pub fn sm_write_url(map: *mut Handle, text: *mut Handle, error: *mut Error) -> Code;
+    pub fn sm_bytes_text(bytes: *mut Handle, text: *mut Text) -> Code;
+
+    pub fn sm_section_start_of(map: *mut Handle, id: u32, start: *mut SectionStart) -> Code;
+    pub fn sm_section_url(map: *mut Handle, id: u32, text: *mut Text) -> Code;
+    pub fn sm_section(map: *mut Handle, id: u32, section: *mut Handle, error: *mut Error) -> Code;
+
+    pub fn sm_builder_new(builder: *mut Handle, has_file: bool, file: *const u8, length: usize, error: *mut Error) -> Code;
+    pub fn sm_builder_set_source_root(builder: *mut Handle, present: bool, text: *const u8, length: usize, error: *mut Error) -> Code;
+    pub fn sm_builder_set_debug_id(builder: *mut Handle, present: bool, id: *const DebugId, error: *mut Error) -> Code;
+    pub fn sm_builder_add_source(builder: *mut Handle, text: *const u8, length: usize, id: *mut u32, error: *mut Error) -> Code;
+    pub fn sm_builder_add_name(builder: *mut Handle, text: *const u8, length: usize, id: *mut u32, error: *mut Error) -> Code;
+    pub fn sm_builder_set_contents(builder: *mut Handle, id: u32, present: bool, text: *const u8, length: usize, error: *mut Error) -> Code;
+    pub fn sm_builder_ignore_source(builder: *mut Handle, id: u32, error: *mut Error) -> Code;
+    pub fn sm_builder_add_tokens(builder: *mut Handle, tokens: *const RawToken, count: usize, error: *mut Error) -> usize;
+    pub fn sm_builder_finish(builder: *mut Handle, map: *mut Handle, error: *mut Error) -> Code;
+
+    pub fn sm_view_open(view: *mut Handle, text: *const u8, length: usize, error: *mut Error) -> Code;
+    pub fn sm_view_text(view: *mut Handle, text: *mut Text) -> Code;
+    pub fn sm_view_count(view: *mut Handle, lines: *mut usize) -> Code;
+    pub fn sm_view_line(view: *mut Handle, line: u32, text: *mut Text) -> Code;
+    pub fn sm_view_slice(view: *mut Handle, line: u32, column: u32, span: u32, text: *mut Text) -> Code;
+    pub fn sm_locate_reference(text: *const u8, length: usize, url: *mut Handle, is_legacy: *mut bool, error: *mut Error) -> Code;
+    pub fn sm_resolve(url: *const u8, length: usize, base: *const u8, base_length: usize, result: *mut Handle, error: *mut Error) -> Code;
+    pub fn sm_resolve_path(url: *const u8, length: usize, base: *const u8, base_length: usize, result: *mut Handle, error: *mut Error) -> Code;
+    pub fn sm_relative_path(base: *const u8, base_length: usize, target: *const u8, target_length: usize, path: *mut Handle, error: *mut Error) -> Code;
+
+    pub fn sm_bundle_open(bundle: *mut Handle, bytes: *const u8, length: usize, error: *mut Error) -> Code;
+    pub fn sm_bundle_count(bundle: *mut Handle, modules: *mut usize) -> Code;
+    pub fn sm_bundle_startup(bundle: *mut Handle, bytes: *mut Text, error: *mut Error) -> Code;
+    pub fn sm_bundle_module(bundle: *mut Handle, id: usize, bytes: *mut Text, error: *mut Error) -> Code;
+    pub fn sm_bundle_split(bundle: *mut Handle, index: *mut Handle, split: *mut Handle, error: *mut Error) -> Code;
+    pub fn sm_split_count(split: *mut Handle, items: *mut usize) -> Code;
+    pub fn sm_split_item(split: *mut Handle, item: usize, name: *mut Text, text: *mut Text, error: *mut Error) -> Code;
+    pub fn sm_split_map(split: *mut Handle, item: usize, map: *mut Handle, error: *mut Error) -> Code;
+}
+
+#[cfg(test)]
+mod tests;

@@ -1,0 +1,86 @@
+//! Maps that are being built.
+
+use super::{check, optional, Handle, MapHandle};
+use crate::debug_id::DebugId;
+use crate::errors::{Error, Result};
+use crate::ffi;
+use crate::types::RawToken;
+
+/// A map that is being built.
+pub(crate) struct BuilderHandle(Handle);
+
+impl BuilderHandle {
+    pub fn new() -> Result<BuilderHandle> {
+        let (present, at, length) = optional(None);
+        // SAFETY: the text is where it says.
+        Handle::filled(|builder, error| unsafe {
+            ffi::sm_builder_new(builder, present, at, length, error)
+        })
+        .map(BuilderHandle)
+    }
+
+    pub fn set_source_root(&mut self, root: Option<&str>) -> Result<()> {
+        let (present, at, length) = optional(root);
+        // SAFETY: the text is where it says.
+        check(|error| unsafe {
+            ffi::sm_builder_set_source_root(self.0.at(), present, at, length, error)
+        })
+    }
+
+    pub fn set_debug_id(&mut self, id: Option<DebugId>) -> Result<()> {
+        let bytes = id.unwrap_or_default();
+        // SAFETY: the id is a value of this function.
+        check(|error| unsafe {
+            ffi::sm_builder_set_debug_id(self.0.at(), id.is_some(), &bytes, error)
+        })
+    }
+
+    /// The id of a source. Equal texts have one id.
+    pub fn add_source(&mut self, text: &str) -> Result<u32> {
+        let mut id = 0;
+        // SAFETY: the text is where it says.
+        check(|error| unsafe {
+            ffi::sm_builder_add_source(self.0.at(), text.as_ptr(), text.len(), &mut id, error)
+        })?;
+        Ok(id)
+    }
+
+    /// The id of a name. Equal texts have one id.
+    pub fn add_name(&mut self, text: &str) -> Result<u32> {
+        let mut id = 0;
+        // SAFETY: the text is where it says.
+        check(|error| unsafe {
+            ffi::sm_builder_add_name(self.0.at(), text.as_ptr(), text.len(), &mut id, error)
+        })?;
+        Ok(id)
+    }
+
+    pub fn set_contents(&mut self, id: u32, contents: &str) -> Result<()> {
+        let (present, at, length) = optional(Some(contents));
+        // SAFETY: the text is where it says.
+        check(|error| unsafe {
+            ffi::sm_builder_set_contents(self.0.at(), id, present, at, length, error)
+        })
+    }
+
+    /// Adds tokens, and keeps in the list those that memory did not suffice for.
+    pub fn add_tokens(&mut self, tokens: &mut Vec<RawToken>) -> Result<()> {
+        let mut error = ffi::Error::NONE;
+        // SAFETY: the list is where it says.
+        let added = unsafe {
+            ffi::sm_builder_add_tokens(self.0.at(), tokens.as_ptr(), tokens.len(), &mut error)
+        };
+        tokens.drain(..added);
+        if tokens.is_empty() {
+            Ok(())
+        } else {
+            Err(Error::of_call(error.code, &error))
+        }
+    }
+
+    pub fn finish(self) -> Result<MapHandle> {
+        // SAFETY: both are handles, and not the same.
+        Handle::filled(|map, error| unsafe { ffi::sm_builder_finish(self.0.at(), map, error) })
+            .map(MapHandle)
+    }
+}

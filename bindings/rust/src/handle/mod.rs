@@ -1,0 +1,171 @@
+//! Handles of the library, and its calls as safe functions.
+//!
+//! What `sourcemap.h` asks of a caller is kept here: a handle is used by one
+//! call at a time, since it is not `Sync` and no call comes back to Rust; a text
+//! that points into it is borrowed from it, and what changes it takes it
+//! mutably; a pointer is never null, also of an empty slice.
+
+mod build;
+mod bundle;
+mod change;
+mod map;
+mod reference;
+mod view;
+
+use std::cell::UnsafeCell;
+use std::slice;
+use std::str;
+use std::sync::Once;
+
+pub(crate) use self::build::BuilderHandle;
+pub(crate) use self::bundle::{BundleHandle, SplitHandle};
+pub(crate) use self::map::{is_source_map, Kind, MapHandle};
+pub(crate) use self::reference::{
+    locate_reference, relative_path, resolve, resolve_path, Reference,
+};
+pub(crate) use self::view::ViewHandle;
+
+use crate::errors::{Error, Result};
+use crate::ffi;
+
+/// What the library keeps in memory. It is closed when it is dropped.
+struct Handle(UnsafeCell<ffi::Handle>);
+
+// SAFETY: the header allows a handle to be handed to another thread. Handles on
+// one map share nothing that can be seen.
+unsafe impl Send for Handle {}
+
+impl Handle {
+    fn empty() -> Handle {
+        check_interface();
+        Handle(UnsafeCell::new(ffi::Handle::EMPTY))
+    }
+
+    /// The address that calls take. The cell makes it mutable: calls that leave
+    /// a handle as it is take it by mutable pointer too.
+    fn at(&self) -> *mut ffi::Handle {
+        self.0.get()
+    }
+
+    /// A handle that a call fills.
+    fn filled(fill: impl FnOnce(*mut ffi::Handle, *mut ffi::Error) -> ffi::Code) -> Result<Handle> {
+        let handle = Handle::empty();
+        check(|error| fill(handle.at(), error))?;
+        Ok(handle)
+    }
+
+    /// A handle that a call fills, or none if there is nothing to fill it with.
+    fn filled_if_any(
+        fill: impl FnOnce(*mut ffi::Handle, *mut ffi::Error) -> ffi::Code,
+    ) -> Result<Option<Handle>> {
+        let handle = Handle::empty();
+        let is_there = check_if_any(|error| fill(handle.at(), error))?;
+        Ok(is_there.then_some(handle))
+    }
+
+    /// The bytes that a call points to in this handle.
+    ///
+    /// # Safety
+    ///
+    /// The call writes a text of this handle, and takes no other handle whose
+    /// text it could be.
+    unsafe fn bytes(
+        &self,
+        ask: impl FnOnce(*mut ffi::Handle, *mut ffi::Text) -> ffi::Code,
+    ) -> Option<&[u8]> {
+        let mut text = ffi::Text::EMPTY;
+        match ask(self.at(), &mut text) {
+            // SAFETY: the text is in this handle, which does not change while it
+            // is borrowed.
+            ffi::SM_OK => Some(unsafe { text.bytes() }),
+            _ => None,
+        }
+    }
+
+    /// The text that a call points to in this handle.
+    ///
+    /// # Safety
+    ///
+    /// As of [`Handle::bytes`], and the text is UTF-8.
+    unsafe fn text(
+        &self,
+        ask: impl FnOnce(*mut ffi::Handle, *mut ffi::Text) -> ffi::Code,
+    ) -> Option<&str> {
+        // SAFETY: what this function asks of its caller.
+        unsafe { self.bytes(ask).map(|bytes| as_text(bytes)) }
+    }
+
+    /// The text of a handle that a call filled with one.
+    fn made_text(&self) -> &str {
+        // SAFETY: the calls that make texts make UTF-8.
+        unsafe { self.text(|bytes, text| ffi::sm_bytes_text(bytes, text)) }.unwrap_or_default()
+    }
+}
+
+impl Drop for Handle {
+    fn drop(&mut self) {
+        // SAFETY: the handle is not used afterwards.
+        unsafe { ffi::sm_close(self.at()) }
+    }
+}
+
+impl ffi::Text {
+    /// # Safety
+    ///
+    /// What the text points to lives as long as `'a`, unchanged.
+    unsafe fn bytes<'a>(&self) -> &'a [u8] {
+        if self.length == 0 {
+            return &[];
+        }
+        // SAFETY: the library wrote where the text is and how long.
+        unsafe { slice::from_raw_parts(self.at, self.length) }
+    }
+}
+
+/// # Safety
+///
+/// The bytes are UTF-8, as all texts of the library are.
+unsafe fn as_text(bytes: &[u8]) -> &str {
+    debug_assert!(str::from_utf8(bytes).is_ok());
+    // SAFETY: what this function asks of its caller.
+    unsafe { str::from_utf8_unchecked(bytes) }
+}
+
+/// Panics unless the linked library has the interface that `ffi` declares.
+fn check_interface() {
+    static CHECKED: Once = Once::new();
+    CHECKED.call_once(|| {
+        // SAFETY: the call takes nothing.
+        let linked = unsafe { ffi::sm_interface() };
+        assert_eq!(
+            linked,
+            ffi::SM_INTERFACE,
+            "interface of the linked library sourcemap"
+        );
+    });
+}
+
+/// Makes a call, and returns its error.
+fn check(call: impl FnOnce(*mut ffi::Error) -> ffi::Code) -> Result<()> {
+    let mut error = ffi::Error::NONE;
+    match call(&mut error) {
+        ffi::SM_OK => Ok(()),
+        code => Err(Error::of_call(code, &error)),
+    }
+}
+
+/// Makes a call, and returns its error, or whether there was what it asks for.
+fn check_if_any(call: impl FnOnce(*mut ffi::Error) -> ffi::Code) -> Result<bool> {
+    let mut error = ffi::Error::NONE;
+    match call(&mut error) {
+        ffi::SM_OK => Ok(true),
+        ffi::SM_ABSENT => Ok(false),
+        code => Err(Error::of_call(code, &error)),
+    }
+}
+
+/// The arguments of a text that can be absent.
+fn optional(text: Option<&str>) -> (bool, *const u8, usize) {
+    let bytes = text.unwrap_or_default().as_bytes();
+    (text.is_some(), bytes.as_ptr(), bytes.len())
+}

@@ -1,0 +1,104 @@
+//! Hermes maps.
+
+use std::fmt;
+use std::io::{Read, Write};
+use std::ops::{Deref, DerefMut};
+
+use crate::decoder::{decode, decode_slice};
+use crate::errors::{Error, Result};
+use crate::handle::MapHandle;
+use crate::types::{DecodedMap, RewriteOptions, SourceMap, Token};
+use crate::utils::{must, write_all};
+
+/// A map of React Native's Hermes engine, with the scopes of its sources.
+pub struct SourceMapHermes {
+    sm: SourceMap,
+}
+
+impl SourceMapHermes {
+    pub(crate) fn of_handle(handle: MapHandle) -> SourceMapHermes {
+        SourceMapHermes {
+            sm: SourceMap::of_handle(handle),
+        }
+    }
+
+    /// Reads a Hermes map from its JSON text. A map of another kind is
+    /// [`Error::IncompatibleSourceMap`].
+    pub fn from_reader<R: Read>(rdr: R) -> Result<Self> {
+        SourceMapHermes::of_decoded(decode(rdr)?)
+    }
+
+    /// Reads a Hermes map from its JSON text, as
+    /// [`SourceMapHermes::from_reader`] does.
+    pub fn from_slice(slice: &[u8]) -> Result<Self> {
+        SourceMapHermes::of_decoded(decode_slice(slice)?)
+    }
+
+    fn of_decoded(map: DecodedMap) -> Result<SourceMapHermes> {
+        match map {
+            DecodedMap::Hermes(smh) => Ok(smh),
+            _ => Err(Error::IncompatibleSourceMap),
+        }
+    }
+
+    /// Writes the map as JSON.
+    pub fn to_writer<W: Write>(&self, w: W) -> Result<()> {
+        self.handle().written(|text| write_all(w, text))?
+    }
+
+    /// Returns the name of the function at an offset of the bytecode.
+    pub fn get_original_function_name(&self, bytecode_offset: u32) -> Option<&str> {
+        self.handle().hermes_function_name(bytecode_offset)
+    }
+
+    /// Returns the name of the function of a token of line 0, where Hermes maps
+    /// have their tokens.
+    pub fn get_scope_for_token(&self, token: Token<'_>) -> Option<&str> {
+        match token.asked() {
+            (0, offset) => self.get_original_function_name(offset),
+            _ => None,
+        }
+    }
+
+    /// Rewrites the map, as [`SourceMap::rewrite`] does, with its scopes.
+    pub fn rewrite(self, options: &RewriteOptions<'_>) -> Result<Self> {
+        Ok(SourceMapHermes {
+            sm: self.sm.rewrite(options)?,
+        })
+    }
+}
+
+impl Clone for SourceMapHermes {
+    fn clone(&self) -> SourceMapHermes {
+        SourceMapHermes::of_handle(must(self.handle().share()))
+    }
+}
+
+impl Deref for SourceMapHermes {
+    type Target = SourceMap;
+
+    fn deref(&self) -> &SourceMap {
+        &self.sm
+    }
+}
+
+impl DerefMut for SourceMapHermes {
+    fn deref_mut(&mut self) -> &mut SourceMap {
+        &mut self.sm
+    }
+}
+
+/// Hermes maps are equal if their getters answer alike and they are written
+/// alike, since only the text has all scopes.
+impl PartialEq for SourceMapHermes {
+    fn eq(&self, other: &SourceMapHermes) -> bool {
+        let text = |map: &SourceMapHermes| map.handle().written(str::to_owned).ok();
+        self.sm == other.sm && text(self) == text(other)
+    }
+}
+
+impl fmt::Debug for SourceMapHermes {
+    fn fmt(&self, f: &mut fmt::Formatter<'_>) -> fmt::Result {
+        f.debug_tuple("SourceMapHermes").field(&self.sm).finish()
+    }
+}

@@ -1,0 +1,60 @@
+//! JavaScript source maps, by a library whose every function is proved.
+//!
+//! The names, signatures and modules are those of the crate `sourcemap` 9.3.2.
+//! `README.md` lists what differs.
+//!
+//! ```
+//! let json = br#"{"version":3,"sources":["coolstuff.js"],"names":["x","alert"],
+//!     "mappings":"AAAA,GAAIA,GAAI,EACR,IAAIA,GAAK,EAAG,CACVC,MAAM"}"#;
+//! let map = sourcemap::SourceMap::from_slice(json).unwrap();
+//! let token = map.lookup_token(0, 5).unwrap();
+//! assert_eq!(token.to_string(), "coolstuff.js:0:4 name=x");
+//! ```
+//!
+//! Lines and columns count from 0. Columns count UTF-16 units.
+//!
+//! # Threads
+//!
+//! Maps, builders, views and bundles may move to another thread (`Send`). None of
+//! them may be used by two threads at once (not `Sync`): each thread takes a
+//! clone of its own. A clone of a map copies nothing.
+
+#![deny(unsafe_code)]
+#![warn(missing_docs)]
+
+pub use crate::builder::SourceMapBuilder;
+pub use crate::debug_id::{DebugId, ParseDebugIdError};
+pub use crate::decoder::{decode, decode_data_url, decode_slice};
+pub use crate::detector::{
+    is_sourcemap, is_sourcemap_slice, locate_sourcemap_reference, locate_sourcemap_reference_slice,
+    SourceMapRef,
+};
+pub use crate::errors::{Base64Error, Error, JsonError, RangeError, Result};
+pub use crate::hermes::SourceMapHermes;
+pub use crate::sourceview::SourceView;
+pub use crate::types::{
+    DecodedMap, NameIter, RawToken, RewriteOptions, SourceContentsIter, SourceIter, SourceMap,
+    SourceMapIndex, SourceMapSection, SourceMapSectionIter, Token, TokenIter,
+};
+pub use crate::utils::make_relative_path;
+
+pub mod builder;
+mod debug_id;
+pub mod decoder;
+pub mod detector;
+pub mod errors;
+#[allow(unsafe_code)]
+mod ffi;
+#[allow(unsafe_code)]
+mod handle;
+pub mod hermes;
+mod local;
+pub mod ram_bundle;
+pub mod sourceview;
+pub mod types;
+pub mod utils;
+pub mod vlq;
+
+#[cfg(doctest)]
+#[doc = include_str!("../README.md")]
+struct Readme;

@@ -1,0 +1,53 @@
+//! Contents of sources from local files.
+
+use std::collections::HashMap;
+use std::env;
+use std::fs;
+use std::io;
+use std::path::{Path, PathBuf};
+
+use crate::detector::resolve_path;
+use crate::errors::Result;
+use crate::types::{RewriteOptions, SourceMap};
+
+/// The folder against which sources are resolved.
+pub(crate) fn folder(base_path: Option<&Path>) -> io::Result<PathBuf> {
+    let current = env::current_dir()?;
+    Ok(match base_path {
+        Some(path) => current.join(path),
+        None => current,
+    })
+}
+
+/// The contents of a source that leads to a file.
+pub(crate) fn read_source(folder: &Path, source: &str) -> Option<String> {
+    // A reference is resolved against the folder of its base.
+    let path = resolve_path(source, &folder.join("base"))?;
+    fs::read_to_string(path).ok()
+}
+
+/// Gives the sources of a map the contents that its rewritten map is to have.
+///
+/// Files are read for sources that the rewritten map lacks contents of. The map
+/// gets these contents itself, so that one rewriting does the rest.
+pub(crate) fn load_for_rewrite(sm: &mut SourceMap, options: &RewriteOptions<'_>) -> Result<()> {
+    let folder = folder(options.base_path)?;
+    let rewritten = sm.clone().rewrite(&RewriteOptions {
+        load_local_source_contents: false,
+        strip_prefixes: &[],
+        ..options.clone()
+    })?;
+    let loaded: HashMap<&str, String> = rewritten
+        .sources()
+        .zip(rewritten.source_contents())
+        .filter(|(_, contents)| contents.is_none())
+        .filter_map(|(source, _)| Some((source, read_source(&folder, source)?)))
+        .collect();
+    for id in 0..sm.get_source_count() {
+        let contents = sm.get_source(id).and_then(|source| loaded.get(source));
+        if contents.is_some() || !options.with_source_contents {
+            sm.set_source_contents(id, contents.map(String::as_str));
+        }
+    }
+    Ok(())
+}

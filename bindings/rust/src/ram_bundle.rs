@@ -1,0 +1,342 @@
+//! RAM bundles of React Native.
+
+use std::borrow::Cow;
+use std::collections::BTreeMap;
+use std::fmt;
+use std::fs::{self, File};
+use std::io::Read;
+use std::marker::PhantomData;
+use std::ops::Range;
+use std::path::Path;
+
+use crate::errors::{Error, Result};
+use crate::handle::{BundleHandle, SplitHandle};
+use crate::sourceview::SourceView;
+use crate::types::{SourceMap, SourceMapIndex};
+use crate::utils::must;
+
+/// The number that an indexed RAM bundle begins with, in little-endian order.
+pub const RAM_BUNDLE_MAGIC: u32 = 0xFB0B_D1E5;
+
+const HEADER_SIZE: usize = 12;
+const ENTRY_SIZE: usize = 8;
+const MODULES_FOLDER: &str = "js-modules";
+const MAGIC_FILE: &str = "UNBUNDLE";
+
+/// The form of a RAM bundle.
+#[derive(Debug, Clone, PartialEq, Eq, Hash, Ord, PartialOrd)]
+pub enum RamBundleType {
+    /// One file with a table of its modules.
+    Indexed,
+    /// A folder with a file for each module.
+    Unbundle,
+}
+
+/// A RAM bundle.
+#[derive(Debug, Clone)]
+pub struct RamBundle<'a> {
+    repr: Repr<'a>,
+}
+
+#[derive(Debug, Clone)]
+enum Repr<'a> {
+    Indexed(Indexed<'a>),
+    Unbundle(Unbundle),
+}
+
+struct Indexed<'a> {
+    handle: BundleHandle,
+    /// What a clone is made of.
+    bytes: Cow<'a, [u8]>,
+}
+
+#[derive(Clone)]
+struct Unbundle {
+    startup_code: Vec<u8>,
+    modules: BTreeMap<usize, Vec<u8>>,
+}
+
+/// A module of a RAM bundle.
+#[derive(Debug)]
+pub struct RamBundleModule<'a> {
+    id: usize,
+    data: &'a [u8],
+}
+
+/// The modules of a RAM bundle.
+pub struct RamBundleModuleIter<'a> {
+    ids: Range<usize>,
+    ram_bundle: &'a RamBundle<'a>,
+}
+
+/// The modules of a RAM bundle, each with its file name, its text and its map.
+pub struct SplitRamBundleModuleIter<'a> {
+    split: SplitHandle,
+    items: Range<usize>,
+    ram_bundle: PhantomData<&'a ()>,
+}
+
+impl<'a> RamBundle<'a> {
+    /// Reads an indexed bundle.
+    pub fn parse_indexed_from_slice(bytes: &'a [u8]) -> Result<Self> {
+        RamBundle::indexed(Cow::Borrowed(bytes))
+    }
+
+    /// Reads an indexed bundle.
+    pub fn parse_indexed_from_vec(bytes: Vec<u8>) -> Result<Self> {
+        RamBundle::indexed(Cow::Owned(bytes))
+    }
+
+    /// Reads an indexed bundle from a file.
+    pub fn parse_indexed_from_path(path: &Path) -> Result<Self> {
+        RamBundle::parse_indexed_from_vec(fs::read(path)?)
+    }
+
+    /// Reads a bundle of files. The path is that of the startup file, beside
+    /// which the folder `js-modules` has a file `NUMBER.js` for each module and
+    /// the file `UNBUNDLE`.
+    pub fn parse_unbundle_from_path(bundle_path: &Path) -> Result<Self> {
+        let repr = Repr::Unbundle(Unbundle::read(bundle_path)?);
+        Ok(RamBundle { repr })
+    }
+
+    fn indexed(bytes: Cow<'a, [u8]>) -> Result<Self> {
+        let handle = BundleHandle::open(&bytes)?;
+        let repr = Repr::Indexed(Indexed { handle, bytes });
+        Ok(RamBundle { repr })
+    }
+
+    /// Returns the form of the bundle.
+    pub fn bundle_type(&self) -> RamBundleType {
+        match self.repr {
+            Repr::Indexed(_) => RamBundleType::Indexed,
+            Repr::Unbundle(_) => RamBundleType::Unbundle,
+        }
+    }
+
+    /// Returns a module, or none where the number has no module.
+    pub fn get_module(&self, id: usize) -> Result<Option<RamBundleModule<'_>>> {
+        let data = match &self.repr {
+            Repr::Indexed(indexed) => indexed.handle.module(id)?,
+            Repr::Unbundle(unbundle) => unbundle.modules.get(&id).map(Vec::as_slice),
+        };
+        Ok(data.map(|data| RamBundleModule { id, data }))
+    }
+
+    /// Returns how many modules there are, counting numbers without one.
+    pub fn module_count(&self) -> usize {
+        match &self.repr {
+            Repr::Indexed(indexed) => indexed.handle.module_count(),
+            Repr::Unbundle(unbundle) => unbundle.module_count(),
+        }
+    }
+
+    /// Returns the startup code.
+    pub fn startup_code(&self) -> Result<&[u8]> {
+        match &self.repr {
+            Repr::Indexed(indexed) => indexed.handle.startup_code(),
+            Repr::Unbundle(unbundle) => Ok(&unbundle.startup_code),
+        }
+    }
+
+    /// Returns the modules, by rising number.
+    pub fn iter_modules(&self) -> RamBundleModuleIter<'_> {
+        RamBundleModuleIter {
+            ids: 0..self.module_count(),
+            ram_bundle: self,
+        }
+    }
+
+    fn split(&self, smi: &SourceMapIndex) -> Result<SplitHandle> {
+        let index = smi.handle();
+        match &self.repr {
+            Repr::Indexed(indexed) => indexed.handle.split(index),
+            Repr::Unbundle(unbundle) => BundleHandle::open(&unbundle.image()?)?.split(index),
+        }
+    }
+}
+
+impl Clone for Indexed<'_> {
+    fn clone(&self) -> Self {
+        Indexed {
+            handle: must(BundleHandle::open(&self.bytes)),
+            bytes: self.bytes.clone(),
+        }
+    }
+}
+
+impl fmt::Debug for Indexed<'_> {
+    fn fmt(&self, f: &mut fmt::Formatter<'_>) -> fmt::Result {
+        f.debug_struct("Indexed")
+            .field("size", &self.bytes.len())
+            .field("modules", &self.handle.module_count())
+            .finish()
+    }
+}
+
+impl fmt::Debug for Unbundle {
+    fn fmt(&self, f: &mut fmt::Formatter<'_>) -> fmt::Result {
+        f.debug_struct("Unbundle")
+            .field("startup_size", &self.startup_code.len())
+            .field("modules", &self.modules.len())
+            .finish()
+    }
+}
+
+impl Unbundle {
+    fn read(bundle_path: &Path) -> Result<Unbundle> {
+        if !is_unbundle_path(bundle_path) {
+            return Err(Error::NotARamBundle);
+        }
+        let startup_code = fs::read(bundle_path)?;
+        let folder = bundle_path.with_file_name(MODULES_FOLDER);
+        let mut modules = BTreeMap::new();
+        for name in file_names(&folder)? {
+            if name != MAGIC_FILE {
+                modules.insert(module_number(&name)?, fs::read(folder.join(name))?);
+            }
+        }
+        Ok(Unbundle {
+            startup_code,
+            modules,
+        })
+    }
+
+    fn module_count(&self) -> usize {
+        self.modules
+            .last_key_value()
+            .map_or(1, |(&last, _)| last + 1)
+    }
+
+    /// The same modules as an indexed bundle, which is what the library splits.
+    fn image(&self) -> Result<Vec<u8>> {
+        let mut table = vec![0; self.table_size()?];
+        let mut code = self.startup_code.clone();
+        for (id, module) in &self.modules {
+            let entry = &mut table[HEADER_SIZE + id * ENTRY_SIZE..][..ENTRY_SIZE];
+            entry[..4].copy_from_slice(&number_bytes(code.len())?);
+            entry[4..].copy_from_slice(&number_bytes(module.len() + 1)?);
+            code.extend_from_slice(module);
+            code.push(0);
+        }
+        table[..4].copy_from_slice(&RAM_BUNDLE_MAGIC.to_le_bytes());
+        table[4..8].copy_from_slice(&number_bytes(self.module_count())?);
+        table[8..12].copy_from_slice(&number_bytes(self.startup_code.len())?);
+        table.append(&mut code);
+        Ok(table)
+    }
+
+    fn table_size(&self) -> Result<usize> {
+        let entries = self.module_count().checked_mul(ENTRY_SIZE);
+        let size = entries.and_then(|entries| entries.checked_add(HEADER_SIZE));
+        size.ok_or(Error::InvalidRamBundleEntry)
+    }
+}
+
+/// A number of an indexed bundle.
+fn number_bytes(number: usize) -> Result<[u8; 4]> {
+    let number = u32::try_from(number).map_err(|_| Error::InvalidRamBundleEntry)?;
+    Ok(number.to_le_bytes())
+}
+
+/// The names of the plain files of a folder, in order. Of two files of one
+/// module number the later one counts.
+fn file_names(folder: &Path) -> Result<Vec<String>> {
+    let mut names = Vec::new();
+    for entry in folder.read_dir()? {
+        let entry = entry?;
+        if entry.file_type()?.is_file() {
+            let name = entry.file_name().into_string();
+            names.push(name.map_err(|_| Error::InvalidRamBundleIndex)?);
+        }
+    }
+    names.sort();
+    Ok(names)
+}
+
+/// The number of the module in a file of this name.
+fn module_number(file_name: &str) -> Result<usize> {
+    let digits = file_name.strip_suffix(".js").unwrap_or_default();
+    let is_number = digits.bytes().all(|digit| digit.is_ascii_digit());
+    let number = digits
+        .parse()
+        .ok()
+        .filter(|&number| is_number && number < usize::MAX);
+    number.ok_or(Error::InvalidRamBundleIndex)
+}
+
+impl<'a> RamBundleModule<'a> {
+    /// Returns the number of the module.
+    pub fn id(&self) -> usize {
+        self.id
+    }
+
+    /// Returns the bytes of the module.
+    pub fn data(&self) -> &'a [u8] {
+        self.data
+    }
+
+    /// Returns the text of the module. Fails with [`Error::Utf8`] if it is none.
+    pub fn source_view(&self) -> Result<SourceView> {
+        Ok(SourceView::of_text(std::str::from_utf8(self.data)?))
+    }
+}
+
+impl<'a> Iterator for RamBundleModuleIter<'a> {
+    type Item = Result<RamBundleModule<'a>>;
+
+    fn next(&mut self) -> Option<Self::Item> {
+        let ram_bundle = self.ram_bundle;
+        self.ids
+            .find_map(|id| ram_bundle.get_module(id).transpose())
+    }
+}
+
+impl Iterator for SplitRamBundleModuleIter<'_> {
+    type Item = Result<(String, SourceView, SourceMap)>;
+
+    fn next(&mut self) -> Option<Self::Item> {
+        let item = self.items.next()?;
+        Some(split_item(&self.split, item))
+    }
+}
+
+fn split_item(split: &SplitHandle, item: usize) -> Result<(String, SourceView, SourceMap)> {
+    let (name, text) = split.item(item)?;
+    let map = SourceMap::of_handle(split.map(item)?);
+    Ok((name.to_owned(), SourceView::of_text(text), map))
+}
+
+/// Splits a bundle into its modules, each with its file name, its text and its
+/// map, by the index map of the bundle. A module that has no map is an error of
+/// its own.
+pub fn split_ram_bundle<'a>(
+    ram_bundle: &'a RamBundle<'_>,
+    smi: &SourceMapIndex,
+) -> Result<SplitRamBundleModuleIter<'a>> {
+    let split = ram_bundle.split(smi)?;
+    Ok(SplitRamBundleModuleIter {
+        items: 0..split.item_count(),
+        split,
+        ram_bundle: PhantomData,
+    })
+}
+
+/// Returns whether bytes are an indexed bundle, by their header.
+pub fn is_ram_bundle_slice(slice: &[u8]) -> bool {
+    slice
+        .get(..HEADER_SIZE)
+        .is_some_and(|header| BundleHandle::open(header).is_ok())
+}
+
+/// Returns whether a path is that of the startup file of a bundle of files, by
+/// the file `js-modules/UNBUNDLE` beside it.
+pub fn is_unbundle_path(bundle_path: &Path) -> bool {
+    let magic_path = bundle_path.with_file_name(MODULES_FOLDER).join(MAGIC_FILE);
+    if !bundle_path.is_file() || !magic_path.is_file() {
+        return false;
+    }
+    let mut magic = [0; 4];
+    let read = File::open(magic_path).and_then(|mut file| file.read_exact(&mut magic));
+    read.is_ok() && magic == RAM_BUNDLE_MAGIC.to_le_bytes()
+}

@@ -1,0 +1,292 @@
+//! Index maps.
+
+use std::cell::OnceCell;
+use std::fmt;
+use std::io::{Read, Write};
+
+use crate::debug_id::DebugId;
+use crate::decoder::{decode, decode_slice};
+use crate::errors::{Error, Result};
+use crate::handle::MapHandle;
+use crate::sourceview::SourceView;
+use crate::types::{DecodedMap, RewriteOptions, SourceMap, Token};
+use crate::utils::{must, write_all};
+
+/// A section of an index map: where it begins, and its map, a URL of it or both.
+#[derive(Debug, Clone, PartialEq)]
+pub struct SourceMapSection {
+    offset: (u32, u32),
+    url: Option<String>,
+    map: Option<Box<DecodedMap>>,
+}
+
+/// The sections of an index map.
+pub struct SourceMapSectionIter<'a> {
+    smi: &'a SourceMapIndex,
+    next: u32,
+}
+
+/// An index map: a list of sections with a map each.
+pub struct SourceMapIndex {
+    handle: MapHandle,
+    // What follows is read from the handle when it is first asked for.
+    sections: OnceCell<Vec<SourceMapSection>>,
+    module_offsets: OnceCell<Option<Vec<Option<u32>>>>,
+    module_paths: OnceCell<Option<Vec<String>>>,
+}
+
+impl SourceMapIndex {
+    pub(crate) fn of_handle(handle: MapHandle) -> SourceMapIndex {
+        SourceMapIndex {
+            handle,
+            sections: OnceCell::new(),
+            module_offsets: OnceCell::new(),
+            module_paths: OnceCell::new(),
+        }
+    }
+
+    pub(crate) fn handle(&self) -> &MapHandle {
+        &self.handle
+    }
+
+    /// Reads an index map from its JSON text, after a junk header if there is
+    /// one. A map of another kind is [`Error::IncompatibleSourceMap`].
+    pub fn from_reader<R: Read>(rdr: R) -> Result<SourceMapIndex> {
+        SourceMapIndex::of_decoded(decode(rdr)?)
+    }
+
+    /// Reads an index map from its JSON text, as [`SourceMapIndex::from_reader`]
+    /// does.
+    pub fn from_slice(slice: &[u8]) -> Result<SourceMapIndex> {
+        SourceMapIndex::of_decoded(decode_slice(slice)?)
+    }
+
+    fn of_decoded(map: DecodedMap) -> Result<SourceMapIndex> {
+        match map {
+            DecodedMap::Index(smi) => Ok(smi),
+            _ => Err(Error::IncompatibleSourceMap),
+        }
+    }
+
+    /// Writes the map as JSON.
+    pub fn to_writer<W: Write>(&self, w: W) -> Result<()> {
+        self.handle.written(|text| write_all(w, text))?
+    }
+
+    pub(crate) fn debug_id(&self) -> Option<DebugId> {
+        self.handle.debug_id()
+    }
+
+    pub(crate) fn set_debug_id(&mut self, debug_id: Option<DebugId>) {
+        must(self.handle.set_debug_id(debug_id));
+    }
+
+    /// Returns the name of the generated file.
+    pub fn get_file(&self) -> Option<&str> {
+        self.handle.file()
+    }
+
+    /// Sets or removes the name of the generated file.
+    pub fn set_file(&mut self, value: Option<&str>) {
+        must(self.handle.set_file(value));
+    }
+
+    /// Returns how many sections there are.
+    pub fn get_section_count(&self) -> u32 {
+        self.handle.counts().sections
+    }
+
+    /// Returns the section of this index.
+    pub fn get_section(&self, idx: u32) -> Option<&SourceMapSection> {
+        self.section_list().get(idx as usize)
+    }
+
+    /// Returns the sections.
+    pub fn sections(&self) -> SourceMapSectionIter<'_> {
+        SourceMapSectionIter { smi: self, next: 0 }
+    }
+
+    /// Returns the original name of the function at a generated position, as
+    /// [`SourceMap::get_original_function_name`] does.
+    pub fn get_original_function_name(
+        &self,
+        line: u32,
+        col: u32,
+        minified_name: &str,
+        sv: &SourceView,
+    ) -> Option<&str> {
+        self.handle
+            .function_name((line, col), minified_name, sv.handle())
+    }
+
+    /// Returns the closest token to a generated position, of the section that
+    /// begins last at the position or before it. The token is that of the
+    /// section's map, with its generated position in the section.
+    pub fn lookup_token(&self, line: u32, col: u32) -> Option<Token<'_>> {
+        let section = self.closest_section((line, col))?;
+        let (first_line, first_col) = section.offset;
+        let col = if line == first_line {
+            col - first_col
+        } else {
+            col
+        };
+        section
+            .get_sourcemap()?
+            .lookup_token(line - first_line, col)
+    }
+
+    /// The section that answers a position: the first that begins at it, else
+    /// the last before it. Its map has to be that of this value, so that a token
+    /// can borrow it.
+    fn closest_section(&self, position: (u32, u32)) -> Option<&SourceMapSection> {
+        let sections = self.section_list();
+        let before = sections.partition_point(|section| section.offset < position);
+        match sections.get(before) {
+            Some(section) if section.offset == position => Some(section),
+            _ => sections.get(before.checked_sub(1)?),
+        }
+    }
+
+    /// Returns the regular map that answers alike. Each section needs its map.
+    pub fn flatten(&self) -> Result<SourceMap> {
+        let mut flat = self.handle.share()?;
+        flat.flatten()?;
+        Ok(SourceMap::of_handle(flat))
+    }
+
+    /// Returns the regular map that answers alike, rewritten.
+    pub fn flatten_and_rewrite(self, options: &RewriteOptions<'_>) -> Result<SourceMap> {
+        self.flatten()?.rewrite(options)
+    }
+
+    /// Returns whether the map has both lists of a RAM bundle.
+    pub fn is_for_ram_bundle(&self) -> bool {
+        self.x_facebook_offsets().is_some() && self.x_metro_module_paths().is_some()
+    }
+
+    /// Returns the line of each module of a RAM bundle.
+    pub fn x_facebook_offsets(&self) -> Option<&[Option<u32>]> {
+        let offsets = self
+            .module_offsets
+            .get_or_init(|| self.handle.module_offsets());
+        offsets.as_deref()
+    }
+
+    /// Returns the paths of the modules of a RAM bundle.
+    pub fn x_metro_module_paths(&self) -> Option<&[String]> {
+        let paths = self
+            .module_paths
+            .get_or_init(|| read_module_paths(&self.handle));
+        paths.as_deref()
+    }
+
+    /// Moves each section so many lines further down. Returns false, and changes
+    /// nothing, if one would pass line 4294967295.
+    pub fn adjust_sections_offset_rows(&mut self, amount: u32) -> bool {
+        let is_possible = must(self.handle.shift(amount));
+        if is_possible {
+            for section in self.sections.get_mut().into_iter().flatten() {
+                section.offset.0 += amount;
+            }
+        }
+        is_possible
+    }
+
+    fn section_list(&self) -> &[SourceMapSection] {
+        self.sections
+            .get_or_init(|| must(read_sections(&self.handle)))
+    }
+}
+
+/// The paths of the modules of a RAM bundle. The library does not distinguish an
+/// empty list from none.
+fn read_module_paths(handle: &MapHandle) -> Option<Vec<String>> {
+    let paths = (0..).map_while(|id| handle.module_path(id));
+    Some(paths.map(str::to_owned).collect()).filter(|paths: &Vec<String>| !paths.is_empty())
+}
+
+fn read_sections(handle: &MapHandle) -> Result<Vec<SourceMapSection>> {
+    let mut sections = Vec::new();
+    for id in 0..handle.counts().sections {
+        let Some(section) = handle.section(id)? else {
+            break;
+        };
+        sections.push(SourceMapSection {
+            offset: section.offset,
+            url: section.url.map(str::to_owned),
+            map: section.map.map(|map| Box::new(DecodedMap::of_handle(map))),
+        });
+    }
+    Ok(sections)
+}
+
+impl SourceMapSection {
+    /// Returns the line where the section begins.
+    pub fn get_offset_line(&self) -> u32 {
+        self.offset.0
+    }
+
+    /// Returns the column where the section begins.
+    pub fn get_offset_col(&self) -> u32 {
+        self.offset.1
+    }
+
+    /// Returns the line and the column where the section begins.
+    pub fn get_offset(&self) -> (u32, u32) {
+        self.offset
+    }
+
+    /// Returns the URL of the map.
+    pub fn get_url(&self) -> Option<&str> {
+        self.url.as_deref()
+    }
+
+    /// Returns the map.
+    pub fn get_sourcemap(&self) -> Option<&DecodedMap> {
+        self.map.as_deref()
+    }
+}
+
+impl<'a> Iterator for SourceMapSectionIter<'a> {
+    type Item = &'a SourceMapSection;
+
+    fn next(&mut self) -> Option<&'a SourceMapSection> {
+        let section = self.smi.get_section(self.next)?;
+        self.next += 1;
+        Some(section)
+    }
+}
+
+impl Clone for SourceMapIndex {
+    fn clone(&self) -> SourceMapIndex {
+        SourceMapIndex {
+            handle: must(self.handle.share()),
+            sections: self.sections.clone(),
+            module_offsets: self.module_offsets.clone(),
+            module_paths: self.module_paths.clone(),
+        }
+    }
+}
+
+/// Index maps are equal if all their getters answer alike.
+impl PartialEq for SourceMapIndex {
+    fn eq(&self, other: &SourceMapIndex) -> bool {
+        self.get_file() == other.get_file()
+            && self.debug_id() == other.debug_id()
+            && self.x_facebook_offsets() == other.x_facebook_offsets()
+            && self.x_metro_module_paths() == other.x_metro_module_paths()
+            && self.section_list() == other.section_list()
+    }
+}
+
+impl fmt::Debug for SourceMapIndex {
+    fn fmt(&self, f: &mut fmt::Formatter<'_>) -> fmt::Result {
+        f.debug_struct("SourceMapIndex")
+            .field("file", &self.get_file())
+            .field("debug_id", &self.debug_id())
+            .field("x_facebook_offsets", &self.x_facebook_offsets())
+            .field("x_metro_module_paths", &self.x_metro_module_paths())
+            .field("sections", &self.section_list())
+            .finish()
+    }
+}

@@ -1,0 +1,419 @@
+//! Regular maps.
+
+use std::cell::OnceCell;
+use std::fmt;
+use std::io::{Read, Write};
+use std::sync::Arc;
+
+use crate::builder::SourceMapBuilder;
+use crate::debug_id::DebugId;
+use crate::decoder::{decode, decode_slice};
+use crate::errors::{Error, Result};
+use crate::handle::{Kind, MapHandle};
+use crate::local;
+use crate::sourceview::SourceView;
+use crate::types::{
+    DecodedMap, NameIter, RawToken, RewriteOptions, SourceContentsIter, SourceIter, Token,
+    TokenIter,
+};
+use crate::utils::{must, write_all};
+
+/// A regular map: no index.
+///
+/// It may move to another thread. Two threads that use one map have each its
+/// own [`clone`](Clone::clone), which copies nothing.
+pub struct SourceMap {
+    handle: MapHandle,
+    ignored: OnceCell<Box<[u32]>>,
+    views: OnceCell<Box<[OnceCell<SourceView>]>>,
+    /// Of the map in a Hermes map: the same without scopes, where a call needs it.
+    without_scopes: OnceCell<Box<SourceMap>>,
+}
+
+impl SourceMap {
+    pub(crate) fn of_handle(handle: MapHandle) -> SourceMap {
+        SourceMap {
+            handle,
+            ignored: OnceCell::new(),
+            views: OnceCell::new(),
+            without_scopes: OnceCell::new(),
+        }
+    }
+
+    /// The handle to change. What was read from it may then be out of date.
+    fn handle_mut(&mut self) -> &mut MapHandle {
+        self.ignored.take();
+        self.views.take();
+        self.without_scopes.take();
+        &mut self.handle
+    }
+
+    /// The handle of a regular map, whose answers do not know of scopes.
+    pub(crate) fn regular_handle(&self) -> &MapHandle {
+        match self.handle.kind() {
+            Kind::Regular => &self.handle,
+            _ => {
+                &self
+                    .without_scopes
+                    .get_or_init(|| Box::new(self.copied()))
+                    .handle
+            }
+        }
+    }
+
+    /// A copy of all parts but the scopes of a Hermes map.
+    fn copied(&self) -> SourceMap {
+        // Without the root, sources are as they were added.
+        let mut rootless = must(self.handle.share());
+        must(rootless.set_source_root(None));
+        let rootless = SourceMap::of_handle(rootless);
+        let tokens: Vec<RawToken> = raw_tokens(self).collect();
+        let names: Vec<Arc<str>> = self.names().map(Arc::from).collect();
+        let sources: Vec<Arc<str>> = rootless.sources().map(Arc::from).collect();
+        let contents = self
+            .source_contents()
+            .map(|contents| contents.map(Arc::from))
+            .collect();
+        let file = self.get_file().map(Arc::from);
+        let mut builder = SourceMapBuilder::of_parts(file, &tokens, &names, &sources, contents);
+        builder.set_source_root(self.get_source_root());
+        builder.set_debug_id(self.get_debug_id());
+        self.ignore_list()
+            .for_each(|&id| builder.add_to_ignore_list(id));
+        builder.into_sourcemap()
+    }
+
+    pub(crate) fn handle(&self) -> &MapHandle {
+        &self.handle
+    }
+
+    /// Reads a map from its JSON text, after a junk header if there is one. An
+    /// index map or a Hermes map is [`Error::IncompatibleSourceMap`].
+    ///
+    /// ```
+    /// use sourcemap::SourceMap;
+    /// let json: &[u8] = br#"{"version":3,"sources":["a.js"],"names":[],"mappings":"AAAA"}"#;
+    /// let map = SourceMap::from_reader(json).unwrap();
+    /// assert_eq!(map.get_source(0), Some("a.js"));
+    /// ```
+    pub fn from_reader<R: Read>(rdr: R) -> Result<SourceMap> {
+        SourceMap::of_decoded(decode(rdr)?)
+    }
+
+    /// Reads a map from its JSON text, as [`SourceMap::from_reader`] does.
+    pub fn from_slice(slice: &[u8]) -> Result<SourceMap> {
+        SourceMap::of_decoded(decode_slice(slice)?)
+    }
+
+    fn of_decoded(map: DecodedMap) -> Result<SourceMap> {
+        match map {
+            DecodedMap::Regular(sm) => Ok(sm),
+            _ => Err(Error::IncompatibleSourceMap),
+        }
+    }
+
+    /// Writes the map as JSON.
+    pub fn to_writer<W: Write>(&self, w: W) -> Result<()> {
+        self.regular_handle().written(|text| write_all(w, text))?
+    }
+
+    /// Returns the map as a `data:` URL.
+    pub fn to_data_url(&self) -> Result<String> {
+        self.regular_handle().data_url()
+    }
+
+    /// Makes a map of its parts. Tokens come in any order. Sources that
+    /// `sources_content` does not reach have no contents.
+    pub fn new(
+        file: Option<Arc<str>>,
+        tokens: Vec<RawToken>,
+        names: Vec<Arc<str>>,
+        sources: Vec<Arc<str>>,
+        sources_content: Option<Vec<Option<Arc<str>>>>,
+    ) -> SourceMap {
+        let contents = sources_content.unwrap_or_default();
+        SourceMapBuilder::of_parts(file, &tokens, &names, &sources, contents).into_sourcemap()
+    }
+
+    /// Returns the debug id.
+    pub fn get_debug_id(&self) -> Option<DebugId> {
+        self.handle.debug_id()
+    }
+
+    /// Sets or removes the debug id.
+    pub fn set_debug_id(&mut self, debug_id: Option<DebugId>) {
+        must(self.handle_mut().set_debug_id(debug_id));
+    }
+
+    /// Returns the name of the generated file.
+    pub fn get_file(&self) -> Option<&str> {
+        self.handle.file()
+    }
+
+    /// Sets or removes the name of the generated file.
+    pub fn set_file<T: Into<Arc<str>>>(&mut self, value: Option<T>) {
+        let value = value.map(Into::into);
+        must(self.handle_mut().set_file(value.as_deref()));
+    }
+
+    /// Returns the source root.
+    pub fn get_source_root(&self) -> Option<&str> {
+        self.handle.source_root()
+    }
+
+    /// Sets or removes the source root, against which sources are resolved.
+    pub fn set_source_root<T: Into<Arc<str>>>(&mut self, value: Option<T>) {
+        let value = value.map(Into::into);
+        must(self.handle_mut().set_source_root(value.as_deref()));
+    }
+
+    /// Puts a source on the ignore list.
+    pub fn add_to_ignore_list(&mut self, src_id: u32) {
+        must(self.handle_mut().ignore_source(src_id));
+    }
+
+    /// Returns the ids of the ignore list, in rising order.
+    pub fn ignore_list(&self) -> impl Iterator<Item = &u32> {
+        self.ignored
+            .get_or_init(|| self.handle.ignore_list())
+            .iter()
+    }
+
+    /// Returns the token of this index.
+    pub fn get_token(&self, idx: usize) -> Option<Token<'_>> {
+        let raw = self.raw_token(u32::try_from(idx).ok()?)?;
+        Some(Token::listed(self, raw))
+    }
+
+    /// Returns how many tokens there are.
+    pub fn get_token_count(&self) -> u32 {
+        self.handle.counts().tokens
+    }
+
+    /// Returns the tokens, in order.
+    pub fn tokens(&self) -> TokenIter<'_> {
+        TokenIter::new(self)
+    }
+
+    /// Returns the closest token to a generated position: the first one at the
+    /// position, else the last one before it, on whichever line.
+    ///
+    /// ```
+    /// # let json = br#"{"version":3,"sources":["a.js"],"names":[],"mappings":"AAAA,GAAG"}"#;
+    /// let map = sourcemap::SourceMap::from_slice(json).unwrap();
+    /// let token = map.lookup_token(0, 5).unwrap();
+    /// assert_eq!(token.get_dst(), (0, 3));
+    /// assert_eq!(token.to_string(), "a.js:0:3");
+    /// ```
+    #[inline]
+    pub fn lookup_token(&self, line: u32, col: u32) -> Option<Token<'_>> {
+        let answer = self.handle.lookup(line, col)?;
+        Some(Token::answered(self, answer, (line, col)))
+    }
+
+    /// Returns the original name of the function at a generated position, by its
+    /// minified name and the generated text. It is a guess, which needs a plain
+    /// name of a function that is declared by `function`.
+    pub fn get_original_function_name(
+        &self,
+        line: u32,
+        col: u32,
+        minified_name: &str,
+        sv: &SourceView,
+    ) -> Option<&str> {
+        let handle = self.regular_handle();
+        handle.function_name((line, col), minified_name, sv.handle())
+    }
+
+    /// Returns how many sources there are.
+    pub fn get_source_count(&self) -> u32 {
+        self.handle.counts().sources
+    }
+
+    /// Returns the source of this id, resolved against the source root.
+    pub fn get_source(&self, idx: u32) -> Option<&str> {
+        self.handle.source(idx)
+    }
+
+    /// Sets the text of a source.
+    ///
+    /// # Panics
+    ///
+    /// If there is no source of this id.
+    pub fn set_source(&mut self, idx: u32, value: &str) {
+        let is_there = must(self.handle_mut().set_source(idx, value));
+        assert!(is_there, "no source has id {idx}");
+    }
+
+    /// Returns the sources, resolved against the source root.
+    pub fn sources(&self) -> SourceIter<'_> {
+        SourceIter::new(self)
+    }
+
+    /// Returns the contents of a source with their lines. The first call for a
+    /// source copies its contents.
+    pub fn get_source_view(&self, idx: u32) -> Option<&SourceView> {
+        let contents = self.get_source_contents(idx)?;
+        let views = self.views.get_or_init(|| {
+            let count = self.get_source_count();
+            (0..count).map(|_| OnceCell::new()).collect()
+        });
+        let view = views.get(idx as usize)?;
+        Some(view.get_or_init(|| SourceView::of_text(contents)))
+    }
+
+    /// Returns the contents of a source.
+    pub fn get_source_contents(&self, idx: u32) -> Option<&str> {
+        self.handle.contents(idx)
+    }
+
+    /// Sets or removes the contents of a source.
+    ///
+    /// # Panics
+    ///
+    /// If there is no source of this id.
+    pub fn set_source_contents(&mut self, idx: u32, value: Option<&str>) {
+        let is_there = must(self.handle_mut().set_contents(idx, value));
+        assert!(is_there, "no source has id {idx}");
+    }
+
+    /// Returns the contents of all sources.
+    pub fn source_contents(&self) -> SourceContentsIter<'_> {
+        SourceContentsIter::new(self)
+    }
+
+    /// Returns the names.
+    pub fn names(&self) -> NameIter<'_> {
+        NameIter::new(self)
+    }
+
+    /// Returns how many names there are.
+    pub fn get_name_count(&self) -> u32 {
+        self.handle.counts().names
+    }
+
+    /// Returns whether there are names.
+    pub fn has_names(&self) -> bool {
+        self.get_name_count() != 0
+    }
+
+    /// Returns the name of this id.
+    pub fn get_name(&self, idx: u32) -> Option<&str> {
+        self.handle.name(idx)
+    }
+
+    /// Removes the names. Tokens keep their ids, which then name nothing.
+    pub fn remove_names(&mut self) {
+        must(self.handle_mut().remove_names());
+    }
+
+    /// Keeps only the sources, names and contents that tokens use, in the order
+    /// of their first use, and what else the options ask.
+    ///
+    /// ```
+    /// use sourcemap::{RewriteOptions, SourceMap};
+    /// # let json = br#"{"version":3,"sources":["a.js"],"names":["x"],"mappings":"AAAAA"}"#;
+    /// let map = SourceMap::from_slice(json).unwrap();
+    /// let options = RewriteOptions {
+    ///     with_names: false,
+    ///     ..Default::default()
+    /// };
+    /// assert!(!map.rewrite(&options).unwrap().has_names());
+    /// ```
+    pub fn rewrite(mut self, options: &RewriteOptions<'_>) -> Result<SourceMap> {
+        let mut with_contents = options.with_source_contents;
+        if options.load_local_source_contents {
+            local::load_for_rewrite(&mut self, options)?;
+            with_contents = true;
+        }
+        self.handle
+            .rewrite(options.with_names, with_contents, options.strip_prefixes)?;
+        Ok(SourceMap::of_handle(self.handle))
+    }
+
+    /// Adjusts the map by that of a later text made of this one, so that
+    /// positions of the later text answer.
+    ///
+    /// # Panics
+    ///
+    /// Where [`SourceMap::try_adjust_mappings`] fails.
+    pub fn adjust_mappings(&mut self, adjustment: &SourceMap) {
+        must(self.try_adjust_mappings(adjustment));
+    }
+
+    /// As [`SourceMap::adjust_mappings`]. Fails with
+    /// [`Error::IncompatibleSourceMap`] if a token would pass the last column, or
+    /// this is the map in a Hermes map; the map is then as it was.
+    pub fn try_adjust_mappings(&mut self, adjustment: &SourceMap) -> Result<()> {
+        self.handle_mut().compose(adjustment.regular_handle())
+    }
+
+    pub(crate) fn read_tokens(&self, first: u32, tokens: &mut [RawToken]) -> usize {
+        self.handle.tokens(first, tokens)
+    }
+
+    fn raw_token(&self, index: u32) -> Option<RawToken> {
+        let mut token = [RawToken::ZERO];
+        (self.read_tokens(index, &mut token) == 1).then(|| token[0])
+    }
+
+    /// The closest token to a position as it is in the list, and its index.
+    pub(crate) fn closest(&self, position: (u32, u32)) -> Option<(u32, RawToken)> {
+        let (mut low, mut high) = (0, self.get_token_count());
+        while low < high {
+            let middle = low + (high - low) / 2;
+            if self.raw_token(middle)?.dst() < position {
+                low = middle + 1;
+            } else {
+                high = middle;
+            }
+        }
+        let at_position = self.raw_token(low).filter(|token| token.dst() == position);
+        match at_position {
+            Some(token) => Some((low, token)),
+            None => {
+                let index = low.checked_sub(1)?;
+                Some((index, self.raw_token(index)?))
+            }
+        }
+    }
+}
+
+impl Clone for SourceMap {
+    fn clone(&self) -> SourceMap {
+        SourceMap::of_handle(must(self.regular_handle().share()))
+    }
+}
+
+/// Maps are equal if all their getters answer alike.
+impl PartialEq for SourceMap {
+    fn eq(&self, other: &SourceMap) -> bool {
+        self.get_token_count() == other.get_token_count()
+            && self.get_file() == other.get_file()
+            && self.get_source_root() == other.get_source_root()
+            && self.get_debug_id() == other.get_debug_id()
+            && self.ignore_list().eq(other.ignore_list())
+            && self.sources().eq(other.sources())
+            && self.names().eq(other.names())
+            && self.source_contents().eq(other.source_contents())
+            && raw_tokens(self).eq(raw_tokens(other))
+    }
+}
+
+/// The tokens of a map, by their numbers.
+fn raw_tokens(sm: &SourceMap) -> impl Iterator<Item = RawToken> + '_ {
+    sm.tokens().map(|token| token.get_raw_token())
+}
+
+impl fmt::Debug for SourceMap {
+    fn fmt(&self, f: &mut fmt::Formatter<'_>) -> fmt::Result {
+        f.debug_struct("SourceMap")
+            .field("file", &self.get_file())
+            .field("source_root", &self.get_source_root())
+            .field("debug_id", &self.get_debug_id())
+            .field("sources", &self.get_source_count())
+            .field("names", &self.get_name_count())
+            .field("tokens", &self.get_token_count())
+            .finish()
+    }
+}

@@ -1,0 +1,117 @@
+use sourcemap::{
+    decode_data_url, decode_slice, DecodedMap, Error, RewriteOptions, SourceMap, SourceMapHermes,
+    SourceView,
+};
+
+use crate::{regular, written, written_any};
+
+const HERMES: &str = r#"{"version":3,"sources":["a.js"],"names":[],"mappings":"AAAA,KACK",
+    "x_facebook_sources":[[{"names":["<global>","foo"],"mappings":"AAA,KCC"}]]}"#;
+
+fn hermes(json: &str) -> SourceMapHermes {
+    SourceMapHermes::from_slice(json.as_bytes()).expect("a Hermes map")
+}
+
+#[test]
+fn functions_by_their_offsets() {
+    let map = hermes(HERMES);
+    assert_eq!(map.get_original_function_name(0), Some("<global>"));
+    assert_eq!(map.get_original_function_name(7), Some("foo"));
+    let token = map.lookup_token(0, 7).expect("a token");
+    assert_eq!(map.get_scope_for_token(token), Some("foo"));
+    let any = DecodedMap::Hermes(map);
+    assert_eq!(
+        any.get_original_function_name(0, 7, None, None),
+        Some("foo")
+    );
+    assert_eq!(any.get_original_function_name(1, 7, None, None), None);
+}
+
+#[test]
+fn the_scope_of_a_range_token_is_that_of_the_position_asked() {
+    // The token maps to 0:0, where `<global>` begins. `foo` begins at 0:5.
+    let json = HERMES
+        .replace("AAAA,KACK", r#"AAAA","rangeMappings":"B"#)
+        .replace("KCC", "KCA");
+    let map = hermes(&json);
+    let scope = |offset| {
+        let token = map.lookup_token(0, offset).expect("a token");
+        assert_eq!(
+            map.get_original_function_name(offset),
+            map.get_scope_for_token(token)
+        );
+        map.get_scope_for_token(token)
+    };
+    assert_eq!((scope(4), scope(5)), (Some("<global>"), Some("foo")));
+    let listed = map.get_token(0).expect("a token");
+    assert_eq!(map.get_scope_for_token(listed), Some("<global>"));
+}
+
+#[test]
+fn scopes_are_kept() {
+    let map = hermes(HERMES);
+    let text = written_any(&DecodedMap::Hermes(map.clone()));
+    assert!(text.contains("x_facebook_sources"));
+    assert_eq!(
+        decode_slice(text.as_bytes()).expect("a map"),
+        DecodedMap::Hermes(map.clone())
+    );
+    let other = hermes(&HERMES.replace("foo", "bar"));
+    assert_ne!(map, other);
+    let options = RewriteOptions {
+        strip_prefixes: &["~"],
+        ..Default::default()
+    };
+    let rewritten = map.rewrite(&options).expect("a Hermes map");
+    assert_eq!(rewritten.get_original_function_name(7), Some("foo"));
+}
+
+#[test]
+fn a_hermes_map_has_the_calls_of_a_map() {
+    let mut map = hermes(HERMES);
+    assert_eq!(
+        (map.get_token_count(), map.get_source(0)),
+        (2, Some("a.js"))
+    );
+    map.set_file(Some("f.js"));
+    assert_eq!(map.get_file(), Some("f.js"));
+    assert_eq!(
+        map.lookup_token(0, 5).expect("a token").to_string(),
+        "a.js:1:5"
+    );
+}
+
+#[test]
+fn the_map_in_a_hermes_map_is_regular() {
+    let mut hermes = hermes(HERMES);
+    let expected = written(&regular(&HERMES.replace("x_facebook_sources", "unknown")));
+    assert_eq!(written(&hermes), expected);
+    let url = hermes.to_data_url().expect("a URL");
+    assert!(matches!(decode_data_url(&url), Ok(DecodedMap::Regular(_))));
+    let mut copy: SourceMap = (*hermes).clone();
+    assert_eq!(written(&copy), expected);
+    assert_eq!(copy, *hermes);
+    copy.adjust_mappings(&hermes);
+    assert!(matches!(
+        hermes.try_adjust_mappings(&copy),
+        Err(Error::IncompatibleSourceMap)
+    ));
+    // Its text is that of the map as it is now.
+    hermes.set_source(0, "b.js");
+    assert_eq!(written(&hermes), expected.replace("a.js", "b.js"));
+    assert_eq!(hermes.get_original_function_name(7), Some("foo"));
+}
+
+#[test]
+fn the_map_in_a_hermes_map_guesses_names() {
+    let json = HERMES
+        .replace("AAAA,KACK", "AAAA,SAASA")
+        .replace(r#""names":[],"#, r#""names":["n"],"#);
+    let map = hermes(&json);
+    let view = SourceView::from_string("function f(){}".into());
+    let sm: &SourceMap = &map;
+    assert_eq!(sm.get_original_function_name(0, 9, "f", &view), Some("n"));
+    assert_eq!(sm.get_original_function_name(0, 9, "g", &view), None);
+    let token = sm.lookup_token(0, 9).expect("a token");
+    assert_eq!(view.get_original_function_name(token, "f"), Some("n"));
+}
