@@ -1,0 +1,60 @@
+#!/usr/bin/env python3
+"""Times lookups from Python: the least processor time of several rounds, in microseconds.
+
+    bindings/python/bench.py MAP [POSITIONS]
+
+MAP is a regular map. Positions are those of its tokens, by chance, and a little to the right of them. A map of 4.6 MB
+is written by `bench/make-map.py 800000`.
+"""
+import random
+import sys
+import time
+from array import array
+from itertools import chain, islice
+
+from sourcemap import Map
+
+ROUNDS = 15
+
+
+def least(run):
+    """The least processor time of a call, in microseconds."""
+    times = []
+    for _ in range(ROUNDS):
+        begin = time.process_time()
+        run()
+        times.append(time.process_time() - begin)
+    return 1e6 * min(times)
+
+
+def drawn_positions(map, count):
+    drawn = random.Random(1)
+    tokens = list(map)
+    return [(token.generated_line, token.generated_column + drawn.randrange(3))
+            for token in drawn.choices(tokens, k=count)]
+
+
+def each(map, positions):
+    lookup = map.lookup
+    for line, column in positions:
+        lookup(line, column)
+
+
+def main(path, count=20_000):
+    with open(path, 'rb') as file:
+        data = file.read()
+    print(f'{least(lambda: Map(data)) / 1000:10.1f} ms  open {len(data)} bytes')
+    map = Map(data)
+    read = min(len(map), int(count))
+    print(f'{least(lambda: list(islice(map, read))) / read:10.3f} us  a token, of {read} read in order')
+    positions = drawn_positions(map, int(count))
+    for order, asked in ('random', positions), ('sorted', sorted(positions)):
+        words = array('I', chain.from_iterable(asked))
+        for what, run in [('lookup', lambda: each(map, asked)), ('lookup_many, arrays', lambda: map.lookup_many(words)),
+                          ('lookup_many, pairs', lambda: map.lookup_many(asked)),
+                          ('lookup_many, arrays to tokens', lambda: list(map.lookup_many(words)))]:
+            print(f'{least(run) / len(asked):10.3f} us  a position, {order}: {what}')
+
+
+if __name__ == '__main__':
+    main(*sys.argv[1:])

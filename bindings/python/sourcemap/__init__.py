@@ -1,0 +1,27 @@
+"""JavaScript source maps: look up, read, change, build and write them.
+
+    >>> import sourcemap
+    >>> with sourcemap.Map.load('bundle.js.map') as map:
+    ...     print(map.lookup(0, 5))
+    coolstuff.js:0:4 name=x
+
+Lines and columns count from 0. Columns count UTF-16 units. The work is done by the shared library of
+`bindings/c`, whose functions are proved. `sourcemap.errors` has a class for each of its errors; where memory runs out,
+`MemoryError` is raised.
+
+Each object may be used by several threads: a lock lets one call at a time use it. Long calls release the
+interpreter's lock.
+"""
+from . import errors
+from ._builder import Builder, NewToken
+from ._bundle import Bundle, Module, Split
+from ._library import NONE
+from ._map import Map, Section
+from ._tokens import Answers, Token
+from ._view import Reference, View, is_source_map, locate_reference, relative_path, resolve, resolve_path
+from .errors import SourceMapError
+
+__all__ = [
+    'NONE', 'Answers', 'Builder', 'Bundle', 'Map', 'Module', 'NewToken', 'Reference', 'Section', 'SourceMapError',
+    'Split', 'Token', 'View', 'errors', 'is_source_map', 'locate_reference', 'relative_path', 'resolve', 'resolve_path',
+]

@@ -1,0 +1,74 @@
+"""The package as a program: `python -m sourcemap lookup|tokens|stack|page`."""
+from __future__ import annotations
+
+import argparse
+import os
+import sys
+from typing import List, Optional
+
+from . import Map, SourceMapError, page, stack
+
+
+def read_map(path: str) -> Map:
+    """The map in a file, or on standard input if the path is `-`."""
+    return Map(sys.stdin.buffer.read()) if path == '-' else Map.load(path)
+
+
+def lookup(arguments: argparse.Namespace) -> int:
+    with read_map(arguments.map) as map:
+        token = map.lookup(arguments.line, arguments.column)
+    print('none' if token is None else token)
+    return 0
+
+
+def tokens(arguments: argparse.Namespace) -> int:
+    with read_map(arguments.map) as map:
+        for token in map:
+            kind = ' range' if token.is_range else ''
+            print(f'{token.generated_line}:{token.generated_column} {token}{kind}')
+    return 0
+
+
+def parser() -> argparse.ArgumentParser:
+    """The words of the program and their arguments."""
+    program = argparse.ArgumentParser(prog='python -m sourcemap', description='Ask a JavaScript source map.')
+    words = program.add_subparsers(title='words', required=True, metavar='WORD')
+
+    word = words.add_parser('lookup', help='print the original position of a generated one')
+    word.add_argument('map', help='the map; - is standard input')
+    word.add_argument('line', type=int, help='the generated line, counted from 0')
+    word.add_argument('column', type=int, help='the generated column, counted from 0 in UTF-16 units')
+    word.set_defaults(run=lookup)
+
+    word = words.add_parser('tokens', help='print a line for each token')
+    word.add_argument('map', help='the map; - is standard input')
+    word.set_defaults(run=tokens)
+
+    word = words.add_parser('stack', help='print a JavaScript stack trace with its original positions')
+    stack.add_arguments(word)
+    word.set_defaults(run=stack.run)
+
+    word = words.add_parser('page', help='write an HTML page that shows generated text and sources side by side')
+    page.add_arguments(word)
+    word.set_defaults(run=page.run)
+    return program
+
+
+def main(words: Optional[List[str]] = None) -> int:
+    """Runs the program. An error is printed to standard error, and the status is 1."""
+    arguments = parser().parse_args(words)
+    try:
+        status = int(arguments.run(arguments))
+        sys.stdout.flush()
+        return status
+    except BrokenPipeError:
+        # whoever reads has enough; what is left is flushed to nowhere
+        os.dup2(os.open(os.devnull, os.O_WRONLY), sys.stdout.fileno())
+        return 1
+    except (OSError, ValueError, MemoryError, SourceMapError) as error:
+        print(f'sourcemap: {error}', file=sys.stderr)
+        return 1
+
+
+if __name__ == '__main__':
+    sys.exit(main())

@@ -1,0 +1,129 @@
+"""RAM bundles, and their modules."""
+from __future__ import annotations
+
+import operator
+import os
+import sys
+from ctypes import byref, c_size_t
+from typing import Iterator, List, NamedTuple, Optional, Sequence, Type, TypeVar, Union, overload
+
+from . import _library as library
+from . import errors
+from ._handle import Data, HandleOwner, copied, empty_text, pointer_to, run
+from ._map import Map
+from ._texts import position_in
+
+AnyBundle = TypeVar('AnyBundle', bound='Bundle')
+
+
+class Bundle(HandleOwner, Sequence[Optional[bytes]]):
+    """An indexed RAM bundle: a sequence of its modules, of which some may be missing.
+
+    >>> import sourcemap
+    >>> data = bytes.fromhex('e5d10bfb 01000000 02000000 02000000 04000000 6162 78797a 00')
+    >>> bundle = sourcemap.Bundle(data)
+    >>> bundle.startup, list(bundle)
+    (b'ab', [b'xyz'])
+    """
+
+    def __init__(self, data: Data) -> None:
+        """Copies the bytes of a bundle."""
+        self._begin()
+        run(library.bundle_open, self._at, *pointer_to(data))
+
+    @classmethod
+    def load(cls: Type[AnyBundle], path: Union[str, 'os.PathLike[str]']) -> AnyBundle:
+        """Reads a bundle from a file."""
+        with open(path, 'rb') as file:
+            return cls(file.read())
+
+    @property
+    def startup(self) -> bytes:
+        """The startup code."""
+        return self._module_bytes(library.bundle_startup) or b''
+
+    def __len__(self) -> int:
+        """How many modules the bundle has, missing ones among them."""
+        modules = c_size_t()
+        self._read(library.bundle_count, byref(modules))
+        return modules.value
+
+    @overload
+    def __getitem__(self, index: int) -> Optional[bytes]: ...
+
+    @overload
+    def __getitem__(self, index: slice) -> List[Optional[bytes]]: ...
+
+    def __getitem__(self, index: Union[int, slice]) -> Union[Optional[bytes], List[Optional[bytes]]]:
+        """The bytes of a module; None where it is missing. `InvalidRamBundleIndex` past the last one."""
+        if isinstance(index, slice):
+            return [self._module(each) for each in range(*index.indices(len(self)))]
+        number = operator.index(index)
+        # a number past the last is the library's to refuse
+        return self._module(position_in(self, number) if number < 0 else min(number, sys.maxsize))
+
+    def __iter__(self) -> Iterator[Optional[bytes]]:
+        return map(self._module, range(len(self)))
+
+    def _module(self, id: int) -> Optional[bytes]:
+        return self._module_bytes(library.bundle_module, id)
+
+    def _module_bytes(self, call: library.Call, *arguments: int) -> Optional[bytes]:
+        text = empty_text()
+        with self._lock:
+            try:
+                self._run_locked(call, *arguments, byref(text))
+            except errors.Absent:
+                return None
+            return copied(text)
+
+    def split(self, index: Map) -> Split:
+        """The modules of the bundle, each with its name, its text and its map, by the index map of the bundle."""
+        made = Split._empty()
+        with index.share() as shared:
+            self._run(library.bundle_split, shared._at, made._at)
+        return made
+
+    def __repr__(self) -> str:
+        return '<sourcemap.Bundle: closed>' if self.closed else f'<sourcemap.Bundle: {len(self)} modules>'
+
+
+class Module(NamedTuple):
+    """A module of a bundle that was split."""
+
+    name: str
+    text: str
+    map: Map
+
+
+class Split(HandleOwner, Sequence[Module]):
+    """The modules of a bundle with their maps: a sequence, as `Bundle.split` makes it. An item that could not be made
+    raises its error."""
+
+    def __len__(self) -> int:
+        items = c_size_t()
+        self._read(library.split_count, byref(items))
+        return items.value
+
+    @overload
+    def __getitem__(self, index: int) -> Module: ...
+
+    @overload
+    def __getitem__(self, index: slice) -> List[Module]: ...
+
+    def __getitem__(self, index: Union[int, slice]) -> Union[Module, List[Module]]:
+        if isinstance(index, slice):
+            return [self._item(each) for each in range(*index.indices(len(self)))]
+        return self._item(position_in(self, index))
+
+    def _item(self, number: int) -> Module:
+        name, text = empty_text(), empty_text()
+        made = Map._empty()
+        with self._lock:
+            self._run_locked(library.split_item, number, byref(name), byref(text))
+            texts = copied(name).decode(), copied(text).decode()
+            self._run_locked(library.split_map, number, made._at)
+        return Module(*texts, made._opened())
+
+    def __repr__(self) -> str:
+        return '<sourcemap.Split: closed>' if self.closed else f'<sourcemap.Split: {len(self)} modules>'

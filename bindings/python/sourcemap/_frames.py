@@ -1,0 +1,166 @@
+"""Frames of JavaScript stack traces.
+
+A trace is text that a program printed, not data of a fixed form, so each line is read on its own: it is a frame with a
+position, or it is kept as it stands.
+
+What the engines count from, in the text of a trace:
+
+- V8: lines and columns from 1 ("Stack trace API", v8.dev). Node 20 prints column 1 for a call at the beginning of a
+  line.
+- SpiderMonkey: lines and columns from 1 (MDN, "Error.prototype.stack"). Version 102 prints column 1 for an expression
+  at the beginning of a line. Versions before 30 print no column.
+- JavaScriptCore: lines and columns from 1. No page of its own says so; WebKitGTK 2.50 prints column 15 for the call in
+  `function b(){a()}`, which begins at 14: it points to the end of what is called.
+
+Others may count columns from 0; the caller says so.
+"""
+
+from __future__ import annotations
+
+import re
+from dataclasses import dataclass
+from typing import NamedTuple, Optional
+
+FIRST_LINE = 1
+FIRST_COLUMN = 1
+
+# A longer line is no frame: it is a message, or a piece of minified text that was printed above the trace. It also
+# bounds the time of the patterns below.
+LONGEST_FRAME = 8192
+
+
+class Span(NamedTuple):
+    """A piece of a line of a trace."""
+
+    start: int
+    end: int
+
+
+@dataclass(frozen=True)
+class Frame:
+    """A line of a trace that names a position.
+
+    `line` and `column` are as they were printed; without a column it is None. `name` is the piece that an identifier
+    of the function takes up, None if the frame has no name or one that is no identifier. `location` is the piece that
+    file, line and column take up.
+    """
+
+    text: str
+    file: str
+    line: int
+    column: Optional[int]
+    location: Span
+    name: Optional[Span]
+
+    def function(self) -> Optional[str]:
+        """The identifier of the function, as the engine printed it."""
+        return None if self.name is None else self.text[self.name.start : self.name.end]
+
+    def rewritten(self, location: str, function: Optional[str]) -> str:
+        """The line with another location, and another name of the function."""
+        edits = [(self.location, location)]
+        if self.name is not None and function is not None:
+            edits.append((self.name, function))
+        text = self.text
+        for span, new in sorted(edits, reverse=True):
+            text = text[: span.start] + new + text[span.end :]
+        return text
+
+
+# `at NAME (LOCATION)` or `at LOCATION`. Node prints ` {` after the last frame of an error with properties of its own.
+_AT = re.compile(r'\s*at (?:(?P<name>.+?) \((?P<inside>.*)\)|(?P<bare>.+?))(?: \{)?\s*', re.DOTALL)
+_EVAL = re.compile(r'eval at (?P<name>.+?) \((?P<inside>.*)\)(?:, (?P<own>.*))?', re.DOTALL)
+_NUMBERS = re.compile(r':(?P<line>[0-9]{1,10})(?::(?P<column>[0-9]{1,10}))?$')
+# `FILE line LINE > eval`, where LINE is that of the call of eval.
+_EVAL_LINE = re.compile(r'(?P<file>.+?) line (?P<line>[0-9]{1,10}) > .*', re.DOTALL)
+# Scripts of the engine itself, which no map is of.
+_BUILT_IN = re.compile(r'node:.*|internal/.*|self-hosted|<anonymous>', re.DOTALL)
+_BARE_PATH = re.compile(r'/|[A-Za-z]:[\\/]|[A-Za-z][A-Za-z0-9+.-]*://')
+# What may stand before the identifier: words of the engine, and what the function is a member of (`Object.`), lies in
+# (`outer/`) or was called by (`async*`, `setTimeout handler*`).
+_FUNCTION = re.compile(
+    r'(?:(?:async|new|get|set|static) )*(?:[^(]*[./*])?(?P<name>[^\W\d][\w$]*|\$[\w$]*)(?: \[as [^\]]*\])?'
+)
+
+
+def parse_frame(text: str) -> Optional[Frame]:
+    """The frame that a line is, without its end, or None."""
+    if len(text) > LONGEST_FRAME:
+        return None
+    at = _AT.fullmatch(text)
+    if at is not None:
+        return _parse_at(text, at)
+    name, mark, _ = text.partition('@')
+    if mark and _BARE_PATH.match(name.lstrip()) is None:
+        return _parse_marked(text, len(name))
+    return _parse_bare(text)
+
+
+def _parse_at(text: str, at: re.Match[str]) -> Optional[Frame]:
+    """A frame of V8."""
+    if at['bare'] is not None:
+        start, end = at.span('bare')
+        if text.startswith('async ', start):
+            start += len('async ')
+        return _located(text, Span(start, end), None)
+    name, inside = Span(*at.span('name')), Span(*at.span('inside'))
+    evaluated = _EVAL.fullmatch(text, inside.start, inside.end)
+    if evaluated is None:
+        return _located(text, inside, name)
+    own = _evaluated_script(evaluated)
+    return _located(text, own, name) if own is not None else _eval_caller(text, evaluated)
+
+
+def _evaluated_script(evaluated: re.Match[str]) -> Optional[Span]:
+    """Where the location of evaluated code stands, if it names a script."""
+    if evaluated['own'] is None or evaluated['own'].startswith('<anonymous>'):
+        return None
+    return Span(*evaluated.span('own'))
+
+
+def _eval_caller(text: str, evaluated: re.Match[str]) -> Optional[Frame]:
+    """The frame of the call of eval, the outermost one if they are nested."""
+    while True:
+        name, inside = Span(*evaluated.span('name')), Span(*evaluated.span('inside'))
+        outer = _EVAL.fullmatch(text, inside.start, inside.end)
+        if outer is None:
+            return _located(text, inside, name)
+        evaluated = outer
+
+
+def _parse_marked(text: str, mark: int) -> Optional[Frame]:
+    """A frame of SpiderMonkey or JavaScriptCore, with `@` at `mark`."""
+    start, end = mark + 1, len(text.rstrip())
+    name = Span(mark - len(text[:mark].lstrip()), mark)
+    evaluated = _EVAL_LINE.fullmatch(text, start, end)
+    if evaluated is None:
+        return _located(text, Span(start, end), name)
+    location = Span(start, evaluated.end('line'))
+    return Frame(text, evaluated['file'], int(evaluated['line']), None, location, None)
+
+
+def _parse_bare(text: str) -> Optional[Frame]:
+    """A frame of JavaScriptCore without a name: a location alone."""
+    span = Span(len(text) - len(text.lstrip()), len(text.rstrip()))
+    frame = _located(text, span, None)
+    return None if frame is None or frame.column is None else frame
+
+
+def _located(text: str, span: Span, name: Optional[Span]) -> Optional[Frame]:
+    """The frame whose location takes up `span`, if that is a file with numbers."""
+    numbers = _NUMBERS.search(text[span.start : span.end])
+    if numbers is None or numbers.start() == 0:
+        return None
+    file = text[span.start : span.start + numbers.start()]
+    if _BUILT_IN.fullmatch(file) is not None:
+        return None
+    column = None if numbers['column'] is None else int(numbers['column'])
+    return Frame(text, file, int(numbers['line']), column, span, _identifier(text, name))
+
+
+def _identifier(text: str, name: Optional[Span]) -> Optional[Span]:
+    """The piece of a function's name that an identifier of the program is."""
+    if name is None:
+        return None
+    function = _FUNCTION.fullmatch(text, name.start, name.end)
+    return None if function is None else Span(*function.span('name'))

@@ -1,0 +1,142 @@
+"""Generated files and their maps, found on the file system."""
+
+from __future__ import annotations
+
+import os
+import re
+import sys
+from itertools import chain
+from pathlib import Path
+from typing import Dict, Iterator, NamedTuple, Optional, Tuple
+from urllib.parse import unquote, urlsplit
+
+from ._map import Map
+from ._view import View, locate_reference, resolve_path
+from .errors import SourceMapError
+
+_URL = re.compile(r'[A-Za-z][A-Za-z0-9+.-]+:')
+_WINDOWS_PATH = re.compile(r'[A-Za-z]:[\\/]|\\\\')
+
+
+class Generated(NamedTuple):
+    """A map, and the generated text that it is of, where that is there."""
+
+    map: Map
+    view: Optional[View]
+
+
+def open_map(path: Path) -> Map:
+    """Reads a map from a file. An index map is made flat, so that its sources and contents have ids."""
+    return _flat(Map.load(path))
+
+
+def find_map(path: Path, text: bytes, root: Optional[Path] = None) -> Optional[Map]:
+    """The map of the generated text in a file: the one that the text refers to, or else the one beside it, in
+    `FILE.map`. With `root` only what is below that folder counts, and a reference may lead there by its path's end."""
+    reference = locate_reference(text)
+    if reference is not None and reference.url.startswith('data:'):
+        return _flat(Map.from_data_url(reference.url))
+    if reference is not None:
+        target = _referenced(reference.url, path, root)
+        if target is not None:
+            return open_map(target)
+    beside = map_beside(path)
+    return open_map(beside) if os.path.isfile(beside) else None
+
+
+def _referenced(url: str, path: Path, root: Optional[Path]) -> Optional[Path]:
+    target = resolve_path(url, str(path.absolute()))
+    if target is not None and os.path.isfile(target) and (root is None or _is_below(target, root)):
+        return Path(target)
+    return None if root is None else next((end for end in ends_below(root, url) if os.path.isfile(end)), None)
+
+
+def map_beside(path: Path) -> Path:
+    """The path of the map that stands beside a generated file."""
+    return Path(f'{path}.map')
+
+
+def _flat(map: Map) -> Map:
+    if map.kind == 'index':
+        map.flatten()
+    return map
+
+
+def _is_below(path: str, folder: Path) -> bool:
+    return Path(os.path.abspath(folder)) in Path(os.path.abspath(path)).parents
+
+
+def path_parts(file: str) -> Tuple[str, ...]:
+    """The folders and the name of a file, which is named by a path or a URL. None of a URL that has no path, as those
+    of the engine itself. Parts that lead upwards are left out, so that no name leads out of a folder."""
+    if _WINDOWS_PATH.match(file):
+        parts = re.split(r'[\\/]', file)[1:]
+    else:
+        parts = (_path_of_url(file) if _URL.match(file) else file).split('/')
+    return tuple(part for part in parts if part not in ('', '.', '..'))
+
+
+def _path_of_url(url: str) -> str:
+    try:
+        path = urlsplit(url).path
+    except ValueError:
+        return ''
+    return unquote(path) if path.startswith('/') else ''
+
+
+def ends_below(folder: Path, file: str) -> Iterator[Path]:
+    """The paths in a folder that a file may have there: by the ends of its own path, the longest first."""
+    parts = path_parts(file)
+    return (folder.joinpath(*parts[first:]) for first in range(len(parts)))
+
+
+class Finder:
+    """Finds the generated file that a frame of a stack trace names, and its map.
+
+    The file is the one below `root` whose path ends like the file of the frame: the longest end that is there counts.
+    Without `root` it is the file that the path names, or else one below the current folder. With `map` that is the
+    map of every file.
+    """
+
+    def __init__(self, root: Optional[Path] = None, map: Optional[Map] = None) -> None:
+        self._root = root
+        self._map = map
+        self._found: Dict[str, Optional[Generated]] = {}
+
+    def find(self, file: str) -> Optional[Generated]:
+        """The map of a file, None where there is none. One that can't be read is reported on standard error."""
+        if file not in self._found:
+            path = next((path for path in self._candidates(file) if self._is_there(path)), None)
+            self._found[file] = self._open(path)
+        return self._found[file]
+
+    def _candidates(self, file: str) -> Iterator[Path]:
+        if self._root is not None:
+            return ends_below(self._root, file)
+        named = Path('/', *path_parts(file)) if file.startswith('file:') else Path(file)
+        return chain([named], ends_below(Path(), file))
+
+    @staticmethod
+    def _is_there(path: Path) -> bool:
+        return os.path.isfile(path) or os.path.isfile(map_beside(path))
+
+    def _open(self, path: Optional[Path]) -> Optional[Generated]:
+        try:
+            text = path.read_bytes() if path is not None and os.path.isfile(path) else None
+            map = self._map if self._map is not None else self._map_of(path, text)
+        except (OSError, SourceMapError) as error:
+            print(f'sourcemap: the map of {path}: {error}', file=sys.stderr)
+            return None
+        return None if map is None else Generated(map, _view_of(text))
+
+    def _map_of(self, path: Optional[Path], text: Optional[bytes]) -> Optional[Map]:
+        if path is None:
+            return None
+        return open_map(map_beside(path)) if text is None else find_map(path, text, self._root)
+
+
+def _view_of(text: Optional[bytes]) -> Optional[View]:
+    try:
+        return None if text is None else View(text)
+    except SourceMapError:
+        return None

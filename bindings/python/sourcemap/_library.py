@@ -1,0 +1,176 @@
+"""The shared library: where it is found, its structs and its calls.
+
+Calls that take less time than to release the interpreter's lock keep it, by `PyDLL`: another thread that computes
+would otherwise make each of them wait. All others release it, by `CDLL`.
+"""
+from __future__ import annotations
+
+import ctypes
+import ctypes.util
+import os
+from ctypes import c_bool, c_size_t, c_uint32, c_uint64, c_uint8, c_void_p
+from pathlib import Path
+from typing import Any, Callable, cast
+
+VARIABLE = 'SOURCEMAP_LIBRARY_DIR'
+FILES = ('libsourcemap.so', 'libsourcemap.so.1', 'libsourcemap.dylib')
+BUILT = Path(__file__).resolve().parents[2] / 'c' / 'out'
+INTERFACE = 1
+
+NONE = 0xFFFFFFFF
+
+OK, OUT_OF_MEMORY, ABSENT, WRONG_KIND, PAST_LIMIT = 0, 20, 32, 33, 34
+KIND_EMPTY, KIND_REGULAR, KIND_INDEX, KIND_HERMES = 0, 1, 2, 3
+
+
+class Handle(ctypes.Structure):
+    _fields_ = [('at', c_void_p), ('full', c_bool)]
+
+
+class Text(ctypes.Structure):
+    _fields_ = [('at', c_void_p), ('length', c_size_t)]
+
+
+class Error(ctypes.Structure):
+    _fields_ = [('code', c_uint32), ('number', c_uint32), ('start', c_uint64), ('size', c_uint64),
+                ('length', c_uint64), ('text_length', c_size_t), ('text', c_uint8 * 256)]
+
+
+class Token(ctypes.Structure):
+    _fields_ = [('line', c_uint32), ('column', c_uint32), ('original_line', c_uint32), ('original_column', c_uint32),
+                ('source', c_uint32), ('name', c_uint32), ('is_range', c_bool)]
+
+
+class Found(ctypes.Structure):
+    _fields_ = [('token', Token), ('found', c_bool)]
+
+
+class Counts(ctypes.Structure):
+    _fields_ = [('tokens', c_uint32), ('sources', c_uint32), ('names', c_uint32), ('ignored', c_uint32),
+                ('sections', c_uint32)]
+
+
+class DebugId(ctypes.Structure):
+    _fields_ = [('bytes', c_uint8 * 16)]
+
+
+class SectionStart(ctypes.Structure):
+    _fields_ = [('line', c_uint32), ('column', c_uint32), ('has_map', c_bool), ('has_url', c_bool)]
+
+
+def _library_path() -> str:
+    """The shared library in the folder that SOURCEMAP_LIBRARY_DIR names; without that variable the one that was
+    built beside this package, or else the one that the system finds."""
+    named = os.environ.get(VARIABLE)
+    folder = Path(named).absolute() if named else BUILT
+    for path in (folder / name for name in FILES):
+        if path.is_file():
+            return str(path)
+    if named:
+        raise ImportError(f'{VARIABLE} is {named}, which has no {FILES[0]}')
+    found = ctypes.util.find_library('sourcemap')
+    if found is None:
+        raise ImportError(f'{FILES[0]} was not found: build it by bindings/c/build, install it where the system looks '
+                          f'for libraries, or set {VARIABLE} to its folder')
+    return found
+
+
+_path = _library_path()
+_short = ctypes.PyDLL(_path)
+_long = ctypes.CDLL(_path)
+
+# a pointer to anything, which is never null
+P = c_void_p
+Call = Callable[..., Any]
+CODE = c_uint32
+
+
+def _call(library: ctypes.CDLL, name: str, result: Any, *arguments: Any) -> Call:
+    function: Any = getattr(library, name)
+    function.restype = result
+    function.argtypes = arguments
+    return cast(Call, function)
+
+
+interface = _call(_short, 'sm_interface', c_uint32)
+if interface() != INTERFACE:
+    raise ImportError(f'{_path} has version {interface()} of its interface; this package needs version {INTERFACE}')
+
+kind = _call(_short, 'sm_kind', c_uint32, P)
+close = _call(_long, 'sm_close', None, P)
+open_bytes = _call(_long, 'sm_open', CODE, P, P, c_size_t, P)
+open_url = _call(_long, 'sm_open_url', CODE, P, P, c_size_t, P)
+share = _call(_short, 'sm_share', CODE, P, P, P)
+is_source_map = _call(_long, 'sm_is_source_map', CODE, P, c_size_t, P, P)
+
+count = _call(_short, 'sm_count', CODE, P, P)
+file = _call(_short, 'sm_file', CODE, P, P)
+source_root = _call(_short, 'sm_source_root', CODE, P, P)
+get_debug_id = _call(_short, 'sm_get_debug_id', CODE, P, P)
+source = _call(_short, 'sm_source', CODE, P, c_uint32, P)
+name = _call(_short, 'sm_name', CODE, P, c_uint32, P)
+contents = _call(_short, 'sm_contents', CODE, P, c_uint32, P)
+ignore_list = _call(_short, 'sm_ignore_list', c_size_t, P, c_uint32, P, c_size_t)
+tokens = _call(_short, 'sm_tokens', c_size_t, P, c_uint32, P, c_size_t)
+module_offsets = _call(_short, 'sm_module_offsets', CODE, P, c_uint32, P, c_size_t, P)
+module_path = _call(_short, 'sm_module_path', CODE, P, c_uint32, P)
+
+# for one position, of arguments that ctypes need not convert: that would take half of the call's time
+lookup_one = _short['sm_lookup_many']
+lookup_one.restype = c_size_t
+lookup_many = _call(_long, 'sm_lookup_many', c_size_t, P, P, c_size_t, P, c_size_t)
+lookup_source = _call(_short, 'sm_lookup_source', CODE, P, c_uint32, c_uint32, P)
+lookup_name = _call(_short, 'sm_lookup_name', CODE, P, c_uint32, c_uint32, P)
+trace = _call(_long, 'sm_trace', CODE, P, P, c_size_t, P, P)
+function_name = _call(_short, 'sm_function_name', CODE, P, c_uint32, c_uint32, P, c_size_t, P, P)
+hermes_function_name = _call(_short, 'sm_hermes_function_name', CODE, P, c_uint32, P)
+
+rewrite = _call(_long, 'sm_rewrite', CODE, P, c_bool, c_bool, P, c_size_t, P)
+flatten = _call(_long, 'sm_flatten', CODE, P, P)
+compose = _call(_long, 'sm_compose', CODE, P, P, P)
+shift = _call(_long, 'sm_shift', CODE, P, c_uint32, P)
+# a change of a shared map copies it first, so these release the interpreter's lock too
+set_file = _call(_long, 'sm_set_file', CODE, P, c_bool, P, c_size_t, P)
+set_source_root = _call(_long, 'sm_set_source_root', CODE, P, c_bool, P, c_size_t, P)
+set_debug_id = _call(_long, 'sm_set_debug_id', CODE, P, c_bool, P, P)
+set_source = _call(_long, 'sm_set_source', CODE, P, c_uint32, P, c_size_t, P)
+set_contents = _call(_long, 'sm_set_contents', CODE, P, c_uint32, c_bool, P, c_size_t, P)
+ignore_source = _call(_long, 'sm_ignore_source', CODE, P, c_uint32, P)
+remove_names = _call(_long, 'sm_remove_names', CODE, P, P)
+
+write = _call(_long, 'sm_write', CODE, P, P, P)
+write_url = _call(_long, 'sm_write_url', CODE, P, P, P)
+bytes_text = _call(_short, 'sm_bytes_text', CODE, P, P)
+
+section_start_of = _call(_short, 'sm_section_start_of', CODE, P, c_uint32, P)
+section_url = _call(_short, 'sm_section_url', CODE, P, c_uint32, P)
+section = _call(_long, 'sm_section', CODE, P, c_uint32, P, P)
+
+builder_new = _call(_short, 'sm_builder_new', CODE, P, c_bool, P, c_size_t, P)
+builder_set_source_root = _call(_short, 'sm_builder_set_source_root', CODE, P, c_bool, P, c_size_t, P)
+builder_set_debug_id = _call(_short, 'sm_builder_set_debug_id', CODE, P, c_bool, P, P)
+builder_add_source = _call(_short, 'sm_builder_add_source', CODE, P, P, c_size_t, P, P)
+builder_add_name = _call(_short, 'sm_builder_add_name', CODE, P, P, c_size_t, P, P)
+builder_set_contents = _call(_long, 'sm_builder_set_contents', CODE, P, c_uint32, c_bool, P, c_size_t, P)
+builder_ignore_source = _call(_short, 'sm_builder_ignore_source', CODE, P, c_uint32, P)
+builder_add_tokens = _call(_long, 'sm_builder_add_tokens', c_size_t, P, P, c_size_t, P)
+builder_finish = _call(_long, 'sm_builder_finish', CODE, P, P, P)
+
+view_open = _call(_long, 'sm_view_open', CODE, P, P, c_size_t, P)
+view_text = _call(_short, 'sm_view_text', CODE, P, P)
+view_count = _call(_short, 'sm_view_count', CODE, P, P)
+view_line = _call(_short, 'sm_view_line', CODE, P, c_uint32, P)
+view_slice = _call(_short, 'sm_view_slice', CODE, P, c_uint32, c_uint32, c_uint32, P)
+locate_reference = _call(_long, 'sm_locate_reference', CODE, P, c_size_t, P, P, P)
+resolve = _call(_short, 'sm_resolve', CODE, P, c_size_t, P, c_size_t, P, P)
+resolve_path = _call(_short, 'sm_resolve_path', CODE, P, c_size_t, P, c_size_t, P, P)
+relative_path = _call(_short, 'sm_relative_path', CODE, P, c_size_t, P, c_size_t, P, P)
+
+bundle_open = _call(_long, 'sm_bundle_open', CODE, P, P, c_size_t, P)
+bundle_count = _call(_short, 'sm_bundle_count', CODE, P, P)
+bundle_startup = _call(_short, 'sm_bundle_startup', CODE, P, P, P)
+bundle_module = _call(_short, 'sm_bundle_module', CODE, P, c_size_t, P, P)
+bundle_split = _call(_long, 'sm_bundle_split', CODE, P, P, P, P)
+split_count = _call(_short, 'sm_split_count', CODE, P, P)
+split_item = _call(_short, 'sm_split_item', CODE, P, c_size_t, P, P, P)
+split_map = _call(_short, 'sm_split_map', CODE, P, c_size_t, P, P)

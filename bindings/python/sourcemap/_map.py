@@ -1,0 +1,520 @@
+"""Maps: what they say, lookups, changes, and how they are written."""
+from __future__ import annotations
+
+import os
+import struct
+import uuid
+from ctypes import byref, c_char, c_size_t, c_uint32
+from itertools import starmap
+from typing import Any, Dict, Iterable, Iterator, List, Literal, Optional, Sequence, Tuple, Type, TypeVar, Union
+
+from . import _library as library
+from . import errors
+from ._handle import (Data, HandleOwner, MadeText, debug_id_of, optional, pointer_to, pointer_to_words, read_text, run,
+                      text_of, uint32)
+from ._texts import LazySequence
+from ._tokens import BLOCK, FOUND, POSITION, TOKEN, Answers, Positions, Token, make_token, words_of
+from ._view import View
+
+Kind = Literal['regular', 'index', 'hermes']
+AnyMap = TypeVar('AnyMap', bound='Map')
+
+_KINDS: Dict[int, Kind] = {library.KIND_REGULAR: 'regular', library.KIND_INDEX: 'index', library.KIND_HERMES: 'hermes'}
+_INDEX_HAS_NONE = 'an index map has no {} of its own: see its sections, or flatten it'
+
+
+# what each lookup uses, by names that are found at once
+_ONE = c_size_t(1)
+_NONE = library.NONE
+_lookup_one = library.lookup_one
+_pack_position = POSITION.pack_into
+_unpack_found = FOUND.unpack
+
+
+class _Cached(Dict[int, Optional[str]]):
+    """Texts of a map by id, read when they are first asked for. Used under the map's lock."""
+
+    def __init__(self, call: library.Call, at: Any) -> None:
+        super().__init__({library.NONE: None})
+        self._call = call
+        self._at = at
+
+    def __missing__(self, id: int) -> Optional[str]:
+        text = read_text(self._call, self._at, id)
+        self[id] = None if text is None else text.decode()
+        return self[id]
+
+
+class Section:
+    """A part of an index map.
+
+    It begins at the generated `line` and `column`. `has_map` says whether it holds a map. `url` is the URL of its map,
+    or None.
+    """
+
+    def __init__(self, index: Map, id: int) -> None:
+        """Made by `Map.sections`."""
+        start = library.SectionStart()
+        index._read(library.section_start_of, id, byref(start))
+        self._index = index
+        self._id = id
+        self._map: Optional[Map] = None
+        self.line: int = start.line
+        self.column: int = start.column
+        self.has_map: bool = start.has_map
+        self.url: Optional[str] = index._text(library.section_url, id) if start.has_url else None
+
+    @property
+    def map(self) -> Optional[Map]:
+        """A copy of the map of the section, made when it is first asked for; None where it holds none."""
+        if self.has_map and self._map is None:
+            copied = Map._empty()
+            self._index._run(library.section, self._id, copied._at)
+            self._map = copied._opened()
+        return self._map
+
+    def __repr__(self) -> str:
+        return f'<sourcemap.Section {self.line}:{self.column}>'
+
+
+class Map(HandleOwner):
+    """A source map: regular, an index map, or a Hermes map.
+
+    >>> import sourcemap
+    >>> with sourcemap.Map.load('bundle.js.map') as map:
+    ...     print(map.lookup(0, 5))
+    coolstuff.js:0:4 name=x
+
+    Lines and columns count from 0, columns in UTF-16 units.
+
+    Threads may share a map: a lock lets one call at a time use it. For lookups at the same time give each thread a
+    `share()` of its own. Do not use a map from a signal handler or a `__del__` that may interrupt a call of the same
+    map.
+    """
+
+    def __init__(self, data: Data) -> None:
+        """The same as `Map.loads(data)`."""
+        self._begin()
+        pointer, length = pointer_to(data)
+        run(library.open_bytes, self._at, pointer, length)
+        self._opened()
+
+    @classmethod
+    def load(cls: Type[AnyMap], path: Union[str, 'os.PathLike[str]']) -> AnyMap:
+        """Reads a map of any kind from a file. Raises `OSError` of the file, or an error of `sourcemap.errors`."""
+        with open(path, 'rb') as file:
+            return cls(file.read())
+
+    @classmethod
+    def loads(cls: Type[AnyMap], data: Data) -> AnyMap:
+        """Reads a map of any kind from JSON, after a junk header if there is one.
+
+        >>> import sourcemap
+        >>> sourcemap.Map.loads('{"version":3,"sources":["a.js"],"names":[],"mappings":"AAAA"}')
+        <sourcemap.Map: regular, 1 tokens, 1 sources>
+
+        Bytes and writable buffers are not copied. Do not change a buffer during the call.
+        """
+        return cls(data)
+
+    @classmethod
+    def from_data_url(cls: Type[AnyMap], url: str) -> AnyMap:
+        """Reads the map in a `data:` URL.
+
+        >>> import sourcemap
+        >>> map = sourcemap.Map.from_data_url('data:application/json;base64,eyJtYXBwaW5ncyI6IkEifQ==')
+        >>> [(token.generated_line, token.generated_column, token.source) for token in map]
+        [(0, 0, None)]
+        """
+        made = cls._empty()
+        pointer, length = pointer_to(url)
+        run(library.open_url, made._at, pointer, length)
+        return made._opened()
+
+    def _begin(self) -> None:
+        super()._begin()
+        # what one lookup asks and finds
+        self._asked = bytearray(POSITION.size)
+        self._asked_at = byref((c_char * POSITION.size).from_buffer(self._asked))
+        self._found = bytearray(FOUND.size)
+        self._found_at = byref((c_char * FOUND.size).from_buffer(self._found))
+
+    def _opened(self: AnyMap) -> AnyMap:
+        """Begins to use a handle that was just filled, or holds another map now."""
+        self._kind = _KINDS[library.kind(self._at)]
+        self._sources = _Cached(library.source, self._at)
+        self._names = _Cached(library.name, self._at)
+        return self
+
+    def share(self: AnyMap) -> AnyMap:
+        """Another map that holds the same, without a copy: each thread may have its own. A change of one is not seen
+        by the other; the first change copies what they share. `copy.copy` and `copy.deepcopy` do the same."""
+        other = self._empty()
+        self._run(library.share, other._at)
+        return other._opened()
+
+    def __copy__(self: AnyMap) -> AnyMap:
+        return self.share()
+
+    # What the map says
+
+    def _counts(self) -> library.Counts:
+        counts = library.Counts()
+        self._read(library.count, byref(counts))
+        return counts
+
+    def _counted(self, what: str) -> int:
+        """How many of these the map has, if a map of its kind can have any."""
+        counts = self._counts()
+        if self._kind == 'index':
+            raise errors.WrongKind(_INDEX_HAS_NONE.format(what))
+        return int(getattr(counts, what))
+
+    @property
+    def kind(self) -> Kind:
+        """`'regular'`, `'index'` or `'hermes'`."""
+        with self._lock:
+            self._check_open()
+            return self._kind
+
+    @property
+    def file(self) -> Optional[str]:
+        """The name of the generated file. May be set; None removes it."""
+        return self._text(library.file)
+
+    @file.setter
+    def file(self, text: Optional[str]) -> None:
+        self._change(library.set_file, *optional(text))
+
+    @property
+    def source_root(self) -> Optional[str]:
+        """What `sources` are resolved against. May be set; None removes it."""
+        return self._text(library.source_root)
+
+    @source_root.setter
+    def source_root(self, text: Optional[str]) -> None:
+        self._change(library.set_source_root, *optional(text))
+
+    @property
+    def debug_id(self) -> Optional[uuid.UUID]:
+        """The debug id. May be set; None removes it."""
+        id = library.DebugId()
+        return uuid.UUID(bytes=bytes(id.bytes)) if self._read(library.get_debug_id, byref(id)) else None
+
+    @debug_id.setter
+    def debug_id(self, id: Optional[uuid.UUID]) -> None:
+        self._change(library.set_debug_id, id is not None, byref(debug_id_of(id)))
+
+    @property
+    def sources(self) -> Sequence[str]:
+        """The sources by id, resolved against `source_root`. Each is read when it is asked for.
+
+        Like `names`, `contents`, `ignore_list` and the tokens, an index map has none of its own, and raises
+        `WrongKind`: look at its sections, or flatten it.
+        """
+        return LazySequence(lambda: self._counted('sources'), self._source)
+
+    @property
+    def names(self) -> Sequence[str]:
+        """The names by id. Each is read when it is asked for."""
+        return LazySequence(lambda: self._counted('names'), self._name)
+
+    @property
+    def contents(self) -> Sequence[Optional[str]]:
+        """The contents of each source, by its id; None where the map has none. Each is read when it is asked for."""
+        return LazySequence(lambda: self._counted('sources'), lambda id: self._text(library.contents, id))
+
+    def _source(self, id: int) -> str:
+        return self._known(self._text(library.source, id), id)
+
+    def _name(self, id: int) -> str:
+        return self._known(self._text(library.name, id), id)
+
+    @staticmethod
+    def _known(text: Optional[str], id: int) -> str:
+        if text is None:
+            raise IndexError(f'the map was changed: nothing has the number {id} any more')
+        return text
+
+    @property
+    def ignore_list(self) -> Tuple[int, ...]:
+        """The ids of the sources on the ignore list, in rising order. `ignore_source` adds one."""
+        count = self._counted('ignored')
+        ids = (c_uint32 * max(count, 1))()
+        with self._lock:
+            written = library.ignore_list(self._at, 0, ids, count)
+        return tuple(ids[:written])
+
+    @property
+    def sections(self) -> Tuple[Section, ...]:
+        """The sections of an index map; none of other maps. They stay as they are when the map is changed."""
+        index = self.share()
+        return tuple(Section(index, id) for id in range(index._counts().sections))
+
+    @property
+    def module_offsets(self) -> Optional[Tuple[Optional[int], ...]]:
+        """Of the index map of a RAM bundle the line at which each module begins, None for a number without a module.
+        None if the index map has no such list; `WrongKind` of other maps."""
+        lines: List[Optional[int]] = []
+        block = (c_uint32 * BLOCK)()
+        written = c_size_t(BLOCK)
+        while written.value == BLOCK:
+            if not self._read(library.module_offsets, len(lines), block, BLOCK, byref(written)):
+                return None
+            lines.extend(None if line == _NONE else line for line in block[:written.value])
+        return tuple(lines)
+
+    @property
+    def module_paths(self) -> Tuple[str, ...]:
+        """Of the index map of a RAM bundle the paths of its modules, none if it has no such list; `WrongKind` of other
+        maps."""
+        paths: List[str] = []
+        while (path := self._text(library.module_path, len(paths))) is not None:
+            paths.append(path)
+        return tuple(paths)
+
+    def __len__(self) -> int:
+        """How many tokens the map has."""
+        return self._counted('tokens')
+
+    def __bool__(self) -> bool:
+        """True, also of a map without tokens."""
+        return True
+
+    def __repr__(self) -> str:
+        if self.closed:
+            return '<sourcemap.Map: closed>'
+        counts = self._counts()
+        if self._kind == 'index':
+            return f'<sourcemap.Map: index, {counts.sections} sections>'
+        return f'<sourcemap.Map: {self._kind}, {counts.tokens} tokens, {counts.sources} sources>'
+
+    # Tokens and lookups
+
+    def __iter__(self) -> Iterator[Token]:
+        """The same as `tokens()`."""
+        return self.tokens()
+
+    def tokens(self) -> Iterator[Token]:
+        """The tokens in order, read in blocks. They are those of the map at the time of the call: a change or `close`
+        meanwhile does not matter."""
+        self._counted('tokens')
+        return self._read_tokens(self.share())
+
+    @staticmethod
+    def _read_tokens(shared: Map) -> Iterator[Token]:
+        block = bytearray(BLOCK * TOKEN.size)
+        at = (c_char * 0).from_buffer(block)
+        first = 0
+        with shared:
+            while True:
+                with shared._lock:
+                    count = library.tokens(shared._at, first, at, BLOCK)
+                yield from shared._tokens_of(TOKEN.iter_unpack(memoryview(block)[:count * TOKEN.size]))
+                if count < BLOCK:
+                    return
+                first += count
+
+    def _tokens_of(self, rows: Iterable[Tuple[Any, ...]]) -> List[Any]:
+        """Tokens of the fields that stand in an sm_token or an sm_found."""
+        with self._lock:
+            return list(starmap(self._token, rows))
+
+    def _section_tokens_of(self, asked: Iterable[Tuple[Any, ...]], rows: Iterable[Tuple[Any, ...]]) -> List[Any]:
+        with self._lock:
+            return [self._section_token(*position, *row) for position, row in zip(asked, rows)]
+
+    def _token(self, line: int, column: int, original_line: int, original_column: int, source: int, name: int,
+               is_range: bool, found: bool = True) -> Optional[Token]:
+        if not found:
+            return None
+        name_id = None if name == _NONE else name
+        if source == _NONE:
+            return make_token((None, None, None, self._names[name], is_range, line, column, None, name_id))
+        return make_token((self._sources[source], original_line, original_column, self._names[name], is_range,
+                           line, column, source, name_id))
+
+    def _section_token(self, asked_line: int, asked_column: int, line: int, column: int, original_line: int,
+                       original_column: int, source: int, name: int, is_range: bool, found: bool) -> Optional[Token]:
+        """A token of an index map. Its ids are those of the section's map, so its texts are asked for by position."""
+        if not found:
+            return None
+        name_bytes = read_text(library.lookup_name, self._at, asked_line, asked_column)
+        name_text = None if name_bytes is None else name_bytes.decode()
+        if source == _NONE:
+            return make_token((None, None, None, name_text, is_range, line, column, None, None))
+        source_bytes = read_text(library.lookup_source, self._at, asked_line, asked_column)
+        source_text = None if source_bytes is None else source_bytes.decode()
+        return make_token((source_text, original_line, original_column, name_text, is_range, line, column, None, None))
+
+    def lookup(self, line: int, column: int) -> Optional[Token]:
+        """The closest token to a generated position: the first one at the position, or else the last one before it,
+        whichever line that stands on. None where there is none. In an index map the section answers that begins last
+        at the position or before it.
+
+        >>> import sourcemap
+        >>> map = sourcemap.Map.load('bundle.js.map')
+        >>> token = map.lookup(0, 5)
+        >>> token.source, token.line, token.column, token.name
+        ('coolstuff.js', 0, 4, 'x')
+        >>> map.lookup(1000, 0).generated_line  # compare it where only tokens of the asked line count
+        0
+        """
+        with self._lock:
+            try:
+                _pack_position(self._asked, 0, line, column)
+            except struct.error:
+                uint32('line', line), uint32('column', column)
+                raise
+            if not _lookup_one(self._at, self._asked_at, _ONE, self._found_at, _ONE):
+                raise self._closed_error()
+            if self._kind == 'index':
+                return self._section_token(line, column, *_unpack_found(self._found))
+            return self._token(*_unpack_found(self._found))
+
+    def lookup_many(self, positions: Positions) -> Answers:
+        """The answers of `lookup` to many positions at once: a sequence in the same order.
+
+        >>> import sourcemap
+        >>> from array import array
+        >>> map = sourcemap.Map.load('bundle.js.map')
+        >>> [token.line for token in map.lookup_many([(0, 5), (0, 18)])]
+        [0, 2]
+        >>> map.lookup_many(array('I', [0, 5, 0, 18])).lines.tolist()
+        [0, 2]
+
+        Positions are pairs, or a buffer of uint32 with a line and a column of each, such as an `array('I')` or a
+        memoryview: it is passed on as it is. Do not change it during the call.
+        """
+        words = words_of(positions)
+        count = words.nbytes // POSITION.size
+        # an empty bytearray would not be aligned
+        found = bytearray(max(count, 1) * FOUND.size)
+        at = (c_char * 0).from_buffer(found)
+        with self._lock:
+            self._check_open()
+            asked = words.tobytes() if self._kind == 'index' else None
+            shared = self._empty()
+            run(library.share, self._at, shared._at)
+            library.lookup_many(self._at, pointer_to_words(words), count, at, count)
+        return Answers(shared._opened(), asked, memoryview(found)[:count * FOUND.size])
+
+    def trace(self, positions: str) -> str:
+        """The answers to a list of positions, LINE:COLUMN on each line: for each a line SOURCE:LINE:COLUMN, with
+        ` name=NAME` if there is a name, or `none`, or `bad position`.
+
+        >>> import sourcemap
+        >>> map = sourcemap.Map.load('bundle.js.map')
+        >>> print(map.trace('0:5\\n0:x'), end='')
+        coolstuff.js:0:4 name=x
+        bad position
+        """
+        with MadeText() as text:
+            self._run(library.trace, *pointer_to(positions), text._at)
+            return text.read().decode()
+
+    def function_name(self, line: int, column: int, minified: str = '', view: Optional[View] = None) -> Optional[str]:
+        """The name of the function that a generated position stands in; None where it is not known.
+
+        A Hermes map has it itself, for line 0. Of other maps it is guessed from the generated text in `view` and the
+        minified name of the function.
+        """
+        line, column = uint32('line', line), uint32('column', column)
+        text = View('') if view is None else view
+        with text._lock:
+            text._check_open()
+            return self._text(library.function_name, line, column, *pointer_to(minified), text._at)
+
+    def hermes_function_name(self, offset: int) -> Optional[str]:
+        """The name of the function at an offset of the bytecode, of a Hermes map; None where it is not known.
+        `WrongKind` of any other map."""
+        return self._text(library.hermes_function_name, uint32('offset', offset))
+
+    # Changes
+
+    def _change(self, call: library.Call, *arguments: Any) -> None:
+        with self._lock:
+            self._run_locked(call, *arguments)
+            self._opened()
+
+    def rewrite(self, *, names: bool = True, contents: bool = True, strip_prefixes: Iterable[str] = ()) -> None:
+        """Keeps only the sources, names and contents that tokens use, in the order of their first use; the root and
+        the ignore list go. Names or contents go too if asked. From each source it cuts the first of the prefixes that
+        the source begins with; `'~'` stands for the prefix that all sources have in common, and comes last.
+
+        >>> import sourcemap
+        >>> map = sourcemap.Map.loads('{"version":3,"sources":["/x/a.js","/x/b.js"],"names":[],"mappings":"ACAA"}')
+        >>> map.rewrite(strip_prefixes=['/x'])
+        >>> map.sources
+        ['b.js']
+        """
+        if isinstance(strip_prefixes, str):
+            raise TypeError('strip_prefixes is a list of texts, not a text')
+        prefixes = [prefix.encode() for prefix in strip_prefixes]
+        texts = (library.Text * max(len(prefixes), 1))(*map(text_of, prefixes))
+        self._change(library.rewrite, names, contents, texts, len(prefixes))
+
+    def flatten(self) -> None:
+        """Makes an index map the regular map that answers alike. Share it before if you need both:
+
+        >>> import sourcemap
+        >>> index = sourcemap.Map.loads('{"version":3,"sections":[{"offset":{"line":2,"column":0},'
+        ...                             '"map":{"sources":["a.js"],"mappings":"AAAA"}}]}')
+        >>> flat = index.share()
+        >>> flat.flatten()
+        >>> index.kind, flat.kind, flat.sources
+        ('index', 'regular', ['a.js'])
+        """
+        self._change(library.flatten)
+
+    def compose(self, later: Map) -> None:
+        """Adjusts a regular map by the regular map of a later text that was made of this map's text: positions of the
+        later text then answer with sources of this map."""
+        with later.share() as shared:
+            self._change(library.compose, shared._at)
+
+    def shift(self, lines: int) -> None:
+        """Moves each section of an index map so many lines further down. `PastLimit` if one would pass the last
+        line."""
+        self._change(library.shift, uint32('lines', lines))
+
+    def set_source(self, id: int, text: str) -> None:
+        """Sets the source of this id; without its root, as it is written."""
+        self._change(library.set_source, uint32('id', id), *pointer_to(text))
+
+    def set_contents(self, id: int, text: Optional[str]) -> None:
+        """Sets the contents of the source of this id; None removes them."""
+        self._change(library.set_contents, uint32('id', id), *optional(text))
+
+    def ignore_source(self, id: int) -> None:
+        """Puts the source of this id on the ignore list."""
+        self._change(library.ignore_source, uint32('id', id))
+
+    def remove_names(self) -> None:
+        """Removes all names."""
+        self._change(library.remove_names)
+
+    # Writing
+
+    def _written(self, call: library.Call) -> bytes:
+        with MadeText() as text:
+            self._run(call, text._at)
+            return text.read()
+
+    def dumps(self) -> bytes:
+        """The map as JSON, in UTF-8.
+
+        A token on line L is written after L bytes of `;`, 4 GB at the most: look at the last token before you write a
+        map of a stranger.
+        """
+        return self._written(library.write)
+
+    def dump(self, path: Union[str, 'os.PathLike[str]']) -> None:
+        """Writes the map as JSON to a file."""
+        text = self.dumps()
+        with open(path, 'wb') as file:
+            file.write(text)
+
+    def to_data_url(self) -> str:
+        """The map as a `data:` URL."""
+        return self._written(library.write_url).decode()

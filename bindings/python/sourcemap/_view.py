@@ -1,0 +1,141 @@
+"""Generated texts: their lines, and the references to their maps."""
+from __future__ import annotations
+
+from ctypes import byref, c_bool, c_size_t
+from typing import Iterator, List, NamedTuple, Optional, Sequence, Union, overload
+
+from . import _library as library
+from . import errors
+from ._handle import Data, HandleOwner, MadeText, pointer_to, run, uint32
+from ._texts import position_in
+
+
+class View(HandleOwner, Sequence[str]):
+    """A generated text as a sequence of its lines, without their ends.
+
+    >>> import sourcemap
+    >>> view = sourcemap.View('abc👌def\\nblah')
+    >>> len(view), view[1]
+    (2, 'blah')
+    >>> view.slice(0, 3, 1)
+    '👌'
+    """
+
+    def __init__(self, text: Data) -> None:
+        """Copies a text. Bytes that are not UTF-8 raise `Utf8`."""
+        self._begin()
+        run(library.view_open, self._at, *pointer_to(text))
+
+    @property
+    def text(self) -> str:
+        """The whole text."""
+        return self._text(library.view_text) or ''
+
+    def __len__(self) -> int:
+        """How many lines the text has: one more than line ends."""
+        lines = c_size_t()
+        self._read(library.view_count, byref(lines))
+        return lines.value
+
+    @overload
+    def __getitem__(self, index: int) -> str: ...
+
+    @overload
+    def __getitem__(self, index: slice) -> List[str]: ...
+
+    def __getitem__(self, index: Union[int, slice]) -> Union[str, List[str]]:
+        if isinstance(index, slice):
+            return [self._line(each) for each in range(*index.indices(len(self)))]
+        return self._line(position_in(self, index))
+
+    def __iter__(self) -> Iterator[str]:
+        return map(self._line, range(len(self)))
+
+    def _line(self, number: int) -> str:
+        return self._text(library.view_line, uint32('line', number)) or ''
+
+    def slice(self, line: int, column: int, span: int) -> Optional[str]:
+        """The part of a line from a column on, `span` UTF-16 units long; None where the line does not have it."""
+        return self._text(library.view_slice, uint32('line', line), uint32('column', column), uint32('span', span))
+
+    def __repr__(self) -> str:
+        return '<sourcemap.View: closed>' if self.closed else f'<sourcemap.View: {len(self)} lines>'
+
+
+class Reference(NamedTuple):
+    """The reference to its map that a generated text carries: the URL as it stands there, and whether its comment
+    begins with `//@`."""
+
+    url: str
+    is_legacy: bool
+
+
+def locate_reference(text: Data) -> Optional[Reference]:
+    """The reference to its map that a generated text carries; None where it carries none.
+
+    >>> import sourcemap
+    >>> sourcemap.locate_reference('run();\\n//# sourceMappingURL=run.js.map\\n')
+    Reference(url='run.js.map', is_legacy=False)
+    """
+    is_legacy = c_bool()
+    with MadeText() as url:
+        try:
+            run(library.locate_reference, *pointer_to(text), url._at, byref(is_legacy))
+        except errors.Absent:
+            return None
+        return Reference(url.read().decode(), is_legacy.value)
+
+
+def resolve(url: str, base: str) -> Optional[str]:
+    """The URL that a reference leads to from the URL of its text; None where it leads nowhere.
+
+    >>> import sourcemap
+    >>> sourcemap.resolve('../m/a.js.map', 'http://localhost/x/y/a.js')
+    'http://localhost/x/m/a.js.map'
+    """
+    return _resolved(library.resolve, url, base)
+
+
+def resolve_path(url: str, path: str) -> Optional[str]:
+    """The path that a reference leads to from the absolute path of its text; None where it leads nowhere.
+
+    >>> import sourcemap
+    >>> sourcemap.resolve_path('../m/a.js.map', '/x/y/a.js')
+    '/x/m/a.js.map'
+    """
+    return _resolved(library.resolve_path, url, path)
+
+
+def relative_path(base: str, target: str) -> str:
+    """The path that leads from the folder of the file `base` to the file `target`.
+
+    >>> import sourcemap
+    >>> sourcemap.relative_path('/foo/bar/baz.js', '/foo/baz.map')
+    '../baz.map'
+    """
+    return _made_of(library.relative_path, base, target)
+
+
+def _resolved(call: library.Call, url: str, base: str) -> Optional[str]:
+    try:
+        return _made_of(call, url, base)
+    except errors.Absent:
+        return None
+
+
+def _made_of(call: library.Call, one: str, other: str) -> str:
+    with MadeText() as result:
+        run(call, *pointer_to(one), *pointer_to(other), result._at)
+        return result.read().decode()
+
+
+def is_source_map(data: Data) -> bool:
+    """Whether these bytes hold a source map, by the keys of their JSON value.
+
+    >>> import sourcemap
+    >>> sourcemap.is_source_map('{"version":3,"sources":[],"mappings":""}'), sourcemap.is_source_map('[]')
+    (True, False)
+    """
+    answer = c_bool()
+    run(library.is_source_map, *pointer_to(data), byref(answer))
+    return answer.value

@@ -1,0 +1,194 @@
+"""What a call raises where it fails: a class for each error of the library.
+
+All but `MemoryError`, which is Python's own, are a `SourceMapError`:
+
+    >>> import sourcemap
+    >>> try:
+    ...     sourcemap.Map.loads(b'[]')
+    ... except sourcemap.SourceMapError as error:
+    ...     print(type(error).__name__, error.code, error)
+    BadJson 4 bad json: a field has the wrong type
+"""
+from __future__ import annotations
+
+from typing import ClassVar, Dict, Optional, Type, Union
+
+from . import _library as library
+
+__all__ = [
+    'Absent', 'BadJson', 'BadNameReference', 'BadSegmentSize', 'BadSourceReference', 'CannotFlatten',
+    'IncompatibleSourceMap', 'InvalidBase64', 'InvalidDataUrl', 'InvalidRamBundleEntry', 'InvalidRamBundleIndex',
+    'InvalidRamBundleMagic', 'InvalidRangeMappingIndex', 'Io', 'NotARamBundle', 'PastLimit', 'Scroll',
+    'SourceMapError', 'Utf8', 'VlqLeftover', 'VlqNoValues', 'VlqOverflow', 'WrongKind',
+]
+
+
+class SourceMapError(Exception):
+    """Any error of the library.
+
+    `code` is its number in `sourcemap.h`, `str(error)` the text that the library prints. `number` is what the error
+    is about, where it is about a number: its class says which.
+    """
+
+    code: ClassVar[int] = 0
+    number: Optional[int] = None
+
+
+class Io(SourceMapError, ValueError):
+    """A junk header has a carriage return without a newline, or a line before a reference is not UTF-8."""
+
+    code = 1
+
+
+class Utf8(SourceMapError, ValueError):
+    """Bytes that should be text are not UTF-8."""
+
+    code = 2
+
+
+class Scroll(SourceMapError, ValueError):
+    """A range passes the end of a bundle: `size` bytes from `start` on, of `length` bytes."""
+
+    code = 3
+    start: int = 0
+    size: int = 0
+    length: int = 0
+
+
+class BadJson(SourceMapError, ValueError):
+    """The text is not JSON (`number` 0), or a field has the wrong type (`number` 1)."""
+
+    code = 4
+
+
+class VlqLeftover(SourceMapError, ValueError):
+    """A segment of the mappings ends within a number."""
+
+    code = 5
+
+
+class VlqNoValues(SourceMapError, ValueError):
+    """A segment of the mappings has no number."""
+
+    code = 6
+
+
+class VlqOverflow(SourceMapError, ValueError):
+    """A number of a segment is too large."""
+
+    code = 7
+
+
+class BadSegmentSize(SourceMapError, ValueError):
+    """A segment has `number` numbers, not 1, 4 or 5."""
+
+    code = 8
+
+
+class BadSourceReference(SourceMapError, ValueError):
+    """A segment names source `number`, which does not exist."""
+
+    code = 9
+
+
+class BadNameReference(SourceMapError, ValueError):
+    """A segment names name `number`, which does not exist."""
+
+    code = 10
+
+
+class IncompatibleSourceMap(SourceMapError, ValueError):
+    """The map is of another kind, or past a limit."""
+
+    code = 11
+
+
+class InvalidDataUrl(SourceMapError, ValueError):
+    """The text is no data URL of a source map."""
+
+    code = 12
+
+
+class CannotFlatten(SourceMapError, ValueError):
+    """An index map cannot become one regular map; the text says why."""
+
+    code = 13
+
+
+class InvalidRamBundleMagic(SourceMapError, ValueError):
+    """A bundle does not begin with its magic number."""
+
+    code = 14
+
+
+class InvalidRamBundleIndex(SourceMapError, IndexError):
+    """A bundle has no module of that number."""
+
+    code = 15
+
+
+class InvalidRamBundleEntry(SourceMapError, ValueError):
+    """The entry of a module in a bundle is not valid."""
+
+    code = 16
+
+
+class NotARamBundle(SourceMapError, ValueError):
+    """There is no bundle, or the index map is not one of a bundle."""
+
+    code = 17
+
+
+class InvalidRangeMappingIndex(SourceMapError, ValueError):
+    """Kept for its code; no call raises it."""
+
+    code = 18
+
+
+class InvalidBase64(SourceMapError, ValueError):
+    """A character of the mappings, `chr(number)`, is no digit of base 64."""
+
+    code = 19
+
+
+class Absent(SourceMapError, LookupError):
+    """There is no source, section or item of that id."""
+
+    code = 32
+
+
+class WrongKind(SourceMapError, TypeError):
+    """The object has no such call, as an index map has no tokens of its own."""
+
+    code = 33
+
+
+class PastLimit(SourceMapError, OverflowError):
+    """A line would pass 4294967295."""
+
+    code = 34
+
+
+_CLASSES: Dict[int, Type[SourceMapError]] = {each.code: each for each in SourceMapError.__subclasses__()}
+_WITH_NUMBER = (BadJson, BadSegmentSize, BadSourceReference, BadNameReference, InvalidBase64)
+
+
+def of_code(code: int) -> Union[SourceMapError, MemoryError]:
+    """The exception for a code that came without a text, which is one of two."""
+    if code == library.OUT_OF_MEMORY:
+        return MemoryError('out of memory')
+    return _CLASSES[code]('the object is of a kind that has no such call')
+
+
+def of_error(error: library.Error) -> Union[SourceMapError, MemoryError]:
+    """The exception for what a call wrote of its failure. A text longer than the struct holds ends in `...`."""
+    kept = min(error.text_length, len(error.text) - 1)
+    text = bytes(error.text[:kept]).decode(errors='ignore') + ('...' if kept < error.text_length else '')
+    if error.code == library.OUT_OF_MEMORY:
+        return MemoryError(text)
+    exception = _CLASSES[error.code](text)
+    if isinstance(exception, _WITH_NUMBER):
+        exception.number = error.number
+    if isinstance(exception, Scroll):
+        exception.start, exception.size, exception.length = error.start, error.size, error.length
+    return exception

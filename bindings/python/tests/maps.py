@@ -1,0 +1,27 @@
+"""Maps that several tests use, as JSON."""
+import json
+from pathlib import Path
+
+EXAMPLES = Path(__file__).resolve().parents[3] / 'examples'
+README = ('{"version":3,"sources":["coolstuff.js"],"names":["x","alert"],'
+          '"mappings":"AAAA,GAAIA,GAAI,EACR,IAAIA,GAAK,EAAG,CACVC,MAAM"}')
+
+
+def regular(mappings, sources=('a.js',), **keys):
+    """A regular map, with further keys or others than these."""
+    return json.dumps({'version': 3, 'sources': sources, 'names': [], 'mappings': mappings, **keys})
+
+
+def section(line, column, record, **keys):
+    """A section of an index map, made of the JSON of its map."""
+    return {'offset': {'line': line, 'column': column}, 'map': json.loads(record), **keys}
+
+
+def index(*sections, **keys):
+    """An index map of such sections."""
+    return json.dumps({'version': 3, 'sections': sections, **keys})
+
+
+TWO_SECTIONS = index(section(0, 0, regular('AAAA', ['a.js'])), section(10, 4, regular('AAAA', ['b.js'])))
+HERMES = regular('AAAA,KACK', x_facebook_sources=[[{'names': ['<global>', 'foo'], 'mappings': 'AAA,KCC'}]])
+BUNDLE = bytes.fromhex('e5d10bfb 01000000 02000000 02000000 04000000 6162 78797a 00')

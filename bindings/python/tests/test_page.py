@@ -1,0 +1,457 @@
+"""The page: what is written, and what a browser makes of it."""
+
+from __future__ import annotations
+
+import argparse
+import json
+import subprocess
+import sys
+import tempfile
+import time
+import unittest
+from pathlib import Path
+from typing import Any, Dict, List, Optional, Tuple
+
+from sourcemap import Map, page
+
+from . import example
+from .browser import Browser, find_browser
+
+FOLDER = Path(__file__).resolve().parents[1]
+BROWSER = find_browser()
+
+# Two sources, one without contents, and texts that HTML, JSON or a reader might take for something else. Tokens, as
+# GENERATED -> SOURCE LINE:COLUMN: 0:0 -> 0 0:0, named; 0:12 -> 0 1:1, the emoji; 0:15 has no source; 1:0 -> 1 4:2;
+# 1:2 -> 0 0:0 again.
+HOSTILE_GENERATED = '</script><b>\U0001f600+x\r\na;b&amp;\n'
+HOSTILE_SOURCE = '<img src=x onerror="window.hacked=1">\n\t\U0001f600 \u202eabc\x00'
+HOSTILE_MAP = json.dumps({
+    'version': 3,
+    'sourceRoot': 'root',
+    'sources': ['<i>a.js', 'b.js'],
+    'sourcesContent': [HOSTILE_SOURCE, None],
+    'names': ['</script>'],
+    'mappings': 'AAAAA,YACC,G;ACGC,EDJF',
+})
+
+
+def arguments(*words: str) -> argparse.Namespace:
+    parser = argparse.ArgumentParser()
+    page.add_arguments(parser)
+    return parser.parse_args(words)
+
+
+class InFolder(unittest.TestCase):
+    """Tests with a folder of their own."""
+
+    def setUp(self) -> None:
+        folder = tempfile.TemporaryDirectory()
+        self.addCleanup(folder.cleanup)
+        self.folder = Path(folder.name)
+
+    def write_page(self, generated: str, map: str, name: str = 'a.js') -> Path:
+        path = self.folder / 'page.html'
+        path.write_bytes(page.page_text(name, generated, Map.loads(map)).encode('utf-8'))
+        return path
+
+
+class Written(InFolder):
+    """The file, without a browser."""
+
+    def data_of(self, path: Path) -> Dict[str, Any]:
+        """What the page holds for its script."""
+        _, _, rest = path.read_text('utf-8').partition('<script type="application/json" id="data">')
+        data = json.loads(rest.partition('</script>')[0])
+        assert isinstance(data, dict)
+        return data
+
+    def test_map_by_reference(self) -> None:
+        generated = example.write(self.folder)
+        out = self.folder / 'out.html'
+        self.assertEqual(page.run(arguments(str(generated), '-o', str(out))), 0)
+        self.assertEqual(self.data_of(out), {
+            'generated': example.GENERATED,
+            'mappings': json.loads(example.MAP)['mappings'],
+            'sources': ['../src/app.js'],
+            'contents': [example.SOURCE],
+            'names': ['readAll', 'path', 'main'],
+        })
+        self.assertIn('<title>app.min.js and its sources</title>', out.read_text('utf-8'))
+
+    def test_named_map(self) -> None:
+        generated = self.folder / 'x.js'
+        generated.write_text('f();', 'utf-8')
+        map = self.folder / 'elsewhere.map'
+        map.write_text('{"version":3,"sources":["x.ts"],"names":[],"mappings":"AAAA"}', 'utf-8')
+        out = self.folder / 'out.html'
+        command = [sys.executable, '-m', 'sourcemap', 'page', str(generated), str(map), '-o', str(out)]
+        subprocess.run(command, check=True, cwd=FOLDER)
+        self.assertEqual(self.data_of(out)['sources'], ['x.ts'])
+        self.assertEqual(self.data_of(out)['contents'], [None])
+
+    def test_no_map(self) -> None:
+        generated = self.folder / 'x.js'
+        generated.write_text('f();', 'utf-8')
+        with self.assertRaises(FileNotFoundError):
+            page.run(arguments(str(generated), '-o', str(self.folder / 'out.html')))
+        self.assertFalse((self.folder / 'out.html').exists())
+
+    def test_index_map_is_made_flat(self) -> None:
+        generated = example.write(self.folder)
+        sections = [{'offset': {'line': 0, 'column': 0}, 'map': json.loads(example.MAP)},
+                    {'offset': {'line': 1, 'column': 3}, 'map': {'sources': ['b.js'], 'mappings': 'AAAA'}}]
+        index = self.folder / 'index.map'
+        index.write_text(json.dumps({'version': 3, 'sections': sections}), 'utf-8')
+        out = self.folder / 'out.html'
+        page.run(arguments(str(generated), str(index), '-o', str(out)))
+        data = self.data_of(out)
+        self.assertEqual(data['sources'], ['../src/app.js', 'b.js'])
+        # 1:3 comes from 0:0 of source 1; the token before it, from 8:0 of source 0
+        self.assertEqual(data['mappings'], json.loads(example.MAP)['mappings'] + ';GCRA')
+
+    def test_text_of_scripts(self) -> None:
+        """No text ends the script that holds it, and all come back as they were."""
+        path = self.write_page(HOSTILE_GENERATED, HOSTILE_MAP, '<script>{{DATA}}')
+        text = path.read_bytes().decode('utf-8')
+        self.assertEqual(text.count('</script>'), 2)
+        self.assertIn('<h1>&lt;script&gt;{{DATA}}</h1>', text)
+
+    def test_line_too_far_down(self) -> None:
+        """Ten million lines are too many: the mappings would have a byte for each."""
+        section = {'offset': {'line': 10_000_001, 'column': 0}, 'map': {'sources': ['b.js'], 'mappings': 'AAAA'}}
+        map = Map.loads(json.dumps({'version': 3, 'sections': [section]}))
+        map.flatten()
+        with self.assertRaisesRegex(ValueError, '10000001'):
+            page.page_text('a.js', '', map)
+
+
+@unittest.skipIf(BROWSER is None, 'no browser: install the package chromium')
+class InBrowser(InFolder):
+    """The page in headless Chromium, opened from a file."""
+
+    browser: Browser
+
+    @classmethod
+    def setUpClass(cls) -> None:
+        assert BROWSER is not None
+        cls.browser = Browser(BROWSER)
+        cls.addClassCleanup(cls.browser.close)
+
+    def open(self, generated: str, map: str) -> None:
+        self.browser.errors.clear()
+        self.browser.open(self.write_page(generated, map))
+        self.addCleanup(lambda: self.assertEqual(self.browser.errors, []))
+
+    def ask(self, expression: str) -> Any:
+        return self.browser.evaluate(expression)
+
+    def status(self) -> Any:
+        return self.ask('document.getElementById("status").textContent')
+
+    def tokens(self, pane: str, kind: str = 'token') -> List[Tuple[str, str]]:
+        """The drawn tokens of a kind in a pane: the number of their row, and their text."""
+        found = self.ask(f'''Array.from(document.querySelectorAll("#{pane} .{kind}"), (token) =>
+            [token.parentElement.firstChild.textContent, token.textContent])''')
+        return [(number, text) for number, text in found]
+
+    def middle(self, pane: str, text: str, index: int = 0) -> Tuple[float, float]:
+        """Where a token with this text is on the screen."""
+        box: Optional[List[float]] = self.ask(f'''(() => {{
+            const tokens = Array.from(document.querySelectorAll("#{pane} .token"));
+            const found = tokens.filter((token) => token.textContent === {json.dumps(text)})[{index}];
+            if (found === undefined) return null;
+            const box = found.getBoundingClientRect();
+            return [box.left + box.width / 2, box.top + box.height / 2];
+        }})()''')
+        if box is None:
+            self.fail(f'{text!r} is not among {self.tokens(pane)}')
+        return box[0], box[1]
+
+    def assert_seen(self, pane: str, kind: str) -> None:
+        """A token of this kind is wholly within its pane."""
+        self.assertTrue(self.ask(f'''(() => {{
+            const token = document.querySelector("#{pane} .{kind}").getBoundingClientRect();
+            const pane = document.getElementById("{pane}").getBoundingClientRect();
+            return token.top >= pane.top && token.bottom <= pane.bottom && token.left >= pane.left;
+        }})()'''))
+
+    def test_click_on_a_token(self) -> None:
+        self.open(example.GENERATED, example.MAP)
+        self.assertEqual(self.status(), '13 mappings, 1 source')
+        self.browser.click(self.middle('generated', 'Error('))
+        self.assertEqual(self.tokens('generated', 'selected'), [('1', 'Error(')])
+        self.assertEqual(self.tokens('source', 'selected'), [('2', 'Error(')])
+        self.assertEqual(self.status(), 'Generated 1:25 \u2192 ../src/app.js 2:13')
+        self.browser.click(self.middle('generated', 'a(', 1))
+        self.assertEqual(self.tokens('source', 'selected'), [('6', 'readAll(')])
+        self.assertEqual(self.status(), 'Generated 1:62 \u2192 ../src/app.js 6:3, name readAll')
+
+    def test_click_on_a_source(self) -> None:
+        self.open(example.GENERATED, example.MAP)
+        self.browser.click(self.middle('source', 'main() {'))
+        self.assertEqual(self.tokens('generated', 'selected'), [('1', 'n(){')])
+        self.assertEqual(self.status(), 'Generated 1:58 \u2192 ../src/app.js 5:10, name main')
+
+    def test_hover(self) -> None:
+        self.open(example.GENERATED, example.MAP)
+        self.browser.move(self.middle('generated', 'throw '))
+        self.browser.wait_until('document.getElementById("status").textContent.startsWith("Generated")')
+        self.assertEqual(self.status(), 'Generated 1:15 \u2192 ../src/app.js 2:3')
+        self.assertEqual(self.tokens('source', 'hovered'), [('2', 'throw ')])
+        self.assertEqual(self.tokens('source', 'selected'), [])
+        self.browser.move((5, 5))
+        self.assertEqual(self.tokens('source', 'hovered'), [])
+        self.assertEqual(self.status(), '13 mappings, 1 source')
+
+    def test_colours(self) -> None:
+        """Partners have one colour, neighbours different ones."""
+        self.open(example.GENERATED, example.MAP)
+        colours = self.ask('''["generated", "source"].map((pane) => Array.from(
+            document.querySelectorAll(`#${pane} .token`), (token) => getComputedStyle(token).backgroundColor))''')
+        generated, source = colours
+        generated.remove(generated[11])  # the text at 0:63 is drawn in two rows
+        self.assertEqual(len(generated), 13)
+        self.assertEqual(generated, source)
+        self.assertEqual(len(set(generated)), 13)
+
+    def test_keys(self) -> None:
+        self.open(example.GENERATED, example.MAP)
+        self.ask('document.getElementById("source").focus()')
+        steps = [
+            ('ArrowRight', 'function '), ('ArrowRight', 'readAll('), ('ArrowDown', 'new '), ('End', 'main();'),
+            ('ArrowLeft', "'data.txt');"), ('ArrowUp', 'main() {'), ('Home', 'function '), ('ArrowLeft', 'function '),
+        ]
+        for key, expected in steps:
+            self.browser.press(key)
+            self.assertEqual([text for _, text in self.tokens('source', 'selected')], [expected], key)
+        self.browser.move(self.middle('generated', 'throw '))
+        time.sleep(0.5)
+        self.browser.press('ArrowRight')
+        time.sleep(0.5)  # the mouse rests on another mapping, whose rows are drawn anew
+        self.assertEqual(self.status(), 'Generated 1:10 \u2192 ../src/app.js 1:10, name readAll')
+        self.browser.press('ArrowLeft')
+        active = 'document.getElementById(document.activeElement.getAttribute("aria-activedescendant"))'
+        self.assertEqual(self.ask(f'{active}.textContent'), 'function ')
+        self.assertEqual(self.ask(f'{active}.getAttribute("aria-selected")'), 'true')
+        self.browser.press('/')
+        self.assertEqual(self.ask('document.activeElement.id'), 'query')
+        self.browser.press('Escape')
+        self.assertEqual(self.ask('document.activeElement.id'), 'generated')
+
+    def search(self, scope: str, words: str) -> None:
+        self.ask(f'''(() => {{
+            document.getElementById("scope").value = "{scope}";
+            document.getElementById("query").value = "";
+            document.getElementById("query").focus();
+        }})()''')
+        self.browser.type(words)
+        self.browser.press('Enter')
+
+    def test_search(self) -> None:
+        self.open(example.GENERATED, example.MAP)
+        found = 'document.getElementById("found-count").textContent'
+        self.search('generated', 'DATA.')
+        self.assertEqual(self.ask(found), '1 of 1')
+        self.assertEqual(''.join(text for _, text in self.tokens('generated', 'found')), 'data.')
+        self.search('sources', 'main')
+        self.assertEqual(self.ask(found), '1 of 2')
+        self.browser.press('Enter')
+        self.assertEqual(self.ask(found), '2 of 2')
+        self.assertEqual(self.tokens('source', 'found'), [('9', 'main')])
+        self.ask('document.getElementById("previous").click()')
+        self.assertEqual(self.tokens('source', 'found'), [('5', 'main')])
+        self.ask('document.getElementById("previous").click()')
+        self.assertEqual(self.ask(found), '2 of 2')
+        self.search('names', 'read')
+        self.assertEqual(self.ask(found), '1 of 2')
+        self.assertEqual(self.tokens('generated', 'selected'), [('1', 'a(')])
+        self.search('generated', 'nothing(')
+        self.assertEqual(self.ask(found), 'Not found')
+
+    def test_hostile_texts(self) -> None:
+        self.open(HOSTILE_GENERATED, HOSTILE_MAP)
+        self.assertEqual(self.ask('typeof window.hacked'), 'undefined')
+        self.assertEqual(self.ask('document.querySelectorAll("img, b, i").length'), 0)
+        self.assertEqual(self.tokens('generated'), [
+            ('1', '</script><b>'), ('1', '\U0001f600+'), ('1', 'x'), ('2', 'a;'), ('2', 'b&amp;'),
+        ])
+        self.assertEqual(self.tokens('source'), [
+            ('1', '<img src=x onerror="window.hacked=1">'), ('2', '\U0001f600 \u00b7abc\u2400'),
+        ])
+        self.browser.click(self.middle('generated', 'x'))
+        self.assertEqual(self.status(), 'Generated 1:16: no original position')
+        self.assertEqual(self.tokens('source', 'selected'), [])
+
+    def test_positions_of_one_original(self) -> None:
+        """A source's piece leads to each of its tokens in turn, with Enter or by clicks."""
+        self.open(HOSTILE_GENERATED, HOSTILE_MAP)
+        tag = '<img src=x onerror="window.hacked=1">'
+        self.browser.click(self.middle('source', tag))
+        first = 'Generated 1:1 \u2192 root/<i>a.js 1:1, name </script> (1 of 2)'
+        second = 'Generated 2:3 \u2192 root/<i>a.js 1:1 (2 of 2)'
+        self.assertEqual(self.status(), first)
+        self.assertEqual(self.tokens('generated', 'selected'), [('1', '</script><b>')])
+        self.assertEqual(self.tokens('generated', 'linked'), [('2', 'b&amp;')])
+        self.browser.click(self.middle('source', tag))
+        self.assertEqual(self.status(), second)
+        self.browser.move((5, 5))
+        self.browser.move(self.middle('source', tag))
+        time.sleep(0.5)  # the mouse rests on the piece, which else stands for its first token
+        self.assertEqual(self.status(), second)
+        self.browser.press('Enter')
+        self.assertEqual(self.status(), first)
+
+    def test_source_without_contents(self) -> None:
+        self.open(HOSTILE_GENERATED, HOSTILE_MAP)
+        options = 'Array.from(document.getElementById("sources").options, (option) => option.text)'
+        self.assertEqual(self.ask(options), ['root/<i>a.js', 'root/b.js (no contents)'])
+        self.browser.click(self.middle('generated', 'a;'))
+        self.assertEqual(self.status(), 'Generated 2:1 \u2192 root/b.js 5:3')
+        self.assertEqual(self.ask('document.getElementById("sources").value'), '1')
+        notice = 'The map holds no contents of this source.'
+        self.assertEqual(self.ask('document.getElementById("source").textContent'), notice)
+        self.browser.click(self.middle('generated', 'b&amp;'))
+        self.assertEqual(self.ask('document.getElementById("sources").value'), '0')
+        self.assert_seen('source', 'selected')
+
+    def choose_source(self, number: int) -> None:
+        self.ask(f'''(() => {{
+            const list = document.getElementById("sources");
+            list.value = "{number}";
+            list.dispatchEvent(new Event("change"));
+        }})()''')
+
+    def test_list_of_sources(self) -> None:
+        """Of three sources the middle one has no mapping, and contents all the same."""
+        # 0:0 -> 0 0:0, 0:1 -> 2 0:1
+        fields = {'sources': ['a.js', 'b.js', 'c.js'], 'sourcesContent': ['aa', 'bb', 'cc'], 'names': []}
+        self.open('xy', json.dumps({'version': 3, **fields, 'mappings': 'AAAA,CEAC'}))
+        for number, text, tokens in [(1, 'bb', []), (2, 'cc', ['c']), (0, 'aa', ['aa'])]:
+            self.choose_source(number)
+            self.assertEqual(self.ask('document.querySelector("#source .row").textContent'), f'1{text}')
+            self.assertEqual([text for _, text in self.tokens('source')], tokens)
+
+    def test_partner_is_scrolled_into_view(self) -> None:
+        """Line N of 3,000 comes from line 3000 - N of the source."""
+        lines = 3000
+        generated = '\n'.join(f'line({number});' for number in range(lines))
+        source = '\n'.join(f'original({lines - 1 - number});' for number in range(lines))
+        # 2999, as the first original line, is `u7F`; each further one is one less
+        mappings = 'AAu7FA' + ';AADA' * (lines - 1)
+        fields = {'sources': ['a.js'], 'sourcesContent': [source], 'names': [], 'mappings': mappings}
+        self.open(generated, json.dumps({'version': 3, **fields}))
+        self.assertEqual(self.tokens('source')[0], ('1', 'original(2999);'))
+        self.browser.move(self.middle('generated', 'line(4);'))
+        self.browser.wait_until('document.querySelector("#source .hovered")')
+        self.assertEqual(self.tokens('source', 'hovered'), [('2996', 'original(4);')])
+        self.assert_seen('source', 'hovered')
+        self.browser.click(self.middle('generated', 'line(5);'))
+        self.assertEqual(self.tokens('source', 'selected'), [('2995', 'original(5);')])
+        self.assert_seen('source', 'selected')
+        self.browser.press('End')
+        self.assertEqual(self.tokens('source', 'selected'), [('1', 'original(2999);')])
+        self.assertEqual(self.tokens('generated', 'selected'), [('3000', 'line(2999);')])
+        self.assert_seen('source', 'selected')
+        self.assert_seen('generated', 'selected')
+        self.assertLess(self.ask('document.querySelectorAll("*").length'), 1000)
+
+    def test_resize(self) -> None:
+        """The line at the top stays there when lines are wrapped anew."""
+        text = '\n'.join(f'{number:060}' for number in range(1000))
+        self.open(text, '{"version":3,"sources":[],"names":[],"mappings":""}')
+        self.ask('document.getElementById("generated").scrollTop = 500 * 20')
+        top = '''(() => {
+            const pane = document.getElementById("generated").getBoundingClientRect();
+            const rows = Array.from(document.querySelectorAll("#generated .row"));
+            const row = rows.find((each) => each.getBoundingClientRect().bottom > pane.top + 1);
+            return row && row.querySelector(".number").textContent;
+        })()'''
+        self.browser.wait_until(f'{top} === "501"')
+        self.addCleanup(self.browser.resize, 1200, 700)
+        self.browser.resize(800, 700)
+        rows = 'document.querySelector("#generated > div").offsetHeight / 20'
+        self.browser.wait_until(f'{rows} === 2000')
+        self.browser.wait_until(f'{top} === "501"')
+
+    def test_line_of_a_megabyte(self) -> None:
+        """250,000 tokens of 4 columns on one line each; the source has them in the same columns."""
+        count = 250_000
+        text = ''.join(f'{number % 1000:03};' for number in range(count))
+        fields = {'sources': ['a.js'], 'sourcesContent': [text], 'names': []}
+        mappings = 'AAAA' + ',IAAI' * (count - 1)
+        self.open(text, json.dumps({'version': 3, **fields, 'mappings': mappings}))
+        self.ask('document.getElementById("generated").focus()')
+        self.browser.press('End')
+        self.assertEqual(self.status(), 'Generated 1:999997 \u2192 a.js 1:999997')
+        for pane in ('generated', 'source'):
+            # the token may be drawn in two rows
+            self.assertEqual(''.join(text for _, text in self.tokens(pane, 'selected')), '999;')
+            self.assert_seen(pane, 'selected')
+        self.assertLess(self.ask('document.querySelectorAll("*").length'), 3000)
+        self.assertEqual(self.ask('document.querySelector("#generated").scrollWidth'),
+                         self.ask('document.querySelector("#generated").clientWidth'))
+
+    def test_rows_do_not_cut_characters(self) -> None:
+        """Every second row would end within a surrogate pair."""
+        text = '"' + '\U0001f600' * 300 + '"'
+        self.open(text, '{"version":3,"sources":[],"names":[],"mappings":"A"}')
+        rows = self.ask('''Array.from(document.querySelectorAll("#generated .row"), (row) =>
+            Array.from(row.querySelectorAll(".token"), (token) => token.textContent).join(""))''')
+        self.assertGreater(len(rows), 5)
+        self.assertEqual(''.join(rows), text)
+        self.assertEqual({row.strip('"').replace('\U0001f600', '') for row in rows}, {''})
+
+    def test_text_taller_than_an_element(self) -> None:
+        """450,000 lines of 20 pixels; browsers draw fewer."""
+        lines = 450_000
+        fields = {'sources': ['a.js'], 'sourcesContent': ['end();'], 'names': []}
+        map = json.dumps({'version': 3, **fields, 'mappings': 'A' + ';' * lines + 'AAAA'})
+        self.open('\n' * lines + 'end();', map)
+        self.ask('document.getElementById("generated").focus()')
+        self.browser.press('End')
+        self.assertEqual(self.tokens('generated', 'selected'), [('450001', 'end();')])
+        self.assert_seen('generated', 'selected')
+        self.ask('document.getElementById("generated").scrollTop = 1e9')
+        self.browser.wait_until('document.querySelector("#generated .row:last-child .number").textContent === "450001"')
+        self.assert_seen('generated', 'selected')
+        self.browser.press('Home')
+        self.assertEqual(self.ask('document.querySelector("#generated .number").textContent'), '1')
+
+    def test_no_network(self) -> None:
+        self.open(example.GENERATED, example.MAP)
+        self.assertEqual(self.ask('performance.getEntriesByType("resource").length'), 0)
+        policy = 'document.querySelector("meta[http-equiv=Content-Security-Policy]").content'
+        self.assertTrue(self.ask(policy).startswith("default-src 'none';"))
+
+    def test_contrast(self) -> None:
+        """Texts have a contrast of at least 4.5 with what is below them, in light and dark."""
+        self.addCleanup(self.browser.use_colours, 'light')
+        for scheme in ('light', 'dark'):
+            self.browser.use_colours(scheme)
+            self.open(example.GENERATED, example.MAP)
+            self.browser.click(self.middle('generated', 'Error('))
+            parts = '.token, .number, #status, h1, .heading'
+            colours = self.ask(f'''Array.from(document.querySelectorAll("{parts}"), (each) => {{
+                let below = each;
+                while (getComputedStyle(below).backgroundColor === "rgba(0, 0, 0, 0)") below = below.parentElement;
+                return [getComputedStyle(each).color, getComputedStyle(below).backgroundColor];
+            }})''')
+            self.assertGreater(len(colours), 40)
+            for text, below in colours:
+                self.assertGreaterEqual(contrast(text, below), 4.5, f'{scheme}: {text} on {below}')
+
+
+def contrast(text: str, below: str) -> float:
+    """The ratio of WCAG 2 of two colours, `rgb(R, G, B)`."""
+    light, dark = sorted((luminance(text), luminance(below)), reverse=True)
+    return (light + 0.05) / (dark + 0.05)
+
+
+def luminance(colour: str) -> float:
+    channels = [int(part) / 255 for part in colour[len('rgb('):-1].split(',')]
+    linear = [part / 12.92 if part <= 0.04045 else float(((part + 0.055) / 1.055) ** 2.4) for part in channels]
+    return 0.2126 * linear[0] + 0.7152 * linear[1] + 0.0722 * linear[2]
+
+
+if __name__ == '__main__':
+    unittest.main()
