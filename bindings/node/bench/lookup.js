@@ -1,0 +1,103 @@
+'use strict';
+
+// Times this package beside @jridgewell/trace-mapping:
+//
+//   node bench/lookup.js MAP..
+//
+// For each map, and for positions at random and in order, it prints the
+// milliseconds of processor time in which each way opens the map and answers a
+// million positions: the best of some rounds, in which all ways take turns.
+// `each by addon` asks the library by a call into the addon for each position;
+// it is not offered, and stands here to show why.
+
+const { readFileSync } = require('node:fs');
+const sourcemap = require('..');
+const { native } = require('../lib/native.js');
+const { mappingsOf } = require('../lib/trace-map.js');
+const { peer, skip } = require('../support/peer.js');
+const { Random } = require('../support/random.js');
+
+const COUNT = 1e6;
+const ROUNDS = 4;
+
+/** Lines from 1 and columns from 0, on all lines by how many tokens they have. */
+function randomPositions(mappings) {
+  const random = new Random(1);
+  const lines = mappings.flatMap((line, number) => new Array(line.length).fill(number));
+  return random.list(COUNT, () => {
+    const line = random.pick(lines);
+    return [line + 1, random.below(mappings[line].at(-1)[0] + 10)];
+  });
+}
+
+function askPositions(call, map, positions) {
+  let sum = 0;
+  for (let i = 0; i < positions.length; i += 2) {
+    const { line, column } = call(map, { line: positions[i], column: positions[i + 1] });
+    sum += (line ?? 0) + (column ?? 0);
+  }
+  return sum;
+}
+
+/** Answers of four words, as the addon writes them. */
+function sumOf(answers) {
+  let sum = 0;
+  for (let i = 0; i < answers.length; i += 4) sum += answers[i + 1] + answers[i + 2];
+  return sum;
+}
+
+function askAddon(map, positions) {
+  const { handle } = mappingsOf(map);
+  const { resolvedSources, names } = map;
+  const answer = new Uint32Array(4);
+  const call = (_, { line, column }) => {
+    native.lookup(handle, line - 1, column, answer);
+    const [source, originalLine, originalColumn, name] = answer;
+    if (source === sourcemap.NONE) return { source: null, line: null, column: null, name: null };
+    return { source: resolvedSources[source], line: originalLine, column: originalColumn, name: names[name] ?? null };
+  };
+  return askPositions(call, map, positions);
+}
+
+const ways = {
+  'trace-mapping': (text, positions) => askPositions(peer.originalPositionFor, new peer.AnyMap(text), positions),
+  'this package': (text, positions) =>
+    askPositions(sourcemap.originalPositionFor, new sourcemap.AnyMap(text), positions),
+  'in one call': (text, positions) => sumOf(sourcemap.originalPositionsFor(new sourcemap.AnyMap(text), positions)),
+  'each by addon': (text, positions) => askAddon(new sourcemap.AnyMap(text), positions),
+};
+
+function processorTime() {
+  const { user, system } = process.cpuUsage();
+  return (user + system) / 1000;
+}
+
+function measure(text, positions) {
+  const best = {};
+  const sums = new Set();
+  for (let round = 0; round < ROUNDS; round++) {
+    for (const [way, run] of Object.entries(ways)) {
+      global.gc?.();
+      const start = processorTime();
+      sums.add(run(text, positions));
+      best[way] = Math.min(best[way] ?? Infinity, processorTime() - start);
+    }
+  }
+  if (sums.size !== 1) throw new Error(`the ways differ: ${[...sums]}`);
+  return best;
+}
+
+function report(file) {
+  const text = readFileSync(file, 'utf8').replace(/^[)\]}'][^\n]*/, '');
+  const random = randomPositions(sourcemap.decodedMappings(sourcemap.AnyMap(text)));
+  const orders = { random, 'in order': [...random].sort((a, b) => a[0] - b[0] || a[1] - b[1]) };
+  for (const [order, list] of Object.entries(orders)) {
+    const best = measure(text, Uint32Array.from(list.flat()));
+    const ratio = (best['this package'] / best['trace-mapping']).toFixed(2);
+    const times = Object.entries(best).map(([way, time]) => `${way} ${time.toFixed(0)}`);
+    console.log(`${file}: ${order}: ${times.join(', ')} ms; ${ratio} of trace-mapping`);
+  }
+}
+
+if (skip) console.log(skip);
+else process.argv.slice(2).forEach(report);

@@ -1,0 +1,192 @@
+/** Of several tokens the closest one at the position or before it: the default of most calls. */
+export declare const GREATEST_LOWER_BOUND: 1;
+/** The closest one at the position or after it. */
+export declare const LEAST_UPPER_BOUND: -1;
+export type Bias = typeof GREATEST_LOWER_BOUND | typeof LEAST_UPPER_BOUND;
+
+/** In the answers of `originalPositionsFor` the id of no source and of no name. */
+export declare const NONE: 0xffffffff;
+
+/** Column; then source, original line and column; then name. Ids, and all lines and columns, count from 0. */
+export type SourceMapSegment =
+  | [column: number]
+  | [column: number, source: number, originalLine: number, originalColumn: number]
+  | [column: number, source: number, originalLine: number, originalColumn: number, name: number];
+
+export interface SourceMapV3 {
+  version: 3;
+  file?: string | null;
+  names: string[];
+  sourceRoot?: string;
+  sources: (string | null)[];
+  sourcesContent?: (string | null)[];
+  ignoreList?: number[];
+}
+
+export interface EncodedSourceMap extends SourceMapV3 {
+  mappings: string;
+  rangeMappings?: string;
+}
+
+export interface DecodedSourceMap extends SourceMapV3 {
+  mappings: SourceMapSegment[][];
+}
+
+export interface Section {
+  offset: { line: number; column: number };
+  map: SectionedSourceMapInput;
+}
+
+export interface SectionedSourceMap {
+  version: 3;
+  file?: string | null;
+  sections: Section[];
+}
+
+type ReadonlyDeep<T> = T extends (infer Item)[]
+  ? readonly ReadonlyDeep<Item>[]
+  : T extends object
+    ? { readonly [Key in keyof T]: ReadonlyDeep<T[Key]> }
+    : T;
+type Input<T> = T | ReadonlyDeep<T>;
+
+export type SourceMapInput = string | Input<EncodedSourceMap> | Input<DecodedSourceMap> | TraceMap;
+export type SectionedSourceMapInput = SourceMapInput | Input<SectionedSourceMap>;
+
+/** A generated position: the line counts from 1, the column from 0. */
+export interface Needle {
+  line: number;
+  column: number;
+  bias?: Bias;
+}
+
+/** An original position; the source is one of `sources` or of `resolvedSources`. */
+export interface SourceNeedle extends Needle {
+  source: string;
+}
+
+export interface OriginalMapping {
+  source: string | null;
+  line: number;
+  column: number;
+  name: string | null;
+}
+export interface InvalidOriginalMapping {
+  source: null;
+  line: null;
+  column: null;
+  name: null;
+}
+export interface GeneratedMapping {
+  line: number;
+  column: number;
+}
+export interface InvalidGeneratedMapping {
+  line: null;
+  column: null;
+}
+
+export type EachMapping =
+  | {
+      generatedLine: number;
+      generatedColumn: number;
+      source: null;
+      originalLine: null;
+      originalColumn: null;
+      name: null;
+    }
+  | {
+      generatedLine: number;
+      generatedColumn: number;
+      source: string | null;
+      originalLine: number;
+      originalColumn: number;
+      name: string | null;
+    };
+
+export type SourceMapErrorCode =
+  | 'BAD_POSITION'
+  | 'IO'
+  | 'UTF8'
+  | 'BAD_JSON'
+  | 'VLQ_LEFTOVER'
+  | 'VLQ_NO_VALUES'
+  | 'VLQ_OVERFLOW'
+  | 'BAD_SEGMENT_SIZE'
+  | 'BAD_SOURCE_REFERENCE'
+  | 'BAD_NAME_REFERENCE'
+  | 'INCOMPATIBLE'
+  | 'CANNOT_FLATTEN'
+  | 'INVALID_BASE64'
+  | 'OUT_OF_MEMORY'
+  | 'PAST_LIMIT';
+
+/** Why a map or a position is refused. */
+export declare class SourceMapError extends Error {
+  readonly code: SourceMapErrorCode;
+  /** What the code counts, as the id of a source that does not exist; else 0. */
+  readonly number: number;
+  constructor(message: string, code: SourceMapErrorCode, number?: number, options?: { cause?: unknown });
+}
+
+/** A map that is not an index map. What is refused is refused here, and not by a later lookup. */
+export declare class TraceMap {
+  version: SourceMapV3['version'];
+  file: SourceMapV3['file'];
+  names: SourceMapV3['names'];
+  sourceRoot: SourceMapV3['sourceRoot'];
+  sources: SourceMapV3['sources'];
+  sourcesContent: SourceMapV3['sourcesContent'];
+  ignoreList: SourceMapV3['ignoreList'];
+  /** The sources, resolved against `sourceRoot` and the folder of `mapUrl`. */
+  resolvedSources: string[];
+  constructor(map: SourceMapInput, mapUrl?: string | null);
+}
+
+/** A map of any kind; an index map is flattened. */
+export declare const FlattenMap: {
+  new (map: SectionedSourceMapInput, mapUrl?: string | null): TraceMap;
+  (map: SectionedSourceMapInput, mapUrl?: string | null): TraceMap;
+};
+export declare const AnyMap: typeof FlattenMap;
+
+/** The original position of a generated one, from the closest token of the same line. */
+export declare function originalPositionFor(map: TraceMap, needle: Needle): OriginalMapping | InvalidOriginalMapping;
+
+/**
+ * Answers many generated positions, each two numbers: a line from 1 and a column
+ * from 0. For each there are four numbers: the id of the source or NONE, the
+ * original line from 1, the original column, the id of the name or NONE.
+ */
+export declare function originalPositionsFor(map: TraceMap, positions: Uint32Array): Uint32Array;
+
+/** The generated position of an original one, from the closest token of the same source and line. */
+export declare function generatedPositionFor(
+  map: TraceMap,
+  needle: SourceNeedle,
+): GeneratedMapping | InvalidGeneratedMapping;
+
+/** All generated positions of the closest original one; it is looked for with LEAST_UPPER_BOUND. */
+export declare function allGeneratedPositionsFor(map: TraceMap, needle: SourceNeedle): GeneratedMapping[];
+
+/** The segment of the closest token at a position or before it on the line. Here the line counts from 0. */
+export declare function traceSegment(map: TraceMap, line: number, column: number): Readonly<SourceMapSegment> | null;
+
+/** Calls back with each token, in generated order. */
+export declare function eachMapping(map: TraceMap, callback: (mapping: EachMapping) => void): void;
+
+export declare function sourceContentFor(map: TraceMap, source: string): string | null;
+export declare function isIgnored(map: TraceMap, source: string): boolean;
+
+/** The mappings as lines of segments. They are shared with the map: do not change them. */
+export declare function decodedMappings(map: TraceMap): readonly SourceMapSegment[][];
+/** The mappings as text: the one that was given, else one that the library writes. */
+export declare function encodedMappings(map: TraceMap): string;
+/** The fields of the map with decoded mappings. */
+export declare function decodedMap(
+  map: TraceMap,
+): Omit<DecodedSourceMap, 'mappings'> & { mappings: readonly SourceMapSegment[][] };
+/** The fields of the map with encoded mappings, for JSON.stringify. */
+export declare function encodedMap(map: TraceMap): EncodedSourceMap;
+/** A map of decoded mappings, which `decodedMappings` returns as they are. */
+export declare function presortedDecodedMap(map: Input<DecodedSourceMap>, mapUrl?: string | null): TraceMap;

@@ -1,0 +1,163 @@
+'use strict';
+
+const { native, SourceMapError } = require('./native.js');
+const { TraceMap, FlattenMap, mappingsOf, tokensOf } = require('./trace-map.js');
+const { NONE } = require('./mappings.js');
+const { NONE: NO_ID } = require('./tokens.js');
+
+const LEAST_UPPER_BOUND = -1;
+const GREATEST_LOWER_BOUND = 1;
+
+/** How many numbers `originalPositionsFor` answers for a position. */
+const ANSWER_WORDS = 4;
+
+function checkPosition(line, column) {
+  if (line < 1) throw new SourceMapError('`line` must be 1 or more (lines count from 1)', 'BAD_POSITION');
+  if (column < 0) throw new SourceMapError('`column` must be 0 or more (columns count from 0)', 'BAD_POSITION');
+}
+
+function sourceIndex({ sources, resolvedSources }, source) {
+  const index = sources.indexOf(source);
+  return index === -1 ? resolvedSources.indexOf(source) : index;
+}
+
+/** What a token says of its original position, all null without a source. */
+function originalOf(map, { originals }, index) {
+  const at = 4 * index;
+  const source = originals[at];
+  if (source === NO_ID) return { source: null, line: null, column: null, name: null };
+  const name = originals[at + 3];
+  return {
+    source: map.resolvedSources[source] ?? null,
+    line: originals[at + 1] + 1,
+    column: originals[at + 2],
+    name: name === NO_ID ? null : map.names[name] ?? null,
+  };
+}
+
+const answer = new Uint32Array(ANSWER_WORDS);
+
+/** The original column of a generated one in a range, which the library knows. */
+function columnInRange(handle, line, column) {
+  native.lookup(handle, line, Math.min(Math.floor(column), NONE), answer);
+  return answer[2];
+}
+
+function originalPositionFor(map, { line, column, bias }) {
+  checkPosition(line, column);
+  const tokens = tokensOf(map);
+  const isUpper = bias === LEAST_UPPER_BOUND;
+  const index = isUpper ? tokens.findUpper(line - 1, column) : tokens.find(line - 1, column);
+  if (index === -1) return { source: null, line: null, column: null, name: null };
+  const original = originalOf(map, tokens, index);
+  if (tokens.hasRanges && tokens.ranges[index] === 1 && tokens.columns[index] < column && original.line !== null) {
+    original.column = columnInRange(mappingsOf(map).handle, line - 1, column);
+  }
+  return original;
+}
+
+function originalPositionsFor(map, positions) {
+  const answers = new Uint32Array((positions.length >>> 1) * ANSWER_WORDS);
+  for (let i = 0; i + 1 < positions.length; i += 2) checkPosition(positions[i], 0);
+  native.lookupMany(mappingsOf(map).handle, positions, answers);
+  return answers;
+}
+
+function traceSegment(map, line, column) {
+  const tokens = tokensOf(map);
+  const index = tokens.find(line, column);
+  return index === -1 ? null : tokens.segment(index);
+}
+
+function generatedOf(tokens, index) {
+  return { line: tokens.lines[index] + 1, column: tokens.columns[index] };
+}
+
+function generatedPositionFor(map, { source, line, column, bias }) {
+  checkPosition(line, column);
+  const tokens = tokensOf(map);
+  const index = tokens.findBySource(sourceIndex(map, source), line - 1, column, bias === LEAST_UPPER_BOUND);
+  return index === -1 ? { line: null, column: null } : generatedOf(tokens, index);
+}
+
+function allGeneratedPositionsFor(map, { source, line, column, bias }) {
+  checkPosition(line, column);
+  const tokens = tokensOf(map);
+  const found = tokens.findAllBySource(sourceIndex(map, source), line - 1, column, bias !== GREATEST_LOWER_BOUND);
+  return Array.from(found, (index) => generatedOf(tokens, index));
+}
+
+function eachMapping(map, callback) {
+  const tokens = tokensOf(map);
+  for (let i = 0; i < tokens.length; i++) {
+    const { source, line, column, name } = originalOf(map, tokens, i);
+    callback({
+      generatedLine: tokens.lines[i] + 1,
+      generatedColumn: tokens.columns[i],
+      source,
+      originalLine: line,
+      originalColumn: column,
+      name,
+    });
+  }
+}
+
+function sourceContentFor(map, source) {
+  return map.sourcesContent?.[sourceIndex(map, source)] ?? null;
+}
+
+function isIgnored(map, source) {
+  const index = sourceIndex(map, source);
+  return index !== -1 && (map.ignoreList?.includes(index) ?? false);
+}
+
+function decodedMappings(map) {
+  return mappingsOf(map).decoded;
+}
+
+function encodedMappings(map) {
+  return mappingsOf(map).encoded.mappings;
+}
+
+function withMappings(map, mappings) {
+  const { version, file, names, sourceRoot, sources, sourcesContent, ignoreList } = map;
+  return { version, file, names, sourceRoot, sources, sourcesContent, ...mappings, ignoreList };
+}
+
+function decodedMap(map) {
+  return withMappings(map, { mappings: decodedMappings(map) });
+}
+
+function encodedMap(map) {
+  const { mappings, rangeMappings } = mappingsOf(map).encoded;
+  return withMappings(map, rangeMappings === undefined ? { mappings } : { mappings, rangeMappings });
+}
+
+function presortedDecodedMap(map, mapUrl) {
+  const tracer = new TraceMap(map, mapUrl);
+  mappingsOf(tracer).decoded = map.mappings;
+  return tracer;
+}
+
+module.exports = {
+  TraceMap,
+  FlattenMap,
+  AnyMap: FlattenMap,
+  SourceMapError,
+  LEAST_UPPER_BOUND,
+  GREATEST_LOWER_BOUND,
+  NONE,
+  originalPositionFor,
+  originalPositionsFor,
+  generatedPositionFor,
+  allGeneratedPositionsFor,
+  traceSegment,
+  eachMapping,
+  sourceContentFor,
+  isIgnored,
+  decodedMappings,
+  encodedMappings,
+  decodedMap,
+  encodedMap,
+  presortedDecodedMap,
+};

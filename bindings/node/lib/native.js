@@ -1,0 +1,51 @@
+'use strict';
+
+const native = require('../out/sourcemap.node');
+
+// By the numbers of the library. Codes of bundles, views and builders do not
+// come up in this package, but keep their numbers' names.
+const CODES = {
+  1: 'IO',
+  2: 'UTF8',
+  3: 'RANGE',
+  4: 'BAD_JSON',
+  5: 'VLQ_LEFTOVER',
+  6: 'VLQ_NO_VALUES',
+  7: 'VLQ_OVERFLOW',
+  8: 'BAD_SEGMENT_SIZE',
+  9: 'BAD_SOURCE_REFERENCE',
+  10: 'BAD_NAME_REFERENCE',
+  11: 'INCOMPATIBLE',
+  12: 'INVALID_DATA_URL',
+  13: 'CANNOT_FLATTEN',
+  14: 'INVALID_BUNDLE_MAGIC',
+  15: 'INVALID_BUNDLE_INDEX',
+  16: 'INVALID_BUNDLE_ENTRY',
+  17: 'NOT_A_BUNDLE',
+  18: 'INVALID_RANGE_INDEX',
+  19: 'INVALID_BASE64',
+  20: 'OUT_OF_MEMORY',
+  32: 'ABSENT',
+  33: 'WRONG_KIND',
+  34: 'PAST_LIMIT',
+};
+
+/** Why a map or a position is refused. */
+class SourceMapError extends Error {
+  /**
+   * @param {string} message
+   * @param {number | string} code a number of the library, or a name
+   * @param {number} number what the code counts, as the id of a source
+   * @param {ErrorOptions} [options]
+   */
+  constructor(message, code, number = 0, options = undefined) {
+    super(message, options);
+    this.name = 'SourceMapError';
+    this.code = typeof code === 'number' ? CODES[code] : code;
+    this.number = number;
+  }
+}
+
+native.init(SourceMapError);
+
+module.exports = { native, SourceMapError };

@@ -1,0 +1,60 @@
+'use strict';
+
+// A scheme, an authority, a path, and the rest: a query and a fragment.
+const PARTS = /^([\w+.-]+:(?=\/\/))?(\/\/[^/?#]*)?([^?#]*)(.*)$/s;
+const SHORT_FILE_URL = /^file:(?!\/\/)/i;
+
+function partsOf(reference) {
+  const [, scheme = '', authority = '', path, rest] = PARTS.exec(reference.replace(SHORT_FILE_URL, 'file:///'));
+  return { origin: scheme + authority, scheme, authority, path, rest };
+}
+
+/**
+ * A path without `.`, `..` and empty segments, and without the slash before it.
+ * A relative path keeps the `..` that lead out of it.
+ */
+function normalized(path, isAbsolute) {
+  const kept = [];
+  let isFolder = false;
+  for (const segment of path.split('/')) {
+    const leadsUp = segment === '..' && kept.length > 0 && kept.at(-1) !== '..';
+    isFolder = segment === '' || leadsUp;
+    if (leadsUp) kept.pop();
+    else if (segment !== '' && segment !== '.' && (segment !== '..' || !isAbsolute)) kept.push(segment);
+  }
+  return kept.join('/') + (isFolder && kept.length > 0 && kept.at(-1) !== '..' ? '/' : '');
+}
+
+/** The text of a relative path; `first` is what the reference or its base began with. */
+function relative(path, rest, first) {
+  const whole = normalized(path, false);
+  if (whole === '') return rest || '.';
+  const isDotted = /^[.?#]/.test(first) && !whole.startsWith('.');
+  return (isDotted ? './' : '') + whole + rest;
+}
+
+/** Resolves a reference against a folder, which may be a URL, a path, or the empty text. */
+function resolve(reference, folder) {
+  if (reference === '' && folder === '') return '';
+  const base = partsOf(folder === '' || folder.endsWith('/') ? folder : `${folder}/`);
+  const { scheme, authority, path, rest } = partsOf(reference);
+  if (authority !== '') return `${scheme || base.scheme}${authority}/${normalized(path, true)}${rest}`;
+  if (path.startsWith('/')) return `${base.origin}/${normalized(path, true)}${rest}`;
+  const joined = base.path.replace(/[^/]*$/, '') + path;
+  if (base.origin === '' && !base.path.startsWith('/')) return relative(joined, rest, folder || reference);
+  return `${base.origin}/${normalized(joined, true)}${rest}`;
+}
+
+/**
+ * Returns the call that resolves the sources of a map: against its `sourceRoot`,
+ * which is itself resolved against the folder of the map's URL. A null source
+ * counts as the empty text. The library joins sources to `sourceRoot` as texts,
+ * and knows no URL of the map.
+ */
+function resolver(mapUrl, sourceRoot) {
+  const folder = (mapUrl || '').replace(/[^/]*$/, '');
+  const root = resolve(sourceRoot || '', folder);
+  return (source) => resolve(source ?? '', root);
+}
+
+module.exports = { resolver };

@@ -1,0 +1,112 @@
+'use strict';
+
+const { native, SourceMapError } = require('./native.js');
+const { Mappings, open } = require('./mappings.js');
+const { resolver } = require('./resolve.js');
+
+const JUNK_HEADER = /^[)\]}'][^\n]*/;
+
+function readJson(text) {
+  try {
+    return JSON.parse(text.replace(JUNK_HEADER, ''));
+  } catch (cause) {
+    throw new SourceMapError('bad json: the text is not JSON', 'BAD_JSON', 0, { cause });
+  }
+}
+
+function isSourceList(value) {
+  return Array.isArray(value) && value.every((source) => typeof source === 'string' || source == null);
+}
+
+/** The fields of a map: those of the object, or those that its JSON text says. */
+function parse(map) {
+  const fields = typeof map === 'string' ? readJson(map) : map;
+  if (typeof fields !== 'object' || fields === null || !isSourceList(fields.sources ?? [])) {
+    throw new SourceMapError('bad json: a field has the wrong type', 'BAD_JSON', 1);
+  }
+  return fields;
+}
+
+function checkMappings({ mappings, sections }) {
+  if (typeof mappings === 'string' || Array.isArray(mappings)) return;
+  throw new SourceMapError(sections ? 'an index map is opened by FlattenMap' : 'a map has mappings', 'INCOMPATIBLE');
+}
+
+function ignoreListOf(fields) {
+  return fields.ignoreList ?? fields.x_google_ignoreList;
+}
+
+/** The mappings of a TraceMap, and their tokens. */
+let mappingsOf;
+let tokensOf;
+
+class TraceMap {
+  #mappings;
+  #tokens = null;
+
+  static {
+    mappingsOf = (map) => map.#mappings;
+    tokensOf = (map) => (map.#tokens ??= map.#mappings.tokens);
+  }
+
+  /** With a `handle`, as FlattenMap has one, `map` has no mappings of its own. */
+  constructor(map, mapUrl, handle = null) {
+    if (map instanceof TraceMap) return map;
+    const fields = parse(map);
+    if (handle === null) checkMappings(fields);
+    this.version = fields.version;
+    this.file = fields.file;
+    this.names = fields.names ?? [];
+    this.sourceRoot = fields.sourceRoot;
+    this.sources = fields.sources ?? [];
+    this.sourcesContent = fields.sourcesContent;
+    this.ignoreList = ignoreListOf(fields);
+    this.#mappings = new Mappings(handle ?? open(fields), fields);
+    this.resolvedSources = this.sources.map(resolver(mapUrl, fields.sourceRoot));
+  }
+}
+
+/** A map as the library flattens it: at every depth the sources resolved, the mappings as text. */
+function flattenable(map, mapUrl) {
+  const fields = parse(map);
+  if (fields.sections) {
+    const sections = fields.sections.map(({ offset, url, map: inner }) => ({
+      offset,
+      url,
+      map: inner && flattenable(inner, mapUrl),
+    }));
+    return { version: 3, sections };
+  }
+  checkMappings(fields);
+  const isText = typeof fields.mappings === 'string';
+  const { mappings, rangeMappings } = isText ? fields : mappingsOf(new TraceMap(fields)).encoded;
+  const { sources = [], sourceRoot, sourcesContent, names } = fields;
+  return {
+    version: 3,
+    sources: sources.map(resolver(mapUrl, sourceRoot)),
+    sourcesContent,
+    names,
+    ignoreList: ignoreListOf(fields),
+    mappings,
+    rangeMappings,
+  };
+}
+
+/** Opens a map of any kind, with or without `new`. The library flattens an index map. */
+function FlattenMap(map, mapUrl) {
+  if (map instanceof TraceMap) return map;
+  const fields = parse(map);
+  if (!fields.sections) return new TraceMap(fields, mapUrl);
+  const handle = native.open(JSON.stringify(flattenable(fields, mapUrl)));
+  const flat = {
+    version: 3,
+    file: fields.file,
+    names: native.names(handle),
+    sources: native.sources(handle),
+    sourcesContent: native.contents(handle),
+    ignoreList: native.ignored(handle),
+  };
+  return new TraceMap(flat, undefined, handle);
+}
+
+module.exports = { TraceMap, FlattenMap, mappingsOf, tokensOf };

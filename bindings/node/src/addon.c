@@ -1,0 +1,541 @@
+/*
+** addon.c - the calls of sourcemap.h that lib/index.js needs, over Node-API.
+**
+** A handle is an external value that owns an sm_map. Its finalizer closes it,
+** at the latest when the environment ends. Nothing else is kept beyond a call
+** but the error class of each environment, so the addon may be loaded by any
+** number of workers.
+**
+** Only lib/index.js calls this addon, and passes what each call expects. A
+** value of another type is still an exception, never undefined behaviour.
+*/
+#define NAPI_VERSION 8
+#include <node_api.h>
+
+#include <stdatomic.h>
+#include <stdint.h>
+#include <stdio.h>
+#include <stdlib.h>
+#include <string.h>
+
+#include "sourcemap.h"
+
+/* JavaScript writes tokens as seven numbers of 32 bits, in this layout. */
+#define TOKEN_WORDS 7
+_Static_assert(sizeof(sm_token) == TOKEN_WORDS * sizeof(uint32_t), "a token is seven words");
+_Static_assert(offsetof(sm_token, is_range) == 6 * sizeof(uint32_t), "the flag is in the last word");
+
+/* How many tokens, positions or ids one call of the library reads or writes. */
+#define CHUNK 512
+
+typedef struct held_map {
+    sm_map map;
+    int64_t reported; /* the bytes reported to the garbage collector */
+} held_map;
+
+/* Maps that are open in this process, in all environments. */
+static atomic_uint open_maps;
+
+/* The first failure that is not yet an exception becomes one. */
+#define TRY(call)                        \
+    do {                                 \
+        if ((call) != napi_ok) {         \
+            return throw_last(env);      \
+        }                                \
+    } while (0)
+
+static napi_value throw_last(napi_env env) {
+    bool pending = false;
+    napi_is_exception_pending(env, &pending);
+    if (!pending) {
+        const napi_extended_error_info *info = NULL;
+        napi_get_last_error_info(env, &info);
+        const char *text = info && info->error_message ? info->error_message : "a call of Node-API failed";
+        napi_throw_error(env, NULL, text);
+    }
+    return NULL;
+}
+
+/* Throws `new SourceMapError(text, code, number)`. */
+static napi_value throw_code(napi_env env, sm_code code, uint32_t number, const char *text, size_t length) {
+    napi_ref *class_ref = NULL;
+    napi_value class, arguments[3], error;
+    TRY(napi_get_instance_data(env, (void **)&class_ref));
+    TRY(napi_get_reference_value(env, *class_ref, &class));
+    TRY(napi_create_string_utf8(env, text, length, &arguments[0]));
+    TRY(napi_create_uint32(env, code, &arguments[1]));
+    TRY(napi_create_uint32(env, number, &arguments[2]));
+    TRY(napi_new_instance(env, class, 3, arguments, &error));
+    TRY(napi_throw(env, error));
+    return NULL;
+}
+
+static napi_value throw_error(napi_env env, const sm_error *error) {
+    size_t length = error->text_length < SM_ERROR_TEXT ? error->text_length : SM_ERROR_TEXT - 1;
+    return throw_code(env, error->code, error->number, (const char *)error->text, length);
+}
+
+static napi_value throw_short_array(napi_env env) {
+    napi_throw_range_error(env, NULL, "the array for the answers is too short");
+    return NULL;
+}
+
+static napi_value throw_out_of_memory(napi_env env) {
+    return throw_code(env, SM_OUT_OF_MEMORY, 0, "out of memory", NAPI_AUTO_LENGTH);
+}
+
+/*
+** HANDLES
+*/
+
+static void finalize_map(napi_env env, void *data, void *hint) {
+    (void)hint;
+    held_map *held = data;
+    int64_t total;
+    sm_close(&held->map);
+    napi_adjust_external_memory(env, -held->reported, &total);
+    free(held);
+    atomic_fetch_sub(&open_maps, 1);
+}
+
+/* Returns a new external value that holds an empty handle, or NULL with an
+** exception. */
+static napi_value new_handle(napi_env env, held_map **held) {
+    napi_value external;
+    held_map *made = calloc(1, sizeof *made);
+    if (!made) {
+        return throw_out_of_memory(env);
+    }
+    if (napi_create_external(env, made, finalize_map, NULL, &external) != napi_ok) {
+        free(made);
+        return throw_last(env);
+    }
+    atomic_fetch_add(&open_maps, 1);
+    *held = made;
+    return external;
+}
+
+/* Reports what the map takes, so that handles without users are collected in
+** time: its tokens, and as many bytes again as its texts have. */
+static napi_status report_memory(napi_env env, held_map *held, size_t text_bytes) {
+    int64_t total;
+    sm_counts counts = {0};
+    if (sm_count(&held->map, &counts) == SM_OK) {
+        held->reported = (int64_t)counts.tokens * (int64_t)sizeof(sm_token) + (int64_t)text_bytes;
+    }
+    return napi_adjust_external_memory(env, held->reported, &total);
+}
+
+/* Reads the arguments of a call, the first of which is a handle. */
+static napi_status take_handle(napi_env env, napi_callback_info info, size_t count, napi_value *arguments,
+                               held_map **held) {
+    napi_status status = napi_get_cb_info(env, info, &count, arguments, NULL, NULL);
+    return status == napi_ok ? napi_get_value_external(env, arguments[0], (void **)held) : status;
+}
+
+/* Reads a Uint32Array. */
+static napi_status take_words(napi_env env, napi_value value, uint32_t **words, size_t *length) {
+    napi_typedarray_type type;
+    napi_status status = napi_get_typedarray_info(env, value, &type, length, (void **)words, NULL, NULL);
+    return status == napi_ok && type != napi_uint32_array ? napi_invalid_arg : status;
+}
+
+/*
+** MAKE A MAP
+*/
+
+/* Returns a copy of a string as UTF-8, or NULL with an exception. */
+static char *copy_text(napi_env env, napi_value value, size_t *length) {
+    if (napi_get_value_string_utf8(env, value, NULL, 0, length) != napi_ok) {
+        throw_last(env);
+        return NULL;
+    }
+    char *text = malloc(*length + 1);
+    if (!text) {
+        throw_out_of_memory(env);
+    } else if (napi_get_value_string_utf8(env, value, text, *length + 1, length) != napi_ok) {
+        throw_last(env);
+        free(text);
+        text = NULL;
+    }
+    return text;
+}
+
+/* open(json): a handle with the map of a JSON text. An index map is flattened. */
+static napi_value open_json(napi_env env, napi_callback_info info) {
+    size_t count = 1, length = 0;
+    napi_value argument;
+    held_map *held = NULL;
+    sm_error error = {0};
+    TRY(napi_get_cb_info(env, info, &count, &argument, NULL, NULL));
+    char *text = copy_text(env, argument, &length);
+    if (!text) {
+        return NULL;
+    }
+    napi_value handle = new_handle(env, &held);
+    if (!handle) {
+        free(text);
+        return NULL;
+    }
+    sm_code code = sm_open(&held->map, (const uint8_t *)text, length, &error);
+    free(text);
+    if (code == SM_OK && sm_kind(&held->map) == SM_KIND_INDEX) {
+        code = sm_flatten(&held->map, &error);
+    }
+    if (code != SM_OK) {
+        return throw_error(env, &error);
+    }
+    TRY(report_memory(env, held, length));
+    return handle;
+}
+
+/* Adds the texts "0", "1" and so on, so that each id below `count` is known. */
+static sm_code add_numbered(sm_builder *builder, uint32_t count,
+                            sm_code (*add)(sm_builder *, const uint8_t *, size_t, uint32_t *, sm_error *),
+                            sm_error *error) {
+    sm_code code = SM_OK;
+    for (uint32_t i = 0; i < count && code == SM_OK; i++) {
+        char text[16];
+        uint32_t id = 0;
+        int length = snprintf(text, sizeof text, "%u", (unsigned)i);
+        code = add(builder, (const uint8_t *)text, (size_t)length, &id, error);
+    }
+    return code;
+}
+
+static sm_code build_map(sm_builder *builder, uint32_t sources, uint32_t names, const sm_token *tokens, size_t count,
+                         sm_map *map, sm_error *error) {
+    sm_code code = sm_builder_new(builder, false, (const uint8_t *)"", 0, error);
+    if (code == SM_OK) {
+        code = add_numbered(builder, sources, sm_builder_add_source, error);
+    }
+    if (code == SM_OK) {
+        code = add_numbered(builder, names, sm_builder_add_name, error);
+    }
+    if (code == SM_OK && sm_builder_add_tokens(builder, tokens, count, error) < count) {
+        code = error->code;
+    }
+    return code == SM_OK ? sm_builder_finish(builder, map, error) : code;
+}
+
+/* build(tokens, sources, names): a handle with a map of tokens that JavaScript
+** has. It keeps the texts of so many sources and names, among which equal ones
+** may be; the map has only their ids. */
+static napi_value build(napi_env env, napi_callback_info info) {
+    size_t count = 3, words = 0;
+    napi_value arguments[3];
+    uint32_t *tokens = NULL, sources = 0, names = 0;
+    held_map *held = NULL;
+    TRY(napi_get_cb_info(env, info, &count, arguments, NULL, NULL));
+    TRY(take_words(env, arguments[0], &tokens, &words));
+    TRY(napi_get_value_uint32(env, arguments[1], &sources));
+    TRY(napi_get_value_uint32(env, arguments[2], &names));
+    napi_value handle = new_handle(env, &held);
+    if (!handle) {
+        return NULL;
+    }
+    static const sm_token none;
+    sm_builder builder = SM_EMPTY;
+    sm_error error = {0};
+    sm_code code = build_map(&builder, sources, names, words ? (const sm_token *)tokens : &none, words / TOKEN_WORDS,
+                             &held->map, &error);
+    sm_close(&builder);
+    if (code != SM_OK) {
+        return throw_error(env, &error);
+    }
+    TRY(report_memory(env, held, 0));
+    return handle;
+}
+
+/*
+** READ A MAP
+*/
+
+/* What a token says of its original position has four words: source, line,
+** column and name. They stand side by side, since an answer needs them all. */
+#define ORIGINAL_WORDS 4
+
+typedef struct token_arrays {
+    uint32_t *lines, *columns, *originals;
+    uint8_t *ranges;
+    uint32_t bits; /* those of all numbers but SM_NONE */
+} token_arrays;
+
+static uint32_t bits_of(const sm_token *token) {
+    uint32_t original = token->source == SM_NONE ? 0 : token->source | token->original_line | token->original_column;
+    return token->line | token->column | original | (token->name == SM_NONE ? 0 : token->name);
+}
+
+static void scatter(const sm_token *tokens, size_t count, token_arrays *arrays, size_t at) {
+    for (size_t i = 0; i < count; i++) {
+        uint32_t *original = arrays->originals + ORIGINAL_WORDS * (at + i);
+        arrays->bits |= bits_of(&tokens[i]);
+        arrays->lines[at + i] = tokens[i].line;
+        arrays->columns[at + i] = tokens[i].column;
+        original[0] = tokens[i].source;
+        original[1] = tokens[i].original_line;
+        original[2] = tokens[i].original_column;
+        original[3] = tokens[i].name;
+        arrays->ranges[at + i] = tokens[i].is_range;
+    }
+}
+
+/* Reads all tokens, of which there are `count`. */
+static void read_tokens(held_map *held, size_t count, token_arrays *arrays) {
+    for (size_t at = 0; at < count;) {
+        sm_token chunk[CHUNK] = {0};
+        size_t size = count - at < CHUNK ? count - at : CHUNK;
+        size_t read = sm_tokens(&held->map, (uint32_t)at, chunk, size);
+        if (read == 0) {
+            return;
+        }
+        scatter(chunk, read, arrays, at);
+        at += read;
+    }
+}
+
+/* Adds to `object` the property `name`, a new array. */
+static napi_status add_array(napi_env env, napi_value object, const char *name, napi_typedarray_type type,
+                             size_t length, void **memory) {
+    napi_value buffer, array;
+    size_t bytes = type == napi_uint32_array ? length * sizeof(uint32_t) : length;
+    napi_status status = napi_create_arraybuffer(env, bytes, memory, &buffer);
+    if (status == napi_ok) {
+        status = napi_create_typedarray(env, type, length, buffer, 0, &array);
+    }
+    return status == napi_ok ? napi_set_named_property(env, object, name, array) : status;
+}
+
+/* tokens(handle): all tokens in order, as an object of arrays, and whether some
+** number of them is past 31 bits. */
+static napi_value tokens(napi_env env, napi_callback_info info) {
+    napi_value handle, object, is_wide;
+    held_map *held = NULL;
+    sm_counts counts = {0};
+    token_arrays arrays = {0};
+    TRY(take_handle(env, info, 1, &handle, &held));
+    sm_count(&held->map, &counts);
+    size_t count = counts.tokens;
+    TRY(napi_create_object(env, &object));
+    TRY(add_array(env, object, "lines", napi_uint32_array, count, (void **)&arrays.lines));
+    TRY(add_array(env, object, "columns", napi_uint32_array, count, (void **)&arrays.columns));
+    TRY(add_array(env, object, "originals", napi_uint32_array, count * ORIGINAL_WORDS, (void **)&arrays.originals));
+    TRY(add_array(env, object, "ranges", napi_uint8_array, count, (void **)&arrays.ranges));
+    read_tokens(held, count, &arrays);
+    TRY(napi_get_boolean(env, arrays.bits > INT32_MAX, &is_wide));
+    TRY(napi_set_named_property(env, object, "isWide", is_wide));
+    return object;
+}
+
+/* Returns an array of the texts of the ids below `count`, null where there is none. */
+static napi_value read_texts(napi_env env, held_map *held, uint32_t count,
+                             sm_code (*read)(sm_map *, uint32_t, sm_text *)) {
+    napi_value array;
+    TRY(napi_create_array_with_length(env, count, &array));
+    for (uint32_t id = 0; id < count; id++) {
+        napi_handle_scope scope;
+        napi_value value;
+        sm_text text = SM_TEXT_EMPTY;
+        TRY(napi_open_handle_scope(env, &scope));
+        if (read(&held->map, id, &text) == SM_OK) {
+            TRY(napi_create_string_utf8(env, (const char *)text.at, text.length, &value));
+        } else {
+            TRY(napi_get_null(env, &value));
+        }
+        TRY(napi_set_element(env, array, id, value));
+        TRY(napi_close_handle_scope(env, scope));
+    }
+    return array;
+}
+
+static napi_value sources(napi_env env, napi_callback_info info) {
+    napi_value handle;
+    held_map *held = NULL;
+    sm_counts counts = {0};
+    TRY(take_handle(env, info, 1, &handle, &held));
+    sm_count(&held->map, &counts);
+    return read_texts(env, held, counts.sources, sm_source);
+}
+
+static napi_value names(napi_env env, napi_callback_info info) {
+    napi_value handle;
+    held_map *held = NULL;
+    sm_counts counts = {0};
+    TRY(take_handle(env, info, 1, &handle, &held));
+    sm_count(&held->map, &counts);
+    return read_texts(env, held, counts.names, sm_name);
+}
+
+static napi_value contents(napi_env env, napi_callback_info info) {
+    napi_value handle;
+    held_map *held = NULL;
+    sm_counts counts = {0};
+    TRY(take_handle(env, info, 1, &handle, &held));
+    sm_count(&held->map, &counts);
+    return read_texts(env, held, counts.sources, sm_contents);
+}
+
+static napi_value ignored(napi_env env, napi_callback_info info) {
+    napi_value handle, array;
+    held_map *held = NULL;
+    uint32_t ids[CHUNK], at = 0;
+    size_t read;
+    TRY(take_handle(env, info, 1, &handle, &held));
+    TRY(napi_create_array(env, &array));
+    memset(ids, 0, sizeof ids);
+    while ((read = sm_ignore_list(&held->map, at, ids, CHUNK)) > 0) {
+        for (size_t i = 0; i < read; i++) {
+            napi_value id;
+            TRY(napi_create_uint32(env, ids[i], &id));
+            TRY(napi_set_element(env, array, at++, id));
+        }
+    }
+    return array;
+}
+
+/* write(handle): the map as JSON. */
+static napi_value write_json(napi_env env, napi_callback_info info) {
+    napi_value handle, json;
+    held_map *held = NULL;
+    sm_bytes bytes = SM_EMPTY;
+    sm_text text = SM_TEXT_EMPTY;
+    sm_error error = {0};
+    TRY(take_handle(env, info, 1, &handle, &held));
+    if (sm_write(&held->map, &bytes, &error) != SM_OK) {
+        return throw_error(env, &error);
+    }
+    sm_bytes_text(&bytes, &text);
+    napi_status status = napi_create_string_utf8(env, (const char *)text.at, text.length, &json);
+    sm_close(&bytes);
+    TRY(status);
+    return json;
+}
+
+/*
+** LOOK UP
+*/
+
+/* An answer has four words: source, original line from 1, original column, name. */
+#define ANSWER_WORDS 4
+
+/* Writes what the closest token says, if it stands on the line asked and has a
+** source. Otherwise there is no source, and no name. */
+static void write_answer(const sm_found *found, uint32_t line, uint32_t *answer) {
+    const sm_token *token = &found->token;
+    bool answers = found->found && token->line == line && token->source != SM_NONE;
+    answer[0] = answers ? token->source : SM_NONE;
+    answer[1] = answers ? token->original_line + 1 : 0;
+    answer[2] = answers ? token->original_column : 0;
+    answer[3] = answers ? token->name : SM_NONE;
+}
+
+/* lookup(handle, line, column, answer): writes the answer to one position, line
+** and column from 0, into a Uint32Array. */
+static napi_value lookup(napi_env env, napi_callback_info info) {
+    napi_value arguments[4];
+    held_map *held = NULL;
+    uint32_t line = 0, column = 0, *answer = NULL;
+    size_t length = 0;
+    sm_found found = {0};
+    TRY(take_handle(env, info, 4, arguments, &held));
+    TRY(napi_get_value_uint32(env, arguments[1], &line));
+    TRY(napi_get_value_uint32(env, arguments[2], &column));
+    TRY(take_words(env, arguments[3], &answer, &length));
+    if (length < ANSWER_WORDS) {
+        return throw_short_array(env);
+    }
+    sm_lookup(&held->map, line, column, &found);
+    write_answer(&found, line, answer);
+    return NULL;
+}
+
+/* Answers up to CHUNK positions, each a line from 1 and a column from 0. */
+static void lookup_chunk(held_map *held, const uint32_t *positions, size_t count, uint32_t *answers) {
+    sm_position asked[CHUNK];
+    sm_found found[CHUNK] = {0};
+    for (size_t i = 0; i < count; i++) {
+        asked[i].line = positions[2 * i] - 1;
+        asked[i].column = positions[2 * i + 1];
+    }
+    sm_lookup_many(&held->map, asked, count, found, CHUNK);
+    for (size_t i = 0; i < count; i++) {
+        write_answer(&found[i], asked[i].line, answers + ANSWER_WORDS * i);
+    }
+}
+
+/* lookupMany(handle, positions, answers): both are of Uint32Array. */
+static napi_value lookup_many(napi_env env, napi_callback_info info) {
+    napi_value arguments[3];
+    held_map *held = NULL;
+    uint32_t *positions = NULL, *answers = NULL;
+    size_t position_words = 0, answer_words = 0;
+    TRY(take_handle(env, info, 3, arguments, &held));
+    TRY(take_words(env, arguments[1], &positions, &position_words));
+    TRY(take_words(env, arguments[2], &answers, &answer_words));
+    size_t count = position_words / 2;
+    if (answer_words / ANSWER_WORDS < count) {
+        return throw_short_array(env);
+    }
+    for (size_t at = 0; at < count; at += CHUNK) {
+        size_t size = count - at < CHUNK ? count - at : CHUNK;
+        lookup_chunk(held, positions + 2 * at, size, answers + ANSWER_WORDS * at);
+    }
+    return NULL;
+}
+
+/*
+** THE MODULE
+*/
+
+static napi_value open_count(napi_env env, napi_callback_info info) {
+    (void)info;
+    napi_value count;
+    TRY(napi_create_uint32(env, atomic_load(&open_maps), &count));
+    return count;
+}
+
+static void finalize_instance(napi_env env, void *data, void *hint) {
+    (void)env;
+    (void)hint;
+    free(data);
+}
+
+/* init(SourceMapError): sets the class of the errors of this environment. */
+static napi_value init(napi_env env, napi_callback_info info) {
+    size_t count = 1;
+    napi_value class;
+    TRY(napi_get_cb_info(env, info, &count, &class, NULL, NULL));
+    napi_ref *class_ref = calloc(1, sizeof *class_ref);
+    if (!class_ref) {
+        napi_throw_error(env, NULL, "out of memory");
+        return NULL;
+    }
+    if (napi_create_reference(env, class, 1, class_ref) != napi_ok ||
+        napi_set_instance_data(env, class_ref, finalize_instance, NULL) != napi_ok) {
+        free(class_ref);
+        return throw_last(env);
+    }
+    return NULL;
+}
+
+NAPI_MODULE_INIT() {
+    static const struct {
+        const char *name;
+        napi_callback call;
+    } calls[] = {
+        {"init", init},         {"open", open_json},    {"build", build},
+        {"tokens", tokens},     {"sources", sources},   {"names", names},
+        {"contents", contents}, {"ignored", ignored},   {"write", write_json},
+        {"lookup", lookup},     {"lookupMany", lookup_many}, {"openCount", open_count},
+    };
+    if (sm_interface() != SM_INTERFACE) {
+        napi_throw_error(env, NULL, "the linked library has another version of the interface");
+        return NULL;
+    }
+    for (size_t i = 0; i < sizeof calls / sizeof calls[0]; i++) {
+        napi_value function;
+        TRY(napi_create_function(env, calls[i].name, NAPI_AUTO_LENGTH, calls[i].call, NULL, &function));
+        TRY(napi_set_named_property(env, exports, calls[i].name, function));
+    }
+    return exports;
+}

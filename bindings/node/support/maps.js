@@ -1,0 +1,33 @@
+'use strict';
+
+const { readdirSync, readFileSync, existsSync } = require('node:fs');
+const path = require('node:path');
+const { peerFolder } = require('./peer.js');
+
+function* filesBelow(folder) {
+  for (const entry of readdirSync(folder, { withFileTypes: true })) {
+    const file = path.join(folder, entry.name);
+    if (entry.isDirectory()) yield* filesBelow(file);
+    else if (entry.name.endsWith('.map')) yield file;
+  }
+}
+
+/** Folders with real maps: those of the package's own files, and a corpus if there is one. */
+const FOLDERS = [
+  peerFolder && path.join(peerFolder, '@jridgewell'),
+  peerFolder && path.join(peerFolder, '@ampproject'),
+  process.env.SOURCEMAP_CORPUS ?? '/tmp/corpus/maps',
+].filter((folder) => folder && existsSync(folder));
+
+/** Each real map, at most so many, as its file and its text without a junk header. */
+function* realMaps(limit = Infinity) {
+  let count = 0;
+  for (const folder of FOLDERS) {
+    for (const file of filesBelow(folder)) {
+      if (count++ === limit) return;
+      yield { file, text: readFileSync(file, 'utf8').replace(/^[)\]}'][^\n]*/, '') };
+    }
+  }
+}
+
+module.exports = { realMaps };

@@ -1,0 +1,99 @@
+import assert from 'node:assert/strict';
+import { spawnSync } from 'node:child_process';
+import { cpSync, existsSync, mkdirSync, mkdtempSync, rmSync, symlinkSync, writeFileSync } from 'node:fs';
+import { createRequire } from 'node:module';
+import { tmpdir } from 'node:os';
+import path from 'node:path';
+import { test } from 'node:test';
+import { fileURLToPath } from 'node:url';
+
+const require = createRequire(import.meta.url);
+const folder = path.dirname(path.dirname(fileURLToPath(import.meta.url)));
+
+/** Runs what a user would write, in a folder that has the package in node_modules. */
+function inUsersFolder(call) {
+  const user = mkdtempSync(path.join(tmpdir(), 'sourcemap-user-'));
+  try {
+    mkdirSync(path.join(user, 'node_modules'));
+    symlinkSync(folder, path.join(user, 'node_modules', 'sourcemap'));
+    return call(user);
+  } finally {
+    rmSync(user, { recursive: true });
+  }
+}
+
+function node(user, ...words) {
+  const result = spawnSync(process.execPath, words, { cwd: user, encoding: 'utf8' });
+  assert.equal(result.status, 0, result.stdout + result.stderr);
+  return result.stdout;
+}
+
+function run(user, name, text) {
+  writeFileSync(path.join(user, name), text);
+  return node(user, name);
+}
+
+const WORDS = `const map = new TraceMap({ version: 3, sources: ['a.js'], names: [], mappings: 'AAAA' });
+console.log(JSON.stringify(originalPositionFor(map, { line: 1, column: 5 })));`;
+const ANSWER = '{"source":"a.js","line":1,"column":0,"name":null}\n';
+
+test('is required and imported by its name', () => {
+  inUsersFolder((user) => {
+    assert.equal(run(user, 'a.cjs', `const { TraceMap, originalPositionFor } = require('sourcemap');${WORDS}`), ANSWER);
+    assert.equal(run(user, 'b.mjs', `import { TraceMap, originalPositionFor } from 'sourcemap';${WORDS}`), ANSWER);
+    assert.equal(run(user, 'c.mjs', `import { createRequire } from 'node:module';
+      import * as imported from 'sourcemap';
+      const required = createRequire(import.meta.url)('sourcemap');
+      console.log(Object.keys(required).sort().every((key) => required[key] === imported[key]));
+      console.log(Object.keys(imported).sort().join() === Object.keys(required).sort().join());`), 'true\ntrue\n');
+  });
+});
+
+test('has the calls of the package that it stands for', async (t) => {
+  const { peer } = require('../support/peer.js');
+  if (peer === null) return t.skip('no @jridgewell/trace-mapping');
+  const ours = await import('../lib/index.mjs');
+  const missing = Object.keys(peer).filter((name) => typeof ours[name] !== typeof peer[name]);
+  assert.deepEqual(missing, []);
+});
+
+const TYPES = `
+import { TraceMap, AnyMap, FlattenMap, SourceMapError, LEAST_UPPER_BOUND } from 'sourcemap';
+import { originalPositionFor, originalPositionsFor, encodedMap, decodedMap, allGeneratedPositionsFor } from 'sourcemap';
+const map = new TraceMap({ version: 3, sources: ['a'], names: [], mappings: 'AAAA' } as const, null);
+const found = originalPositionFor(map, { line: 1, column: 0, bias: LEAST_UPPER_BOUND });
+if (found.line !== null) { const line: number = found.line; const source: string | null = found.source; }
+const flat: TraceMap = AnyMap({ version: 3, sections: [{ offset: { line: 0, column: 0 }, map: encodedMap(map) }] });
+const again: TraceMap = new FlattenMap(decodedMap(flat));
+const words: Uint32Array = originalPositionsFor(again, new Uint32Array(2));
+const lines: number[] = allGeneratedPositionsFor(again, { source: 'a', line: 1, column: 0 }).map((each) => each.line);
+try { new TraceMap('') } catch (error) { if (error instanceof SourceMapError && error.code === 'BAD_JSON') { error.number } }
+// @ts-expect-error: a bias is 1 or -1
+originalPositionFor(map, { line: 1, column: 0, bias: 2 });
+// @ts-expect-error: a position has a column
+originalPositionFor(map, { line: 1 });
+// @ts-expect-error: there is no such code
+const code: SourceMapError['code'] = 'NONE_SUCH';
+`;
+
+test('has types that a compiler accepts', (t) => {
+  const { peerFolder } = require('../support/peer.js');
+  const compiler = [peerFolder, '/usr/share/nodejs'].filter(Boolean)
+    .map((each) => path.join(each, 'typescript/bin/tsc')).find((each) => existsSync(each));
+  if (compiler === undefined) return t.skip('no tsc: install node-typescript');
+  inUsersFolder((user) => {
+    for (const name of ['a.cts', 'b.mts']) writeFileSync(path.join(user, name), TYPES);
+    node(user, compiler, '--noEmit', '--strict', '--target', 'es2022', '--module', 'node16', 'a.cts', 'b.mts');
+  });
+});
+
+test('is whole without the rest of the repository', () => {
+  const copy = mkdtempSync(path.join(tmpdir(), 'sourcemap-copy-'));
+  try {
+    for (const name of require('../package.json').files) cpSync(path.join(folder, name), path.join(copy, name), { recursive: true });
+    cpSync(path.join(folder, 'package.json'), path.join(copy, 'package.json'));
+    assert.equal(run(copy, 'a.cjs', `const { TraceMap, originalPositionFor } = require('.');${WORDS}`), ANSWER);
+  } finally {
+    rmSync(copy, { recursive: true });
+  }
+});
