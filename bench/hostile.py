@@ -37,8 +37,9 @@ INDEX_COMMANDS = ['lookup 0 5', 'flatten', 'shift 1', 'trace small.txt']
 FLAT_WORDS = ['decode 1', 'decode-reader 1', 'lookup 1', 'tokens 1', 'encode 1', 'rewrite 1']
 INDEX_WORDS = ['decode 1', 'decode-reader 1', 'lookup 1', 'encode 1', 'flatten 1']
 
-# what is run: a program, its words, and how many bytes of stack it has for a size, all that there is if None
-Run = collections.namedtuple('Run', 'program words stack', defaults=[None])
+# what is run: a program, its words, how many bytes of stack it has for a size, all that there is if None, and what its
+# time grows with, the count of its kind if None
+Run = collections.namedtuple('Run', 'program words stack count', defaults=[None, None])
 # a kind of input: what makes it of a size, its smallest size, its runs, the memory that it may take of each unit of its
 # count, and the count, by the size, the bytes of the input and those of the output
 Kind = collections.namedtuple('Kind', 'name make size runs memory count')
@@ -138,12 +139,13 @@ def _(size):
     return flat('g' * size)
 
 
-@kind('empty segments and lines', 1_000_000, FLAT, 24)
+# it has no token to look up, while the small map has
+@kind('empty segments and lines', 1_000_000, [run for run in FLAT if run.words != ['lookup', '1']], 24)
 def _(size):
     return flat(',;' * (size // 2))
 
 
-@kind('falling tokens', 200_000, FLAT, 40)
+@kind('falling tokens', 200_000, FLAT, 56)
 def _(size):
     return flat('D,' * size + 'A')
 
@@ -175,7 +177,7 @@ def _(size):
 
 # records
 
-@kind('numbers as names', 200_000, FLAT, 52)
+@kind('numbers as names', 200_000, FLAT, 80)
 def _(size):
     return text_of({'version': 3, 'sources': ['a.js'], 'names': [0] * size, 'mappings': 'AAAA'})
 
@@ -260,12 +262,12 @@ def _(size):
 
 # index maps
 
-@kind('sections in falling order', 20_000, INDEX, 40)
+@kind('sections in falling order', 20_000, INDEX, 48)
 def _(size):
     return index([(size - number, 0, small()) for number in range(size)])
 
 
-@kind('sections of one offset', 20_000, INDEX, 40)
+@kind('sections of one offset', 20_000, INDEX, 48)
 def _(size):
     return index([(0, 0, small()) for _ in range(size)])
 
@@ -275,7 +277,7 @@ def _(size):
     return index([(number, 0, {'url': 'u'}) for number in range(size)])
 
 
-@kind('sections of nothing', 50_000, INDEX, 60)
+@kind('sections of nothing', 50_000, INDEX, 70)
 def _(size):
     return b'{"version":3,"sections":[' + b'{"offset":{"line":0,"column":0}},' * size + b'{"offset":{"line":0,"column":0}}]}'
 
@@ -336,7 +338,12 @@ def map_and_text(columns, text):
     return flat('AAAA,' + 'CAAC,' * (columns - 1) + 'CAAC') + b'\n' + text
 
 
-VIEWS = of_calls('walk') + [Run(BENCH_VIEWS, ['names', '1'])]
+def calls_times_line(size, given, told):
+    return size * size
+
+
+# names are looked for from every 128th token, and each call reads the line up to its token
+VIEWS = of_calls('walk') + [Run(BENCH_VIEWS, ['names', '1'], count=calls_times_line)]
 
 
 @kind('one long identifier, a token at each column', 50_000, VIEWS, 40)
@@ -493,33 +500,35 @@ def tried(each, run, base, scale, counts):
         with tempfile.TemporaryDirectory() as folder:
             given = inputs_of(each.make(size), folder)
             cost, memory, told, status = measured(run, folder, counts, size)
-        rows.append((each.count(size, given, told), given, told, cost, max(0, memory - base[1]), status))
+        count = each.count(size, given, told)
+        steps = run.count(size, given, told) if run.count else count
+        rows.append((count, steps, given, told, cost, max(0, memory - base[1]), status))
     # a run that is refused at once may cost less than that of a small input
-    spent = base[0] if all(row[3] > base[0] for row in rows) else 0
-    rows = [(*row[:3], row[3] - spent, *row[4:]) for row in rows]
+    spent = base[0] if all(row[4] > base[0] for row in rows) else 0
+    rows = [(*row[:4], row[4] - spent, *row[5:]) for row in rows]
     return rows, faults_of(each, rows, counts)
 
 
 def faults_of(each, rows, counts):
-    (least, _, _, first, _, _), (most, _, _, last, memory, status) = rows[0], rows[-1]
+    (_, least, _, _, first, _, _), (count, most, _, _, last, memory, _) = rows[0], rows[-1]
     grown = most * math.log(most + 2) / (least * math.log(least + 2))
     floor = LEAST_COUNT if counts else LEAST_TIME
     if any(row[-1] not in (0, 1, 2) for row in rows):
         yield f'status {[row[-1] for row in rows]}'
     if last > SLACK * grown * max(first, floor / SLACK):
         yield f'time grows by {last / max(first, 1e-9):.1f}, and n log n by {grown:.1f}'
-    if memory > each.memory * most + LEAST_MEMORY:
-        yield f'{memory / most:.1f} bytes a unit, of {each.memory}'
+    if memory > each.memory * count + LEAST_MEMORY:
+        yield f'{memory / count:.1f} bytes a unit, of {each.memory}'
 
 
 def growth(rows):
     """The exponent of the time in the count."""
-    (least, _, _, first, _, _), (most, _, _, last, _, _) = rows[0], rows[-1]
+    (_, least, _, _, first, _, _), (_, most, _, _, last, _, _) = rows[0], rows[-1]
     return math.log(last / first) / math.log(most / least) if first > 0 and last > 0 and most > least else 0
 
 
 def printed(each, run, rows, faults, counts):
-    count, given, told, cost, memory, status = rows[-1]
+    count, _, given, told, cost, memory, status = rows[-1]
     shown = f'{cost / 1e6:.1f} M' if counts else f'{cost * 1e3:.0f} ms'
     name = pathlib.Path(run.program).name.removeprefix('sourcemap_')
     print(f'| {each.name} | {name} {" ".join(run.words)} | {given:,} | {told:,} | {shown} | {growth(rows):.2f} '

@@ -56,7 +56,22 @@ def no_constant(text):
     raise ValueError(text)
 
 
-DECODER = json.JSONDecoder(parse_float=fraction, parse_int=whole, parse_constant=no_constant)
+def check_texts(value):
+    if isinstance(value, str) and SURROGATE.search(value):
+        raise parse()
+    if isinstance(value, list):
+        for item in value:
+            check_texts(item)
+
+
+def members(pairs):
+    """An object. A value that a later one of its key replaces has no half of a surrogate pair either."""
+    for _, value in pairs:
+        check_texts(value)
+    return dict(pairs)
+
+
+DECODER = json.JSONDecoder(parse_float=fraction, parse_int=whole, parse_constant=no_constant, object_pairs_hook=members)
 
 
 def is_text(value):

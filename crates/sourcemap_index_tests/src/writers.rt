@@ -18,6 +18,9 @@ static WRITTEN: [&str; 3] = [
     r#"{"sections":[{"map":null,"offset":{"column":4,"line":1},"url":"u"}],"sources":null,"version":3}"#,
 ];
 
+// No text of these tests has more bytes.
+const LONGEST: usize = 1 << 12;
+
 // The writer that a map is written to.
 #[derive(Clone, Copy)]
 enum Way {
@@ -80,8 +83,12 @@ fn encode_buffered(alloc: Global, map: &DecodedMap, writer: &mut NarrowWriter) -
     encode(alloc, map, BufWriter::new(alloc, writer)?)
 }
 
+// A buffer that is dropped discards the error of its last write, so the writer has its memory first.
 fn by_buffer(alloc: Global, map: &DecodedMap, is_any: bool) -> Result<String> {
-    let mut writer = narrow(alloc, None);
+    let mut writer = NarrowWriter {
+        held: Vec::with_capacity(alloc, LONGEST)?,
+        left: None,
+    };
     let outcome = if is_any {
         encode_buffered(alloc, map, &mut writer)
     } else {
