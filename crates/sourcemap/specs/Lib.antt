@@ -1,15 +1,15 @@
 pub use Rattle.sourcemap_errors.specs.Answer
 pub use Rattle.sourcemap_errors.specs.Due
 pub use Rattle.sourcemap_errors.specs.Errors
-pub use Rattle.sourcemap_digits.specs.Bits
-pub use Rattle.sourcemap_digits.specs.Vlq
-pub use Rattle.sourcemap_lists.specs.Interner
-pub use Rattle.sourcemap_lists.specs.Items
-pub use Rattle.sourcemap_lists.specs.Search as Utils
-pub use Rattle.sourcemap_lists.specs.Tokens
-pub use Rattle.sourcemap_composition.specs.Stretches
-pub use Rattle.sourcemap_composition.specs.Composition
-pub use Rattle.sourcemap_composition.specs.Moved
+pub use Rattle.sourcemap_vlq.specs.Bits
+pub use Rattle.sourcemap_vlq.specs.Vlq
+pub use Rattle.sourcemap_interning.specs.Interner
+pub use Rattle.sourcemap_tokens.specs.Items
+pub use Rattle.sourcemap_tokens.specs.Search as Utils
+pub use Rattle.sourcemap_tokens.specs.Tokens
+pub use Rattle.sourcemap_compose.specs.Stretches
+pub use Rattle.sourcemap_compose.specs.Composition
+pub use Rattle.sourcemap_compose.specs.Moved
 pub use Rattle.sourcemap_line_index.specs.LineIndex
 pub mod Mappings
 pub use Rattle.sourcemap_mappings.specs.Write as MappingsWritten
@@ -23,23 +23,23 @@ pub use Rattle.sourcemap_headers.specs.HeaderReader as StripHeaderReader
 pub use Rattle.sourcemap_records.specs.Field as Fields
 pub use Rattle.sourcemap_records.specs.Jsontypes
 pub mod Types
-pub use Rattle.sourcemap_regular.specs.Token
-pub use Rattle.sourcemap_regular.specs.TokenOrder
-pub use Rattle.sourcemap_regular.specs.Iterators
-pub use Rattle.sourcemap_regular.specs.Adjust
+pub use Rattle.sourcemap_map_regular.specs.Token
+pub use Rattle.sourcemap_map_regular.specs.TokenOrder
+pub use Rattle.sourcemap_map_regular.specs.Iterators
+pub use Rattle.sourcemap_map_regular.specs.Adjust
 pub mod Equality
 pub mod RegularDecoder
 pub mod Reading
 pub mod Encoder
-pub use Rattle.sourcemap_regular.specs.Write as Written
+pub use Rattle.sourcemap_map_regular.specs.Write as Written
 pub mod Rewrite
-pub use Rattle.sourcemap_files.specs.Loading
+pub use Rattle.sourcemap_source_files.specs.Loading
 pub use Rattle.sourcemap_builder.specs.Builder
-pub use Rattle.sourcemap_scopes.specs.FunctionMap
-pub use Rattle.sourcemap_scopes.specs.Offsets as ScopeOffsets
-pub use Rattle.sourcemap_scopes.specs.Picks
-pub use Rattle.sourcemap_scopes.specs.ScopeLists
-pub use Rattle.sourcemap_scopes.specs.SourceScopes
+pub use Rattle.sourcemap_hermes_scopes.specs.FunctionMap
+pub use Rattle.sourcemap_hermes_scopes.specs.Offsets as ScopeOffsets
+pub use Rattle.sourcemap_hermes_scopes.specs.Picks
+pub use Rattle.sourcemap_hermes_scopes.specs.ScopeLists
+pub use Rattle.sourcemap_hermes_scopes.specs.SourceScopes
 pub use Rattle.sourcemap_hermes.specs.Map as Hermes
 pub use Rattle.sourcemap_hermes.specs.Decode as HermesDecoder
 pub use Rattle.sourcemap_hermes.specs.Encode as HermesEncoder
@@ -47,12 +47,12 @@ pub use Rattle.sourcemap_hermes.specs.Equality as HermesEquality
 pub use Rattle.sourcemap_hermes.specs.Rewrite as HermesRewrite
 pub use Rattle.sourcemap_hermes.specs.WithoutLoading as HermesWithoutLoading
 pub mod Trees
-pub use Rattle.sourcemap_trees.specs.FlatList
-pub use Rattle.sourcemap_trees.specs.Flat
-pub use Rattle.sourcemap_trees.specs.Decode as TreeDecoder
-pub use Rattle.sourcemap_trees.specs.Encode as TreeEncoder
-pub use Rattle.sourcemap_trees.specs.Equality as TreeEquality
-pub use Rattle.sourcemap_trees.specs.Shift
+pub use Rattle.sourcemap_index_model.specs.FlatList
+pub use Rattle.sourcemap_index_model.specs.Flat
+pub use Rattle.sourcemap_index_model.specs.Decode as TreeDecoder
+pub use Rattle.sourcemap_index_model.specs.Encode as TreeEncoder
+pub use Rattle.sourcemap_index_model.specs.Equality as TreeEquality
+pub use Rattle.sourcemap_index_model.specs.Shift
 pub use Rattle.sourcemap_index.specs.Decode as Decoder
 pub mod AnyMap
 pub use Rattle.sourcemap_index.specs.Equality as IndexEquality
@@ -60,17 +60,17 @@ pub use Rattle.sourcemap_index.specs.Index
 pub use Rattle.sourcemap_index.specs.Names as FunctionNames
 pub use Rattle.sourcemap_index.specs.Rows
 pub use Rattle.sourcemap_index.specs.Section
-pub use Rattle.sourcemap_views.specs.Columns
-pub use Rattle.sourcemap_views.specs.Identifiers
-pub use Rattle.sourcemap_views.specs.Lines
-pub use Rattle.sourcemap_views.specs.Sourceview
-pub use Rattle.sourcemap_views.specs.Views
-pub use Rattle.sourcemap_views.specs.Walk
-pub use Rattle.sourcemap_views.specs.Walks
-pub use Rattle.sourcemap_regular.specs.Walk as TokenWalk
-pub use Rattle.sourcemap_places.specs.Places
-pub use Rattle.sourcemap_places.specs.RelativePaths
-pub use Rattle.sourcemap_places.specs.Urls
+pub use Rattle.sourcemap_source_views.specs.Columns
+pub use Rattle.sourcemap_source_views.specs.Identifiers
+pub use Rattle.sourcemap_source_views.specs.Lines
+pub use Rattle.sourcemap_source_views.specs.Sourceview
+pub use Rattle.sourcemap_source_views.specs.Views
+pub use Rattle.sourcemap_source_views.specs.Walk
+pub use Rattle.sourcemap_source_views.specs.Walks
+pub use Rattle.sourcemap_map_regular.specs.Walk as TokenWalk
+pub use Rattle.sourcemap_file_urls.specs.Places
+pub use Rattle.sourcemap_file_urls.specs.RelativePaths
+pub use Rattle.sourcemap_file_urls.specs.Urls
 pub use Rattle.sourcemap_references.specs.Reference
 pub use Rattle.sourcemap_references.specs.References
 pub use Rattle.sourcemap_references.specs.Resolution
@@ -81,6 +81,6 @@ pub use Rattle.sourcemap_bundles.specs.Folder as BundleFolder
 pub use Rattle.sourcemap_bundles.specs.Iterators as BundleIterators
 pub use Rattle.sourcemap_bundles.specs.Modules as BundleModules
 pub use Rattle.sourcemap_bundles.specs.Stored as BundlesStored
-pub use Rattle.sourcemap_splitting.specs.Iterators as SplitIterators
-pub use Rattle.sourcemap_splitting.specs.ModuleMap
-pub use Rattle.sourcemap_splitting.specs.Split
+pub use Rattle.sourcemap_bundle_split.specs.Iterators as SplitIterators
+pub use Rattle.sourcemap_bundle_split.specs.ModuleMap
+pub use Rattle.sourcemap_bundle_split.specs.Split

@@ -2,5 +2,5 @@
 
 pub use sourcemap_hermes::decode::decode_hermes;
 pub use sourcemap_hermes::map::SourceMapHermes;
-pub use sourcemap_scopes::function_map::HermesFunctionMap;
-pub use sourcemap_scopes::offsets::HermesScopeOffset;
+pub use sourcemap_hermes_scopes::function_map::HermesFunctionMap;
+pub use sourcemap_hermes_scopes::offsets::HermesScopeOffset;

@@ -3,8 +3,8 @@
 pub use sourcemap_bundle_bytes::bundle::{
     ModuleEntry, RAM_BUNDLE_MAGIC, RamBundleHeader, byte_range,
 };
+pub use sourcemap_bundle_split::split::{SplitRamBundleModuleIter, split_ram_bundle};
 pub use sourcemap_bundles::ram_bundle::{
     RamBundle, RamBundleModule, RamBundleModuleIter, RamBundleType, is_ram_bundle_slice,
     is_unbundle_path,
 };
-pub use sourcemap_splitting::split::{SplitRamBundleModuleIter, split_ram_bundle};

@@ -2,8 +2,8 @@
 
 pub use sourcemap_index::family::{DecodedMap, SourceMapIndex, SourceMapSection};
 pub use sourcemap_index::section::SourceMapSectionIter;
-pub use sourcemap_lists::tokens::RawToken;
 pub use sourcemap_maps::types::{
     IgnoreListIter, NameIter, RewriteOptions, SourceContentsIter, SourceIter, SourceMap, Token,
     TokenIter,
 };
+pub use sourcemap_tokens::tokens::RawToken;

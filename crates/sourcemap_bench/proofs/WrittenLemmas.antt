@@ -1,4 +1,4 @@
--- From the call that writes to what is said of a map's bytes.
+-- Clauses of decoding and encoding, combined for a map's bytes.
 use Rattle.std.proofs.Common.{◌⊎◌, inl, inr, ℕ, List, Option, Result, Ok, Err, IfErr, OnOk}
 use Rattle.std.specs.Io.KnownBytes.{Appends}
 use Rattle.sourcemap.specs.Answer.{UnlessMemory}
@@ -14,20 +14,20 @@ unless_memory : (e : Error) (P Q : Type 0) → (P → Q) → UnlessMemory e P �
 unless_memory OutOfMemory P Q f h = tt
 unless_memory _ P Q f h = f h
 
--- nothing but the writer refuses
+-- the only errors are those of the writer
 writer_failed : (bytes : List ℕ) (t : MapTree) (e : Error) → RecordAnswer t (Err e) ⊎ IsIo e → IsUnwritten bytes e
 writer_failed bytes t e (inl never) = absurd never
 writer_failed bytes t e (inr io) = inr io
 
--- what keeps bytes from being a map
+-- bytes that do not decode
 pub no_map : (bytes : List ℕ) (e : Error) → UnlessMemory e (BytesDecode bytes (Err e)) → UnlessMemory e (IsUnwritten bytes e)
 no_map bytes e h = unless_memory e (BytesDecode bytes (Err e)) (IsUnwritten bytes e) inl h
 
 pub text_written : {T : Type 0} (bytes : List ℕ) (t : MapTree) (r : Result T Error) (old new : Option (List ℕ))
     → BytesDecode bytes (Ok t) → OnOk r ((text : List ℕ) × IsEncoded (RecordAnswer t) text × Appends old new text)
     → OnOk r (IsWritten bytes old new)
-text_written bytes t (Ok _) old new stand h = (t, stand, h)
-text_written bytes t (Err _) old new stand h = tt
+text_written bytes t (Ok _) old new decodes h = (t, decodes, h)
+text_written bytes t (Err _) old new decodes h = tt
 
 pub text_unwritten : {T : Type 0} (bytes : List ℕ) (t : MapTree) (r : Result T Error)
     → IfErr r (λ e. UnlessMemory e (RecordAnswer t (Err e) ⊎ IsIo e))

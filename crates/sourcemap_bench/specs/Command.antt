@@ -1,4 +1,4 @@
--- What the words of a run ask for.
+-- The words of each command.
 use Rattle.std.specs.Prelude.{◌≡◌, ℕ, List, [], ◌∷◌, codes}
 use Rattle.sourcemap_bench.specs.declared.command.Operation.{Operation}
 use Rattle.sourcemap_bench.specs.declared.command.Operation.TheVariants.{Decode, DecodeReader, Lookup, Tokens, Encode, Rewrite, Flatten, Compose}
@@ -15,7 +15,7 @@ word_of Rewrite = codes "rewrite"
 word_of Flatten = codes "flatten"
 word_of Compose = codes "compose"
 
--- the words that ask for a command; how often an operation is repeated, the second says
+-- the words of a command; the second word is the number of rounds
 abbrev pub AskFor : List (List ℕ) → Command → Type 0
 AskFor words (Repeat operation _) = (rounds : List ℕ) × (words ≡ word_of operation ∷ rounds ∷ [])
 AskFor words Write = words ≡ codes "write" ∷ []

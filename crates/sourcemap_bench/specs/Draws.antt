@@ -1,12 +1,12 @@
--- The numbers and positions that are drawn.
+-- Pseudo-random numbers and positions.
 use Rattle.std.specs.Prelude.{◌≡◌, ℕ, ◌+◌, ◌*◌, ◌/◌, ◌%◌, ◌^◌, ◌≤◌, bit_xor, slice_get, IsSomeAnd}
 use Rattle.sourcemap.specs.Types.{MapValue}
 
--- how far a count goes on at each draw
+-- the increment of the generator's state
 abbrev pub step : ℕ
 step = 11400714819323198485
 
--- a number of 64 bits with its high bits mixed into the low ones, and multiplied
+-- the output of the generator splitmix64 for a state of 64 bits
 abbrev pub stirred : ℕ → ℕ → ℕ → ℕ
 stirred shift factor n = (bit_xor n (n / 2 ^ shift) * factor) % 2 ^ 64
 
@@ -15,7 +15,7 @@ scrambled n =
     let m = stirred 27 10723151780598845931 (stirred 30 13787848793156543929 n) in
     bit_xor m (m / 2 ^ 31)
 
--- a position at a token, or up to three columns behind it
+-- a position at a token, or up to three columns after it
 abbrev pub IsBeside : MapValue → ℕ × ℕ → Type 0
 IsBeside m p = (index : ℕ) × IsSomeAnd (slice_get m.tokens index)
     (λ t. (p.0 ≡ t.dst_line) × (t.dst_col ≤ p.1) × (p.1 ≤ t.dst_col + 3))

@@ -1,15 +1,15 @@
--- Checksums of answers, numbers of 32 bits.
+-- Checksums of results, numbers of 32 bits.
 use Rattle.std.specs.Prelude.{ℕ, ◌+◌, ◌*◌, ◌%◌, ◌^◌, ◌==◌, List, fold, Option, Some, None, if◌then◌else◌}
 use Rattle.sourcemap.specs.Token.{TokenValue, says, tokens_from}
 use Rattle.sourcemap.specs.Tokens.{no_id}
 use Rattle.sourcemap.specs.Trees.{MapTree, lookup}
 use Rattle.sourcemap.specs.Types.{MapValue}
 
--- a sum with one more number
+-- a checksum with one more number
 abbrev pub mixed : ℕ → ℕ → ℕ
 mixed sum number = (31 * sum + number) % 2 ^ 32
 
--- the number of an answer
+-- the number that a token adds to a checksum
 abbrev pub worth : Option TokenValue → ℕ
 worth None = 0
 worth (Some t) =
@@ -18,7 +18,7 @@ worth (Some t) =
 abbrev pub lookup_sum : MapTree → List (ℕ × ℕ) → ℕ → ℕ
 lookup_sum t positions start = fold (λ sum p. mixed sum (worth (lookup t p))) start positions
 
--- a sum with these tokens
+-- a checksum with these tokens
 abbrev pub with_all : ℕ → List TokenValue → ℕ
 with_all sum tokens = fold (λ sum t. mixed sum (worth (Some t))) sum tokens
 

@@ -1,4 +1,4 @@
--- What rounds of an operation come to.
+-- The checksums of rounds of an operation.
 use Rattle.std.specs.Prelude.{◌≡◌, ℕ, suc, zero, List, length, min, Ok}
 use Rattle.sourcemap.specs.Adjust.{adjusted}
 use Rattle.sourcemap.specs.Written.{IsEncoded}
@@ -13,32 +13,32 @@ use Rattle.sourcemap_bench.specs.Sums.{mixed, lookup_sum, token_sum}
 use Rattle.sourcemap_bench.specs.declared.work.Work.{Work}
 use Rattle.sourcemap_bench.specs.declared.work.Work.TheVariants.{Decode, DecodeReader, Lookup, Tokens, Encode, Rewrite, Flatten, Compose}
 
--- a sum with a count
+-- a checksum with a count
 abbrev pub counted : ℕ → ℕ → ℕ
 counted sum count = mixed sum (min count 4294967295)
 
--- how many tokens a map has, and how many sections an index
+-- the number of tokens, or of sections of an index map
 abbrev pub size : MapTree → ℕ
 size (leaf l) = length (held l).tokens
 size (index _ sections) = length (section_list sections)
 
--- the sum with the size of the map that bytes stand for
+-- the checksum with the size of the decoded map
 abbrev pub SizeOfDecoded : List ℕ → ℕ → ℕ → Type 0
 SizeOfDecoded bytes old new = (t : MapTree) × BytesDecode bytes (Ok t) × (new ≡ counted old (size t))
 
--- the sum with the length of the text that a map is written as
+-- the checksum with the length of the encoded map
 abbrev pub LengthOfText : MapTree → ℕ → ℕ → Type 0
 LengthOfText t old new = (text : List ℕ) × IsEncoded (RecordAnswer t) text × (new ≡ counted old (length text))
 
--- the sum with the count of the tokens of the map that an index is made flat to
+-- the checksum with the number of tokens of the flattened map
 abbrev pub SizeOfFlat : MapTree → ℕ → ℕ → Type 0
 SizeOfFlat t old new = (m : MapValue) × FlatAnswer t (Ok m) × (new ≡ counted old (length m.tokens))
 
--- the sum with the count of the tokens of a map adjusted by another
+-- the checksum with the number of tokens of the adjusted map
 abbrev pub SizeOfAdjusted : MapValue → MapValue → ℕ → ℕ → Type 0
 SizeOfAdjusted m n old new = (c : MapValue) × (adjusted m n ≡ Ok c) × (new ≡ counted old (length c.tokens))
 
--- the sum behind a round; of lookups in a map in order at every level
+-- the checksum after a round; for lookups, if sections are sorted at every level
 abbrev pub RoundGives : Work → ℕ → ℕ → Type 0
 RoundGives (Decode bytes) old new = SizeOfDecoded bytes.items old new
 RoundGives (DecodeReader bytes) old new = SizeOfDecoded bytes.items old new
@@ -50,7 +50,7 @@ RoundGives (Rewrite m) old new = new ≡ mixed old (length (rewritten no_removal
 RoundGives (Flatten i) old new = SizeOfFlat (index_tree (index_value i.value)) old new
 RoundGives (Compose m n) old new = SizeOfAdjusted m.value n.value old new
 
--- the sum of so many rounds, from 0 on
+-- the checksum of this many rounds, from 0 on
 abbrev pub RoundsGive : Work → ℕ → ℕ → Type 0
 RoundsGive work zero sum = sum ≡ 0
 RoundsGive work (suc n) sum = (before : ℕ) × RoundsGive work n before × RoundGives work before sum

@@ -1,38 +1,37 @@
-//! The operations that can be timed, and the words that ask for them.
+//! The timed operations and their words.
 ghost use Rattle.std.specs.Prelude.{◌≡◌, ◌≢◌, ◌∷◌, [], List, ℕ, IfSome, IfNone, MatchOption, map, string_bytes};
 ghost use Rattle.sourcemap_bench.specs.Command.{word_of, AskFor};
 
-/// What is repeated.
+/// An operation that is repeated.
 #[derive(Clone, Copy, Debug, PartialEq, Eq)]
 pub enum Operation {
-    /// `decode`: the map is decoded from a slice.
+    /// `decode`: decodes the map from a slice.
     Decode,
-    /// `decode-reader`: the map is decoded from a reader.
+    /// `decode-reader`: decodes the map from a reader.
     DecodeReader,
-    /// `lookup`: a million tokens are looked up.
+    /// `lookup`: looks up a million positions.
     Lookup,
-    /// `tokens`: all tokens are asked for, in order.
+    /// `tokens`: iterates over all tokens.
     Tokens,
-    /// `encode`: the map is written.
+    /// `encode`: encodes the map.
     Encode,
-    /// `rewrite`: a copy of the map is rewritten with default options.
+    /// `rewrite`: rewrites a copy of the map with default options.
     Rewrite,
-    /// `flatten`: the index is made flat.
+    /// `flatten`: flattens the index map.
     Flatten,
-    /// `compose`: a copy of the first of two maps is adjusted by the second.
+    /// `compose`: adjusts a copy of the first of two maps by the second.
     Compose,
 }
 
-/// What a run is asked for.
+/// The command of a run.
 #[derive(Clone, Copy, Debug, PartialEq, Eq)]
 pub enum Command {
-    /// `OPERATION N`: an operation, repeated so often.
+    /// `OPERATION N`: repeats an operation N times.
     Repeat(Operation, u32),
-    /// `write`: the text that the map is written as.
+    /// `write`: writes the encoded map.
     Write,
 }
 
-// The operation of a word.
 fn operation_of(word: &str) -> Option<Operation>
     ensures { MatchOption result
         ((operation : _) → word.now ≢ word_of operation)
@@ -51,8 +50,7 @@ fn operation_of(word: &str) -> Option<Operation>
     }
 }
 
-// The command that a word alone asks for.
-fn lone(word: &str) -> Option<Command>
+fn parse_word(word: &str) -> Option<Command>
     ensures { IfSome result (AskFor (word.now ∷ [])) }
 {
     match word {
@@ -61,8 +59,7 @@ fn lone(word: &str) -> Option<Command>
     }
 }
 
-// The command that an operation and a decimal number below 2^32 ask for.
-fn repeat(word: &str, rounds: &str) -> Option<Command>
+fn parse_repeat(word: &str, rounds: &str) -> Option<Command>
     ensures { IfSome result (AskFor (word.now ∷ rounds.now ∷ [])) }
 {
     let operation = operation_of(word)?;
@@ -70,14 +67,13 @@ fn repeat(word: &str, rounds: &str) -> Option<Command>
     Some(Command::Repeat(operation, rounds))
 }
 
-/// The command that the words ask for: `write`, or an operation and a decimal number below 2^32;
-/// none for other words.
+/// Parses `write`, or an operation and a decimal number below 2^32. `None` for other words.
 pub fn parse_words(words: &[String]) -> Option<Command>
     ensures { IfSome result (AskFor (map string_bytes words.now)) }
 {
     match words {
-        [word] => lone(word.as_str()),
-        [word, rounds] => repeat(word.as_str(), rounds.as_str()),
+        [word] => parse_word(word.as_str()),
+        [word, rounds] => parse_repeat(word.as_str(), rounds.as_str()),
         _ => None,
     }
 }

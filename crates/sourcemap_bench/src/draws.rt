@@ -1,4 +1,4 @@
-//! Positions of a generated text, drawn by a generator of numbers that is the same on every run.
+//! Pseudo-random generated positions, the same in every run.
 ghost use Rattle.std.specs.Prelude.{◌≡◌, ℕ, ◌+◌, ◌<◌, ◌≤◌, ◌%◌, ◌^◌, IfOk, IfErr, length, vec_len};
 ghost use Rattle.sourcemap.specs.declared.errors.Error.TheVariants.{OutOfMemory};
 ghost use Rattle.sourcemap_bench.specs.Draws.{scrambled, step, IsBeside};
@@ -6,10 +6,10 @@ ghost use Rattle.sourcemap_bench.specs.Draws.{scrambled, step, IsBeside};
 use sourcemap::{Result, SourceMap};
 use std::alloc::Global;
 
-/// How many positions are drawn.
+/// The number of drawn positions.
 pub const POSITIONS: usize = 1_000_000;
 
-// The generator known as splitmix64: a count with a fixed step, scrambled.
+// The generator splitmix64.
 #[derive(Clone, Copy)]
 struct Draws {
     count: u64,
@@ -28,26 +28,25 @@ impl Draws {
     }
 }
 
-// A position at a token that is drawn, or up to three columns behind it. The origin for a map
-// without tokens.
+// The position of a random token, or up to three columns after it; (0, 0) for a map without tokens.
 fn beside_token(map: &SourceMap, draws: &mut Draws) -> (u32, u32)
     ensures { 0 < length map.now.tokens → IsBeside map.now result }
 {
-    let place = draws.next();
-    let behind = (draws.next() % 4) as u32;
+    let drawn = draws.next();
+    let columns = (draws.next() % 4) as u32;
     let count = u64::from(map.get_token_count());
-    let index = place.checked_rem(count).unwrap_or(0);
+    let index = drawn.checked_rem(count).unwrap_or(0);
     match map.get_token(index as usize) {
         Some(token) => (
             token.get_dst_line(),
-            token.get_dst_col().saturating_add(behind),
+            token.get_dst_col().saturating_add(columns),
         ),
         None => (0, 0),
     }
 }
 
-/// A million positions, each at a token of the map or up to three columns behind one. Only want of
-/// memory refuses.
+/// Draws a million positions, each at a token of the map or up to three columns after it. The only
+/// error is `OutOfMemory`.
 pub fn drawn_positions(alloc: Global, map: &SourceMap) -> Result<Vec<(u32, u32)>>
     ensures count { IfOk result (λ positions. vec_len positions ≡ 1000000) }
     ensures memory { IfErr result (λ e. e ≡ OutOfMemory) }

@@ -1,5 +1,5 @@
-//! Repeats one operation on the source map on standard input, so that it can be timed, or writes
-//! it. To compose takes two maps there, each on a line.
+//! Repeats one operation on the source map on standard input, so that it can be timed, or writes the
+//! map. `compose` takes two maps, one on each line.
 #![tactic(auto)]
 
 mod command;
@@ -15,13 +15,12 @@ use std::io::Read;
 use std::process::ExitCode;
 use std::rt::Files;
 use std::{env, io};
-use work::{prepared, repeated};
+use work::{prepare, repeat_work};
 use written::write_map;
 
 const USAGE: &str =
     "usage: decode N | decode-reader N | lookup N | tokens N | encode N | rewrite N | flatten N | compose N | write";
 
-// The checksum of what so many rounds of an operation computed of these bytes.
 fn checksum<F: Files>(
     rt: &F,
     alloc: Global,
@@ -29,8 +28,8 @@ fn checksum<F: Files>(
     rounds: u32,
     bytes: Vec<u8>,
 ) -> Result<u32> {
-    let work = prepared(alloc, operation, bytes)?;
-    repeated(rt, alloc, &work, rounds)
+    let work = prepare(alloc, operation, bytes)?;
+    repeat_work(rt, alloc, &work, rounds)
 }
 
 fn main(rt: HostRuntime) -> Result<ExitCode> {

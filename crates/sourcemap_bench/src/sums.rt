@@ -1,4 +1,4 @@
-//! Checksums of answers.
+//! Checksums of results.
 ghost use Rattle.std.specs.Prelude.{◌≡◌, ℕ, fold, option_map};
 ghost use Rattle.sourcemap.specs.AnyMap.{map_tree};
 ghost use Rattle.sourcemap.specs.Token.{token_value};
@@ -7,7 +7,7 @@ ghost use Rattle.sourcemap_bench.specs.Sums.{mixed, worth, lookup_sum, token_sum
 
 use sourcemap::{DecodedMap, SourceMap, Token};
 
-/// A sum with one more number.
+/// Adds a number to a checksum.
 #[inline]
 pub fn mixed(sum: u32, number: u32) -> u32
     ensures { result ≡ mixed sum number }
@@ -15,8 +15,8 @@ pub fn mixed(sum: u32, number: u32) -> u32
     ((31 * u64::from(sum) + u64::from(number)) % (1 << 32)) as u32
 }
 
-/// The number of an answer: 0 for none and for a token without a source, else made of the place in
-/// the source.
+/// The number that a token adds to a checksum: made of its original position, or 0 if there is no
+/// token or it has no source.
 #[inline]
 pub fn worth(token: Option<Token<'_>>) -> u32
     ensures { result ≡ worth (option_map token_value token.entry) }
@@ -31,9 +31,8 @@ pub fn worth(token: Option<Token<'_>>) -> u32
     }
 }
 
-// A sum with the answer to the lookup of one position.
 #[inline]
-fn asked(map: &DecodedMap, sum: u32, position: (u32, u32)) -> u32
+fn add_lookup(map: &DecodedMap, sum: u32, position: (u32, u32)) -> u32
     ensures { IsInOrder (map_tree map.now)
         → result ≡ mixed sum (worth (lookup (map_tree map.now) position)) }
 {
@@ -41,19 +40,20 @@ fn asked(map: &DecodedMap, sum: u32, position: (u32, u32)) -> u32
     mixed(sum, worth(map.lookup_token(line, column)))
 }
 
-/// A sum with the answers to lookups of these positions, in a map in order at every level.
+/// Adds the lookups of these positions to a checksum. The clause requires sorted sections at every
+/// level.
 pub fn lookup_sum(map: &DecodedMap, positions: &[(u32, u32)], start: u32) -> u32
     ensures { IsInOrder (map_tree map.now)
         → result ≡ lookup_sum (map_tree map.now) positions.now start }
 {
     let mut sum = start;
     for position in positions {
-        sum = asked(map, sum, *position);
+        sum = add_lookup(map, sum, *position);
     }
     sum
 }
 
-/// A sum with all tokens, in order.
+/// Adds all tokens to a checksum, in order.
 pub fn token_sum(map: &SourceMap, start: u32) -> u32
     ensures { result ≡ token_sum map.now start }
 {

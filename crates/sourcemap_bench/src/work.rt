@@ -1,4 +1,4 @@
-//! The operations that are repeated.
+//! The timed operations.
 ghost use Rattle.std.specs.Prelude.{◌≡◌, ℕ, ◌<◌, IfOk, length, min};
 ghost use Rattle.sourcemap.specs.AnyMap.{index_value, map_tree};
 ghost use Rattle.sourcemap.specs.Trees.{index_tree};
@@ -11,43 +11,41 @@ use sourcemap::encoder::encode_to_vec;
 use sourcemap::{
     DecodedMap, Error, Result, RewriteOptions, SourceMap, SourceMapIndex, decode, decode_slice,
 };
-use sourcemap_commands::maps::into_regular;
+use sourcemap_cli::maps::into_regular;
 use std::alloc::Global;
 use std::rt::Files;
 
-/// What an operation works on. Maps are in boxes, so that a proof takes it as one step that one is
-/// let go.
+/// The input of an operation.
+// prover: one drop
 #[derive(Drop)]
 pub enum Work {
     /// The bytes to decode from a slice.
     Decode(Vec<u8>),
     /// The bytes to decode from a reader.
     DecodeReader(Vec<u8>),
-    /// The map to ask, and the positions.
+    /// The map and the generated positions to look up.
     Lookup(Box<DecodedMap>, Vec<(u32, u32)>),
-    /// The map to go through.
+    /// The map whose tokens are iterated.
     Tokens(Box<SourceMap>),
-    /// The map to write.
+    /// The map to encode.
     Encode(Box<DecodedMap>),
     /// The map to copy and rewrite.
     Rewrite(Box<SourceMap>),
-    /// The index to make flat.
+    /// The index map to flatten.
     Flatten(Box<SourceMapIndex>),
-    /// The map to copy and adjust, and the one that adjusts it.
+    /// The map to copy and adjust, and the adjustment.
     Compose(Box<SourceMap>, Box<SourceMap>),
 }
 
-// The map that bytes hold.
 fn map_of(alloc: Global, bytes: &[u8]) -> Result<Box<DecodedMap>> {
     Ok(Box::new(alloc, decode_slice(alloc, bytes)?)?)
 }
 
-// The regular map that bytes hold.
 fn regular_map(alloc: Global, bytes: &[u8]) -> Result<Box<SourceMap>> {
     Ok(Box::new(alloc, into_regular(decode_slice(alloc, bytes)?)?)?)
 }
 
-// The regular maps that the first two lines hold.
+// The maps on the first two lines.
 fn regular_maps(alloc: Global, bytes: &[u8]) -> Result<(Box<SourceMap>, Box<SourceMap>)> {
     let mut lines = bytes.split(|byte| *byte == b'\n');
     let first = regular_map(alloc, lines.next().unwrap_or_default())?;
@@ -55,7 +53,6 @@ fn regular_maps(alloc: Global, bytes: &[u8]) -> Result<(Box<SourceMap>, Box<Sour
     Ok((first, second))
 }
 
-// The index that bytes hold.
 fn index_of(alloc: Global, bytes: Vec<u8>) -> Result<Box<SourceMapIndex>> {
     match decode_slice(alloc, bytes.as_slice())? {
         DecodedMap::Index(index) => Ok(Box::new(alloc, index)?),
@@ -63,7 +60,7 @@ fn index_of(alloc: Global, bytes: Vec<u8>) -> Result<Box<SourceMapIndex>> {
     }
 }
 
-// Positions at tokens of the map, of an index at those of its flat map.
+// Positions near tokens of the map; for an index map, of the flattened map.
 fn positions_in(alloc: Global, map: &DecodedMap) -> Result<Vec<(u32, u32)>> {
     match map {
         DecodedMap::Regular(map) => drawn_positions(alloc, map),
@@ -75,8 +72,8 @@ fn positions_in(alloc: Global, map: &DecodedMap) -> Result<Vec<(u32, u32)>> {
     }
 }
 
-/// What an operation works on, of the bytes of a map, or to compose of the lines of two.
-pub fn prepared(alloc: Global, operation: Operation, bytes: Vec<u8>) -> Result<Work> {
+/// Decodes the input of an operation: the bytes of a map, or for `Compose` two lines of one map each.
+pub fn prepare(alloc: Global, operation: Operation, bytes: Vec<u8>) -> Result<Work> {
     match operation {
         Operation::Decode => Ok(Work::Decode(bytes)),
         Operation::DecodeReader => Ok(Work::DecodeReader(bytes)),
@@ -96,14 +93,13 @@ pub fn prepared(alloc: Global, operation: Operation, bytes: Vec<u8>) -> Result<W
     }
 }
 
-// How many sections an index has.
 fn section_count(index: &SourceMapIndex) -> u32
     ensures { result ≡ min (size (index_tree (index_value index.now))) 4294967295 }
 {
     index.get_section_count()
 }
 
-// How many tokens a map has, and how many sections an index.
+// The number of tokens, or of sections of an index map.
 fn size_of(map: &DecodedMap) -> u32
     ensures { result ≡ min (size (map_tree map.now)) 4294967295 }
 {
@@ -114,7 +110,6 @@ fn size_of(map: &DecodedMap) -> u32
     }
 }
 
-// The sum behind the decoding of a slice.
 fn slice_sum(alloc: Global, bytes: &Vec<u8>, sum: u32) -> Result<u32>
     ensures { IfOk result (SizeOfDecoded bytes.now.items sum) }
 {
@@ -122,7 +117,6 @@ fn slice_sum(alloc: Global, bytes: &Vec<u8>, sum: u32) -> Result<u32>
     Ok(mixed(sum, size_of(&map)))
 }
 
-// The sum behind the decoding of a reader.
 fn reader_sum(alloc: Global, bytes: &Vec<u8>, sum: u32) -> Result<u32>
     ensures { IfOk result (SizeOfDecoded bytes.now.items sum) }
 {
@@ -130,7 +124,6 @@ fn reader_sum(alloc: Global, bytes: &Vec<u8>, sum: u32) -> Result<u32>
     Ok(mixed(sum, size_of(&map)))
 }
 
-// The sum behind the writing of a map.
 fn text_sum(alloc: Global, map: &DecodedMap, sum: u32) -> Result<u32>
     ensures { IfOk result (LengthOfText (map_tree map.now) sum) }
 {
@@ -138,7 +131,6 @@ fn text_sum(alloc: Global, map: &DecodedMap, sum: u32) -> Result<u32>
     Ok(mixed(sum, u32::try_from(text.len()).unwrap_or(u32::MAX)))
 }
 
-// The sum behind an index made flat.
 fn flat_sum(index: &SourceMapIndex, sum: u32) -> Result<u32>
     ensures { IfOk result (SizeOfFlat (index_tree (index_value index.now)) sum) }
 {
@@ -146,7 +138,6 @@ fn flat_sum(index: &SourceMapIndex, sum: u32) -> Result<u32>
     Ok(mixed(sum, flat.get_token_count()))
 }
 
-// The sum behind a copy of a map that is adjusted.
 fn adjusted_sum(map: &SourceMap, adjustment: &SourceMap, sum: u32) -> Result<u32>
     ensures { IfOk result (SizeOfAdjusted map.now adjustment.now sum) }
 {
@@ -155,7 +146,7 @@ fn adjusted_sum(map: &SourceMap, adjustment: &SourceMap, sum: u32) -> Result<u32
     Ok(mixed(sum, copy.get_token_count()))
 }
 
-// The sum behind a round.
+// Runs one round and returns the checksum after it.
 fn round<F: Files>(rt: &F, alloc: Global, work: &Work, sum: u32) -> Result<u32>
     ensures { IfOk result (RoundGives work.now sum) }
 {
@@ -174,8 +165,8 @@ fn round<F: Files>(rt: &F, alloc: Global, work: &Work, sum: u32) -> Result<u32>
     }
 }
 
-/// The checksum of so many rounds of an operation.
-pub fn repeated<F: Files>(rt: &F, alloc: Global, work: &Work, rounds: u32) -> Result<u32>
+/// Repeats an operation and returns the checksum of all rounds.
+pub fn repeat_work<F: Files>(rt: &F, alloc: Global, work: &Work, rounds: u32) -> Result<u32>
     ensures { IfOk result (RoundsGive work.now rounds) }
 {
     let mut sum = 0;

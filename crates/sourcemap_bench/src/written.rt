@@ -1,4 +1,4 @@
-//! A map as it is written.
+//! Encodes the map, so that the bytes can be compared.
 ghost use Rattle.std.specs.Prelude.{IfErr, OnOk};
 ghost use Rattle.sourcemap.specs.Answer.{UnlessMemory};
 ghost use Rattle.sourcemap_bench.specs.Written.{IsWritten, IsUnwritten};
@@ -8,12 +8,12 @@ use sourcemap::{Result, decode_slice};
 use std::alloc::Global;
 use std::io::Write;
 
-/// Writes the compact JSON text of the map that the bytes hold. Refused as by `decode_slice`; a
-/// write's fault is `Io`.
+/// Decodes a map and writes it as compact JSON. Returns the errors of `decode_slice`, and `Io` if
+/// writing fails.
 pub fn write_map<W: Write>(alloc: Global, bytes: &[u8], output: &mut W) -> Result<()>
     ensures written { OnOk result
         (IsWritten bytes.now (W.contents output.old) (W.contents output.new)) }
-    ensures fault { IfErr result (λ e. UnlessMemory e (IsUnwritten bytes.now e)) }
+    ensures error { IfErr result (λ e. UnlessMemory e (IsUnwritten bytes.now e)) }
 {
     let map = decode_slice(alloc, bytes)?;
     encode_to(alloc, &map, output)

@@ -1,6 +1,6 @@
--- What the words of a run ask for.
+-- The words of a run.
 use Rattle.std.specs.Prelude.{◌≡◌, ℕ, List, [], ◌∷◌, codes}
 
--- the words that ask for a bundle to be split; how often, the second says
+-- the words of a run; the second word is the number of rounds
 abbrev pub AskFor : List (List ℕ) → Type 0
 AskFor words = (rounds : List ℕ) × (words ≡ codes "split" ∷ rounds ∷ [])

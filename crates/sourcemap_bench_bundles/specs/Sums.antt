@@ -1,11 +1,11 @@
--- Checksums of bundles that are split, numbers of 32 bits.
+-- Checksums of split bundles, numbers of 32 bits.
 use Rattle.std.specs.Prelude.{ℕ, ◌+◌, ◌*◌, ◌%◌, ◌^◌, length, min}
-use Rattle.sourcemap_splitting.specs.Split.{ModuleParts}
+use Rattle.sourcemap_bundle_split.specs.Split.{ModuleParts}
 
--- a sum with one more number
+-- a checksum with one more number
 abbrev pub mixed : ℕ → ℕ → ℕ
 mixed sum number = (31 * sum + number) % 2 ^ 32
 
--- a sum with the length of a module's text in bytes, and the count of the sources of its map
+-- a checksum with the length of a module's text in bytes and the number of sources of its map
 abbrev pub with_module : ℕ → ModuleParts → ℕ
 with_module sum parts = mixed (mixed sum (min (length parts.text) 4294967295)) (length parts.map.sources)

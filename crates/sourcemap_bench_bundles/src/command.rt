@@ -1,8 +1,7 @@
-//! The words that ask for rounds.
+//! Parses the words of a run.
 ghost use Rattle.std.specs.Prelude.{◌≡◌, IfSome, codes, map, string_bytes};
 ghost use Rattle.sourcemap_bench_bundles.specs.Command.{AskFor};
 
-// Whether a word asks for a bundle to be split.
 fn split_word(word: &str) -> Option<()>
     ensures { IfSome result (λ found. word.now ≡ codes "split") }
 {
@@ -12,8 +11,7 @@ fn split_word(word: &str) -> Option<()>
     }
 }
 
-/// How often the words ask for the bundle to be split, a decimal number below 2^32; none for other
-/// words.
+/// Parses the number of rounds, a decimal number below 2^32. `None` for other words.
 pub fn parse_words(words: &[String]) -> Option<u32>
     ensures { IfSome result (λ rounds. AskFor (map string_bytes words.now)) }
 {

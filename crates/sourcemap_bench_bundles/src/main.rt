@@ -1,5 +1,5 @@
-//! Splits a RAM bundle again and again, so that it can be timed. Standard input holds its index map on
-//! the first line, and all bytes after that line are the indexed bundle.
+//! Splits a RAM bundle repeatedly, so that it can be timed. Standard input holds its index map on the
+//! first line; all bytes after that line are the indexed bundle.
 #![tactic(auto)]
 
 mod command;

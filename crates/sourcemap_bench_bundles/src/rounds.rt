@@ -1,20 +1,20 @@
-//! Rounds in which a bundle is split, and the checksums that they come to.
+//! Splits a bundle repeatedly; checksums of the modules.
 ghost use Rattle.std.specs.Prelude.{◌≡◌};
-ghost use Rattle.sourcemap_splitting.specs.Split.{parts_value};
+ghost use Rattle.sourcemap_bundle_split.specs.Split.{parts_value};
 ghost use Rattle.sourcemap_bench_bundles.specs.Sums.{mixed, with_module};
 
 use sourcemap::ram_bundle::{RamBundle, SplitRamBundleModuleIter, split_ram_bundle};
 use sourcemap::{Result, SourceMap, SourceMapIndex, SourceView};
 use std::alloc::Global;
 
-// A sum with one more number.
+// Adds a number to a checksum.
 fn mixed(sum: u32, number: u32) -> u32
     ensures { result ≡ mixed sum number }
 {
     ((31 * u64::from(sum) + u64::from(number)) % (1 << 32)) as u32
 }
 
-// A sum with the length of a module's text in bytes, and the count of the sources of its map.
+// Adds the length of a module's text in bytes and the number of sources of its map to a checksum.
 fn with_module(sum: u32, parts: &(String, SourceView, SourceMap)) -> u32
     ensures { result ≡ with_module sum (parts_value parts.now) }
 {
@@ -23,7 +23,7 @@ fn with_module(sum: u32, parts: &(String, SourceView, SourceMap)) -> u32
     mixed(mixed(sum, length), map.get_source_count())
 }
 
-// The sum after all of these modules, if none is refused.
+// Adds all of these modules to a checksum; the first error ends it.
 fn with_modules(modules: SplitRamBundleModuleIter<'_>, start: u32) -> Result<u32> {
     let mut sum = start;
     for item in modules {
@@ -33,7 +33,6 @@ fn with_modules(modules: SplitRamBundleModuleIter<'_>, start: u32) -> Result<u32
     Ok(sum)
 }
 
-// The sum after a bundle was split once.
 fn split_sum(
     alloc: Global,
     bundle: &RamBundle<'_>,
@@ -44,7 +43,6 @@ fn split_sum(
     with_modules(modules, start)
 }
 
-// The sum after so many rounds.
 fn split_rounds(
     alloc: Global,
     bundle: &RamBundle<'_>,
@@ -58,8 +56,8 @@ fn split_rounds(
     Ok(sum)
 }
 
-/// Returns the checksum of so many rounds over the index map on the first line, and the bundle after
-/// it.
+/// Splits the bundle `rounds` times and returns the checksum. The index map is on the first line, the
+/// bundle after it.
 pub fn checksum(alloc: Global, rounds: u32, bytes: &[u8]) -> Result<u32> {
     let mut parts = bytes.splitn(2, |byte| *byte == b'\n');
     let index = SourceMapIndex::from_slice(alloc, parts.next().unwrap_or_default())?;

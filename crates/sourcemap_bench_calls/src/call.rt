@@ -1,6 +1,6 @@
-//! The calls that can be measured, and the words that ask for them.
+//! The measured calls and their words.
 
-/// What is called.
+/// A measured call.
 #[derive(Clone, Copy, Debug, PartialEq, Eq)]
 pub enum Call {
     /// `walk`: `SourceView::rev_token_iter` from the last token of the map on the first line, in the
@@ -14,13 +14,13 @@ pub enum Call {
     LocateReader,
     /// `locate-view`: `SourceView::sourcemap_reference`.
     LocateView,
-    /// `resolve`: the reference that is located, resolved against a URL.
+    /// `resolve`: the reference that is located in a slice, resolved against a URL.
     Resolve,
     /// `resolve-path`: the same against a path.
     ResolvePath,
     /// `data-url`: `decode_data_url`.
     DataUrl,
-    /// `embedded`: `SourceMapRef::get_embedded_sourcemap`.
+    /// `decode_embedded`: `SourceMapRef::get_embedded_sourcemap`.
     Embedded,
     /// `detect`: `is_sourcemap_slice`.
     Detect,
@@ -36,11 +36,11 @@ pub enum Call {
     Intern,
     /// `bundle`: all modules of a RAM bundle, and its startup code.
     Bundle,
-    /// `nest`: so many indexes in one another, copied, asked, flattened and dropped.
+    /// `nest`: nested index maps, copied, looked up, flattened and dropped.
     Nest,
 }
 
-/// The call that the words ask for, none for other words.
+/// Parses a call. `None` for other words.
 pub fn parse_words(words: &[String]) -> Option<Call> {
     let [word] = words else {
         return None;

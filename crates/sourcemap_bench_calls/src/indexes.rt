@@ -1,4 +1,4 @@
-//! Indexes in one another, which no text can hold at any depth.
+//! Index maps nested deeper than the decoder allows.
 
 use sourcemap::{DecodedMap, Result, SourceMapIndex, SourceMapSection, decode_slice};
 use std::alloc::Global;
@@ -6,7 +6,7 @@ use std::str;
 
 const INNER: &[u8] = b"{\"version\":3,\"sources\":[\"a.js\"],\"names\":[],\"mappings\":\"AAAA\"}";
 
-// An index with a map at its start.
+// An index map with one section at its start.
 fn index_over(alloc: Global, map: DecodedMap) -> Result<SourceMapIndex> {
     let section = SourceMapSection::new(alloc, (0, 0), None, Some(map))?;
     let mut sections = Vec::new(alloc);
@@ -14,7 +14,7 @@ fn index_over(alloc: Global, map: DecodedMap) -> Result<SourceMapIndex> {
     Ok(SourceMapIndex::new(alloc, None, sections))
 }
 
-// An index of so many levels.
+// `levels` nested index maps.
 fn levels(alloc: Global, depth: u32) -> Result<SourceMapIndex> {
     let inner = decode_slice(alloc, INNER)?;
     let mut index = index_over(alloc, inner)?;
@@ -24,8 +24,8 @@ fn levels(alloc: Global, depth: u32) -> Result<SourceMapIndex> {
     Ok(index)
 }
 
-/// How many tokens the flat map has of so many indexes in one another, which are copied and asked
-/// first.
+/// Nests index maps, copies them, looks up a position, flattens them, and returns the number of
+/// tokens.
 pub fn nested(alloc: Global, bytes: &[u8]) -> Result<usize> {
     let depth = str::from_utf8(bytes)?.trim().parse().unwrap_or(1);
     let index = levels(alloc, depth)?.clone()?;

@@ -1,4 +1,4 @@
-//! Makes one call over what standard input holds, so that its time and memory can be measured.
+//! Makes one call on standard input, so that its time and memory can be measured.
 #![tactic(auto)]
 
 mod call;
@@ -18,20 +18,20 @@ use std::process::ExitCode;
 const USAGE: &str =
     "usage: walk | view | locate | locate-reader | locate-view | resolve | resolve-path | relative | prefix | data-url | embedded | detect | detect-reader | builder | intern | bundle | nest";
 
-// A size of what the call returns, so that it is not left out.
+// Prints a size of the result, so that the call is not optimised away.
 fn size_of(alloc: Global, call: Call, bytes: &[u8]) -> Result<usize> {
     match call {
         Call::Walk => views::walked(alloc, bytes),
         Call::View => views::viewed(alloc, bytes),
-        Call::Locate => references::located(alloc, bytes),
-        Call::LocateReader => references::located_by_reader(alloc, bytes),
-        Call::LocateView => references::located_by_view(alloc, bytes),
-        Call::Resolve => references::resolved(alloc, bytes),
-        Call::ResolvePath => references::resolved_path(alloc, bytes),
-        Call::DataUrl => references::decoded(alloc, bytes),
-        Call::Embedded => references::embedded(alloc, bytes),
-        Call::Detect => references::detected(alloc, bytes),
-        Call::DetectReader => references::detected_by_reader(alloc, bytes),
+        Call::Locate => references::locate_in_slice(alloc, bytes),
+        Call::LocateReader => references::locate_by_reader(alloc, bytes),
+        Call::LocateView => references::locate_by_view(alloc, bytes),
+        Call::Resolve => references::resolve_reference(alloc, bytes),
+        Call::ResolvePath => references::resolve_reference_path(alloc, bytes),
+        Call::DataUrl => references::decode_url(alloc, bytes),
+        Call::Embedded => references::decode_embedded(alloc, bytes),
+        Call::Detect => references::detect_in_slice(alloc, bytes),
+        Call::DetectReader => references::detect_by_reader(alloc, bytes),
         Call::Relative => paths::relative(alloc, bytes),
         Call::Prefix => paths::prefix(alloc, bytes),
         Call::Builder => tables::built(alloc, bytes),

@@ -1,11 +1,11 @@
-//! Paths from one file to another, and what paths have in common.
+//! Relative paths and common prefixes.
 
 use sourcemap::Result;
 use sourcemap::utils::{find_common_prefix, make_relative_path};
 use std::alloc::Global;
 use std::str;
 
-/// The length of the path from the first line to what follows it.
+/// The length of the relative path from the first line to the rest.
 pub fn relative(alloc: Global, bytes: &[u8]) -> Result<usize> {
     let text = str::from_utf8(bytes)?;
     let (base, target) = text.split_once('\n').unwrap_or((text, text));
@@ -13,7 +13,7 @@ pub fn relative(alloc: Global, bytes: &[u8]) -> Result<usize> {
     Ok(path.len())
 }
 
-/// The length of the path that all lines have in common.
+/// The length of the common prefix of all lines.
 pub fn prefix(alloc: Global, bytes: &[u8]) -> Result<usize> {
     let common = find_common_prefix(alloc, str::from_utf8(bytes)?.lines())?;
     Ok(common.map_or(0, |path| path.len()))

@@ -1,4 +1,4 @@
-//! References to maps, maps in data URLs, and whether bytes are a map.
+//! References to maps, data URLs, and detection of maps.
 
 use sourcemap::detector::EmbeddedSourceMap;
 use sourcemap::{
@@ -16,26 +16,26 @@ fn size_of(found: &Option<SourceMapRef>) -> usize {
 }
 
 /// The length of the reference in a text.
-pub fn located(alloc: Global, bytes: &[u8]) -> Result<usize> {
+pub fn locate_in_slice(alloc: Global, bytes: &[u8]) -> Result<usize> {
     let found = locate_sourcemap_reference_slice(alloc, bytes)?;
     Ok(size_of(&found))
 }
 
-/// The same by a reader.
-pub fn located_by_reader(alloc: Global, bytes: &[u8]) -> Result<usize> {
+/// The same from a reader.
+pub fn locate_by_reader(alloc: Global, bytes: &[u8]) -> Result<usize> {
     let found = locate_sourcemap_reference(alloc, bytes)?;
     Ok(size_of(&found))
 }
 
-/// The same by a view.
-pub fn located_by_view(alloc: Global, bytes: &[u8]) -> Result<usize> {
+/// The same from a view.
+pub fn locate_by_view(alloc: Global, bytes: &[u8]) -> Result<usize> {
     let view = SourceView::new(alloc, str::from_utf8(bytes)?)?;
     let found = view.sourcemap_reference()?;
     Ok(size_of(&found))
 }
 
 /// The length of the URL that the reference in a text resolves to.
-pub fn resolved(alloc: Global, bytes: &[u8]) -> Result<usize> {
+pub fn resolve_reference(alloc: Global, bytes: &[u8]) -> Result<usize> {
     match locate_sourcemap_reference_slice(alloc, bytes)? {
         Some(reference) => {
             let url = reference.resolve("https://example.org/a/b/c.js")?;
@@ -46,7 +46,7 @@ pub fn resolved(alloc: Global, bytes: &[u8]) -> Result<usize> {
 }
 
 /// The length of the path that the reference in a text resolves to.
-pub fn resolved_path(alloc: Global, bytes: &[u8]) -> Result<usize> {
+pub fn resolve_reference_path(alloc: Global, bytes: &[u8]) -> Result<usize> {
     match locate_sourcemap_reference_slice(alloc, bytes)? {
         Some(reference) => {
             let path = reference.resolve_path("/a/b/c.js")?;
@@ -56,14 +56,14 @@ pub fn resolved_path(alloc: Global, bytes: &[u8]) -> Result<usize> {
     }
 }
 
-/// 1 where a data URL holds a map.
-pub fn decoded(alloc: Global, bytes: &[u8]) -> Result<usize> {
+/// 1 if a data URL holds a map.
+pub fn decode_url(alloc: Global, bytes: &[u8]) -> Result<usize> {
     let _map = decode_data_url(alloc, str::from_utf8(bytes)?)?;
     Ok(1)
 }
 
 /// The same by a reference.
-pub fn embedded(alloc: Global, bytes: &[u8]) -> Result<usize> {
+pub fn decode_embedded(alloc: Global, bytes: &[u8]) -> Result<usize> {
     let url = String::from_str(alloc, str::from_utf8(bytes)?)?;
     match SourceMapRef::Ref(url).get_embedded_sourcemap()? {
         Some(_) => Ok(1),
@@ -71,14 +71,14 @@ pub fn embedded(alloc: Global, bytes: &[u8]) -> Result<usize> {
     }
 }
 
-/// 1 where bytes are a map.
-pub fn detected(alloc: Global, bytes: &[u8]) -> Result<usize> {
+/// 1 if bytes are a map.
+pub fn detect_in_slice(alloc: Global, bytes: &[u8]) -> Result<usize> {
     let is_map = is_sourcemap_slice(alloc, bytes)?;
     Ok(usize::from(is_map))
 }
 
 /// The same by a reader.
-pub fn detected_by_reader(alloc: Global, bytes: &[u8]) -> Result<usize> {
+pub fn detect_by_reader(alloc: Global, bytes: &[u8]) -> Result<usize> {
     let is_map = is_sourcemap(alloc, bytes)?;
     Ok(usize::from(is_map))
 }

@@ -1,12 +1,12 @@
-//! Texts by their numbers, and modules by theirs.
+//! Builders, interned texts and modules of bundles.
 
 use sourcemap::ram_bundle::RamBundle;
 use sourcemap::{Result, SourceMapBuilder};
-use sourcemap_lists::interner::Interner;
+use sourcemap_interning::interner::Interner;
 use std::alloc::Global;
 use std::str;
 
-/// How many tokens a map has that is built of lines, with a source and a name for each.
+/// Builds a map with a token, a source and a name for each line, and returns the number of tokens.
 pub fn built(alloc: Global, bytes: &[u8]) -> Result<usize> {
     let mut builder = SourceMapBuilder::new(alloc, None)?;
     for line in str::from_utf8(bytes)?.lines() {
@@ -16,7 +16,7 @@ pub fn built(alloc: Global, bytes: &[u8]) -> Result<usize> {
     Ok(map.get_token_count() as usize)
 }
 
-/// How many texts lines are.
+/// Interns each line and returns the number of different ones.
 pub fn interned(alloc: Global, bytes: &[u8]) -> Result<usize> {
     let mut interner = Interner::new(alloc);
     for line in str::from_utf8(bytes)?.lines() {
@@ -25,7 +25,7 @@ pub fn interned(alloc: Global, bytes: &[u8]) -> Result<usize> {
     Ok(interner.len() as usize)
 }
 
-/// How many bytes the modules of a bundle have, with 1 for each that is refused.
+/// The bytes of all modules of a bundle, plus 1 for each invalid one.
 pub fn modules(bytes: &[u8]) -> Result<usize> {
     let bundle = RamBundle::parse_indexed_from_slice(bytes)?;
     let mut size = 0usize;

@@ -4,7 +4,7 @@ use sourcemap::{Result, SourceMap, SourceView};
 use std::alloc::Global;
 use std::str;
 
-/// How many bytes of identifiers a walk back from the last token meets.
+/// The bytes of all identifiers on a walk back from the last token.
 pub fn walked(alloc: Global, bytes: &[u8]) -> Result<usize> {
     let (line, text) = str::from_utf8(bytes)?.split_once('\n').unwrap_or_default();
     let map = SourceMap::from_slice(alloc, line.as_bytes())?;
@@ -22,7 +22,7 @@ fn met(map: &SourceMap, view: &SourceView) -> usize {
     size
 }
 
-/// How many lines a text has, and bytes in them.
+/// The number of lines of a text plus the bytes in them.
 pub fn viewed(alloc: Global, bytes: &[u8]) -> Result<usize> {
     let view = SourceView::new(alloc, str::from_utf8(bytes)?)?;
     let mut size = view.line_count();

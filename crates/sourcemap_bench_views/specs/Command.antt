@@ -1,4 +1,4 @@
--- What the words of a run ask for.
+-- The words of each operation.
 use Rattle.std.specs.Prelude.{◌≡◌, ℕ, List, [], ◌∷◌, codes}
 use Rattle.sourcemap_bench_views.specs.declared.command.Operation.{Operation}
 use Rattle.sourcemap_bench_views.specs.declared.command.Operation.TheVariants.{Lines, Names}
@@ -7,6 +7,6 @@ abbrev pub word_of : Operation → List ℕ
 word_of Lines = codes "lines"
 word_of Names = codes "names"
 
--- the words that ask for an operation; how often it is repeated, the second says
+-- the words of an operation; the second word is the number of rounds
 abbrev pub AskFor : List (List ℕ) → Operation → Type 0
 AskFor words operation = (rounds : List ℕ) × (words ≡ word_of operation ∷ rounds ∷ [])

@@ -1,40 +1,40 @@
--- Checksums of answers, numbers of 32 bits.
+-- Checksums of results, numbers of 32 bits.
 use Rattle.std.specs.Prelude.{ℕ, suc, zero, ◌+◌, ◌*◌, ◌%◌, ◌^◌, List, codes, fold, length, min, take, Option, Some, None}
 use Rattle.sourcemap.specs.Lines.{line_bodies}
 use Rattle.sourcemap.specs.TokenWalk.{function_name}
 use Rattle.sourcemap.specs.Types.{MapValue}
 
--- a sum with one more number
+-- a checksum with one more number
 abbrev pub mixed : ℕ → ℕ → ℕ
 mixed sum number = (31 * sum + number) % 2 ^ 32
 
--- a sum with a count
+-- a checksum with a count
 abbrev pub counted : ℕ → ℕ → ℕ
 counted sum count = mixed sum (min count 4294967295)
 
--- a sum with the lengths of these lines
+-- a checksum with the lengths of these lines
 abbrev pub with_lengths : ℕ → List (List ℕ) → ℕ
 with_lengths sum lines = fold (λ sum line. counted sum (length line)) sum lines
 
--- a sum with those of a text's lines up to line 4294967295
+-- a checksum with the lengths of a text's lines up to line 4294967295
 abbrev pub line_sum : List ℕ → ℕ → ℕ
 line_sum source start = with_lengths start (take 4294967296 (line_bodies source))
 
--- the name that is looked for: no function has it in the texts that are timed
+-- the searched name: no function of the timed texts has it
 abbrev pub absent_name : List ℕ
 absent_name = codes "nameOfNoFunction"
 
--- the number of a name
+-- the number that a name adds to a checksum
 abbrev pub name_worth : Option (List ℕ) → ℕ
 name_worth None = 0
 name_worth (Some name) = min (length name + 1) 4294967295
 
--- a sum with what that name is guessed to stand for at these positions of a map's text
+-- a checksum with the guesses for that name at these positions of the generated text
 abbrev pub name_sum : MapValue → (source : List ℕ) → List (ℕ × ℕ) → ℕ → ℕ
 name_sum m source positions start =
     fold (λ sum p. mixed sum (name_worth (function_name m source absent_name p))) start positions
 
--- the sum of so many rounds, from 0 on
+-- the checksum of this many rounds, from 0 on
 abbrev pub rounds_sum : (ℕ → ℕ) → ℕ → ℕ
 rounds_sum round zero = 0
 rounds_sum round (suc n) = round (rounds_sum round n)

@@ -1,17 +1,16 @@
-//! The operations that can be timed, and the words that ask for them.
+//! The timed operations and their words.
 ghost use Rattle.std.specs.Prelude.{◌≡◌, ◌≢◌, IfSome, MatchOption, map, string_bytes};
 ghost use Rattle.sourcemap_bench_views.specs.Command.{word_of, AskFor};
 
-/// What is repeated.
+/// An operation that is repeated.
 #[derive(Clone, Copy, Debug, PartialEq, Eq)]
 pub enum Operation {
-    /// `lines`: a view of a text is made, and its lines are walked along.
+    /// `lines`: makes a view of a text and iterates over its lines.
     Lines,
-    /// `names`: a name that no function has is looked for from every 128th token back.
+    /// `names`: searches a name that no function has, back from every 128th token.
     Names,
 }
 
-// The operation of a word.
 fn operation_of(word: &str) -> Option<Operation>
     ensures { MatchOption result
         ((operation : _) → word.now ≢ word_of operation)
@@ -24,8 +23,7 @@ fn operation_of(word: &str) -> Option<Operation>
     }
 }
 
-/// The operation that the words ask for and how often, a decimal number below 2^32; none for other
-/// words.
+/// Parses an operation and a number of rounds, a decimal number below 2^32. `None` for other words.
 pub fn parse_words(words: &[String]) -> Option<(Operation, u32)>
     ensures { IfSome result (λ asked. AskFor (map string_bytes words.now) asked.0) }
 {

@@ -1,5 +1,5 @@
-//! Repeats one operation on views of texts, so that it can be timed. Standard input holds the text,
-//! for `names` a map on the first line and behind it the text that is generated.
+//! Repeats one operation on views of texts, so that it can be timed. Standard input holds the text;
+//! for `names`, a map on the first line and the generated text after it.
 #![tactic(auto)]
 
 mod command;

@@ -1,4 +1,4 @@
-//! Rounds of an operation, and the checksums that they come to.
+//! Rounds of an operation and their checksums.
 ghost use Rattle.std.specs.Prelude.{◌≡◌, IfOk};
 ghost use Rattle.sourcemap_bench_views.specs.Sums.{line_sum, name_sum, rounds_sum};
 
@@ -9,7 +9,7 @@ use sourcemap::{Result, SourceMap, SourceView};
 use std::alloc::Global;
 use std::str;
 
-// The sum behind a view that is made of a text and walked along.
+// Makes a view of a text, iterates over its lines, and returns the checksum after it.
 fn view_sum(alloc: Global, text: &str, sum: u32) -> Result<u32>
     ensures { IfOk result (λ new. new ≡ line_sum text.now sum) }
 {
@@ -17,7 +17,6 @@ fn view_sum(alloc: Global, text: &str, sum: u32) -> Result<u32>
     Ok(line_sum(&view, sum))
 }
 
-// The sum of so many rounds, in each of which a view is made of a text and walked along.
 fn line_rounds(alloc: Global, text: &str, rounds: u32) -> Result<u32>
     ensures { IfOk result (λ sum. sum ≡ rounds_sum (line_sum text.now) rounds) }
 {
@@ -28,7 +27,7 @@ fn line_rounds(alloc: Global, text: &str, rounds: u32) -> Result<u32>
     Ok(sum)
 }
 
-// The sum of so many rounds, in each of which names are guessed at all these positions.
+// Each round guesses names at all of these positions.
 fn name_rounds(map: &SourceMap, view: &SourceView, starts: &[(u32, u32)], rounds: u32) -> u32
     ensures { result ≡ rounds_sum (name_sum map.now view.now starts.now) rounds }
 {
@@ -39,7 +38,7 @@ fn name_rounds(map: &SourceMap, view: &SourceView, starts: &[(u32, u32)], rounds
     sum
 }
 
-// The same of the map on the first line and of the text behind it.
+// The map is on the first line, the generated text after it.
 fn guessed_rounds(alloc: Global, lines: &str, rounds: u32) -> Result<u32> {
     let (line, text) = lines.split_once('\n').unwrap_or_default();
     let map = SourceMap::from_slice(alloc, line.as_bytes())?;
@@ -48,7 +47,7 @@ fn guessed_rounds(alloc: Global, lines: &str, rounds: u32) -> Result<u32> {
     Ok(name_rounds(&map, &view, starts.as_slice(), rounds))
 }
 
-/// The checksum of so many rounds of an operation.
+/// Repeats an operation and returns the checksum of all rounds.
 pub fn checksum(alloc: Global, operation: Operation, rounds: u32, bytes: &[u8]) -> Result<u32> {
     let text = str::from_utf8(bytes)?;
     match operation {

@@ -1,15 +1,15 @@
-//! Where walks back along the tokens of a map begin.
+//! Start positions of walks back along the tokens of a map.
 ghost use Rattle.std.specs.Prelude.{◌≡◌, ℕ, ◌+◌, ◌*◌, ◌<◌, ◌≤◌, IfErr, IfOk, IfSome, length, min, slice_get, vec_len};
 ghost use Rattle.sourcemap.specs.declared.errors.Error.TheVariants.{OutOfMemory};
 
 use sourcemap::{Result, SourceMap};
 use std::alloc::Global;
 
-/// How many tokens a walk goes over.
+/// The number of tokens of a walk.
 const WALKED: usize = 128;
 
-// Where a token of a map stands. The origin for one that is not there.
-fn place_of(map: &SourceMap, index: usize) -> (u32, u32)
+// (0, 0) if there is no such token.
+fn position_of(map: &SourceMap, index: usize) -> (u32, u32)
     ensures { IfSome (slice_get map.now.tokens index) (λ t. result ≡ (t.dst_line, t.dst_col)) }
 {
     match map.get_token(index) {
@@ -18,7 +18,6 @@ fn place_of(map: &SourceMap, index: usize) -> (u32, u32)
     }
 }
 
-// How many walks go over so many tokens.
 fn walks_over(count: usize) -> usize
     ensures all { count ≤ 128 * result }
     ensures few { 128 * result < count + 128 }
@@ -26,8 +25,8 @@ fn walks_over(count: usize) -> usize
     count.div_ceil(WALKED)
 }
 
-/// Where every 128th token of a map stands, from the last one down: so walks of 128 tokens that
-/// begin there go over all of them, and each over others. Only want of memory refuses.
+/// Returns the position of every 128th token of a map, from the last one down, so that walks of 128
+/// tokens from there cover each token once. The only error is `OutOfMemory`.
 pub fn walk_starts(alloc: Global, map: &SourceMap) -> Result<Vec<(u32, u32)>>
     ensures all { IfOk result (λ starts.
         min (length map.now.tokens) 4294967295 ≤ 128 * vec_len starts) }
@@ -39,7 +38,7 @@ pub fn walk_starts(alloc: Global, map: &SourceMap) -> Result<Vec<(u32, u32)>>
     let walks = walks_over(count);
     let mut starts = Vec::new(alloc);
     for walk in 0..walks {
-        starts.push(place_of(map, count - 1 - WALKED * walk))?;
+        starts.push(position_of(map, count - 1 - WALKED * walk))?;
     }
     Ok(starts)
 }

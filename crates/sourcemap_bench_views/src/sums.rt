@@ -1,4 +1,4 @@
-//! Checksums of answers.
+//! Checksums of results.
 ghost use Rattle.std.specs.Prelude.{◌≡◌, fold};
 ghost use Rattle.std.specs.Option.{option_copied};
 ghost use Rattle.sourcemap.specs.TokenWalk.{function_name};
@@ -6,24 +6,24 @@ ghost use Rattle.sourcemap_bench_views.specs.Sums.{absent_name, counted, line_su
 
 use sourcemap::{SourceMap, SourceView};
 
-// A name that no function has in the texts that are timed, so that no walk ends early.
+// No function of the timed texts has this name, so no walk ends early.
 const ABSENT_NAME: &str = "nameOfNoFunction";
 
-// A sum with one more number.
+// Adds a number to a checksum.
 fn mixed(sum: u32, number: u32) -> u32
     ensures { result ≡ mixed sum number }
 {
     ((31 * u64::from(sum) + u64::from(number)) % (1 << 32)) as u32
 }
 
-// A sum with a count, which stops at 4294967295.
+// Counts above 4294967295 are taken as 4294967295.
 fn counted(sum: u32, count: usize) -> u32
     ensures { result ≡ counted sum count }
 {
     mixed(sum, u32::try_from(count).unwrap_or(u32::MAX))
 }
 
-/// A sum with the lengths of the lines of a view, in order, up to line 4294967295.
+/// Adds the lengths of the lines of a view to a checksum, in order, up to line 4294967295.
 pub fn line_sum(view: &SourceView, start: u32) -> u32
     ensures { result ≡ line_sum view.now start }
 {
@@ -34,7 +34,7 @@ pub fn line_sum(view: &SourceView, start: u32) -> u32
     sum
 }
 
-// The number of a name: 0 for none, else its length and 1 more.
+// The number that a name adds to a checksum: 0 for none, otherwise its length plus 1.
 fn name_worth(name: Option<&str>) -> u32
     ensures { result ≡ name_worth (option_copied name.entry) }
 {
@@ -44,7 +44,6 @@ fn name_worth(name: Option<&str>) -> u32
     }
 }
 
-// A sum with what the name that no function has is guessed to stand for at a position.
 fn guessed(map: &SourceMap, view: &SourceView, sum: u32, position: (u32, u32)) -> u32
     ensures { result
         ≡ mixed sum (name_worth (function_name map.now view.now absent_name position)) }
@@ -54,7 +53,7 @@ fn guessed(map: &SourceMap, view: &SourceView, sum: u32, position: (u32, u32)) -
     mixed(sum, name_worth(name))
 }
 
-/// A sum with what the name that no function has is guessed to stand for at these positions.
+/// Adds the guesses for that name at these positions to a checksum.
 pub fn name_sum(map: &SourceMap, view: &SourceView, positions: &[(u32, u32)], start: u32) -> u32
     ensures { result ≡ name_sum map.now view.now positions.now start }
 {

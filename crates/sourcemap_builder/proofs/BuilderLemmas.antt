@@ -1,66 +1,66 @@
--- Texts with others in place of some.
+-- Texts of which some are replaced.
 use Rattle.std.proofs.Common.{◌≡◌, ℕ, zero, suc, ◌+◌, ◌<◌, ◌≤◌, List, [], ◌∷◌, ◌++◌, length, take, replicate, map, Option, Some, None, unwrap_or, slice_get, slice_set, refl, ap, arith, option_and_then, is_some, cond, true, false, Result, Ok, Err, IfOk, OnOk, add-one, sym, ◌∙◌}
 use Rattle.std.proofs.lemmas.List.{length-map, take_all}
 use Rattle.std.proofs.lemmas.Option.{slice_get_within}
 use Rattle.std.specs.Option.{option_or}
 use Rattle.sourcemap_errors.specs.declared.errors.Error.{Error}
-use Rattle.sourcemap_lists.specs.Interner.{id_of, with_text}
-use Rattle.sourcemap_builder.specs.Builder.{changed_to}
-use Rattle.sourcemap_parts.specs.Contents.{fitted}
-use Rattle.sourcemap_parts.proofs.ContentsLemmas.{length-fitted}
+use Rattle.sourcemap_interning.specs.Interner.{id_of, with_text}
+use Rattle.sourcemap_builder.specs.Builder.{with_changes}
+use Rattle.sourcemap_map_parts.specs.Contents.{fitted}
+use Rattle.sourcemap_map_parts.proofs.ContentsLemmas.{length-fitted}
 
--- a new text behind those that may be changed
-pub changed_to-append : (cs : List (Option (List ℕ))) (ts us : List (List ℕ)) → length cs ≤ length ts → changed_to cs (ts ++ us) ≡ changed_to cs ts ++ us
-changed_to-append [] [] [] h = refl
-changed_to-append [] [] (u ∷ us) h = refl
-changed_to-append [] (t ∷ ts) us h = refl
-changed_to-append (c ∷ cs) [] us h = absurd (omega arith)
-changed_to-append (c ∷ cs) (t ∷ ts) us h = ap (λ rest. unwrap_or c t ∷ rest) (changed_to-append cs ts us (omega arith))
+-- a new text after those that may be replaced
+pub with_changes-append : (cs : List (Option (List ℕ))) (ts us : List (List ℕ)) → length cs ≤ length ts → with_changes cs (ts ++ us) ≡ with_changes cs ts ++ us
+with_changes-append [] [] [] h = refl
+with_changes-append [] [] (u ∷ us) h = refl
+with_changes-append [] (t ∷ ts) us h = refl
+with_changes-append (c ∷ cs) [] us h = absurd (omega arith)
+with_changes-append (c ∷ cs) (t ∷ ts) us h = ap (λ rest. unwrap_or c t ∷ rest) (with_changes-append cs ts us (omega arith))
 
-pub length-changed_to : (cs : List (Option (List ℕ))) (ts : List (List ℕ)) → length (changed_to cs ts) ≡ length ts
-length-changed_to cs [] = refl
-length-changed_to [] (t ∷ ts) = refl
-length-changed_to (c ∷ cs) (t ∷ ts) = ap suc (length-changed_to cs ts)
+pub length-with_changes : (cs : List (Option (List ℕ))) (ts : List (List ℕ)) → length (with_changes cs ts) ≡ length ts
+length-with_changes cs [] = refl
+length-with_changes [] (t ∷ ts) = refl
+length-with_changes (c ∷ cs) (t ∷ ts) = ap suc (length-with_changes cs ts)
 
-changed_to-filled : (cs : List (Option (List ℕ))) (ts : List (List ℕ)) (n k : ℕ) → length ts ≤ n → n ≤ k → changed_to (take n (cs ++ replicate k None)) ts ≡ changed_to cs ts
-changed_to-filled cs [] n k h g = refl
-changed_to-filled cs (t ∷ ts) zero k h g = absurd (omega arith)
-changed_to-filled [] (t ∷ ts) (suc n) zero h g = absurd (omega arith)
-changed_to-filled [] (t ∷ []) (suc n) (suc k) h g = refl
-changed_to-filled [] (t ∷ u ∷ us) (suc n) (suc k) h g = ap (λ rest. t ∷ rest) (changed_to-filled [] (u ∷ us) n k (omega arith) (omega arith))
-changed_to-filled (c ∷ cs) (t ∷ ts) (suc n) k h g = ap (λ rest. unwrap_or c t ∷ rest) (changed_to-filled cs ts n k (omega arith) (omega arith))
+with_changes-filled : (cs : List (Option (List ℕ))) (ts : List (List ℕ)) (n k : ℕ) → length ts ≤ n → n ≤ k → with_changes (take n (cs ++ replicate k None)) ts ≡ with_changes cs ts
+with_changes-filled cs [] n k h g = refl
+with_changes-filled cs (t ∷ ts) zero k h g = absurd (omega arith)
+with_changes-filled [] (t ∷ ts) (suc n) zero h g = absurd (omega arith)
+with_changes-filled [] (t ∷ []) (suc n) (suc k) h g = refl
+with_changes-filled [] (t ∷ u ∷ us) (suc n) (suc k) h g = ap (λ rest. t ∷ rest) (with_changes-filled [] (u ∷ us) n k (omega arith) (omega arith))
+with_changes-filled (c ∷ cs) (t ∷ ts) (suc n) k h g = ap (λ rest. unwrap_or c t ∷ rest) (with_changes-filled cs ts n k (omega arith) (omega arith))
 
-pub changed_to-set : (cs : List (Option (List ℕ))) (ts : List (List ℕ)) (i : ℕ) (x : List ℕ) → i < length cs → changed_to (slice_set cs i (Some x)) ts ≡ slice_set (changed_to cs ts) i x
-changed_to-set [] ts i x h = absurd (omega arith)
-changed_to-set (c ∷ cs) [] i x h = refl
-changed_to-set (c ∷ cs) (t ∷ ts) zero x h = refl
-changed_to-set (c ∷ cs) (t ∷ ts) (suc i) x h = ap (λ rest. unwrap_or c t ∷ rest) (changed_to-set cs ts i x (omega arith))
+pub with_changes-set : (cs : List (Option (List ℕ))) (ts : List (List ℕ)) (i : ℕ) (x : List ℕ) → i < length cs → with_changes (slice_set cs i (Some x)) ts ≡ slice_set (with_changes cs ts) i x
+with_changes-set [] ts i x h = absurd (omega arith)
+with_changes-set (c ∷ cs) [] i x h = refl
+with_changes-set (c ∷ cs) (t ∷ ts) zero x h = refl
+with_changes-set (c ∷ cs) (t ∷ ts) (suc i) x h = ap (λ rest. unwrap_or c t ∷ rest) (with_changes-set cs ts i x (omega arith))
 
--- what is changed once the changes are filled up
-pub changed_to-put : (cs : List (Option (List ℕ))) (ts : List (List ℕ)) (i : ℕ) (x : List ℕ) → i < length ts → length (fitted (length ts) cs) ≡ length ts
-    → changed_to (slice_set (fitted (length ts) cs) i (Some x)) ts ≡ slice_set (changed_to cs ts) i x
-changed_to-put cs ts i x h full =
-    changed_to-set (fitted (length ts) cs) ts i x (omega (arith, full))
-    ∙ ap (λ shown. slice_set shown i x) (changed_to-filled cs ts (length ts) (length ts) (omega arith) (omega arith))
+-- the list of changes may be extended by `None`
+pub with_changes-put : (cs : List (Option (List ℕ))) (ts : List (List ℕ)) (i : ℕ) (x : List ℕ) → i < length ts → length (fitted (length ts) cs) ≡ length ts
+    → with_changes (slice_set (fitted (length ts) cs) i (Some x)) ts ≡ slice_set (with_changes cs ts) i x
+with_changes-put cs ts i x h full =
+    with_changes-set (fitted (length ts) cs) ts i x (omega (arith, full))
+    ∙ ap (λ current. slice_set current i x) (with_changes-filled cs ts (length ts) (length ts) (omega arith) (omega arith))
 
--- what is shown of a number
-pub slice_get-changed_to : (cs : List (Option (List ℕ))) (ts : List (List ℕ)) (i : ℕ) → length cs ≤ length ts
-    → slice_get (changed_to cs ts) i ≡ option_or (option_and_then (λ text. text) (slice_get cs i)) (slice_get ts i)
-slice_get-changed_to [] [] zero h = refl
-slice_get-changed_to [] [] (suc i) h = refl
-slice_get-changed_to [] (t ∷ ts) zero h = refl
-slice_get-changed_to [] (t ∷ ts) (suc i) h = refl
-slice_get-changed_to (c ∷ cs) [] i h = absurd (omega arith)
-slice_get-changed_to (None ∷ cs) (t ∷ ts) zero h = refl
-slice_get-changed_to (Some x ∷ cs) (t ∷ ts) zero h = refl
-slice_get-changed_to (c ∷ cs) (t ∷ ts) (suc i) h = slice_get-changed_to cs ts i (omega arith)
+-- the text of an id
+pub slice_get-with_changes : (cs : List (Option (List ℕ))) (ts : List (List ℕ)) (i : ℕ) → length cs ≤ length ts
+    → slice_get (with_changes cs ts) i ≡ option_or (option_and_then (λ text. text) (slice_get cs i)) (slice_get ts i)
+slice_get-with_changes [] [] zero h = refl
+slice_get-with_changes [] [] (suc i) h = refl
+slice_get-with_changes [] (t ∷ ts) zero h = refl
+slice_get-with_changes [] (t ∷ ts) (suc i) h = refl
+slice_get-with_changes (c ∷ cs) [] i h = absurd (omega arith)
+slice_get-with_changes (None ∷ cs) (t ∷ ts) zero h = refl
+slice_get-with_changes (Some x ∷ cs) (t ∷ ts) zero h = refl
+slice_get-with_changes (c ∷ cs) (t ∷ ts) (suc i) h = slice_get-with_changes cs ts i (omega arith)
 
 -- one more text
-pub changed_to-with_text : (cs : List (Option (List ℕ))) (ts : List (List ℕ)) (t : List ℕ) → length cs ≤ length ts
-    → changed_to cs (with_text ts t) ≡ cond (is_some (id_of t ts)) (changed_to cs ts) (changed_to cs ts ++ t ∷ [])
-changed_to-with_text cs ts t h =
-    elim (is_some (id_of t ts)) as (λ b. changed_to cs (cond b ts (ts ++ t ∷ [])) ≡ cond b (changed_to cs ts) (changed_to cs ts ++ t ∷ []))
-    [ true ↦ refl | false ↦ changed_to-append cs ts (t ∷ []) h ]
+pub with_changes-with_text : (cs : List (Option (List ℕ))) (ts : List (List ℕ)) (t : List ℕ) → length cs ≤ length ts
+    → with_changes cs (with_text ts t) ≡ cond (is_some (id_of t ts)) (with_changes cs ts) (with_changes cs ts ++ t ∷ [])
+with_changes-with_text cs ts t h =
+    elim (is_some (id_of t ts)) as (λ b. with_changes cs (cond b ts (ts ++ t ∷ [])) ≡ cond b (with_changes cs ts) (with_changes cs ts ++ t ∷ []))
+    [ true ↦ refl | false ↦ with_changes-append cs ts (t ∷ []) h ]
 
 pub on_ok : {X E P Q : Type 0} (r : Result X E) → (P → Q) → OnOk r P → OnOk r Q
 on_ok (Ok x) f h = f h
@@ -72,60 +72,60 @@ pub below-count : (r : Result ℕ Error) (texts : List (List ℕ)) (text : List 
 below-count (Ok id) texts text h = slice_get_within texts id text h
 below-count (Err e) texts text h = h
 
--- nothing in place of the last
-pub changed_to-kept : (cs : List (Option (List ℕ))) (ts : List (List ℕ)) → changed_to cs ts ≡ changed_to (cs ++ None ∷ []) ts
-changed_to-kept cs [] = refl
-changed_to-kept [] (t ∷ []) = refl
-changed_to-kept [] (t ∷ u ∷ us) = refl
-changed_to-kept (c ∷ cs) (t ∷ ts) = ap (λ rest. unwrap_or c t ∷ rest) (changed_to-kept cs ts)
+-- the last text is not replaced
+pub with_changes-kept : (cs : List (Option (List ℕ))) (ts : List (List ℕ)) → with_changes cs ts ≡ with_changes (cs ++ None ∷ []) ts
+with_changes-kept cs [] = refl
+with_changes-kept [] (t ∷ []) = refl
+with_changes-kept [] (t ∷ u ∷ us) = refl
+with_changes-kept (c ∷ cs) (t ∷ ts) = ap (λ rest. unwrap_or c t ∷ rest) (with_changes-kept cs ts)
 
--- a text in place of the last
-pub changed_to-last : (cs : List (Option (List ℕ))) (ts : List (List ℕ)) (i : ℕ) (x : List ℕ) → length cs ≡ i → i < length ts
-    → changed_to cs (slice_set ts i x) ≡ changed_to (cs ++ Some x ∷ []) ts
-changed_to-last cs [] i x e h = absurd (omega arith)
-changed_to-last [] (t ∷ []) zero x e h = refl
-changed_to-last [] (t ∷ u ∷ us) zero x e h = refl
-changed_to-last [] (t ∷ ts) (suc i) x e h = absurd (omega arith)
-changed_to-last (c ∷ cs) (t ∷ ts) zero x e h = absurd (omega arith)
-changed_to-last (c ∷ cs) (t ∷ ts) (suc i) x e h = ap (λ rest. unwrap_or c t ∷ rest) (changed_to-last cs ts i x (omega arith) (omega arith))
+-- the last text is replaced
+pub with_changes-last : (cs : List (Option (List ℕ))) (ts : List (List ℕ)) (i : ℕ) (x : List ℕ) → length cs ≡ i → i < length ts
+    → with_changes cs (slice_set ts i x) ≡ with_changes (cs ++ Some x ∷ []) ts
+with_changes-last cs [] i x e h = absurd (omega arith)
+with_changes-last [] (t ∷ []) zero x e h = refl
+with_changes-last [] (t ∷ u ∷ us) zero x e h = refl
+with_changes-last [] (t ∷ ts) (suc i) x e h = absurd (omega arith)
+with_changes-last (c ∷ cs) (t ∷ ts) zero x e h = absurd (omega arith)
+with_changes-last (c ∷ cs) (t ∷ ts) (suc i) x e h = ap (λ rest. unwrap_or c t ∷ rest) (with_changes-last cs ts i x (omega arith) (omega arith))
 
-pub changed_to-nothing : (ts : List (List ℕ)) → changed_to [] ts ≡ ts
-changed_to-nothing [] = refl
-changed_to-nothing (t ∷ ts) = refl
+pub with_changes-nothing : (ts : List (List ℕ)) → with_changes [] ts ≡ ts
+with_changes-nothing [] = refl
+with_changes-nothing (t ∷ ts) = refl
 
-pub shown-put : (cs new : List (Option (List ℕ))) (ts : List (List ℕ)) (i count : ℕ) (x y : List ℕ) → count ≡ length ts → x ≡ y → i < length ts
-    → new ≡ slice_set (fitted count cs) i (Some x) → changed_to new ts ≡ slice_set (changed_to cs ts) i y
-shown-put cs new ts i count x y ec ex h e =
-    ap (λ n. changed_to n ts) e
-    ∙ ap (λ n. changed_to (slice_set (fitted n cs) i (Some x)) ts) ec
-    ∙ changed_to-put cs ts i x h (length-fitted cs (length ts))
-    ∙ ap (λ z. slice_set (changed_to cs ts) i z) ex
+pub current-put : (cs new : List (Option (List ℕ))) (ts : List (List ℕ)) (i count : ℕ) (x y : List ℕ) → count ≡ length ts → x ≡ y → i < length ts
+    → new ≡ slice_set (fitted count cs) i (Some x) → with_changes new ts ≡ slice_set (with_changes cs ts) i y
+current-put cs new ts i count x y ec ex h e =
+    ap (λ n. with_changes n ts) e
+    ∙ ap (λ n. with_changes (slice_set (fitted n cs) i (Some x)) ts) ec
+    ∙ with_changes-put cs ts i x h (length-fitted cs (length ts))
+    ∙ ap (λ z. slice_set (with_changes cs ts) i z) ex
 
 pub contents-put : (cs new : List (Option (List ℕ))) (count n i : ℕ) (x : Option (List ℕ)) → count ≡ n
     → new ≡ slice_set (fitted count cs) i x → new ≡ slice_set (fitted n cs) i x
 contents-put cs new count n i x ec e = cc
 
-pub here-too : (cs : List (Option (List ℕ))) (ts : List (List ℕ)) (i count : ℕ) → i < length (changed_to cs ts) → count ≡ length ts → i < count
-here-too cs ts i count h e = omega (arith, length-changed_to cs ts)
+pub here-too : (cs : List (Option (List ℕ))) (ts : List (List ℕ)) (i count : ℕ) → i < length (with_changes cs ts) → count ≡ length ts → i < count
+here-too cs ts i count h e = omega (arith, length-with_changes cs ts)
 
-pub nothing-changed : (cs : List (Option (List ℕ))) (ts : List (List ℕ)) → length cs ≡ 0 → changed_to cs ts ≡ ts
-nothing-changed [] ts e = changed_to-nothing ts
+pub nothing-changed : (cs : List (Option (List ℕ))) (ts : List (List ℕ)) → length cs ≡ 0 → with_changes cs ts ≡ ts
+nothing-changed [] ts e = with_changes-nothing ts
 nothing-changed (c ∷ cs) ts e = absurd (omega arith)
 
--- what is shown of a text
-shown-at : (cs : List (Option (List ℕ))) (ts : List (List ℕ)) (i : ℕ) (t : List ℕ) → slice_get ts i ≡ Some t
-    → slice_get (changed_to cs ts) i ≡ Some (unwrap_or (option_and_then (λ text. text) (slice_get cs i)) t)
-shown-at cs [] i t e = cc
-shown-at [] (u ∷ us) zero t e = e
-shown-at [] (u ∷ us) (suc i) t e = e
-shown-at (c ∷ cs) (u ∷ us) zero t e = let same : u ≡ t = cc in rw same refl
-shown-at (c ∷ cs) (u ∷ us) (suc i) t e = shown-at cs us i t e
+-- the current text of an added one
+current-at : (cs : List (Option (List ℕ))) (ts : List (List ℕ)) (i : ℕ) (t : List ℕ) → slice_get ts i ≡ Some t
+    → slice_get (with_changes cs ts) i ≡ Some (unwrap_or (option_and_then (λ text. text) (slice_get cs i)) t)
+current-at cs [] i t e = cc
+current-at [] (u ∷ us) zero t e = e
+current-at [] (u ∷ us) (suc i) t e = e
+current-at (c ∷ cs) (u ∷ us) zero t e = let same : u ≡ t = cc in rw same refl
+current-at (c ∷ cs) (u ∷ us) (suc i) t e = current-at cs us i t e
 
 module _ (f : List ℕ → List ℕ) where
-  further : (news : List (Option (List ℕ))) (ts shown : List (List ℕ)) (i : ℕ) (new : Option (List ℕ)) (t s : List ℕ)
-      → length news ≡ i → slice_get ts i ≡ Some t → slice_get shown i ≡ Some s → unwrap_or new t ≡ f s
-      → changed_to news (take i ts) ≡ take i (map f shown) → changed_to (news ++ new ∷ []) (take (suc i) ts) ≡ take (suc i) (map f shown)
-  further news [] shown i new t s many at here is h = cc
+  further : (news : List (Option (List ℕ))) (ts current : List (List ℕ)) (i : ℕ) (new : Option (List ℕ)) (t s : List ℕ)
+      → length news ≡ i → slice_get ts i ≡ Some t → slice_get current i ≡ Some s → unwrap_or new t ≡ f s
+      → with_changes news (take i ts) ≡ take i (map f current) → with_changes (news ++ new ∷ []) (take (suc i) ts) ≡ take (suc i) (map f current)
+  further news [] current i new t s many at here is h = cc
   further news (u ∷ us) [] i new t s many at here is h = cc
   further [] (u ∷ us) (v ∷ vs) zero new t s many at here is h =
       let a : u ≡ t = cc in
@@ -135,22 +135,22 @@ module _ (f : List ℕ → List ℕ) where
   further (c ∷ cs) (u ∷ us) (v ∷ vs) zero new t s many at here is h = absurd (omega arith)
   further (c ∷ cs) (u ∷ us) (v ∷ vs) (suc i) new t s many at here is h =
       let first : unwrap_or c u ≡ f v = cc in
-      let rest : changed_to cs (take i us) ≡ take i (map f vs) = cc in
+      let rest : with_changes cs (take i us) ≡ take i (map f vs) = cc in
       let more = further cs us vs i new t s (omega arith) at here is rest in
       cc
 
-  -- what is shown once it is changed by a function, one text further
-  pub changed_to-further : (news olds : List (Option (List ℕ))) (ts : List (List ℕ)) (i : ℕ) (new : Option (List ℕ)) (t : List ℕ)
+  -- the texts after a function changed one more
+  pub with_changes-further : (news olds : List (Option (List ℕ))) (ts : List (List ℕ)) (i : ℕ) (new : Option (List ℕ)) (t : List ℕ)
       → length news ≡ i → slice_get ts i ≡ Some t
       → unwrap_or new t ≡ f (unwrap_or (option_and_then (λ text. text) (slice_get olds i)) t)
-      → changed_to news (take i ts) ≡ take i (map f (changed_to olds ts))
-      → changed_to (news ++ new ∷ []) (take (i + 1) ts) ≡ take (i + 1) (map f (changed_to olds ts))
-  changed_to-further news olds ts i new t many at is h =
-      rw add-one (further news ts (changed_to olds ts) i new t _ many at (shown-at olds ts i t at) is h)
+      → with_changes news (take i ts) ≡ take i (map f (with_changes olds ts))
+      → with_changes (news ++ new ∷ []) (take (i + 1) ts) ≡ take (i + 1) (map f (with_changes olds ts))
+  with_changes-further news olds ts i new t many at is h =
+      rw add-one (further news ts (with_changes olds ts) i new t _ many at (current-at olds ts i t at) is h)
 
-  -- .. and all texts further
-  pub changed_to-through : (news olds : List (Option (List ℕ))) (ts : List (List ℕ)) (i : ℕ) → length ts ≤ i
-      → changed_to news (take i ts) ≡ take i (map f (changed_to olds ts)) → map f (changed_to olds ts) ≡ changed_to news ts
-  changed_to-through news olds ts i past h =
-      let many : length (map f (changed_to olds ts)) ≤ i = rw (length-map, length-changed_to olds ts) past in
-      rw (take_all i ts past, take_all i (map f (changed_to olds ts)) many) at (sym h)
+  -- .. and after it changed all
+  pub with_changes-through : (news olds : List (Option (List ℕ))) (ts : List (List ℕ)) (i : ℕ) → length ts ≤ i
+      → with_changes news (take i ts) ≡ take i (map f (with_changes olds ts)) → map f (with_changes olds ts) ≡ with_changes news ts
+  with_changes-through news olds ts i past h =
+      let many : length (map f (with_changes olds ts)) ≤ i = rw (length-map, length-with_changes olds ts) past in
+      rw (take_all i ts past, take_all i (map f (with_changes olds ts)) many) at (sym h)

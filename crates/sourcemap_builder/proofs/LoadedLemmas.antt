@@ -1,14 +1,14 @@
--- Contents that were loaded into a list cut or filled up to the sources.
+-- Contents that were loaded into a list with one item for each source.
 use Rattle.std.proofs.Common.{◌≡◌, ℕ, zero, suc, ◌≤◌, ◌⊎◌, inl, inr, List, length, Option, Some, None, IsSomeAnd, Result, Ok, Err, IfOk, IfErr, OnOk, OnErr, IsOkUnless, refl, ap, ◌∙◌, arith, option_and_then}
 use Rattle.sourcemap_errors.specs.declared.errors.Error.{Error}
 use Rattle.sourcemap_errors.specs.declared.errors.Error.TheVariants.{OutOfMemory}
-use Rattle.sourcemap_lists.specs.Items.{item_at}
-use Rattle.sourcemap_parts.specs.Contents.{fitted}
-use Rattle.sourcemap_parts.proofs.ContentsLemmas.{slice_get-fitted}
-use Rattle.sourcemap_files.specs.Loading.{newly, Fills, IsNoFolder}
+use Rattle.sourcemap_tokens.specs.Items.{item_at}
+use Rattle.sourcemap_map_parts.specs.Contents.{fitted}
+use Rattle.sourcemap_map_parts.proofs.ContentsLemmas.{slice_get-fitted}
+use Rattle.sourcemap_source_files.specs.Loading.{newly, Fills, IsNoFolder}
 use Rattle.sourcemap_builder.specs.Builder.{BuilderValue, Loads}
 
--- what is cut or filled up beyond the sources does not count
+-- items beyond the sources do not count
 newly-fitted : (n count : ℕ) (before after : List (Option (List ℕ))) → n ≤ count → newly n (fitted count before) after ≡ newly n before after
 newly-fitted zero count before after h = refl
 newly-fitted (suc n) count before after h =
@@ -19,7 +19,7 @@ some_more : (o : Option (List ℕ)) (P Q : List ℕ → Type 0) → ((x : List �
 some_more (Some x) P Q f h = f x h
 some_more None P Q f h = h
 
--- what loading says of lists, of the builder that they stand for
+-- the clauses of loading, for the value of the builder
 module _ (old : BuilderValue) (texts : List (List ℕ)) (many : ℕ) (before loaded after : List (Option (List ℕ)))
     (are_texts : texts ≡ old.interned) (are_many : many ≡ length old.sources) (was : before ≡ old.contents) (is : after ≡ loaded) where
   fills : (folder : List ℕ) → Fills folder texts (fitted many before) loaded → Loads folder old (record old { contents = after })
@@ -41,8 +41,8 @@ module _ (old : BuilderValue) (texts : List (List ℕ)) (many : ℕ) (before loa
       → OnErr result ((loaded ≡ before) ⊎ IsSomeAnd o (λ folder. Fills folder texts (fitted many before) loaded))
       → IfErr result (λ e. ((e ≡ OutOfMemory) × ((record old { contents = after } ≡ old) ⊎ IsSomeAnd o (λ folder. Loads folder old (record old { contents = after }))))
       ⊎ (IsNoFolder e × (record old { contents = after } ≡ old) × (o ≡ None)))
-  Loads-err o (Ok n) memory said = said
-  Loads-err o (Err e) memory said = inl (memory, by_case said) where
+  Loads-err o (Ok n) memory outcome = outcome
+  Loads-err o (Err e) memory outcome = inl (memory, by_case outcome) where
     by_case : (loaded ≡ before) ⊎ IsSomeAnd o (λ folder. Fills folder texts (fitted many before) loaded)
         → (record old { contents = after } ≡ old) ⊎ IsSomeAnd o (λ folder. Loads folder old (record old { contents = after }))
     by_case (inl same) = inl (ap (λ contents. record old { contents = contents }) (is ∙ same ∙ was))

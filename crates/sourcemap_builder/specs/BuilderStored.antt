@@ -1,22 +1,22 @@
--- What the fields of a builder hold, as one value.
+-- The value of a builder from the values of its fields.
 use Rattle.std.specs.Prelude.{◌≤◌, length, option_map, string_bytes}
 use Rattle.sourcemap_texts.specs.Texts.{contents_in}
-use Rattle.sourcemap_builder.specs.Builder.{BuilderValue, changed_to}
+use Rattle.sourcemap_builder.specs.Builder.{BuilderValue, with_changes}
 use Rattle.sourcemap_builder.specs.declared.builder.SourceMapBuilder.TheInside.{Inside}
 
-abbrev pub built_of : Inside → BuilderValue
-built_of a = record {
-  file = a.heading.file;
+abbrev pub builder_value : Inside → BuilderValue
+builder_value a = record {
+  file = a.metadata.file;
   root = option_map string_bytes a.root;
   tokens = a.tokens.items;
   names = a.names;
   interned = a.interned;
-  sources = changed_to (contents_in a.changed) a.interned;
+  sources = with_changes (contents_in a.changed) a.interned;
   contents = a.contents;
-  ignored = a.heading.ignored;
-  debug_id = a.heading.debug_id;
+  ignored = a.metadata.ignored;
+  debug_id = a.metadata.debug_id;
 }
 
--- nothing is shown in place of a source that is not there
-abbrev pub IsBuilt : Inside → Type 0
-IsBuilt a = length (contents_in a.changed) ≤ length a.interned
+-- there are no more changes than sources
+abbrev pub HasFewChanges : Inside → Type 0
+HasFewChanges a = length (contents_in a.changed) ≤ length a.interned

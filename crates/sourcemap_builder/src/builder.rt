@@ -1,51 +1,51 @@
-//! A map that is being built: texts are kept once each, and what is shown of a source may change.
+//! Builds a map token by token.
 ghost use Rattle.std.specs.Prelude.{◌≡◌, ◌≤◌, ◌<◌, ◌⊎◌, ℕ, [], ◌∷◌, ◌++◌, Ok, length, slice_get, slice_set, map, List, Option, option_map, string_bytes, unwrap_or, vec_len, None, IsSome, IsSomeAnd, IfErr, IfOk, IsOkUnless, OnOk, OnErr, is_some};
 ghost use Rattle.std.specs.Option.{option_copied};
 ghost use Rattle.sourcemap_errors.specs.Answer.{Gives, Changes};
-ghost use Rattle.sourcemap_lists.specs.Interner.{id_for};
-ghost use Rattle.sourcemap_lists.specs.Items.{item_at};
-ghost use Rattle.sourcemap_lists.specs.Tokens.{no_id, AllWithin};
-ghost use Rattle.sourcemap_texts.specs.Prefixes.{cut_by};
+ghost use Rattle.sourcemap_interning.specs.Interner.{id_for};
+ghost use Rattle.sourcemap_tokens.specs.Items.{item_at};
+ghost use Rattle.sourcemap_tokens.specs.Tokens.{no_id, AllWithin};
+ghost use Rattle.sourcemap_texts.specs.Prefixes.{without_prefix};
 ghost use Rattle.sourcemap_texts.specs.Texts.{contents_in, texts_of};
-ghost use Rattle.sourcemap_parts.specs.Contents.{fitted};
-ghost use Rattle.sourcemap_regular.specs.Map.{contents_of, IsWellFormed};
-ghost use Rattle.sourcemap_regular.specs.Token.{answers, token_value};
+ghost use Rattle.sourcemap_map_parts.specs.Contents.{fitted};
+ghost use Rattle.sourcemap_map_regular.specs.Map.{contents_of, IsWellFormed};
+ghost use Rattle.sourcemap_map_regular.specs.Token.{meaning_of_token, token_value};
 ghost use Rattle.sourcemap_errors.specs.declared.errors.Error.TheVariants.{OutOfMemory};
-ghost use Rattle.sourcemap_files.specs.Loading.{folder_of, newly, Fills, IsNoFolder};
-ghost use Rattle.sourcemap_builder.specs.Builder.{changed_to, name_if, id_if};
+ghost use Rattle.sourcemap_source_files.specs.Loading.{folder_of, newly, Fills, IsNoFolder};
+ghost use Rattle.sourcemap_builder.specs.Builder.{with_changes, name_if, id_if};
 
 use sourcemap_errors::errors::Result;
-use sourcemap_files::loading::{check_folder, load_contents};
+use sourcemap_interning::interner::Interner;
 use sourcemap_line_index::token_list::TokenList;
-use sourcemap_lists::interner::Interner;
-use sourcemap_lists::tokens::{NO_ID, RawToken};
-use sourcemap_parts::contents::Contents;
-use sourcemap_parts::fitting::{fit, put};
-use sourcemap_parts::heading::Heading;
-use sourcemap_parts::sources::Sources;
+use sourcemap_map_parts::contents::Contents;
+use sourcemap_map_parts::fitting::{fit, put};
+use sourcemap_map_parts::metadata::MapMetadata;
+use sourcemap_map_parts::sources::Sources;
+use sourcemap_map_regular::map::SourceMap;
+use sourcemap_map_regular::token::Token;
 use sourcemap_records::jsontypes::DebugId;
-use sourcemap_regular::map::SourceMap;
-use sourcemap_regular::token::Token;
-use sourcemap_texts::copies::owned;
-use sourcemap_texts::prefixes::cut_text;
-use sourcemap_views::sourceview::SourceView;
+use sourcemap_source_files::loading::{check_folder, load_contents};
+use sourcemap_source_views::sourceview::SourceView;
+use sourcemap_texts::copies::copy_text;
+use sourcemap_texts::prefixes::strip_text;
+use sourcemap_tokens::tokens::{NO_ID, RawToken};
 use std::alloc::Global;
 use std::convert::AsStr;
 use std::marker::Model;
 use std::mem;
 use std::rt::Files;
 
-/// A map that is being built. Sources and names are kept once each and have ids from 0 on in the
-/// order in which they first came. A refused call leaves the builder as it was, but where a line
-/// says more.
+/// Builds a map token by token. Sources and names are interned: equal ones are stored once, and ids
+/// count from 0 in the order in which they were first added. Unless a method says more, an error
+/// leaves the builder unchanged.
 pub struct SourceMapBuilder {
-    heading: Heading,
+    metadata: MapMetadata,
     root: Option<String>,
     tokens: Vec<RawToken>,
     names: Interner,
-    // The sources as they were given, by which ids are found.
+    // The sources as they were added, by which ids are found.
     interned: Interner,
-    // What is shown in place of a source's text.
+    // The sources that replace added ones.
     changed: Vec<Option<String>>,
     contents: Contents,
 }
@@ -55,18 +55,18 @@ impl Model for SourceMapBuilder {
 
     ghost Value = { BuilderValue };
 
-    ghost use Rattle.sourcemap_builder.specs.BuilderStored.{built_of, IsBuilt};
+    ghost use Rattle.sourcemap_builder.specs.BuilderStored.{builder_value, HasFewChanges};
 
-    ghost view = { built_of };
+    ghost view = { builder_value };
 
-    ghost invariant = { IsBuilt };
+    ghost invariant = { HasFewChanges };
 }
 
-// As of `SourceMap`: by hand, for the prover.
+// prover: one drop
 impl Drop for SourceMapBuilder {
     fn drop(self) {
         let SourceMapBuilder {
-            heading: _,
+            metadata: _,
             root: _,
             tokens: _,
             names: _,
@@ -80,14 +80,14 @@ impl Drop for SourceMapBuilder {
 impl SourceMapBuilder {
     ghost use Rattle.std.specs.BTreeSet.{insert_key};
     ghost use Rattle.std.specs.Ordering.{nat_cmp};
-    ghost use Rattle.sourcemap_builder.specs.Builder.{empty_builder, with_source, with_name, with_source_if, with_name_if, with_texts, with_token, placed, token_due, built, IsPlaceIf, HasSource, Loads};
+    ghost use Rattle.sourcemap_builder.specs.Builder.{empty_builder, with_source, with_name, with_source_if, with_name_if, with_texts, with_token, token_without_ids, token_with_ids, built, IsOptionalId, HasSource, Loads};
 
-    /// A builder of nothing but the name of the generated file. Only want of memory refuses.
+    /// An empty builder with the name of the generated file. The only error is `OutOfMemory`.
     pub fn new(alloc: Global, file: Option<&str>) -> Result<Self>
         ensures { Gives (λ b. b) result (Ok (empty_builder (option_copied file.entry))) }
     {
         Ok(SourceMapBuilder {
-            heading: Heading::new(alloc, owned(alloc, file)?),
+            metadata: MapMetadata::new(alloc, copy_text(alloc, file)?),
             root: None,
             tokens: Vec::new(alloc),
             names: Interner::new(alloc),
@@ -97,20 +97,20 @@ impl SourceMapBuilder {
         })
     }
 
-    /// Sets the identifier that ties the map to its file.
+    /// Sets the debug id, which associates the map with its generated file.
     pub fn set_debug_id(&mut self, debug_id: Option<DebugId>)
         ensures { self.new ≡ record self.old { debug_id = debug_id } }
     {
-        self.heading.set_debug_id(debug_id);
+        self.metadata.set_debug_id(debug_id);
     }
 
-    /// Sets the name of the generated file. Only want of memory refuses.
+    /// Sets the name of the generated file. The only error is `OutOfMemory`.
     pub fn set_file(&mut self, file: Option<&str>) -> Result<()>
         ensures { Changes result self.old self.new
             (record self.old { file = option_copied file.entry }) }
     {
         let alloc = *self.tokens.allocator();
-        self.heading.set_file(alloc, file)?;
+        self.metadata.set_file(alloc, file)?;
         Ok(())
     }
 
@@ -118,20 +118,20 @@ impl SourceMapBuilder {
     pub fn get_file(&self) -> Option<&str>
         ensures { option_copied result ≡ self.now.file }
     {
-        self.heading.file()
+        self.metadata.file()
     }
 
-    /// Sets the root that is put before the sources of the map. Only want of memory refuses.
+    /// Sets the root, `sourceRoot`, of the map. The only error is `OutOfMemory`.
     pub fn set_source_root(&mut self, root: Option<&str>) -> Result<()>
         ensures { Changes result self.old self.new
             (record self.old { root = option_copied root.entry }) }
     {
         let alloc = *self.tokens.allocator();
-        self.root = owned(alloc, root)?;
+        self.root = copy_text(alloc, root)?;
         Ok(())
     }
 
-    /// The root that is put before the sources of the map.
+    /// The root, `sourceRoot`, of the map.
     pub fn get_source_root(&self) -> Option<&str>
         ensures { option_copied result ≡ self.now.root }
     {
@@ -141,31 +141,30 @@ impl SourceMapBuilder {
         }
     }
 
-    /// The id of a source: the one that it has by the text that was first given for it, or the next
-    /// one. `IncompatibleSourceMap` for a new source beside 4294967295 others, else only
-    /// `OutOfMemory`.
+    /// Adds a source if no equal one was added before, and returns its id. The errors are
+    /// `IncompatibleSourceMap` if there are 4294967295 other sources, and `OutOfMemory`.
     pub fn add_source(&mut self, source: &str) -> Result<u32>
         ensures id { Gives (λ id. id) result (id_for self.old.interned source.now) }
         ensures ok { OnOk result (self.new ≡ with_source self.old source.now) }
         ensures err { OnErr result (self.new ≡ self.old) }
-        ensures there { IfOk result (λ id. id < length self.new.sources) }
+        ensures in_range { IfOk result (λ id. id < length self.new.sources) }
     {
         self.interned.add(source)
     }
 
-    /// The id of a name: the one that it has, or the next one. `IncompatibleSourceMap` for a new
-    /// name beside 4294967295 others, else only `OutOfMemory`.
+    /// Adds a name if it was not added before, and returns its id. The errors are
+    /// `IncompatibleSourceMap` if there are 4294967295 other names, and `OutOfMemory`.
     pub fn add_name(&mut self, name: &str) -> Result<u32>
         ensures id { Gives (λ id. id) result (id_for self.old.names name.now) }
         ensures ok { OnOk result (self.new ≡ with_name self.old name.now) }
         ensures err { OnErr result (self.new ≡ self.old) }
-        ensures there { IfOk result (λ id. id < length self.new.names) }
+        ensures in_range { IfOk result (λ id. id < length self.new.names) }
     {
         self.names.add(name)
     }
 
-    /// Changes the text that is shown of the source with this id, of which there must be one. The
-    /// text that was first given for it still finds its id. Only want of memory refuses.
+    /// Replaces the source with this id, which must exist. `add_source` of the source that was added
+    /// first still returns this id. The only error is `OutOfMemory`.
     pub fn set_source(&mut self, id: u32, source: &str) -> Result<()>
         requires { id < length self.old.sources }
         ensures { Changes result self.old self.new
@@ -178,13 +177,12 @@ impl SourceMapBuilder {
         Ok(())
     }
 
-    /// Cuts from the text that is shown of each source the first of these prefixes that it starts
-    /// with. A prefix that does not end with a slash takes one along, and `~` is one like any
-    /// other. The text that was first given for a source still finds its id. Only want of memory
-    /// refuses.
+    /// Cuts from each source the first of these prefixes that it starts with. A prefix that does not
+    /// end with `/` gets one, and `~` has no special meaning. `add_source` of the source that was
+    /// added first still returns its id. The only error is `OutOfMemory`.
     pub fn strip_prefixes<S: AsStr>(&mut self, prefixes: &[S]) -> Result<()>
         ensures { Changes result self.old self.new (record self.old {
-          sources = map (cut_by (map S.text prefixes.now)) self.old.sources;
+          sources = map (without_prefix (map S.text prefixes.now)) self.old.sources;
         }) }
     {
         let alloc = *self.tokens.allocator();
@@ -193,7 +191,7 @@ impl SourceMapBuilder {
         Ok(())
     }
 
-    /// The text that is shown of the source with this id; `None` if no source has it.
+    /// The source with this id, without the root; `None` if no source has this id.
     pub fn get_source(&self, id: u32) -> Option<&str>
         ensures { option_copied result ≡ slice_get self.now.sources id }
     {
@@ -203,18 +201,18 @@ impl SourceMapBuilder {
         }
     }
 
-    /// Puts an id on the list of the sources that a debugger passes over; one that no source has
-    /// is taken as well. Only want of memory refuses.
+    /// Adds a source id to the ignore list. There need not be such a source. The only error is
+    /// `OutOfMemory`.
     pub fn add_to_ignore_list(&mut self, id: u32) -> Result<()>
         ensures { Changes result self.old self.new
             (record self.old { ignored = insert_key nat_cmp self.old.ignored id }) }
     {
-        self.heading.ignore(id)?;
+        self.metadata.ignore(id)?;
         Ok(())
     }
 
-    /// Sets the contents of the source with this id, of which there must be one. The list of
-    /// contents is then as long as that of the sources. Only want of memory refuses.
+    /// Sets the contents of the source with this id, which must exist. The list of contents then has
+    /// one item for each source. The only error is `OutOfMemory`.
     pub fn set_source_contents(&mut self, id: u32, contents: Option<&str>) -> Result<()>
         requires { id < length self.old.sources }
         ensures { Changes result self.old self.new (record self.old {
@@ -227,7 +225,7 @@ impl SourceMapBuilder {
         Ok(())
     }
 
-    /// The contents of the source with this id, if there are some.
+    /// The contents of the source with this id, if it has contents.
     pub fn get_source_contents(&self, id: u32) -> Option<&str>
         ensures { option_copied result ≡ contents_of (built self.now) id }
     {
@@ -244,12 +242,12 @@ impl SourceMapBuilder {
         self.get_source_contents(id).is_some()
     }
 
-    /// Reads the contents of each source that has none from the file that it names, by the text that
-    /// was first given for it, and returns how many were read. A source without such a file, and one
-    /// whose file can't be read or is not UTF-8, is skipped. The folder is `base_path`, or where
-    /// that is not absolute the one below `current_dir`. The list of contents is then as long as
-    /// that of the sources. Returns `Io` of kind `InvalidInput` if neither path is absolute, else
-    /// only `OutOfMemory`, and then what was read before stays.
+    /// Reads the contents of each source without contents from its file and returns the number of
+    /// files read. A source is resolved as it was added first, against `base_path`, which is resolved
+    /// against `current_dir`. A source whose file does not exist, cannot be read or is not UTF-8 is
+    /// skipped. The list of contents then has one item for each source. The errors are `Io` of kind
+    /// `InvalidInput` if neither path is absolute, and `OutOfMemory`, after which contents that were
+    /// read before are kept.
     pub fn load_local_source_contents<F: Files>(
         &mut self,
         rt: &F,
@@ -278,8 +276,8 @@ impl SourceMapBuilder {
         loaded
     }
 
-    /// Adds a token by ids as they are given, [`NO_ID`] for none, and answers it. Only want
-    /// of memory refuses.
+    /// Adds a token with these ids, which need not exist, [`NO_ID`] for `None`, and returns it. The
+    /// only error is `OutOfMemory`.
     pub fn add_raw(
         &mut self,
         dst_line: u32,
@@ -315,10 +313,9 @@ impl SourceMapBuilder {
         Ok(token)
     }
 
-    /// Adds a token with the ids of its source and its name, which are added where they are new,
-    /// [`NO_ID`] for none, and answers it. `IncompatibleSourceMap` for a new source or name
-    /// beside 4294967295 others, else only `OutOfMemory`. After a refusal the tokens are as they
-    /// were, and a new source or name may stand last.
+    /// Adds a token, and its source and its name if they are new, and returns the token. Its ids are
+    /// [`NO_ID`] for `None`. The errors are those of `add_source` and `add_name`; they leave the
+    /// tokens unchanged, but the source and the name may have been added.
     pub fn add(
         &mut self,
         dst_line: u32,
@@ -329,8 +326,8 @@ impl SourceMapBuilder {
         name: Option<&str>,
         is_range: bool,
     ) -> Result<RawToken>
-        ensures token { Gives (λ token. token) result (token_due
-            (placed dst_line dst_col src_line src_col is_range)
+        ensures token { Gives (λ token. token) result (token_with_ids
+            (token_without_ids dst_line dst_col src_line src_col is_range)
             (id_if self.old.interned (option_copied source.entry))
             (id_if self.old.names (option_copied name.entry))) }
         ensures ok { IfOk result (λ token. self.new ≡ with_token
@@ -339,7 +336,7 @@ impl SourceMapBuilder {
             ⊎ (self.new ≡ with_source_if self.old (option_copied source.entry))
             ⊎ (self.new
             ≡ with_texts self.old (option_copied source.entry) (option_copied name.entry))) }
-        ensures there { IfOk result
+        ensures in_range { IfOk result
             (HasSource self.new.sources (option_copied source.entry)) }
     {
         let source = self.id_of_source(source)?;
@@ -355,22 +352,22 @@ impl SourceMapBuilder {
         )
     }
 
-    /// Adds what a token of a map says by its getters, its name only if asked for, and answers the
-    /// new token. It is refused as `add` is, and leaves the same behind.
+    /// Adds a token with the results of the getters of a token of a map, and returns the new token.
+    /// Its name is included only if `with_name` is true. The errors are those of `add`.
     pub fn add_token(&mut self, token: &Token<'_>, with_name: bool) -> Result<RawToken>
-        ensures token { Gives (λ added. added) result (token_due
-            (placed (token_value token.now).raw.dst_line (token_value token.now).raw.dst_col
-            (answers token.now).line (answers token.now).column (answers token.now).is_range)
-            (id_if self.old.interned (answers token.now).source)
-            (id_if self.old.names (name_if with_name (answers token.now)))) }
+        ensures token { Gives (λ added. added) result (token_with_ids
+            (token_without_ids (token_value token.now).raw.dst_line (token_value token.now).raw.dst_col
+            (meaning_of_token token.now).line (meaning_of_token token.now).column (meaning_of_token token.now).is_range)
+            (id_if self.old.interned (meaning_of_token token.now).source)
+            (id_if self.old.names (name_if with_name (meaning_of_token token.now)))) }
         ensures ok { IfOk result (λ added. self.new ≡ with_token
-            (with_texts self.old (answers token.now).source (name_if with_name (answers token.now)))
+            (with_texts self.old (meaning_of_token token.now).source (name_if with_name (meaning_of_token token.now)))
             added) }
         ensures err { OnErr result ((self.new ≡ self.old)
-            ⊎ (self.new ≡ with_source_if self.old (answers token.now).source)
-            ⊎ (self.new ≡ with_texts self.old (answers token.now).source
-            (name_if with_name (answers token.now)))) }
-        ensures there { IfOk result (HasSource self.new.sources (answers token.now).source) }
+            ⊎ (self.new ≡ with_source_if self.old (meaning_of_token token.now).source)
+            ⊎ (self.new ≡ with_texts self.old (meaning_of_token token.now).source
+            (name_if with_name (meaning_of_token token.now)))) }
+        ensures in_range { IfOk result (HasSource self.new.sources (meaning_of_token token.now).source) }
     {
         self.add(
             token.get_dst_line(),
@@ -383,14 +380,13 @@ impl SourceMapBuilder {
         )
     }
 
-    // The id of a source, if there is one.
     fn id_of_source(&mut self, source: Option<&str>) -> Result<u32>
         ensures id { Gives (λ id. id) result
             (id_if self.old.interned (option_copied source.entry)) }
         ensures ok { OnOk result (self.new ≡ with_source_if self.old (option_copied source.entry)) }
         ensures err { OnErr result (self.new ≡ self.old) }
-        ensures there { IfOk result
-            (IsPlaceIf self.new.sources (option_copied source.entry)) }
+        ensures in_range { IfOk result
+            (IsOptionalId self.new.sources (option_copied source.entry)) }
     {
         match source {
             None => Ok(NO_ID),
@@ -398,7 +394,6 @@ impl SourceMapBuilder {
         }
     }
 
-    // The id of a name, if there is one.
     fn id_of_name(&mut self, name: Option<&str>) -> Result<u32>
         ensures id { Gives (λ id. id) result (id_if self.old.names (option_copied name.entry)) }
         ensures ok { OnOk result (self.new ≡ with_name_if self.old (option_copied name.entry)) }
@@ -410,19 +405,19 @@ impl SourceMapBuilder {
         }
     }
 
-    /// The map of what was added, its tokens sorted stably by line and column of the generated
-    /// text. Only want of memory refuses.
+    /// Returns the map, with tokens sorted stably by generated position. The only error is
+    /// `OutOfMemory`.
     pub fn into_sourcemap(self) -> Result<SourceMap>
         ensures value { Gives (λ m. m) result (Ok (built self)) }
         ensures well_formed { AllWithin (length self.sources) (length self.names) self.tokens
             → IfOk result IsWellFormed }
     {
         let alloc = *self.tokens.allocator();
-        // for the prover: there are at most 4294967295 names and sources
+        // prover: there are at most 4294967295 names and sources
         let _ = self.names.len();
         let _ = self.interned.len();
         let SourceMapBuilder {
-            heading,
+            metadata,
             root,
             tokens,
             names,
@@ -430,14 +425,14 @@ impl SourceMapBuilder {
             changed,
             contents,
         } = self;
-        let texts = changed_texts(interned.into_texts(), changed);
+        let texts = apply_changes(interned.into_texts(), changed);
         let sources = Sources::with_root(alloc, texts, root)?;
-        let tokens = TokenList::sorted(tokens)?;
-        Ok(SourceMap::of_parts(heading, tokens, names.into_texts(), sources, contents))
+        let tokens = TokenList::from_unsorted(tokens)?;
+        Ok(SourceMap::of_parts(metadata, tokens, names.into_texts(), sources, contents))
     }
 }
 
-// Loads contents into a list that is first cut or filled up to the sources, in a folder that is there.
+// Loads contents after the list got one item for each source.
 fn load_fitted<F: Files>(
     rt: &F,
     alloc: Global,
@@ -465,68 +460,64 @@ fn load_fitted<F: Files>(
     load_contents(rt, alloc, current_dir, base_path, sources, contents)
 }
 
-// The name of a token, if it is asked for.
 fn name_if<'a>(token: &Token<'a>, with_name: bool) -> Option<&'a str>
-    ensures { option_copied result ≡ name_if with_name (answers token.now) }
+    ensures { option_copied result ≡ name_if with_name (meaning_of_token token.now) }
 {
     if with_name { token.get_name() } else { None }
 }
 
-// The text at a place, if there is one.
-fn text_at(texts: &[Option<String>], place: usize) -> Option<&str>
+fn text_at(texts: &[Option<String>], index: usize) -> Option<&str>
     ensures { option_copied result
-        ≡ item_at (map (option_map string_bytes) texts.now) place }
+        ≡ item_at (map (option_map string_bytes) texts.now) index }
 {
-    match texts.get(place) {
+    match texts.get(index) {
         Some(Some(text)) => Some(text.as_str()),
         _ => None,
     }
 }
 
-// What to show in place of each text once prefixes are cut, where `shown` is what is shown now.
+// The changes after prefixes are cut; `current` are the changes before.
 fn cut_texts<S: AsStr>(
     alloc: Global,
     texts: &Interner,
-    shown: &[Option<String>],
+    current: &[Option<String>],
     prefixes: &[S],
 ) -> Result<Vec<Option<String>>>
-    ensures value { Gives (λ cut. changed_to (contents_in cut) texts.now) result
-        (Ok (map (cut_by (map S.text prefixes.now))
-        (changed_to (map (option_map string_bytes) shown.now) texts.now))) }
+    ensures value { Gives (λ cut. with_changes (contents_in cut) texts.now) result
+        (Ok (map (without_prefix (map S.text prefixes.now))
+        (with_changes (map (option_map string_bytes) current.now) texts.now))) }
     ensures len { IfOk result (λ cut. vec_len cut ≡ length texts.now) }
 {
     let count = texts.len();
     let mut cut = Vec::with_capacity(alloc, count as usize)?;
     for id in 0..count {
         let text = texts.get(id).unwrap();
-        let shown = text_at(shown, id as usize);
-        cut.push(cut_text(alloc, text, shown, prefixes)?)?;
+        let current = text_at(current, id as usize);
+        cut.push(strip_text(alloc, text, current, prefixes)?)?;
     }
     Ok(cut)
 }
 
-// The texts, or what stands in place of them.
-fn changed_texts(mut texts: Vec<String>, mut changed: Vec<Option<String>>) -> Vec<String>
+fn apply_changes(mut texts: Vec<String>, mut changed: Vec<Option<String>>) -> Vec<String>
     requires { vec_len changed ≤ vec_len texts }
-    ensures value { texts_of result ≡ changed_to (contents_in changed) (texts_of texts) }
+    ensures value { texts_of result ≡ with_changes (contents_in changed) (texts_of texts) }
     ensures len { vec_len result ≡ vec_len texts }
 {
     while let Some(text) = changed.pop() {
-        change(&mut texts, changed.len(), text);
+        replace_text(&mut texts, changed.len(), text);
     }
     texts
 }
 
-// Puts a text in place of another, if there is one.
-fn change(texts: &mut Vec<String>, place: usize, text: Option<String>)
-    requires { place < vec_len texts.old }
-    ensures value { (changes : List (Option (List ℕ))) → length changes ≡ place
-        → changed_to changes (texts_of texts.new)
-        ≡ changed_to (changes ++ option_map string_bytes text ∷ []) (texts_of texts.old) }
+fn replace_text(texts: &mut Vec<String>, index: usize, text: Option<String>)
+    requires { index < vec_len texts.old }
+    ensures value { (changes : List (Option (List ℕ))) → length changes ≡ index
+        → with_changes changes (texts_of texts.new)
+        ≡ with_changes (changes ++ option_map string_bytes text ∷ []) (texts_of texts.old) }
     ensures len { vec_len texts.new ≡ vec_len texts.old }
 {
     match text {
         None => {}
-        Some(text) => texts[place] = text,
+        Some(text) => texts[index] = text,
     }
 }

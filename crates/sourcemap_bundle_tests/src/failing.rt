@@ -1,14 +1,14 @@
 // File bundles in a file system that fails.
-ghost use Rattle.std.specs.Prelude.{IsErr};
-
 use crate::answers::bundle_text;
 use crate::checks::check;
 use sourcemap_bundles::ram_bundle::{RamBundle, is_unbundle_path};
 use sourcemap_errors::errors::{Error, Result};
+use sourcemap_test_support::files::{FakeFile, unsupported};
+use sourcemap_test_support::readers::NarrowReader;
 use std::alloc::{Allocator, Global};
-use std::fs::{Metadata, OpenFile, OpenOptions};
+use std::fs::{Metadata, OpenOptions};
 use std::io;
-use std::io::{ErrorKind, Read, Seek, SeekFrom, Write};
+use std::io::{ErrorKind, Read};
 use std::rt::Files;
 
 // What is asked of a path.
@@ -35,94 +35,72 @@ impl Disk<'_> {
         step == self.step && path == self.path
     }
 
-    // What is read of a path.
-    fn page<'b>(&self, path: &str, bytes: &'b [u8]) -> io::Result<Page<'b>> {
+    // The file at a path.
+    fn file<'b>(&self, path: &str, bytes: &'b [u8]) -> io::Result<FakeFile<'b>> {
         if self.fails(Step::Open, path) {
             return Err(io::Error::from(self.kind));
         }
-        let fault = if self.fails(Step::Read, path) {
-            Some(self.kind)
+        let left = if self.fails(Step::Read, path) {
+            Some(0)
         } else {
             None
         };
-        Ok(Page { bytes, fault })
+        Ok(FakeFile {
+            reader: NarrowReader {
+                rest: bytes,
+                left,
+                kind: self.kind,
+            },
+            size: None,
+        })
     }
 }
 
-// Bytes, or a fault in their place.
+// The names in a folder, which one read returns, or an error.
 #[derive(Drop)]
-struct Page<'a> {
-    bytes: &'a [u8],
-    fault: Option<ErrorKind>,
+struct FakeFolder<'a> {
+    names: &'a [u8],
+    error: Option<ErrorKind>,
 }
 
-impl Read for Page<'_> {
+impl Read for FakeFolder<'_> {
     fn read(&mut self, buf: &mut [u8]) -> io::Result<usize> {
-        if let Some(kind) = self.fault {
+        if let Some(kind) = self.error {
             return Err(io::Error::from(kind));
         }
-        let mut rest = self.bytes;
+        let mut rest = self.names;
         let count = rest.read(buf)?;
-        self.bytes = rest;
+        self.names = rest;
         Ok(count)
     }
 }
 
-impl Write for Page<'_> {
-    fn write(&mut self, _buf: &[u8]) -> io::Result<usize> {
-        unsupported()
-    }
-
-    fn flush(&mut self) -> io::Result<()> {
-        unsupported()
-    }
-}
-
-impl Seek for Page<'_> {
-    fn seek(&mut self, _to: SeekFrom) -> io::Result<u64> {
-        unsupported()
-    }
-}
-
-impl OpenFile for Page<'_> {
-    fn metadata(&self) -> io::Result<Metadata> {
-        unsupported()
-    }
-
-    fn set_len(&self, _size: u64) -> io::Result<()> {
-        unsupported()
-    }
-
-    fn sync_all(&self) -> io::Result<()> {
-        unsupported()
-    }
-
-    fn sync_data(&self) -> io::Result<()> {
-        unsupported()
-    }
-}
-
-fn unsupported<T>() -> io::Result<T>
-    ensures { IsErr result }
-{
-    Err(io::Error::from(ErrorKind::Unsupported))
-}
-
 impl<'a> Files for Disk<'a> {
-    type File = Page<'a>;
+    type File = FakeFile<'a>;
 
-    type Dir = Page<'a>;
+    type Dir = FakeFolder<'a>;
 
-    fn open_file(&self, how: &OpenOptions, path: &str) -> io::Result<Page<'a>> {
+    fn open_file(&self, how: &OpenOptions, path: &str) -> io::Result<FakeFile<'a>> {
         how.check()?;
         match path {
-            "js-modules/UNBUNDLE" => self.page(path, b"\xe5\xd1\x0b\xfb"),
-            _ => self.page(path, b"x"),
+            "js-modules/UNBUNDLE" => self.file(path, b"\xe5\xd1\x0b\xfb"),
+            _ => self.file(path, b"x"),
         }
     }
 
-    fn open_dir(&self, path: &str) -> io::Result<Page<'a>> {
-        self.page(path, self.names)
+    fn open_dir(&self, path: &str) -> io::Result<FakeFolder<'a>> {
+        if self.fails(Step::Open, path) {
+            return Err(io::Error::from(self.kind));
+        }
+        let error = if self.fails(Step::Read, path) {
+            Some(self.kind)
+        } else {
+            None
+        };
+        Ok(FakeFolder {
+            names: self.names,
+            error,
+        })
     }
 
     fn metadata(&self, path: &str) -> io::Result<Metadata> {
@@ -168,8 +146,8 @@ impl<'a> Files for Disk<'a> {
 }
 
 // What an error prints, and the kind of one of files.
-fn fault_text(alloc: Global, fault: Error) -> Result<String> {
-    match fault {
+fn error_text(alloc: Global, error: Error) -> Result<String> {
+    match error {
         Error::Io(cause) => Ok(format!(in alloc; "{:?}", cause.kind())?),
         other => Ok(format!(in alloc; "{other}")?),
     }
@@ -178,14 +156,14 @@ fn fault_text(alloc: Global, fault: Error) -> Result<String> {
 fn read_text(alloc: Global, disk: &Disk<'_>) -> Result<String> {
     match RamBundle::parse_unbundle_from_path(disk, alloc, "m.js") {
         Ok(bundle) => bundle_text(alloc, &bundle),
-        Err(fault) => fault_text(alloc, fault),
+        Err(error) => error_text(alloc, error),
     }
 }
 
 fn is_bundle_text(alloc: Global, disk: &Disk<'_>) -> Result<String> {
     match is_unbundle_path(disk, alloc, "m.js") {
         Ok(is_bundle) => Ok(format!(in alloc; "{is_bundle}")?),
-        Err(fault) => fault_text(alloc, fault),
+        Err(error) => error_text(alloc, error),
     }
 }
 

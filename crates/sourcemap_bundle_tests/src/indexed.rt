@@ -6,7 +6,7 @@ use sourcemap_bundles::ram_bundle::{RamBundle, RamBundleType, is_ram_bundle_slic
 use sourcemap_errors::errors::Result;
 use std::alloc::Global;
 
-// One module, `xyz`, behind the startup code `ab`.
+// One module, `xyz`, after the startup code `ab`.
 static ONE: [u8; 26] = [
     0xe5, 0xd1, 0x0b, 0xfb, 1, 0, 0, 0, 2, 0, 0, 0, 2, 0, 0, 0, 4, 0, 0, 0, 97, 98, 120, 121, 122,
     0,
@@ -27,7 +27,7 @@ static CUTS: [(usize, &str, &str); 11] = [
     (26, "ab", "0=xyz"),
 ];
 
-// The numbers of a header and an entry, in bytes behind one another.
+// The numbers of a header and an entry, in bytes, one after another.
 static HUGE: [u8; 12] = [0xe5, 0xd1, 0x0b, 0xfb, 255, 255, 255, 255, 2, 0, 0, 0];
 
 // What a row is about, the bytes, and all that the bundle answers.

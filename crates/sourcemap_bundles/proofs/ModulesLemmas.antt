@@ -3,7 +3,7 @@ use Rattle.std.proofs.Common.{◌≡◌, ℕ, zero, suc, ◌+◌, ◌-◌, ◌<�
 use Rattle.sourcemap_errors.specs.declared.errors.Error.{Error}
 use Rattle.sourcemap_bundles.specs.Modules.{BundleValue, ModuleValue, bundle_module, modules_from, with_item}
 
--- the module of the next number, if it has one, and those behind it
+-- the module of the next number, if it has one, and those after it
 pub modules_next : (bundle : BundleValue) (id end : ℕ) → id < end
     → modules_from bundle (end - id) id ≡ with_item (bundle_module bundle id) (modules_from bundle (end - (id + 1)) (id + 1))
 modules_next bundle id end below = let left : end - id ≡ suc (end - (id + 1)) = omega arith in rw left refl

@@ -22,7 +22,7 @@ pub record FilesValue : Type 0 where
   pub count : ℕ
   pub modules : List (ℕ × List ℕ)
 
--- a bundle: the bytes of one behind the numbers of its header, or files
+-- a bundle: the bytes of one after the numbers of its header, or files
 pub data BundleValue : Type 0 where
   indexed : RamBundleHeader → List ℕ → BundleValue
   files : FilesValue → BundleValue

@@ -3,7 +3,7 @@ ghost use Rattle.std.specs.Prelude.{◌≡◌};
 ghost use Rattle.sourcemap_bundles.specs.Modules.{IsViewOf};
 
 use sourcemap_errors::errors::Result;
-use sourcemap_views::sourceview::SourceView;
+use sourcemap_source_views::sourceview::SourceView;
 use std::alloc::Global;
 use std::str;
 

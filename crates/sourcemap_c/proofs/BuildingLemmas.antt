@@ -1,9 +1,9 @@
--- What the report says of tokens that are added.
+-- The report of adding tokens.
 use Rattle.std.proofs.Common.{ℕ, Option, Some, None, Result, Ok, Err, inl, inr, subst}
 use Rattle.sourcemap_builder.specs.Builder.{BuilderValue}
-use Rattle.sourcemap_handles.specs.Errors.{Finishes, Reports}
-use Rattle.sourcemap_handles.specs.declared.errors.ErrorReport.{ErrorReport}
-use Rattle.sourcemap_handles.specs.declared.errors.Failure.{Failure}
+use Rattle.sourcemap_c_handles.specs.Errors.{Finishes, Reports}
+use Rattle.sourcemap_c_handles.specs.declared.errors.ErrorReport.{ErrorReport}
+use Rattle.sourcemap_c_handles.specs.declared.errors.Failure.{Failure}
 use Rattle.sourcemap_c.specs.Building.{AddsAll, AreAdded}
 
 pub adds_all : (b : Option BuilderValue) (outcome : Result (Unit {0}) Failure) (count added code : ℕ) (old new : ErrorReport)

@@ -1,11 +1,11 @@
--- What a call says by its code follows from what it did.
+-- The code and the report of a call follow from its result.
 use Rattle.std.proofs.Common.{◌≢◌, ◌∙◌, ℕ, Result, Ok, Err, inl, inr, sym}
 use Rattle.sourcemap_errors.specs.declared.errors.Error.{Error}
 use Rattle.sourcemap_errors.specs.declared.errors.Error.TheVariants.{Io, Utf8, Scroll, BadJson, VlqLeftover, VlqNoValues, VlqOverflow, BadSegmentSize, BadSourceReference, BadNameReference, IncompatibleSourceMap, InvalidDataUrl, CannotFlatten, InvalidRamBundleMagic, InvalidRamBundleIndex, InvalidRamBundleEntry, NotARamBundle, InvalidRangeMappingIndex, InvalidBase64, OutOfMemory}
-use Rattle.sourcemap_handles.specs.Errors.{Finishes, Reports, code_of, error_code, number_of}
-use Rattle.sourcemap_handles.specs.declared.errors.ErrorReport.{ErrorReport}
-use Rattle.sourcemap_handles.specs.declared.errors.Failure.{Failure}
-use Rattle.sourcemap_handles.specs.declared.errors.Failure.TheVariants.{Library, Absent, WrongKind, PastLimit}
+use Rattle.sourcemap_c_handles.specs.Errors.{Finishes, Reports, code_of, error_code, number_of}
+use Rattle.sourcemap_c_handles.specs.declared.errors.ErrorReport.{ErrorReport}
+use Rattle.sourcemap_c_handles.specs.declared.errors.Failure.{Failure}
+use Rattle.sourcemap_c_handles.specs.declared.errors.Failure.TheVariants.{Library, Absent, WrongKind, PastLimit}
 use Rattle.sourcemap_c.specs.Codes.{Answers, Does, NoError, OfLibrary, UnlessMemory}
 
 error_positive : (e : Error) → number_of (error_code e) ≢ 0
@@ -55,7 +55,7 @@ coded (Err failure) code old new Done Due Kept is does = record {
   kept = λ _. does.1;
 }
 
--- Less is due, and less was done.
+-- Weaker facts.
 unless_weaker : (failure : Failure) (P Q : Type 0) → (P → Q) → UnlessMemory failure P → UnlessMemory failure Q
 unless_weaker (Library OutOfMemory) P Q f p = tt
 unless_weaker (Library _) P Q f p = f p
@@ -76,7 +76,7 @@ no_failure Absent P none = absurd none
 no_failure WrongKind P none = absurd none
 no_failure PastLimit P none = absurd none
 
--- where only memory can refuse
+-- calls whose only error is out of memory
 pub weaker_put : {T : Type 0} (result : Result T Failure) (Done Done' : Type 0) (Due' : Failure → Type 0) (Kept : Type 0)
     → (Done → Done') → Does result Done (OfLibrary NoError) Kept → Does result Done' Due' Kept
 weaker_put result Done Done' Due' Kept done does =

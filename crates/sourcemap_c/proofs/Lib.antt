@@ -3,4 +3,4 @@ pub mod OpeningLemmas
 pub mod MakingLemmas
 pub mod IdsLemmas
 pub mod BuildingLemmas
-pub mod SettingLemmas
+pub mod SettersLemmas

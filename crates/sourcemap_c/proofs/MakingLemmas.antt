@@ -1,4 +1,4 @@
--- Maps rewritten without files, and by prefixes that are text.
+-- Rewriting without files, with prefixes that are UTF-8.
 use Rattle.std.proofs.Common.{◌≡◌, ℕ, List, false, Result, Ok, Err, MatchResult, inr, subst}
 use Rattle.std.specs.List.{All}
 use Rattle.std.specs.Str.{IsUtf8}
@@ -6,13 +6,13 @@ use Rattle.sourcemap_errors.specs.Answer.{Gives, IsAnswer}
 use Rattle.sourcemap_errors.specs.Due.{Gives-given, Gives-memory}
 use Rattle.sourcemap_errors.specs.declared.errors.Error.{Error}
 use Rattle.sourcemap_errors.specs.declared.errors.Error.TheVariants.{OutOfMemory}
-use Rattle.sourcemap_handles.specs.declared.errors.Failure.{Failure}
+use Rattle.sourcemap_c_handles.specs.declared.errors.Failure.{Failure}
 use Rattle.sourcemap_hermes.specs.Map.{HermesValue, hermes_value}
 use Rattle.sourcemap_hermes.specs.Rewrite.{rewritten, Rewrites}
 use Rattle.sourcemap_hermes.specs.WithoutLoading.{Gives-rewritten}
 use Rattle.sourcemap_hermes.specs.declared.map.SourceMapHermes.{SourceMapHermes}
-use Rattle.sourcemap_regular.specs.Rewrite.{removal_of}
-use Rattle.sourcemap_rewriting.specs.declared.options.RewriteOptions.{RewriteOptions}
+use Rattle.sourcemap_map_regular.specs.Rewrite.{removal_of}
+use Rattle.sourcemap_map_rewrite.specs.declared.options.RewriteOptions.{RewriteOptions}
 use Rattle.sourcemap_c.proofs.CodesLemmas.{weaker}
 use Rattle.sourcemap_c.specs.Codes.{Does}
 use Rattle.sourcemap_c.specs.Making.{OrNoPrefix}

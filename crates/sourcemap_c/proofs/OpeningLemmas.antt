@@ -1,9 +1,9 @@
--- A URL that is text is opened as that text.
+-- A URL in UTF-8 is decoded as text.
 use Rattle.std.proofs.Common.{◌≡◌, ℕ, List, Option, Result, Err, inr, subst}
 use Rattle.std.specs.Str.{IsUtf8}
-use Rattle.sourcemap_handles.specs.declared.errors.Failure.{Failure}
-use Rattle.sourcemap_handles.specs.declared.errors.Failure.TheVariants.{Library, Absent, WrongKind, PastLimit}
-use Rattle.sourcemap_handles.specs.declared.held.Held.{Held}
+use Rattle.sourcemap_c_handles.specs.declared.errors.Failure.{Failure}
+use Rattle.sourcemap_c_handles.specs.declared.errors.Failure.TheVariants.{Library, Absent, WrongKind, PastLimit}
+use Rattle.sourcemap_c_handles.specs.declared.held.Held.{Held}
 use Rattle.sourcemap_index.specs.Decode.{UrlDecodes}
 use Rattle.sourcemap_c.proofs.CodesLemmas.{weaker}
 use Rattle.sourcemap_c.specs.Codes.{Does, OfLibrary}

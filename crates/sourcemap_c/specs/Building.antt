@@ -1,24 +1,24 @@
--- What a builder in a handle becomes.
+-- Changes of the builder in a handle, and their errors.
 use Rattle.std.specs.Prelude.{◌≡◌, ◌<◌, ◌≤◌, ◌++◌, ◌⊎◌, ℕ, List, length, map, slice_set, take, Option, Some, None, IsSomeAnd, Result, Ok, Err, MatchResult}
 use Rattle.std.specs.BTreeSet.{insert_key}
 use Rattle.std.specs.Option.{option_copied}
 use Rattle.std.specs.Ordering.{nat_cmp}
 use Rattle.sourcemap_builder.specs.Builder.{BuilderValue}
-use Rattle.sourcemap_lists.specs.Interner.{id_for}
-use Rattle.sourcemap_regular.specs.Map.{fitted}
+use Rattle.sourcemap_interning.specs.Interner.{id_for}
+use Rattle.sourcemap_map_regular.specs.Map.{fitted}
 use Rattle.sourcemap_errors.specs.declared.errors.Error.TheVariants.{OutOfMemory}
-use Rattle.sourcemap_handles.specs.Errors.{Reports}
-use Rattle.sourcemap_handles.specs.Layout.{raw_token}
-use Rattle.sourcemap_handles.specs.declared.errors.ErrorReport.{ErrorReport}
-use Rattle.sourcemap_handles.specs.declared.errors.Failure.{Failure}
-use Rattle.sourcemap_handles.specs.declared.errors.Failure.TheVariants.{Library, Absent, WrongKind}
-use Rattle.sourcemap_handles.specs.declared.held.Held.{Held}
-use Rattle.sourcemap_handles.specs.declared.layout.MapToken.{MapToken}
+use Rattle.sourcemap_c_handles.specs.Errors.{Reports}
+use Rattle.sourcemap_c_handles.specs.Layout.{raw_token}
+use Rattle.sourcemap_c_handles.specs.declared.errors.ErrorReport.{ErrorReport}
+use Rattle.sourcemap_c_handles.specs.declared.errors.Failure.{Failure}
+use Rattle.sourcemap_c_handles.specs.declared.errors.Failure.TheVariants.{Library, Absent, WrongKind}
+use Rattle.sourcemap_c_handles.specs.declared.held.Held.{Held}
+use Rattle.sourcemap_c_handles.specs.declared.layout.MapToken.{MapToken}
 use Rattle.sourcemap_c.specs.Kinds.{builder_in}
 use Rattle.sourcemap_c.specs.declared.building.Step.{Step}
 use Rattle.sourcemap_c.specs.declared.building.Step.TheVariants.{Root, Id, Contents, Ignored}
 
--- what a step makes of a builder, or why it does not
+-- the result of a change of a builder
 abbrev pub OnSource : ℕ → BuilderValue → BuilderValue → Result BuilderValue Failure → Type 0
 OnSource id old new (Ok due) = (id < length old.sources) × (due ≡ new)
 OnSource id old new (Err failure) = (length old.sources ≤ id) × (failure ≡ Absent)
@@ -42,7 +42,7 @@ StepsTo (Id id) = HasId id
 StepsTo (Contents id contents) = HasContents id (option_copied contents)
 StepsTo (Ignored id) = Ignores id
 
--- a handle holds what its builder becomes
+-- the handle has the changed builder
 abbrev pub HoldsStep : (BuilderValue → Result BuilderValue Failure → Type 0) → (old new : Option Held) → Type 0
 HoldsStep Becomes old new = IsSomeAnd (builder_in old) (λ b. IsSomeAnd (builder_in new) (λ n. Becomes b (Ok n)))
 
@@ -50,28 +50,28 @@ abbrev pub FailsStep : (BuilderValue → Result BuilderValue Failure → Type 0)
 FailsStep Becomes (Some b) failure = Becomes b (Err failure)
 FailsStep Becomes None failure = failure ≡ WrongKind
 
--- the id of a text that is added, and the builder with it
+-- the id of an added text, and the builder with it
 abbrev pub Adds : (BuilderValue → List (List ℕ)) → (BuilderValue → List ℕ → BuilderValue) → List ℕ → (id : ℕ) → (old new : Option Held) → Type 0
 Adds texts added text id old new =
     IsSomeAnd (builder_in old) (λ b. (id_for (texts b) text ≡ Ok id) × (builder_in new ≡ Some (added b text)))
 
--- why it is not added
+-- the errors of adding a text
 abbrev pub AddsNot : (BuilderValue → List (List ℕ)) → List ℕ → Option BuilderValue → Failure → Type 0
 AddsNot texts text (Some b) (Library e) = id_for (texts b) text ≡ Err e
 AddsNot texts text None failure = failure ≡ WrongKind
 AddsNot texts text _ _ = ⊥
 
--- a builder with the first n of these tokens
+-- the builder with the first n tokens added
 abbrev pub with_tokens : BuilderValue → List MapToken → ℕ → BuilderValue
 with_tokens b tokens n = record b { tokens = b.tokens ++ map raw_token (take n tokens) }
 
--- whether a builder took all of so many tokens; only memory refuses one
+-- the outcome of adding tokens; the only error for a token is out of memory
 abbrev pub AreAdded : Option BuilderValue → (count added : ℕ) → Result (Unit {0}) Failure → Type 0
 AreAdded (Some _) count added outcome =
     MatchResult outcome (λ _. added ≡ count) (λ failure. (failure ≡ Library OutOfMemory) × (added < count))
 AreAdded None count added outcome = (added ≡ 0) × (outcome ≡ Err WrongKind)
 
--- what the report says of that
+-- the report of that outcome
 abbrev pub AddsAll : Option BuilderValue → (count added : ℕ) → (old new : ErrorReport) → Type 0
 AddsAll (Some _) count added old new =
     ((added ≡ count) × (new ≡ old)) ⊎ ((added < count) × ((code : ℕ) × Reports (Library OutOfMemory) code old new))

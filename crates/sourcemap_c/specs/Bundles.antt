@@ -1,17 +1,17 @@
--- RAM bundles in handles, and their modules with their maps.
+-- RAM bundles in handles, and split bundles.
 use Rattle.std.specs.Prelude.{◌≡◌, ◌⊎◌, ℕ, List, map, slice_get, Option, Some, None, option_map, Result, Ok, Err, MatchResult, string_bytes}
 use Rattle.std.specs.Arc.{arc_value}
 use Rattle.sourcemap_errors.specs.declared.errors.Error.{Error}
 use Rattle.sourcemap_errors.specs.declared.errors.Error.TheVariants.{InvalidRamBundleEntry, OutOfMemory}
-use Rattle.sourcemap_trees.specs.MapTree.{IndexValue, MapTree, index, index_tree, leaf, regular}
+use Rattle.sourcemap_index_model.specs.MapTree.{IndexValue, MapTree, index, index_tree, leaf, regular}
 use Rattle.sourcemap_bundles.specs.Modules.{BundleValue, ModuleValue, bundle_module, modules_of}
 use Rattle.sourcemap_index.specs.Family.{map_tree}
-use Rattle.sourcemap_splitting.specs.Split.{ModuleParts, SplitValue, Splits, dues_in}
-use Rattle.sourcemap_handles.specs.declared.errors.Failure.{Failure}
-use Rattle.sourcemap_handles.specs.declared.errors.Failure.TheVariants.{Library, Absent, WrongKind, PastLimit}
-use Rattle.sourcemap_handles.specs.declared.held.Held.{Held}
-use Rattle.sourcemap_handles.specs.declared.held.Held.TheVariants.{Bundle, Split}
-use Rattle.sourcemap_handles.specs.declared.held.SplitModule.{SplitModule}
+use Rattle.sourcemap_bundle_split.specs.Split.{ModuleParts, SplitValue, Splits, dues_in}
+use Rattle.sourcemap_c_handles.specs.declared.errors.Failure.{Failure}
+use Rattle.sourcemap_c_handles.specs.declared.errors.Failure.TheVariants.{Library, Absent, WrongKind, PastLimit}
+use Rattle.sourcemap_c_handles.specs.declared.held.Held.{Held}
+use Rattle.sourcemap_c_handles.specs.declared.held.Held.TheVariants.{Bundle, Split}
+use Rattle.sourcemap_c_handles.specs.declared.held.SplitModule.{SplitModule}
 
 abbrev pub bundle_in : Option Held → Option BundleValue
 bundle_in (Some (Bundle bundle)) = Some bundle
@@ -27,7 +27,7 @@ module_bytes bundle id = bytes_of (bundle_module bundle id)
 
 -- Split bundles.
 
--- an item: its name, its text and its map
+-- the name, the text and the map of a module
 pub record ItemValue : Type 0 where
   pub name : List ℕ
   pub text : List ℕ
@@ -48,11 +48,11 @@ abbrev pub items_in : Option Held → Option (List (Result ItemValue Error))
 items_in (Some (Split items)) = Some (map item_value items.items)
 items_in _ = None
 
--- an item is made of what an iterator gave
+-- the item for a value of the iterator
 abbrev pub Makes : Result (Result SplitModule Error) Error → (Result ModuleParts Error → Type 0) → Type 0
 Makes made Due = MatchResult made (λ item. (due : Result ModuleParts Error) → Due due → item_value item ≡ due_value due) (λ e. e ≡ OutOfMemory)
 
--- the items of a bundle split by an index are held
+-- the handle has the items of a bundle split by an index
 abbrev pub IsSplit : Option BundleValue → Option MapTree → Option Held → Type 0
 IsSplit bundle tree held = (b : BundleValue) × (i : IndexValue) × (split : SplitValue) × (bundle ≡ Some b) × (tree ≡ Some (index_tree i))
     × Splits i (modules_of b) (Ok split) × (items_in held ≡ Some (map due_value (dues_in split)))
@@ -61,25 +61,25 @@ abbrev pub IsNoIndex : Option MapTree → Type 0
 IsNoIndex (Some (index _ _)) = ⊥
 IsNoIndex _ = Unit {0}
 
--- why a bundle is not split
+-- the errors of splitting
 abbrev pub IsUnsplit : Option BundleValue → Option MapTree → Failure → Type 0
 IsUnsplit bundle tree (Library e) = (b : BundleValue) × (i : IndexValue) × (bundle ≡ Some b) × (tree ≡ Some (index_tree i)) × Splits i (modules_of b) (Err e)
 IsUnsplit bundle tree WrongKind = (bundle ≡ None) ⊎ IsNoIndex tree
 IsUnsplit bundle tree Absent = ⊥
 IsUnsplit bundle tree PastLimit = ⊥
 
--- the item of this number, if the handle has items
+-- the item at this index, if the handle has items
 abbrev pub item_of : Option (List (Result ItemValue Error)) → ℕ → Option (Option (Result ItemValue Error))
 item_of items id = option_map (λ list. slice_get list id) items
 
--- why an item is not given: there is none, or the bundle's entry of it is faulty
+-- the errors of an item: no such item, or the error of its module
 abbrev pub IsNoItem : Option (Option (Result ItemValue Error)) → Failure → Type 0
 IsNoItem item (Library e) = (e ≡ InvalidRamBundleEntry) × (because : Error) × (item ≡ Some (Some (Err because)))
 IsNoItem item Absent = item ≡ Some None
 IsNoItem item WrongKind = item ≡ None
 IsNoItem item PastLimit = ⊥
 
--- the item has this name and this text
+-- the item has this name and text
 abbrev pub IsNamed : Option (Option (Result ItemValue Error)) → (name text : List ℕ) → Type 0
 IsNamed item name text = (m : ItemValue) × (item ≡ Some (Some (Ok m))) × (name ≡ m.name) × (text ≡ m.text)
 

@@ -1,4 +1,4 @@
--- What the map in a handle becomes, or why it does not.
+-- Changes of the map in a handle, and their errors.
 use Rattle.std.specs.Prelude.{◌≡◌, ◌<◌, ◌≤◌, ℕ, List, [], length, slice_set, Option, Some, None, IsSomeAnd, Result, Ok, Err}
 use Rattle.std.specs.BTreeSet.{insert_key}
 use Rattle.std.specs.Option.{option_copied}
@@ -7,15 +7,15 @@ use Rattle.sourcemap_errors.specs.declared.errors.Error.{Error}
 use Rattle.sourcemap_hermes.specs.Rewrite.{rewritten as hermes_rewritten}
 use Rattle.sourcemap_index.specs.DecodedMap.{with_debug_id}
 use Rattle.sourcemap_index.specs.Rows.{with_sections}
-use Rattle.sourcemap_regular.specs.Adjust.{adjusted}
-use Rattle.sourcemap_regular.specs.Map.{MapValue, fitted}
-use Rattle.sourcemap_regular.specs.Rewrite.{Removal, rewritten}
-use Rattle.sourcemap_trees.specs.Flat.{FlatAnswer}
-use Rattle.sourcemap_trees.specs.MapTree.{LeafMap, regular, hermes, held, MapTree, leaf, index, IndexValue, index_tree}
-use Rattle.sourcemap_trees.specs.Shift.{HaveRowsLeft, shifted}
-use Rattle.sourcemap_handles.specs.declared.errors.Failure.{Failure}
-use Rattle.sourcemap_handles.specs.declared.errors.Failure.TheVariants.{Library, Absent, WrongKind, PastLimit}
-use Rattle.sourcemap_handles.specs.declared.held.Held.{Held}
+use Rattle.sourcemap_map_regular.specs.Adjust.{adjusted}
+use Rattle.sourcemap_map_regular.specs.Map.{MapValue, fitted}
+use Rattle.sourcemap_map_regular.specs.Rewrite.{Removal, rewritten}
+use Rattle.sourcemap_index_model.specs.Flat.{FlatAnswer}
+use Rattle.sourcemap_index_model.specs.MapTree.{LeafMap, regular, hermes, held, MapTree, leaf, index, IndexValue, index_tree}
+use Rattle.sourcemap_index_model.specs.Shift.{HaveRowsLeft, shifted}
+use Rattle.sourcemap_c_handles.specs.declared.errors.Failure.{Failure}
+use Rattle.sourcemap_c_handles.specs.declared.errors.Failure.TheVariants.{Library, Absent, WrongKind, PastLimit}
+use Rattle.sourcemap_c_handles.specs.declared.held.Held.{Held}
 use Rattle.sourcemap_c.specs.Kinds.{tree_in}
 use Rattle.sourcemap_c.specs.declared.changing.Change.{Change}
 use Rattle.sourcemap_c.specs.declared.changing.Change.TheVariants.{File, Root, Id, Source, Contents, Ignored, NoNames, Down}
@@ -24,7 +24,7 @@ abbrev pub with_held : LeafMap → MapValue → LeafMap
 with_held (regular _) m = regular m
 with_held (hermes h) m = hermes (record h { map = m })
 
--- a leaf of this map instead of the one that it holds
+-- a leaf with this regular map in place of its own
 abbrev pub leaf_of : LeafMap → MapValue → MapTree
 leaf_of l m = leaf (with_held l m)
 
@@ -32,7 +32,7 @@ abbrev pub OnLeaf : (MapValue → MapValue) → MapTree → Result MapTree Failu
 OnLeaf change (leaf l) due = due ≡ Ok (leaf_of l (change (held l)))
 OnLeaf change (index _ _) due = due ≡ Err WrongKind
 
--- the same of a source that has to be there
+-- the same for a source that must exist
 abbrev pub OnSource : ℕ → (MapValue → MapValue) → MapTree → Result MapTree Failure → Type 0
 OnSource id change (leaf l) (Ok new) = (id < length (held l).sources) × (new ≡ leaf_of l (change (held l)))
 OnSource id change (leaf l) (Err e) = (length (held l).sources ≤ id) × (e ≡ Absent)
@@ -61,7 +61,7 @@ Ignores id = OnSource id (λ m. record m { ignored = insert_key nat_cmp m.ignore
 abbrev pub HasNoNames : MapTree → Result MapTree Failure → Type 0
 HasNoNames = OnLeaf (λ m. record m { names = [] })
 
--- the sections of an index stand so many lines further down
+-- the sections of an index moved down by so many lines
 abbrev pub IsDown : ℕ → MapTree → Result MapTree Failure → Type 0
 IsDown lines t (Ok new) = (i : IndexValue) × (t ≡ index_tree i) × HaveRowsLeft lines i.sections
     × (new ≡ index_tree (with_sections i (shifted lines i.sections)))
@@ -73,12 +73,12 @@ abbrev pub as_regular : Result MapValue Error → Result MapTree Failure
 as_regular (Ok m) = Ok (leaf (regular m))
 as_regular (Err e) = Err (Library e)
 
--- a regular map adjusted by another one
+-- a regular map composed with another one
 abbrev pub IsAdjusted : MapValue → MapTree → Result MapTree Failure → Type 0
 IsAdjusted adjustment (leaf (regular m)) due = due ≡ as_regular (adjusted m adjustment)
 IsAdjusted adjustment _ due = due ≡ Err WrongKind
 
--- the same by a map of any kind
+-- the same with a map of any kind
 abbrev pub IsAdjustedBy : Option MapTree → MapTree → Result MapTree Failure → Type 0
 IsAdjustedBy (Some (leaf (regular adjustment))) t due = IsAdjusted adjustment t due
 IsAdjustedBy _ t due = due ≡ Err WrongKind
@@ -93,24 +93,24 @@ ChangesTo (Ignored id) = Ignores id
 ChangesTo NoNames = HasNoNames
 ChangesTo (Down lines) = IsDown lines
 
--- a map with what its tokens use alone, and less what is removed
+-- the rewritten map
 abbrev pub IsRewritten : Removal → MapTree → Result MapTree Failure → Type 0
 IsRewritten removal (leaf (regular m)) due = due ≡ Ok (leaf (regular (rewritten removal m)))
 IsRewritten removal (leaf (hermes h)) due = due ≡ Ok (leaf (hermes (hermes_rewritten removal h)))
 IsRewritten removal (index _ _) due = due ≡ Err WrongKind
 
--- an index made one regular map
+-- the regular map that an index is flattened to
 abbrev pub IsFlat : MapTree → Result MapTree Failure → Type 0
 IsFlat (index parts ss) (Ok (leaf (regular m))) = FlatAnswer (index parts ss) (Ok m)
 IsFlat (index parts ss) (Err (Library e)) = FlatAnswer (index parts ss) (Err e)
 IsFlat (leaf _) (Err e) = e ≡ WrongKind
 IsFlat _ _ = ⊥
 
--- a handle holds what its map becomes
+-- the handle has the changed map
 abbrev pub HoldsNew : (MapTree → Result MapTree Failure → Type 0) → (old new : Option Held) → Type 0
 HoldsNew Becomes old new = IsSomeAnd (tree_in old) (λ t. IsSomeAnd (tree_in new) (λ n. Becomes t (Ok n)))
 
--- why it does not: the failure of its map, or that there is none
+-- the error of the change, or that there is no map
 abbrev pub FailsAs : (MapTree → Result MapTree Failure → Type 0) → Option MapTree → Failure → Type 0
 FailsAs Becomes (Some t) failure = Becomes t (Err failure)
 FailsAs Becomes None failure = failure ≡ WrongKind

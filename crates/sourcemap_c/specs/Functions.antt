@@ -3,33 +3,33 @@ use Rattle.std.specs.Prelude.{◌≡◌, ℕ, List, Option, Some, None, IfSome}
 use Rattle.std.specs.Str.{IsUtf8}
 use Rattle.sourcemap_hermes.specs.Map.{function_name as name_at_offset}
 use Rattle.sourcemap_index.specs.Names.{AreNamesInOrder, function_name}
-use Rattle.sourcemap_regular.specs.Map.{lookup}
-use Rattle.sourcemap_scopes.specs.SourceScopes.{IsInOrderAt}
+use Rattle.sourcemap_map_regular.specs.Map.{lookup}
+use Rattle.sourcemap_hermes_scopes.specs.SourceScopes.{IsInOrderAt}
 use Rattle.sourcemap_trace.specs.Trace.{trace_of}
-use Rattle.sourcemap_trees.specs.MapTree.{MapTree, hermes, leaf}
-use Rattle.sourcemap_trees.specs.Meaning.{meaning}
-use Rattle.sourcemap_trees.specs.WellFormed.{IsInOrder}
-use Rattle.sourcemap_c.specs.Codes.{IsSaid, Says}
+use Rattle.sourcemap_index_model.specs.MapTree.{MapTree, hermes, leaf}
+use Rattle.sourcemap_index_model.specs.Meaning.{meaning}
+use Rattle.sourcemap_index_model.specs.WellFormed.{IsInOrder}
+use Rattle.sourcemap_c.specs.Codes.{IsAbsentUnlessOk, ReturnsValue}
 
--- the answers of a map to these positions are held
+-- the handle has the trace of these positions
 abbrev pub IsTrace : Option MapTree → (positions : List ℕ) → Option (List ℕ) → Type 0
 IsTrace None positions held = ⊥
 IsTrace (Some t) positions held = (text : List ℕ) × (held ≡ Some text) × (IsInOrder t → text ≡ trace_of (meaning t) positions)
 
--- a call changed nothing and returned this code
+-- nothing changed, and this code was returned
 abbrev pub Refuses : (due code : ℕ) → (old new : List ℕ) → Type 0
 Refuses due code old new = (code ≡ due) × (new ≡ old)
 
--- the name of a function, guessed by a text and a minified name, which has to be UTF-8
+-- the name of a function, guessed from a text and a minified name, which must be UTF-8
 abbrev pub Guesses : MapTree → (source minified : List ℕ) → ℕ × ℕ → ℕ → (old new : List ℕ) → Type 0
 Guesses t source minified p code old new = (¬ IsUtf8 minified → Refuses 2 code old new)
-    × (IsUtf8 minified → IsSaid code old new)
-    × (IsUtf8 minified → AreNamesInOrder t (Some source) (Some minified) p → Says (Some (function_name t (Some source) (Some minified) p)) code old new)
+    × (IsUtf8 minified → IsAbsentUnlessOk code old new)
+    × (IsUtf8 minified → AreNamesInOrder t (Some source) (Some minified) p → ReturnsValue (Some (function_name t (Some source) (Some minified) p)) code old new)
 
--- the name of a function by a map: a Hermes map has it, others guess it, and need a text
+-- the name of a function: a Hermes map has it, other maps guess it and need a text
 abbrev pub Names : MapTree → (source : Option (List ℕ)) → (minified : List ℕ) → ℕ × ℕ → ℕ → (old new : List ℕ) → Type 0
-Names (leaf (hermes h)) source minified p code old new = IsSaid code old new
-    × (AreNamesInOrder (leaf (hermes h)) None None p → Says (Some (function_name (leaf (hermes h)) None None p)) code old new)
+Names (leaf (hermes h)) source minified p code old new = IsAbsentUnlessOk code old new
+    × (AreNamesInOrder (leaf (hermes h)) None None p → ReturnsValue (Some (function_name (leaf (hermes h)) None None p)) code old new)
 Names t None minified p code old new = Refuses 33 code old new
 Names t (Some source) minified p code old new = Guesses t source minified p code old new
 
@@ -37,8 +37,8 @@ abbrev pub NamesIn : Option MapTree → (source : Option (List ℕ)) → (minifi
 NamesIn None source minified p code old new = Refuses 33 code old new
 NamesIn (Some t) source minified p code old new = Names t source minified p code old new
 
--- the name of the function at an offset of the bytecode
+-- the name of the function at a bytecode offset
 abbrev pub NamesAt : Option MapTree → (offset : ℕ) → ℕ → (old new : List ℕ) → Type 0
-NamesAt (Some (leaf (hermes h))) offset code old new = IsSaid code old new
-    × (IfSome (lookup h.map (0, offset)) (λ t. IsInOrderAt h.scopes t.raw.src_id) → Says (Some (name_at_offset h offset)) code old new)
+NamesAt (Some (leaf (hermes h))) offset code old new = IsAbsentUnlessOk code old new
+    × (IfSome (lookup h.map (0, offset)) (λ t. IsInOrderAt h.scopes t.raw.src_id) → ReturnsValue (Some (name_at_offset h offset)) code old new)
 NamesAt _ offset code old new = Refuses 33 code old new

@@ -1,17 +1,17 @@
--- What a handle holds, by its kind.
+-- Kinds and values of handles.
 use Rattle.std.specs.Prelude.{◌≡◌, ℕ, List, Option, Some, None}
 use Rattle.std.specs.Arc.{arc_value, arc_with_value}
 use Rattle.std.specs.declared.alloc.Global.{Global}
 use Rattle.std.specs.declared.sync.Arc.{Arc}
-use Rattle.sourcemap_trees.specs.MapTree.{regular, hermes, MapTree, leaf, index}
+use Rattle.sourcemap_index_model.specs.MapTree.{regular, hermes, MapTree, leaf, index}
 use Rattle.sourcemap_index.specs.Family.{map_tree}
 use Rattle.sourcemap_index.specs.declared.family.DecodedMap.{DecodedMap}
 use Rattle.sourcemap_builder.specs.Builder.{BuilderValue}
 use Rattle.sourcemap_c.specs.declared.kinds.Kind.{Kind}
-use Rattle.sourcemap_handles.specs.declared.held.Held.{Held}
-use Rattle.sourcemap_handles.specs.declared.held.Held.TheVariants.{Map, Builder, View, Bundle, Split, Bytes}
+use Rattle.sourcemap_c_handles.specs.declared.held.Held.{Held}
+use Rattle.sourcemap_c_handles.specs.declared.held.Held.TheVariants.{Map, Builder, View, Bundle, Split, Bytes}
 
--- the map that a handle holds
+-- the map of a handle as a tree, if it has one
 abbrev pub tree_in : Option Held → Option MapTree
 tree_in (Some (Map map)) = Some (map_tree (arc_value map))
 tree_in _ = None
@@ -28,11 +28,11 @@ abbrev pub bytes_in : Option Held → Option (List ℕ)
 bytes_in (Some (Bytes bytes)) = Some bytes.items
 bytes_in _ = None
 
--- the same `Arc`, with a map of the same value
+-- the same `Arc`, and a map of the same value
 abbrev pub IsSameMap : (old new : Arc DecodedMap Global) → Type 0
 IsSameMap old new = (new ≡ arc_with_value old (arc_value new)) × (map_tree (arc_value new) ≡ map_tree (arc_value old))
 
--- it holds the same: the same `Arc` of a map, or the very same of any other kind
+-- the same value: the same `Arc` of a map, or for other kinds equality
 abbrev pub IsAsBefore : (old new : Option Held) → Type 0
 IsAsBefore (Some (Map old)) (Some (Map new)) = IsSameMap old new
 IsAsBefore old new = new ≡ old
@@ -51,7 +51,7 @@ kind_of (Some (Bundle _)) = Kind.Bundle
 kind_of (Some (Split _)) = Kind.Split
 kind_of (Some (Bytes _)) = Kind.Bytes
 
--- SM_KIND_... of the header
+-- `SM_KIND_..` of the header
 abbrev pub number_of : Kind → ℕ
 number_of Kind.Empty = 0
 number_of Kind.Regular = 1

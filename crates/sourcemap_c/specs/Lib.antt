@@ -3,7 +3,7 @@ pub mod Kinds
 pub mod Opening
 pub mod Lookup
 pub mod Writing
-pub mod Asking
+pub mod Getters
 pub mod Changing
 pub mod Making
 pub mod Building

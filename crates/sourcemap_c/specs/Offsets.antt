@@ -1,13 +1,13 @@
--- What an index map knows of the modules of its bundle.
+-- First lines and paths of modules in an index map.
 use Rattle.std.specs.Prelude.{◌≡◌, ◌≢◌, ◌≤◌, ◌-◌, ◌⊎◌, ℕ, List, Option, Some, None, IfSome, length, min, option_map, slice_get, unwrap_or}
 use Rattle.std.specs.Option.{option_and_then}
 use Rattle.std.specs.Str.{IsUtf8}
 use Rattle.sourcemap_errors.specs.declared.errors.Error.{Error}
-use Rattle.sourcemap_trees.specs.MapTree.{MapTree, index}
-use Rattle.sourcemap_c.specs.Asking.{AreFrom}
-use Rattle.sourcemap_c.specs.Codes.{IsNoText, Says}
+use Rattle.sourcemap_index_model.specs.MapTree.{MapTree, index}
+use Rattle.sourcemap_c.specs.Getters.{AreFrom}
+use Rattle.sourcemap_c.specs.Codes.{IsNoText, ReturnsValue}
 
--- the first lines of modules, if a map has a list of them; there is nothing to ask of what is no index
+-- the first lines of modules, if the index has a list of them; `None` for other maps
 abbrev pub lines_in : Option MapTree → Option (Option (List (Option ℕ)))
 lines_in (Some (index parts _)) = Some parts.x_facebook_offsets
 lines_in _ = None
@@ -17,21 +17,21 @@ abbrev pub path_in : ℕ → Option MapTree → Option (Option (List ℕ))
 path_in id (Some (index parts _)) = Some (option_and_then (λ paths. slice_get paths id) parts.x_metro_module_paths)
 path_in id _ = None
 
--- the number of a line, or that of none
+-- the line, or `SM_NONE`
 abbrev pub or_none : Option ℕ → ℕ
 or_none line = unwrap_or line 4294967295
 
--- lines were written from `first` on, as many as there are and fit, and how many they are; or nothing was written
+-- Lines from `first` were written, as many as exist and fit, and their number; or nothing was written.
 pub record WritesLines (due : Option (Option (List (Option ℕ)))) (first code : ℕ) (old new : List ℕ) (before after : ℕ) : Type 0 where
-  pub says : Says (option_map (option_map (λ lines. min (length old) (length lines - first))) due) code before after
+  pub count : ReturnsValue (option_map (option_map (λ lines. min (length old) (length lines - first))) due) code before after
   pub lines : code ≡ 0 → IfSome due (λ found. IfSome found (λ lines. AreFrom or_none first lines new after))
   pub rest : code ≡ 0 → (i : ℕ) → after ≤ i → slice_get new i ≡ slice_get old i
   pub kept : code ≢ 0 → new ≡ old
 
--- both are texts
+-- both are UTF-8
 abbrev pub AreTexts : (one other : List ℕ) → Type 0
 AreTexts one other = IsUtf8 one × IsUtf8 other
 
--- either text is none
+-- one of both is not UTF-8
 abbrev pub IsNoTextOf : (one other : List ℕ) → Error → Type 0
 IsNoTextOf one other e = IsNoText one e ⊎ IsNoText other e

@@ -1,18 +1,18 @@
--- What is opened, and why it is not.
+-- Maps that are decoded into a handle, and the errors.
 use Rattle.std.specs.Prelude.{◌≡◌, ◌⊎◌, ℕ, List, Option, Some, Result, Ok, Err}
 use Rattle.std.specs.Str.{IsUtf8}
 use Rattle.sourcemap_errors.specs.declared.errors.Error.{Error}
 use Rattle.sourcemap_index.specs.Decode.{UrlDecodes}
-use Rattle.sourcemap_trees.specs.MapTree.{MapTree}
-use Rattle.sourcemap_trees.specs.WellFormed.{IsWellFormed}
-use Rattle.sourcemap_handles.specs.declared.held.Held.{Held}
+use Rattle.sourcemap_index_model.specs.MapTree.{MapTree}
+use Rattle.sourcemap_index_model.specs.WellFormed.{IsWellFormed}
+use Rattle.sourcemap_c_handles.specs.declared.held.Held.{Held}
 use Rattle.sourcemap_c.specs.Codes.{IsNoText}
 use Rattle.sourcemap_c.specs.Kinds.{tree_in}
 
--- a handle holds the map that was read, which is well-formed
+-- the handle has the decoded map, which is well-formed
 abbrev pub Holds : (Result MapTree Error → Type 0) → Option Held → Type 0
 Holds Decodes held = (t : MapTree) × (tree_in held ≡ Some t) × Decodes (Ok t) × IsWellFormed t
 
--- bytes that are no text, or no data URL of a map
+-- bytes that are not UTF-8, or no data URL of a map
 abbrev pub AreNoUrl : List ℕ → Error → Type 0
 AreNoUrl url e = IsNoText url e ⊎ (IsUtf8 url × UrlDecodes url (Err e))

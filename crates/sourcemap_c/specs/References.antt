@@ -1,22 +1,22 @@
--- References to maps: what is found, and where it leads.
+-- References to source maps: found, and resolved.
 use Rattle.std.specs.Prelude.{◌≡◌, ◌⊎◌, ℕ, List, Bool, true, false, Option, Some, None, Result, Ok, Err, string_bytes}
 use Rattle.std.specs.Str.{IsUtf8}
 use Rattle.std.specs.declared.alloc.Global.{Global}
 use Rattle.std.specs.declared.string.String.{String}
 use Rattle.sourcemap_errors.specs.declared.errors.Error.{Error}
-use Rattle.sourcemap_handles.specs.declared.errors.Failure.{Failure}
-use Rattle.sourcemap_handles.specs.declared.errors.Failure.TheVariants.{Library, Absent, WrongKind, PastLimit}
-use Rattle.sourcemap_handles.specs.declared.held.Held.{Held}
+use Rattle.sourcemap_c_handles.specs.declared.errors.Failure.{Failure}
+use Rattle.sourcemap_c_handles.specs.declared.errors.Failure.TheVariants.{Library, Absent, WrongKind, PastLimit}
+use Rattle.sourcemap_c_handles.specs.declared.held.Held.{Held}
 use Rattle.sourcemap_references.specs.Reference.{Reference, usual, legacy}
 use Rattle.sourcemap_errors.specs.Answer.{UnlessMemory as LibraryUnless}
-use Rattle.sourcemap_places.specs.Places.{url_text}
+use Rattle.sourcemap_file_urls.specs.Places.{url_text}
 use Rattle.sourcemap_references.specs.References.{IsInvalidData, url_of}
 use Rattle.sourcemap_references.specs.Resolution.{IsLongJoin, UnlessLong, resolved, resolved_path}
 use Rattle.sourcemap_references.specs.declared.detector.SourceMapRef.{SourceMapRef}
 use Rattle.sourcemap_c.specs.Codes.{Does, IsNoText, NoError, OfLibrary}
 use Rattle.sourcemap_c.specs.Kinds.{bytes_in}
 
--- the reference that is due was found: its URL is held, and its mark is said
+-- the reference was found: the handle has its URL, and the kind of its mark was written
 abbrev pub IsReference : Reference → Option Held → Bool → Type 0
 IsReference (usual url) held is_legacy = (bytes_in held ≡ Some url) × (is_legacy ≡ false)
 IsReference (legacy url) held is_legacy = (bytes_in held ≡ Some url) × (is_legacy ≡ true)
@@ -25,29 +25,29 @@ abbrev pub IsFound : Option (Option Reference) → Option Held → Bool → Type
 IsFound (Some (Some reference)) held is_legacy = IsReference reference held is_legacy
 IsFound _ held is_legacy = ⊥
 
--- none is there, or a line is not UTF-8
+-- there is no reference, or a line is not UTF-8
 abbrev pub IsNotFound : Option (Option Reference) → Failure → Type 0
 IsNotFound due (Library e) = (due ≡ None) × IsInvalidData e
 IsNotFound due Absent = due ≡ Some None
 IsNotFound due WrongKind = ⊥
 IsNotFound due PastLimit = ⊥
 
--- both are texts, and this is what is due of them
+-- both are UTF-8, and this is the result for them
 abbrev pub OfTexts : (url base : List ℕ) → (Result (Option (List ℕ)) Error → Type 0) → Result (Option (List ℕ)) Error → Type 0
 OfTexts url base Due due = IsUtf8 url × IsUtf8 base × Due due
 
--- the text that a reference leads to is held
+-- the handle has the resolved reference
 abbrev pub LeadsTo : (url base : List ℕ) → (Result (Option (List ℕ)) Error → Type 0) → Option Held → Type 0
 LeadsTo url base Due held = (text : List ℕ) × (bytes_in held ≡ Some text) × OfTexts url base Due (Ok (Some text))
 
--- it leads nowhere, or what was given is no text
+-- it cannot be resolved, or an argument is not UTF-8
 abbrev pub LeadsNowhere : (url base : List ℕ) → (Result (Option (List ℕ)) Error → Type 0) → Failure → Type 0
 LeadsNowhere url base Due (Library e) = (IsNoText url e ⊎ IsNoText base e) ⊎ OfTexts url base Due (Err e)
 LeadsNowhere url base Due Absent = OfTexts url base Due (Ok None)
 LeadsNowhere url base Due WrongKind = ⊥
 LeadsNowhere url base Due PastLimit = ⊥
 
--- what was found is put into the handle
+-- the handle has the result
 abbrev pub Puts : Result (Option (String Global)) Error → Result (Unit {0}) Failure → (old new : Option Held) → Type 0
 Puts (Ok (Some text)) result old new = Does result (bytes_in new ≡ Some (string_bytes text)) (OfLibrary NoError) (new ≡ old)
 Puts (Ok None) result old new = (result ≡ Err Absent) × (new ≡ old)
@@ -58,7 +58,7 @@ abbrev pub Refers : Result SourceMapRef Error → List ℕ → Type 0
 Refers (Ok found) url = (url_of found ≡ url) × IsUtf8 url
 Refers (Err e) url = LibraryUnless e (IsNoText url e)
 
--- where a reference leads from the URL of its text, and from the path
+-- a reference resolved against the URL of its text, and against the path
 abbrev pub Resolves : (base url : List ℕ) → Result (Option (List ℕ)) Error → Type 0
 Resolves base url = UnlessLong (resolved base url) (IsLongJoin base url)
 

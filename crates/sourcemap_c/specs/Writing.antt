@@ -1,9 +1,9 @@
--- What a map is written as.
+-- Encoding of maps.
 use Rattle.std.specs.Prelude.{◌≡◌, ℕ, List, Option, Some, None}
 use Rattle.sourcemap_headers.specs.DataUrl.{data_url_of}
-use Rattle.sourcemap_regular.specs.Write.{IsEncoded}
-use Rattle.sourcemap_trees.specs.Encode.{RecordAnswer}
-use Rattle.sourcemap_trees.specs.MapTree.{MapTree}
+use Rattle.sourcemap_map_regular.specs.Write.{IsEncoded}
+use Rattle.sourcemap_index_model.specs.Encode.{RecordAnswer}
+use Rattle.sourcemap_index_model.specs.MapTree.{MapTree}
 
 -- the JSON text of the map
 abbrev pub HoldsText : Option MapTree → Option (List ℕ) → Type 0

@@ -1,11 +1,11 @@
-//! Maps in handles that are built.
+//! Builders.
 ghost use Rattle.std.specs.Prelude.{◌≡◌, ◌<◌, ◌≤◌, Err, IfSome, IsSomeAnd, None, Ok, Some, is_some, length, true};
 ghost use Rattle.std.specs.Option.{option_copied};
 ghost use Rattle.sourcemap_builder.specs.Builder.{built, empty_builder, with_name, with_source, with_token};
 ghost use Rattle.sourcemap_errors.specs.Answer.{Changes};
-ghost use Rattle.sourcemap_handles.specs.Handles.{held_in};
-ghost use Rattle.sourcemap_handles.specs.Layout.{raw_token};
-ghost use Rattle.sourcemap_trees.specs.MapTree.{leaf, regular};
+ghost use Rattle.sourcemap_c_handles.specs.Handles.{held_in};
+ghost use Rattle.sourcemap_c_handles.specs.Layout.{raw_token};
+ghost use Rattle.sourcemap_index_model.specs.MapTree.{leaf, regular};
 ghost use Rattle.sourcemap_c.specs.Building.{Adds, AddsAll, AddsNot, AreAdded, FailsStep, HasContents, HasId, HasRoot, HoldsStep, Ignores, StepsTo, with_tokens};
 ghost use Rattle.sourcemap_c.specs.Codes.{Answers, Does, NoError, OfLibrary, OfLibraryOrKind, OrNoText, text_if};
 ghost use Rattle.sourcemap_c.specs.Kinds.{builder_in, tree_in};
@@ -14,12 +14,12 @@ use crate::codes::{id_if, text_if, text_in};
 use crate::kinds::put_map;
 use sourcemap::jsontypes::DebugId;
 use sourcemap::{DecodedMap, RawToken, Result, SourceMapBuilder};
-use sourcemap_handles::errors::{ErrorReport, Failure, Outcome, finish};
-use sourcemap_handles::layout::{IdBytes, MapToken};
-use sourcemap_handles::{Handle, Held};
+use sourcemap_c_handles::errors::{ErrorReport, Failure, Outcome, finish};
+use sourcemap_c_handles::layout::{IdBytes, MapToken};
+use sourcemap_c_handles::{Handle, Held};
 use std::alloc::Global;
 
-/// A step in which a builder is changed.
+/// A change of a builder.
 #[derive(Clone, Copy)]
 enum Step<'a> {
     Root(Option<&'a str>),
@@ -28,7 +28,7 @@ enum Step<'a> {
     Ignored(u32),
 }
 
-/// Fills a handle with a builder of nothing but the name of the generated file.
+/// Fills the handle with an empty builder. The name of the generated file is optional.
 #[unsafe(no_mangle)]
 pub extern "C" fn sm_builder_new(
     alloc: Global,
@@ -68,7 +68,7 @@ fn put_builder(alloc: Global, builder: &mut Handle, file: Option<&str>) -> Outco
     Ok(())
 }
 
-/// Sets or removes the root that sources are resolved against.
+/// Sets or removes the `sourceRoot`.
 #[unsafe(no_mangle)]
 pub extern "C" fn sm_builder_set_source_root(
     alloc: Global,
@@ -124,7 +124,7 @@ fn set_id(alloc: Global, builder: &mut Handle, present: bool, id: &IdBytes) -> O
     step_in(alloc, builder, &Step::Id(id))
 }
 
-/// Adds a source, and writes its id.
+/// Adds a source and writes its id.
 #[unsafe(no_mangle)]
 pub extern "C" fn sm_builder_add_source(
     alloc: Global,
@@ -184,7 +184,7 @@ fn add_source_to(held: &mut Held, text: &str, id: &mut u32) -> Outcome<()>
     }
 }
 
-/// Adds a name, and writes its id.
+/// Adds a name and writes its id.
 #[unsafe(no_mangle)]
 pub extern "C" fn sm_builder_add_name(
     alloc: Global,
@@ -284,7 +284,7 @@ fn set_contents(
     }
 }
 
-/// Puts a source on the ignore list.
+/// Adds a source to the ignore list.
 #[unsafe(no_mangle)]
 pub extern "C" fn sm_builder_ignore_source(
     alloc: Global,
@@ -369,7 +369,7 @@ fn ignore(builder: &mut SourceMapBuilder, id: u32) -> Outcome<()>
     Ok(())
 }
 
-/// Adds tokens, and returns how many were added.
+/// Adds tokens and returns how many were added, which is all of them unless memory runs out.
 #[unsafe(no_mangle)]
 pub extern "C" fn sm_builder_add_tokens(
     alloc: Global,
@@ -460,7 +460,8 @@ fn add_token(builder: &mut SourceMapBuilder, token: MapToken) -> Result<()>
     Ok(())
 }
 
-/// Fills a handle with the map that was built, and empties the builder.
+/// Fills `map` with the finished map. The handle of the builder is empty afterwards, also after an
+/// error.
 #[unsafe(no_mangle)]
 pub extern "C" fn sm_builder_finish(
     alloc: Global,
@@ -498,7 +499,7 @@ fn finish_builder(alloc: Global, builder: &mut Handle, map: &mut Handle) -> Outc
     }
 }
 
-// Empties a handle that holds a builder; any other stays as it is.
+// Takes the builder out of its handle. A handle of another kind is unchanged.
 fn take_builder(alloc: Global, handle: &mut Handle) -> Option<SourceMapBuilder>
     ensures value { result ≡ builder_in (held_in handle.old) }
     ensures emptied { IfSome (builder_in (held_in handle.old)) (λ _. held_in handle.new ≡ None) }

@@ -1,29 +1,28 @@
-//! RAM bundles, and their modules with their maps.
+//! RAM bundles, and bundles that are split into modules with maps.
 ghost use Rattle.std.specs.Prelude.{◌≡◌, ◌++◌, Err, IfOk, IfErr, MatchResult, None, Ok, Some, length, map, option_map, slice_get};
 ghost use Rattle.std.specs.Borrow.{sem};
 ghost use Rattle.std.specs.Option.{option_copied};
 ghost use Rattle.sourcemap_bundles.specs.Modules.{bundle_count, bundle_startup, indexed_bundle, modules_of};
 ghost use Rattle.sourcemap_errors.specs.Answer.{Gives};
 ghost use Rattle.sourcemap_errors.specs.declared.errors.Error.TheVariants.{InvalidRamBundleEntry, OutOfMemory};
-ghost use Rattle.sourcemap_handles.specs.Handles.{EndsAsBefore, held_in};
+ghost use Rattle.sourcemap_c_handles.specs.Handles.{EndsAsBefore, held_in};
 ghost use Rattle.sourcemap_index.specs.Family.{index_value, map_tree};
-ghost use Rattle.sourcemap_splitting.specs.Iterators.{dues_left};
-ghost use Rattle.sourcemap_splitting.specs.Split.{parts_value};
-ghost use Rattle.sourcemap_trees.specs.MapTree.{index_tree};
+ghost use Rattle.sourcemap_bundle_split.specs.Iterators.{dues_left};
+ghost use Rattle.sourcemap_bundle_split.specs.Split.{parts_value};
+ghost use Rattle.sourcemap_index_model.specs.MapTree.{index_tree};
 ghost use Rattle.sourcemap_c.specs.Bundles.{HasMap, IsNamed, IsNoItem, IsSplit, IsUnsplit, Makes, bundle_in, due_value, item_of, item_value, items_in, module_bytes, module_value};
-ghost use Rattle.sourcemap_c.specs.Codes.{Answers, Does, NoError, OfLibrary, OfLibraryKindOrAbsent, OfLibraryOrKind, Says};
+ghost use Rattle.sourcemap_c.specs.Codes.{Answers, Does, NoError, OfLibrary, OfLibraryKindOrAbsent, OfLibraryOrKind, ReturnsValue};
 ghost use Rattle.sourcemap_c.specs.Kinds.{tree_in};
 
 use crate::codes::{OK, WRONG_KIND};
 use crate::kinds::{map_in, put_shared};
 use sourcemap::ram_bundle::{RamBundle, SplitRamBundleModuleIter, split_ram_bundle};
 use sourcemap::{DecodedMap, Error, Result, SourceMap, SourceMapIndex, SourceView};
-use sourcemap_handles::errors::{ErrorReport, Failure, Outcome, finish};
-use sourcemap_handles::{Handle, Held, SplitModule};
+use sourcemap_c_handles::errors::{ErrorReport, Failure, Outcome, finish};
+use sourcemap_c_handles::{Handle, Held, SplitModule};
 use std::alloc::Global;
 use std::sync::Arc;
 
-// The bundle in a handle.
 fn bundle_in<'a>(handle: &'a mut Handle) -> Option<&'a RamBundle<'static>>
     ensures* after { sem 𝓛 (EndsAsBefore handle.entry) }
     ensures value { option_copied result ≡ bundle_in (held_in handle.old) }
@@ -34,7 +33,7 @@ fn bundle_in<'a>(handle: &'a mut Handle) -> Option<&'a RamBundle<'static>>
     }
 }
 
-/// Fills a handle with the bundle that a copy of these bytes is.
+/// Copies the bytes and fills the handle with the bundle that they are.
 #[unsafe(no_mangle)]
 pub extern "C" fn sm_bundle_open(
     alloc: Global,
@@ -73,10 +72,10 @@ fn put_bundle(alloc: Global, parsed: RamBundle<'static>, bundle: &mut Handle) ->
     Ok(())
 }
 
-/// Writes how many numbers the modules of a bundle have.
+/// Writes the size of the module table; some numbers may have no module.
 #[unsafe(no_mangle)]
 pub extern "C" fn sm_bundle_count(bundle: &mut Handle, modules: &mut usize) -> u32
-    ensures modules { Says (option_map (λ b. Some (bundle_count b)) (bundle_in (held_in bundle.old)))
+    ensures modules { ReturnsValue (option_map (λ b. Some (bundle_count b)) (bundle_in (held_in bundle.old)))
         result modules.old modules.new }
     ensures kept { held_in bundle.new ≡ held_in bundle.old }
 {
@@ -89,7 +88,7 @@ pub extern "C" fn sm_bundle_count(bundle: &mut Handle, modules: &mut usize) -> u
     }
 }
 
-/// The startup code of a bundle.
+/// Borrows the startup code.
 #[unsafe(no_mangle)]
 pub extern "C" fn sm_bundle_startup<'a>(
     alloc: Global,
@@ -134,7 +133,7 @@ fn put_startup<'a>(bundle: &'a RamBundle<'static>, bytes: &mut &'a [u8]) -> Outc
     }
 }
 
-/// The bytes of a module.
+/// Borrows the bytes of a module.
 #[unsafe(no_mangle)]
 pub extern "C" fn sm_bundle_module<'a>(
     alloc: Global,
@@ -185,7 +184,7 @@ fn put_module<'a>(bundle: &'a RamBundle<'static>, id: usize, bytes: &mut &'a [u8
     }
 }
 
-/// Fills a handle with the modules of a bundle, each with its map by an index map.
+/// Splits the bundle by its index map and fills the handle with the modules and their maps.
 #[unsafe(no_mangle)]
 pub extern "C" fn sm_bundle_split(
     alloc: Global,
@@ -290,7 +289,6 @@ fn put_items(
     Ok(())
 }
 
-// The modules that are still to come.
 fn items_of(
     alloc: Global,
     mut modules: SplitRamBundleModuleIter<'_>,
@@ -305,8 +303,8 @@ fn items_of(
     Ok(items)
 }
 
-// An item of these parts, whose map several handles may hold. Returns `OutOfMemory` only, also where
-// the parts are that error.
+// Moves the map of a module to an `Arc`, so that handles can share it. The error of a module is kept
+// in its item, but `OutOfMemory` is returned.
 fn item_with(
     alloc: Global,
     parts: Result<(String, SourceView, SourceMap)>,
@@ -323,7 +321,6 @@ fn item_with(
     }
 }
 
-// The items in a handle.
 fn items_in<'a>(handle: &'a mut Handle) -> Option<&'a [Result<SplitModule>]>
     ensures* after { sem 𝓛 (EndsAsBefore handle.entry) }
     ensures value { option_map (λ items. map item_value items.now) result ≡ items_in (held_in handle.old) }
@@ -334,10 +331,10 @@ fn items_in<'a>(handle: &'a mut Handle) -> Option<&'a [Result<SplitModule>]>
     }
 }
 
-/// Writes how many items a split bundle has.
+/// Writes the number of items of a split bundle.
 #[unsafe(no_mangle)]
 pub extern "C" fn sm_split_count(split: &mut Handle, items: &mut usize) -> u32
-    ensures items { Says (option_map (λ list. Some (length list)) (items_in (held_in split.old)))
+    ensures items { ReturnsValue (option_map (λ list. Some (length list)) (items_in (held_in split.old)))
         result items.old items.new }
     ensures kept { held_in split.new ≡ held_in split.old }
 {
@@ -350,7 +347,7 @@ pub extern "C" fn sm_split_count(split: &mut Handle, items: &mut usize) -> u32
     }
 }
 
-// An item by its number.
+// The item at this index, or the error that is kept in it.
 fn item_at(items: &[Result<SplitModule>], item: usize) -> Outcome<&SplitModule>
     ensures { MatchResult result
         (λ found. item_of (Some (map item_value items.now)) item ≡ Some (Some (Ok (module_value found.now))))
@@ -363,7 +360,7 @@ fn item_at(items: &[Result<SplitModule>], item: usize) -> Outcome<&SplitModule>
     }
 }
 
-/// The name and the text of an item.
+/// Borrows the name and the text of an item.
 #[unsafe(no_mangle)]
 pub extern "C" fn sm_split_item<'a>(
     alloc: Global,
@@ -419,7 +416,7 @@ fn put_texts_of<'a>(
     }
 }
 
-/// Fills a handle with the map of an item, which is shared.
+/// Fills `to` with the map of an item, which both handles share.
 #[unsafe(no_mangle)]
 pub extern "C" fn sm_split_map(
     alloc: Global,

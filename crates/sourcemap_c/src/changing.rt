@@ -1,21 +1,21 @@
-//! Maps in handles that are changed where they stand. One that other handles hold is copied first.
+//! Changes of maps. A map is changed in place, or copied first if other handles share it.
 ghost use Rattle.std.specs.Prelude.{◌≡◌, ◌<◌, ◌≤◌, Err, MatchResult, Ok, Some, length, slice_set};
 ghost use Rattle.std.specs.BTreeSet.{insert_key};
 ghost use Rattle.std.specs.Option.{option_copied};
 ghost use Rattle.std.specs.Ordering.{nat_cmp};
 ghost use Rattle.std.specs.Arc.{arc_value};
-ghost use Rattle.sourcemap_handles.specs.Handles.{held_in};
+ghost use Rattle.sourcemap_c_handles.specs.Handles.{held_in};
 ghost use Rattle.sourcemap_index.specs.Family.{map_tree};
-ghost use Rattle.sourcemap_regular.specs.Map.{fitted};
-ghost use Rattle.sourcemap_handles.specs.declared.errors.Failure.TheVariants.{Absent};
+ghost use Rattle.sourcemap_map_regular.specs.Map.{fitted};
+ghost use Rattle.sourcemap_c_handles.specs.declared.errors.Failure.TheVariants.{Absent};
 ghost use Rattle.sourcemap_c.specs.Changing.{ChangesTo, FailsAs, HasContents, HasFile, HasId, HasNoNames, HasRoot, HasSource, HoldsNew, Ignores, IsDown};
 ghost use Rattle.sourcemap_c.specs.Codes.{Answers, Does, UnlessMemory};
 ghost use Rattle.sourcemap_c.specs.Kinds.{IsAsBefore, IsSameMap, tree_in};
 
 use sourcemap::jsontypes::DebugId;
 use sourcemap::{DecodedMap, Error, SourceMap};
-use sourcemap_handles::errors::{ErrorReport, Failure, Outcome, finish};
-use sourcemap_handles::{Handle, Held};
+use sourcemap_c_handles::errors::{ErrorReport, Failure, Outcome, finish};
+use sourcemap_c_handles::{Handle, Held};
 use std::alloc::Global;
 use std::sync::Arc;
 
@@ -32,7 +32,7 @@ pub(crate) enum Change<'a> {
     Down(u32),
 }
 
-/// Moves each section of an index so many lines down.
+/// Moves each section of an index down by `lines`.
 #[unsafe(no_mangle)]
 pub extern "C" fn sm_shift(
     alloc: Global,
@@ -48,7 +48,7 @@ pub extern "C" fn sm_shift(
     finish(alloc, change_map(alloc, map, &Change::Down(lines)), error)
 }
 
-/// Changes the map in a handle.
+/// Changes the map in the handle. After an error it is unchanged.
 pub(crate) fn change_map(alloc: Global, handle: &mut Handle, change: &Change<'_>) -> Outcome<()>
     ensures { Does result
         (HoldsNew (ChangesTo change.now) (held_in handle.old) (held_in handle.new))
@@ -77,7 +77,7 @@ fn change_held(alloc: Global, held: &mut Held, change: &Change<'_>) -> Outcome<(
     }
 }
 
-// Where other handles hold the map, a changed copy of its own replaces it in this one.
+// The map is shared: changes a copy, which replaces the shared map in this handle.
 fn change_shared(alloc: Global, map: &mut Arc<DecodedMap>, change: &Change<'_>) -> Outcome<()>
     ensures { Does result
         (ChangesTo change.now (map_tree (arc_value map.old)) (Ok (map_tree (arc_value map.new))))

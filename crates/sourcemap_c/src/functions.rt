@@ -1,7 +1,7 @@
-//! Lists of positions that are answered, and names of functions.
+//! Traces of lists of positions, and names of functions.
 ghost use Rattle.std.specs.Prelude.{◌≡◌, None, Some};
 ghost use Rattle.std.specs.Option.{option_copied};
-ghost use Rattle.sourcemap_handles.specs.Handles.{held_in};
+ghost use Rattle.sourcemap_c_handles.specs.Handles.{held_in};
 ghost use Rattle.sourcemap_index.specs.Family.{map_tree};
 ghost use Rattle.sourcemap_c.specs.Codes.{Answers, Does, NoError, OfLibrary, OfLibraryOrKind};
 ghost use Rattle.sourcemap_c.specs.Functions.{Guesses, IsTrace, Names, NamesAt, NamesIn};
@@ -11,12 +11,12 @@ use crate::codes::{WRONG_KIND, put_text, text_in};
 use crate::kinds::{map_in, put_bytes};
 use crate::views::view_in;
 use sourcemap::{DecodedMap, SourceView};
-use sourcemap_handles::Handle;
-use sourcemap_handles::errors::{Code, ErrorReport, Failure, Outcome, finish};
+use sourcemap_c_handles::Handle;
+use sourcemap_c_handles::errors::{Code, ErrorReport, Failure, Outcome, finish};
 use sourcemap_trace::trace_text;
 use std::alloc::Global;
 
-/// Fills a handle with the answers of a map to a list of positions.
+/// Fills `text` with the trace of a list of positions.
 #[unsafe(no_mangle)]
 pub extern "C" fn sm_trace(
     alloc: Global,
@@ -59,7 +59,7 @@ fn put_trace(alloc: Global, map: &DecodedMap, positions: &[u8], text: &mut Handl
     }
 }
 
-/// The name of the function that a position stands in.
+/// Borrows the name of the function at a generated position.
 #[unsafe(no_mangle)]
 pub extern "C" fn sm_function_name<'a>(
     map: &'a mut Handle,
@@ -122,7 +122,7 @@ fn put_guess<'a>(
     }
 }
 
-/// The name of the function at an offset of the bytecode.
+/// Borrows the name of the function at a bytecode offset.
 #[unsafe(no_mangle)]
 pub extern "C" fn sm_hermes_function_name<'a>(
     map: &'a mut Handle,

@@ -1,24 +1,24 @@
-//! The ids of an ignore list, written to an array.
+//! Writes the ignore list to an array.
 ghost use Rattle.std.specs.Prelude.{◌≡◌, ◌≤◌, ◌<◌, ◌-◌, ℕ, drop, length, min, slice_get};
-ghost use Rattle.sourcemap_regular.specs.Iterators.{ids_left};
+ghost use Rattle.sourcemap_map_regular.specs.Iterators.{ids_left};
 ghost use Rattle.sourcemap_c.specs.Ids.{AreIdsFrom};
 
 use sourcemap::SourceMap;
-use sourcemap_regular::iterators::IgnoreListIter;
+use sourcemap_map_regular::iterators::IgnoreListIter;
 
-/// Writes the ids of the ignore list from number `first` on, and returns how many it wrote.
+/// Writes the ids of the ignore list, from index `first`, and returns how many were written.
 pub(crate) fn put_ignored(map: &SourceMap, first: usize, ids: &mut [u32]) -> usize
     ensures count { result ≡ min (length ids.old) (length map.now.ignored - first) }
     ensures each { AreIdsFrom first map.now.ignored ids.new result }
     ensures rest { (i : ℕ) → result ≤ i → slice_get ids.new i ≡ slice_get ids.old i }
 {
     let mut left = map.ignore_list();
-    pass_over(&mut left, first);
+    skip_ids(&mut left, first);
     write_ids(&mut left, ids)
 }
 
-// Passes over so many ids.
-fn pass_over(left: &mut IgnoreListIter<'_>, count: usize)
+// Skips `count` ids.
+fn skip_ids(left: &mut IgnoreListIter<'_>, count: usize)
     ensures { ids_left left.new ≡ drop count (ids_left left.old) }
 {
     let mut passed: usize = 0;
@@ -30,7 +30,7 @@ fn pass_over(left: &mut IgnoreListIter<'_>, count: usize)
     }
 }
 
-// Writes the ids that are left, as many as fit, and returns how many.
+// Writes the remaining ids, as many as fit, and returns how many were written.
 fn write_ids(left: &mut IgnoreListIter<'_>, ids: &mut [u32]) -> usize
     ensures count { result ≡ min (length ids.old) (length (ids_left left.old)) }
     ensures each { (i : ℕ) → i < result → slice_get ids.new i ≡ slice_get (ids_left left.old) i }

@@ -1,19 +1,19 @@
-//! What a handle holds, by its kind.
+//! Kinds of handles.
 ghost use Rattle.std.specs.Prelude.{◌≡◌, MatchResult, None, Some, option_map};
 ghost use Rattle.std.specs.Borrow.{sem};
 ghost use Rattle.std.specs.Option.{option_copied};
-ghost use Rattle.sourcemap_handles.specs.Handles.{EndsAsBefore, held_in};
+ghost use Rattle.sourcemap_c_handles.specs.Handles.{EndsAsBefore, held_in};
 ghost use Rattle.sourcemap_index.specs.Family.{map_tree};
 ghost use Rattle.sourcemap_c.specs.Codes.{Does, NoError, OfLibrary};
 ghost use Rattle.sourcemap_c.specs.Kinds.{bytes_in, kind_of, number_of, tree_in, tree_kind};
 
 use sourcemap::{DecodedMap, Error};
-use sourcemap_handles::errors::{Failure, Outcome};
-use sourcemap_handles::{Handle, Held};
+use sourcemap_c_handles::errors::{Failure, Outcome};
+use sourcemap_c_handles::{Handle, Held};
 use std::alloc::Global;
 use std::sync::Arc;
 
-/// What a handle holds, as the header numbers it.
+/// `SM_KIND_..` of the header.
 #[derive(Clone, Copy)]
 pub(crate) enum Kind {
     Empty = 0,
@@ -28,7 +28,7 @@ pub(crate) enum Kind {
 }
 
 impl Kind {
-    /// The number of the header.
+    /// The number in the header.
     pub(crate) fn number(self) -> u32
         ensures { result ≡ number_of self }
     {
@@ -60,7 +60,7 @@ fn tree_kind(map: &DecodedMap) -> Kind
     }
 }
 
-/// The map in a handle, of any kind.
+/// The map in the handle, regular, Hermes or index.
 pub(crate) fn map_in<'a>(handle: &'a mut Handle) -> Option<&'a DecodedMap>
     ensures* after { sem 𝓛 (EndsAsBefore handle.entry) }
     ensures value { option_map (λ map. map_tree map.now) result ≡ tree_in (held_in handle.old) }
@@ -71,7 +71,7 @@ pub(crate) fn map_in<'a>(handle: &'a mut Handle) -> Option<&'a DecodedMap>
     }
 }
 
-/// Fills a handle with a map. Returns `OutOfMemory` only.
+/// Fills the handle with a map. The only error is `OutOfMemory`.
 pub(crate) fn put_map(alloc: Global, handle: &mut Handle, map: DecodedMap) -> Outcome<()>
     ensures { Does result (tree_in (held_in handle.new) ≡ Some (map_tree map))
         (OfLibrary NoError) (held_in handle.new ≡ held_in handle.old) }
@@ -82,7 +82,7 @@ pub(crate) fn put_map(alloc: Global, handle: &mut Handle, map: DecodedMap) -> Ou
     }
 }
 
-/// Fills a handle with a map that others may hold. Returns `OutOfMemory` only.
+/// Fills the handle with a map that other handles may share. The only error is `OutOfMemory`.
 pub(crate) fn put_shared(alloc: Global, handle: &mut Handle, map: Arc<DecodedMap>) -> Outcome<()>
     ensures { Does result (tree_in (held_in handle.new) ≡ tree_in (Some (Held.Map map)))
         (OfLibrary NoError) (held_in handle.new ≡ held_in handle.old) }
@@ -91,7 +91,7 @@ pub(crate) fn put_shared(alloc: Global, handle: &mut Handle, map: Arc<DecodedMap
     Ok(())
 }
 
-/// Fills a handle with a text. Returns `OutOfMemory` only.
+/// Fills the handle with a text. The only error is `OutOfMemory`.
 pub(crate) fn put_bytes(alloc: Global, handle: &mut Handle, bytes: Vec<u8>) -> Outcome<()>
     ensures { Does result (bytes_in (held_in handle.new) ≡ Some bytes.items)
         (OfLibrary NoError) (held_in handle.new ≡ held_in handle.old) }

@@ -1,12 +1,12 @@
-//! The C interface: each function of `sourcemap.h`, over the handles and the library.
+//! The C interface: the functions of `sourcemap.h`.
 #![tactic(auto)]
 
-pub mod asking;
 pub mod building;
 pub mod bundles;
 pub mod changing;
 mod codes;
 pub mod functions;
+pub mod getters;
 mod ids;
 mod kinds;
 pub mod lookup;
@@ -15,6 +15,6 @@ pub mod offsets;
 pub mod opening;
 pub mod references;
 pub mod sections;
-pub mod setting;
+pub mod setters;
 pub mod views;
 pub mod writing;

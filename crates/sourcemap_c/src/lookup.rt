@@ -1,25 +1,25 @@
-//! Positions that are looked up.
+//! Lookups of generated positions.
 ghost use Rattle.std.specs.Prelude.{◌≡◌, ◌<◌, ◌≤◌, ℕ, IfSome, None, Some, length, min, option_and_then, option_map, slice_get, unwrap_or};
 ghost use Rattle.std.specs.Option.{option_copied};
-ghost use Rattle.sourcemap_handles.specs.Handles.{held_in};
-ghost use Rattle.sourcemap_handles.specs.Layout.{found_in};
+ghost use Rattle.sourcemap_c_handles.specs.Handles.{held_in};
+ghost use Rattle.sourcemap_c_handles.specs.Layout.{found_in};
 ghost use Rattle.sourcemap_index.specs.Family.{map_tree};
-ghost use Rattle.sourcemap_trees.specs.Meaning.{meaning};
-ghost use Rattle.sourcemap_trees.specs.WellFormed.{IsInOrder};
-ghost use Rattle.sourcemap_c.specs.Codes.{IsSaid, Says};
+ghost use Rattle.sourcemap_index_model.specs.Meaning.{meaning};
+ghost use Rattle.sourcemap_index_model.specs.WellFormed.{IsInOrder};
+ghost use Rattle.sourcemap_c.specs.Codes.{IsAbsentUnlessOk, ReturnsValue};
 ghost use Rattle.sourcemap_c.specs.Kinds.{tree_in};
-ghost use Rattle.sourcemap_c.specs.Lookup.{AreAnswered, SaysOf, answer_at, found_at, name_at, source_at};
+ghost use Rattle.sourcemap_c.specs.Lookup.{AreAnswered, ReturnsLookup, answer_at, found_at, name_at, source_at};
 
 use crate::codes::{ABSENT, OK, WRONG_KIND, put_text};
 use crate::kinds::map_in;
 use sourcemap::DecodedMap;
-use sourcemap_handles::Handle;
-use sourcemap_handles::layout::{Found, Position};
+use sourcemap_c_handles::Handle;
+use sourcemap_c_handles::layout::{Found, Position};
 
-/// Writes the closest token to a position.
+/// Writes the closest token to a generated position.
 #[unsafe(no_mangle)]
 pub extern "C" fn sm_lookup(map: &mut Handle, line: u32, column: u32, found: &mut Found) -> u32
-    ensures answer { SaysOf (λ t. found_at t (line, column)) (tree_in (held_in map.old))
+    ensures answer { ReturnsLookup (λ t. found_at t (line, column)) (tree_in (held_in map.old))
         result found.old found.new }
     ensures kept { held_in map.new ≡ held_in map.old }
 {
@@ -31,8 +31,8 @@ pub extern "C" fn sm_lookup(map: &mut Handle, line: u32, column: u32, found: &mu
 
 fn look_up(map: &DecodedMap, line: u32, column: u32, found: &mut Found) -> u32
     ensures answer { IsInOrder (map_tree map.now)
-        → Says (Some (found_at (map_tree map.now) (line, column))) result found.old found.new }
-    ensures said { IsSaid result found.old found.new }
+        → ReturnsValue (Some (found_at (map_tree map.now) (line, column))) result found.old found.new }
+    ensures unwritten { IsAbsentUnlessOk result found.old found.new }
 {
     match map.lookup_token(line, column) {
         Some(token) => {
@@ -43,7 +43,7 @@ fn look_up(map: &DecodedMap, line: u32, column: u32, found: &mut Found) -> u32
     }
 }
 
-/// Writes the answers to positions, as many as stand in both arrays, and returns how many.
+/// Looks up each generated position, as many as both arrays have items, and returns how many.
 #[unsafe(no_mangle)]
 pub extern "C" fn sm_lookup_many(
     map: &mut Handle,
@@ -85,7 +85,7 @@ fn answer(map: &DecodedMap, position: Position) -> Found
     }
 }
 
-/// The source of the closest token.
+/// Borrows the source of the closest token.
 #[unsafe(no_mangle)]
 pub extern "C" fn sm_lookup_source<'a>(
     map: &'a mut Handle,
@@ -93,7 +93,7 @@ pub extern "C" fn sm_lookup_source<'a>(
     column: u32,
     text: &mut &'a [u8],
 ) -> u32
-    ensures { SaysOf (λ t. source_at t (line, column)) (tree_in (held_in map.old))
+    ensures { ReturnsLookup (λ t. source_at t (line, column)) (tree_in (held_in map.old))
         result text.old.now text.new.now }
 {
     match map_in(map) {
@@ -109,7 +109,7 @@ fn source_at(map: &DecodedMap, line: u32, column: u32) -> Option<&str>
     map.lookup_token(line, column)?.get_source()
 }
 
-/// The name of the closest token.
+/// Borrows the name of the closest token.
 #[unsafe(no_mangle)]
 pub extern "C" fn sm_lookup_name<'a>(
     map: &'a mut Handle,
@@ -117,7 +117,7 @@ pub extern "C" fn sm_lookup_name<'a>(
     column: u32,
     text: &mut &'a [u8],
 ) -> u32
-    ensures { SaysOf (λ t. name_at t (line, column)) (tree_in (held_in map.old))
+    ensures { ReturnsLookup (λ t. name_at t (line, column)) (tree_in (held_in map.old))
         result text.old.now text.new.now }
 {
     match map_in(map) {

@@ -1,16 +1,16 @@
-//! Maps in handles that are made anew: rewritten, made flat, or adjusted by another one.
+//! Calls that replace a map: rewriting, flattening and composition.
 ghost use Rattle.std.specs.Prelude.{◌≡◌, Err, IsSomeAnd, MatchResult, Ok, Some, false, map as list_map};
 ghost use Rattle.std.specs.List.{All};
 ghost use Rattle.std.specs.Str.{IsUtf8};
 ghost use Rattle.sourcemap_errors.specs.Answer.{Gives, UnlessMemory as UnlessOutOfMemory};
 ghost use Rattle.sourcemap_errors.specs.declared.errors.Error.TheVariants.{OutOfMemory};
-ghost use Rattle.sourcemap_handles.specs.Handles.{held_in};
+ghost use Rattle.sourcemap_c_handles.specs.Handles.{held_in};
 ghost use Rattle.sourcemap_hermes.specs.Map.{hermes_value};
 ghost use Rattle.sourcemap_hermes.specs.Rewrite.{rewritten as hermes_rewritten};
 ghost use Rattle.sourcemap_index.specs.Family.{map_tree};
-ghost use Rattle.sourcemap_regular.specs.Adjust.{adjusted};
-ghost use Rattle.sourcemap_regular.specs.Rewrite.{removal_of, rewritten};
-ghost use Rattle.sourcemap_trees.specs.MapTree.{leaf, regular};
+ghost use Rattle.sourcemap_map_regular.specs.Adjust.{adjusted};
+ghost use Rattle.sourcemap_map_regular.specs.Rewrite.{removal_of, rewritten};
+ghost use Rattle.sourcemap_index_model.specs.MapTree.{leaf, regular};
 ghost use Rattle.sourcemap_c.specs.Changing.{FailsAs, HoldsNew, IsAdjustedBy, IsFlat, IsRewritten};
 ghost use Rattle.sourcemap_c.specs.Codes.{Answers, Does, UnlessMemory};
 ghost use Rattle.sourcemap_c.specs.Kinds.{tree_in};
@@ -19,12 +19,12 @@ ghost use Rattle.sourcemap_c.specs.Making.{HasNoText, OrNoPrefix, removal};
 use crate::codes::text_in;
 use crate::kinds::{map_in, put_map};
 use sourcemap::{DecodedMap, Result, RewriteOptions, SourceMap, SourceMapHermes};
-use sourcemap_handles::Handle;
-use sourcemap_handles::errors::{ErrorReport, Failure, Outcome, finish};
-use sourcemap_handles::no_files::NoFiles;
+use sourcemap_c_handles::Handle;
+use sourcemap_c_handles::errors::{ErrorReport, Failure, Outcome, finish};
+use sourcemap_c_handles::no_files::NoFiles;
 use std::alloc::Global;
 
-/// Makes an index the regular map that answers alike.
+/// Replaces an index by the regular map that it is flattened to.
 #[unsafe(no_mangle)]
 pub extern "C" fn sm_flatten(alloc: Global, map: &mut Handle, error: &mut ErrorReport) -> u32
     ensures { Answers result error.old error.new
@@ -72,7 +72,7 @@ fn flat(map: &DecodedMap) -> Outcome<DecodedMap>
     }
 }
 
-/// Adjusts a regular map by another one.
+/// Composes a regular map with another one.
 #[unsafe(no_mangle)]
 pub extern "C" fn sm_compose(
     alloc: Global,
@@ -158,7 +158,7 @@ fn composed(map: &SourceMap, adjustment: &SourceMap) -> Result<SourceMap>
     Ok(copy)
 }
 
-/// Makes a map one with what its tokens use alone.
+/// Rewrites the map: only what its tokens use stays.
 #[unsafe(no_mangle)]
 pub extern "C" fn sm_rewrite(
     alloc: Global,

@@ -1,25 +1,25 @@
-//! What an index map knows of the modules of its bundle, and paths between files.
+//! First lines and paths of the modules in an index map, and relative paths.
 ghost use Rattle.std.specs.Prelude.{◌≡◌, ◌≤◌, ◌-◌, ℕ, Some, length, min, slice_get};
 ghost use Rattle.std.specs.Option.{option_and_then, option_copied};
-ghost use Rattle.sourcemap_handles.specs.Handles.{held_in};
+ghost use Rattle.sourcemap_c_handles.specs.Handles.{held_in};
 ghost use Rattle.sourcemap_index.specs.Family.{index_value, map_tree};
-ghost use Rattle.sourcemap_places.specs.RelativePaths.{relative_path};
-ghost use Rattle.sourcemap_c.specs.Asking.{AreFrom};
-ghost use Rattle.sourcemap_c.specs.Codes.{Answers, Does, NoError, OfLibrary, Says};
+ghost use Rattle.sourcemap_file_urls.specs.RelativePaths.{relative_path};
+ghost use Rattle.sourcemap_c.specs.Getters.{AreFrom};
+ghost use Rattle.sourcemap_c.specs.Codes.{Answers, Does, NoError, OfLibrary, ReturnsValue};
 ghost use Rattle.sourcemap_c.specs.Kinds.{bytes_in, tree_in};
 ghost use Rattle.sourcemap_c.specs.Offsets.{AreTexts, IsNoTextOf, WritesLines, lines_in, or_none, path_in};
 
 use crate::codes::{ABSENT, OK, WRONG_KIND, put_text, text_in};
 use crate::kinds::{map_in, put_bytes};
 use sourcemap::{DecodedMap, SourceMapIndex, make_relative_path};
-use sourcemap_handles::Handle;
-use sourcemap_handles::errors::{ErrorReport, Failure, Outcome, finish};
+use sourcemap_c_handles::Handle;
+use sourcemap_c_handles::errors::{ErrorReport, Failure, Outcome, finish};
 use std::alloc::Global;
 
-// SM_NONE of the header.
+// `SM_NONE` of the header.
 const NONE: u32 = u32::MAX;
 
-/// Writes the first lines of the modules of a bundle, from module `first` on, and how many it wrote.
+/// Writes the first lines of modules, from module `first`, and how many were written.
 #[unsafe(no_mangle)]
 pub extern "C" fn sm_module_offsets(
     map: &mut Handle,
@@ -77,10 +77,10 @@ fn put_numbers(lines: &[Option<u32>], first: usize, offsets: &mut [u32]) -> usiz
     count
 }
 
-/// The path of a module of a bundle.
+/// Borrows the path of a module.
 #[unsafe(no_mangle)]
 pub extern "C" fn sm_module_path<'a>(map: &'a mut Handle, id: u32, text: &mut &'a [u8]) -> u32
-    ensures { Says (path_in id (tree_in (held_in map.old))) result text.old.now text.new.now }
+    ensures { ReturnsValue (path_in id (tree_in (held_in map.old))) result text.old.now text.new.now }
 {
     match map_in(map) {
         Some(map) => put_path(map, id as usize, text),
@@ -89,7 +89,7 @@ pub extern "C" fn sm_module_path<'a>(map: &'a mut Handle, id: u32, text: &mut &'
 }
 
 fn put_path<'a>(map: &'a DecodedMap, id: usize, text: &mut &'a [u8]) -> u32
-    ensures { Says (path_in id (Some (map_tree map.now))) result text.old.now text.new.now }
+    ensures { ReturnsValue (path_in id (Some (map_tree map.now))) result text.old.now text.new.now }
 {
     match map {
         DecodedMap::Index(index) => put_text(path_of(index, id), text),
@@ -105,7 +105,7 @@ fn path_of(index: &SourceMapIndex, id: usize) -> Option<&str>
     Some(path.as_str())
 }
 
-/// Fills a handle with the path that leads from the folder of one file to another.
+/// Fills the handle with the relative path from the folder of one file to another file.
 #[unsafe(no_mangle)]
 pub extern "C" fn sm_relative_path(
     alloc: Global,

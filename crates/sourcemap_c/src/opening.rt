@@ -1,12 +1,12 @@
-//! Handles that are opened, shared and closed.
+//! Calls that open, share and close handles.
 ghost use Rattle.std.specs.Prelude.{◌≡◌, ◌↔◌, ◌≢◌, Err, IsTrue, None, Ok, Some};
 ghost use Rattle.std.specs.Str.{IsUtf8};
 ghost use Rattle.sourcemap_detection.specs.Detection.{AreMap};
-ghost use Rattle.sourcemap_handles.specs.Handles.{held_in};
+ghost use Rattle.sourcemap_c_handles.specs.Handles.{held_in};
 ghost use Rattle.sourcemap_index.specs.Decode.{BytesDecode, UrlDecodes};
 ghost use Rattle.sourcemap_index.specs.Family.{map_tree};
-ghost use Rattle.sourcemap_trees.specs.MapTree.{MapTree};
-ghost use Rattle.sourcemap_trees.specs.WellFormed.{IsWellFormed};
+ghost use Rattle.sourcemap_index_model.specs.MapTree.{MapTree};
+ghost use Rattle.sourcemap_index_model.specs.WellFormed.{IsWellFormed};
 ghost use Rattle.sourcemap_c.specs.Codes.{Answers, Does, NoError, OfLibrary, OfLibraryOrKind};
 ghost use Rattle.sourcemap_c.specs.Kinds.{kind_of, number_of, tree_in};
 ghost use Rattle.sourcemap_c.specs.Opening.{AreNoUrl, Holds};
@@ -14,12 +14,12 @@ ghost use Rattle.sourcemap_c.specs.Opening.{AreNoUrl, Holds};
 use crate::codes::text_in;
 use crate::kinds::{kind_of, put_map, put_shared};
 use sourcemap::{DecodedMap, Error, decode_data_url, decode_slice, is_sourcemap_slice};
-use sourcemap_handles::errors::{ErrorReport, Failure, Outcome, finish};
-use sourcemap_handles::{Handle, Held};
+use sourcemap_c_handles::errors::{ErrorReport, Failure, Outcome, finish};
+use sourcemap_c_handles::{Handle, Held};
 use std::alloc::Global;
 use std::sync::Arc;
 
-// SM_INTERFACE of the header.
+// `SM_INTERFACE` of the header.
 const INTERFACE: u32 = 1;
 
 /// The version of the interface.
@@ -30,7 +30,7 @@ pub extern "C" fn sm_interface() -> u32
     INTERFACE
 }
 
-/// The kind of what a handle holds.
+/// The kind of the handle.
 #[unsafe(no_mangle)]
 pub extern "C" fn sm_kind(handle: &mut Handle) -> u32
     ensures kind { result ≡ number_of (kind_of (held_in handle.old)) }
@@ -39,7 +39,7 @@ pub extern "C" fn sm_kind(handle: &mut Handle) -> u32
     kind_of(handle.get()).number()
 }
 
-/// Drops what a handle holds.
+/// Drops what the handle holds.
 #[unsafe(no_mangle)]
 pub extern "C" fn sm_close(alloc: Global, handle: &mut Handle)
     ensures { held_in handle.new ≡ None }
@@ -47,7 +47,7 @@ pub extern "C" fn sm_close(alloc: Global, handle: &mut Handle)
     handle.close(alloc);
 }
 
-/// Fills a handle with the map that bytes hold.
+/// Decodes the bytes and fills the handle with the map.
 #[unsafe(no_mangle)]
 pub extern "C" fn sm_open(
     alloc: Global,
@@ -75,7 +75,7 @@ fn open(alloc: Global, map: &mut Handle, bytes: &[u8]) -> Outcome<()>
     }
 }
 
-/// Fills a handle with the map that a data URL holds.
+/// Decodes a data URL and fills the handle with the map.
 #[unsafe(no_mangle)]
 pub extern "C" fn sm_open_url(
     alloc: Global,
@@ -115,7 +115,7 @@ fn open_text(alloc: Global, map: &mut Handle, url: &str) -> Outcome<()>
     }
 }
 
-/// Fills a handle with the map of another one, which both hold then.
+/// Fills the second handle with the map of the first. Both share it, and nothing is copied.
 #[unsafe(no_mangle)]
 pub extern "C" fn sm_share(
     alloc: Global,
@@ -157,7 +157,7 @@ fn put_another(alloc: Global, map: &Arc<DecodedMap>, other: &mut Handle) -> Outc
     }
 }
 
-/// Writes whether bytes hold a map.
+/// Writes whether the bytes are a source map.
 #[unsafe(no_mangle)]
 pub extern "C" fn sm_is_source_map(
     alloc: Global,

@@ -1,6 +1,6 @@
-//! References to maps in generated texts.
+//! References to source maps in generated texts.
 ghost use Rattle.std.specs.Prelude.{◌≡◌};
-ghost use Rattle.sourcemap_handles.specs.Handles.{held_in};
+ghost use Rattle.sourcemap_c_handles.specs.Handles.{held_in};
 ghost use Rattle.sourcemap_references.specs.Reference.{first_reference};
 ghost use Rattle.sourcemap_references.specs.References.{reference};
 ghost use Rattle.sourcemap_c.specs.Codes.{Answers, Does, NoError, OfLibrary};
@@ -9,11 +9,12 @@ ghost use Rattle.sourcemap_c.specs.References.{IsFound, IsNotFound, IsReference,
 use crate::codes::text_in;
 use crate::kinds::put_bytes;
 use sourcemap::{Result, SourceMapRef, locate_sourcemap_reference_slice};
-use sourcemap_handles::Handle;
-use sourcemap_handles::errors::{ErrorReport, Failure, Outcome, finish};
+use sourcemap_c_handles::Handle;
+use sourcemap_c_handles::errors::{ErrorReport, Failure, Outcome, finish};
 use std::alloc::Global;
 
-/// Fills a handle with the reference that a text carries, and writes which mark it has.
+/// Finds the reference in a text, fills the handle with its URL, and writes whether its mark is the
+/// legacy one.
 #[unsafe(no_mangle)]
 pub extern "C" fn sm_locate_reference(
     alloc: Global,
@@ -67,7 +68,6 @@ fn put_reference(
     Ok(())
 }
 
-// A reference with this URL.
 fn reference_to(alloc: Global, url: &[u8]) -> Result<SourceMapRef>
     ensures { Refers result url.now }
 {
@@ -75,7 +75,7 @@ fn reference_to(alloc: Global, url: &[u8]) -> Result<SourceMapRef>
     Ok(SourceMapRef::Ref(String::from_str(alloc, url)?))
 }
 
-/// Fills a handle with the URL that a reference leads to from the URL of its text.
+/// Fills the handle with the URL of the map, resolved against the URL of the text.
 #[unsafe(no_mangle)]
 pub extern "C" fn sm_resolve(
     alloc: Global,
@@ -107,7 +107,7 @@ fn resolve(alloc: Global, url: &[u8], base: &[u8], to: &mut Handle) -> Outcome<(
     }
 }
 
-/// Fills a handle with the path that a reference leads to from the path of its text.
+/// Fills the handle with the path of the map, resolved against the path of the text.
 #[unsafe(no_mangle)]
 pub extern "C" fn sm_resolve_path(
     alloc: Global,
@@ -139,7 +139,6 @@ fn resolve_path(alloc: Global, url: &[u8], base: &[u8], to: &mut Handle) -> Outc
     }
 }
 
-// Fills a handle with what was found.
 fn put_found(alloc: Global, found: Result<Option<String>>, to: &mut Handle) -> Outcome<()>
     ensures { Puts found result (held_in to.old) (held_in to.new) }
 {

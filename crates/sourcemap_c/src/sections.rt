@@ -2,22 +2,21 @@
 ghost use Rattle.std.specs.Prelude.{◌≡◌, ◌≢◌, None, Some, length, option_and_then, option_map, slice_get};
 ghost use Rattle.std.specs.Borrow.{sem};
 ghost use Rattle.std.specs.Option.{option_copied};
-ghost use Rattle.sourcemap_handles.specs.Handles.{EndsAsBefore, held_in};
+ghost use Rattle.sourcemap_c_handles.specs.Handles.{EndsAsBefore, held_in};
 ghost use Rattle.sourcemap_index.specs.Family.{index_value, map_tree, section_value};
-ghost use Rattle.sourcemap_handles.specs.declared.errors.Failure.TheVariants.{Absent};
-ghost use Rattle.sourcemap_c.specs.Codes.{Answers, Does, NoError, OfLibrary, Says};
+ghost use Rattle.sourcemap_c_handles.specs.declared.errors.Failure.TheVariants.{Absent};
+ghost use Rattle.sourcemap_c.specs.Codes.{Answers, Does, NoError, OfLibrary, ReturnsValue};
 ghost use Rattle.sourcemap_c.specs.Kinds.{tree_in};
 ghost use Rattle.sourcemap_c.specs.Sections.{HoldsMapAt, LacksMapAt, map_at, sections_in, start_of, url_of};
 
 use crate::codes::{ABSENT, OK, WRONG_KIND, put_text};
 use crate::kinds::{map_in, put_map};
 use sourcemap::{DecodedMap, SourceMapIndex, SourceMapSection};
-use sourcemap_handles::Handle;
-use sourcemap_handles::errors::{ErrorReport, Failure, Outcome, finish};
-use sourcemap_handles::layout::SectionStart;
+use sourcemap_c_handles::Handle;
+use sourcemap_c_handles::errors::{ErrorReport, Failure, Outcome, finish};
+use sourcemap_c_handles::layout::SectionStart;
 use std::alloc::Global;
 
-// The index in a handle.
 fn index_in<'a>(handle: &'a mut Handle) -> Option<&'a SourceMapIndex>
     ensures* after { sem 𝓛 (EndsAsBefore handle.entry) }
     ensures value { option_map (λ i. (index_value i.now).sections) result
@@ -38,10 +37,10 @@ fn index_of(map: &DecodedMap) -> Option<&SourceMapIndex>
     }
 }
 
-/// Writes where a section begins, and what it has.
+/// Writes the offset of a section, and whether it has a map and a URL.
 #[unsafe(no_mangle)]
 pub extern "C" fn sm_section_start_of(map: &mut Handle, id: u32, start: &mut SectionStart) -> u32
-    ensures start { Says (option_map (λ ss. option_map start_of (slice_get ss id))
+    ensures start { ReturnsValue (option_map (λ ss. option_map start_of (slice_get ss id))
         (option_and_then sections_in (tree_in (held_in map.old)))) result start.old start.new }
     ensures kept { held_in map.new ≡ held_in map.old }
 {
@@ -52,7 +51,7 @@ pub extern "C" fn sm_section_start_of(map: &mut Handle, id: u32, start: &mut Sec
 }
 
 fn put_start(index: &SourceMapIndex, id: u32, start: &mut SectionStart) -> u32
-    ensures { Says (Some (option_map start_of (slice_get (index_value index.now).sections id)))
+    ensures { ReturnsValue (Some (option_map start_of (slice_get (index_value index.now).sections id)))
         result start.old start.new }
 {
     match index.get_section(id) {
@@ -75,10 +74,10 @@ fn start_of(section: &SourceMapSection) -> SectionStart
     }
 }
 
-/// The URL of a section.
+/// Borrows the URL of a section.
 #[unsafe(no_mangle)]
 pub extern "C" fn sm_section_url<'a>(map: &'a mut Handle, id: u32, text: &mut &'a [u8]) -> u32
-    ensures { Says (option_map (λ ss. option_and_then url_of (slice_get ss id))
+    ensures { ReturnsValue (option_map (λ ss. option_and_then url_of (slice_get ss id))
         (option_and_then sections_in (tree_in (held_in map.old)))) result text.old.now text.new.now }
 {
     match index_in(map) {
@@ -94,7 +93,7 @@ fn url_at(index: &SourceMapIndex, id: u32) -> Option<&str>
     index.get_section(id)?.get_url()
 }
 
-/// Fills a handle with a copy of the map of a section.
+/// Fills `section` with a copy of the map of a section.
 #[unsafe(no_mangle)]
 pub extern "C" fn sm_section(
     alloc: Global,

@@ -1,20 +1,19 @@
-//! Texts with the tables of their lines.
+//! Views of texts, with their tables of lines.
 ghost use Rattle.std.specs.Prelude.{◌≡◌, None, Some, length, option_map, slice_get};
 ghost use Rattle.std.specs.Borrow.{sem};
 ghost use Rattle.std.specs.Option.{option_copied};
-ghost use Rattle.sourcemap_handles.specs.Handles.{EndsAsBefore, held_in};
-ghost use Rattle.sourcemap_views.specs.Lines.{line_bodies};
-ghost use Rattle.sourcemap_views.specs.Sourceview.{view_slice};
-ghost use Rattle.sourcemap_c.specs.Codes.{Answers, Does, IsNoText, NoError, OfLibrary, Says};
+ghost use Rattle.sourcemap_c_handles.specs.Handles.{EndsAsBefore, held_in};
+ghost use Rattle.sourcemap_source_views.specs.Lines.{line_bodies};
+ghost use Rattle.sourcemap_source_views.specs.Sourceview.{view_slice};
+ghost use Rattle.sourcemap_c.specs.Codes.{Answers, Does, IsNoText, NoError, OfLibrary, ReturnsValue};
 ghost use Rattle.sourcemap_c.specs.Kinds.{view_in};
 
 use crate::codes::{OK, WRONG_KIND, put_text, text_in};
 use sourcemap::SourceView;
-use sourcemap_handles::errors::{ErrorReport, Failure, Outcome, finish};
-use sourcemap_handles::{Handle, Held};
+use sourcemap_c_handles::errors::{ErrorReport, Failure, Outcome, finish};
+use sourcemap_c_handles::{Handle, Held};
 use std::alloc::Global;
 
-/// The view in a handle.
 pub(crate) fn view_in<'a>(handle: &'a mut Handle) -> Option<&'a SourceView>
     ensures* after { sem 𝓛 (EndsAsBefore handle.entry) }
     ensures value { option_copied result ≡ view_in (held_in handle.old) }
@@ -25,7 +24,7 @@ pub(crate) fn view_in<'a>(handle: &'a mut Handle) -> Option<&'a SourceView>
     }
 }
 
-/// Fills a handle with a view of a copy of a text.
+/// Copies the text and fills the handle with its view.
 #[unsafe(no_mangle)]
 pub extern "C" fn sm_view_open(
     alloc: Global,
@@ -64,10 +63,10 @@ fn open_text(alloc: Global, view: &mut Handle, text: &str) -> Outcome<()>
     Ok(())
 }
 
-/// The text of a view.
+/// Borrows the text of a view.
 #[unsafe(no_mangle)]
 pub extern "C" fn sm_view_text<'a>(view: &'a mut Handle, text: &mut &'a [u8]) -> u32
-    ensures { Says (option_map (λ source. Some source) (view_in (held_in view.old)))
+    ensures { ReturnsValue (option_map (λ source. Some source) (view_in (held_in view.old)))
         result text.old.now text.new.now }
 {
     match view_in(view) {
@@ -76,10 +75,10 @@ pub extern "C" fn sm_view_text<'a>(view: &'a mut Handle, text: &mut &'a [u8]) ->
     }
 }
 
-/// Writes how many lines a view has.
+/// Writes the number of lines.
 #[unsafe(no_mangle)]
 pub extern "C" fn sm_view_count(view: &mut Handle, lines: &mut usize) -> u32
-    ensures lines { Says (option_map (λ source. Some (length (line_bodies source)))
+    ensures lines { ReturnsValue (option_map (λ source. Some (length (line_bodies source)))
         (view_in (held_in view.old))) result lines.old lines.new }
     ensures kept { held_in view.new ≡ held_in view.old }
 {
@@ -92,10 +91,10 @@ pub extern "C" fn sm_view_count(view: &mut Handle, lines: &mut usize) -> u32
     }
 }
 
-/// A line, without its end.
+/// Borrows a line without its end.
 #[unsafe(no_mangle)]
 pub extern "C" fn sm_view_line<'a>(view: &'a mut Handle, line: u32, text: &mut &'a [u8]) -> u32
-    ensures { Says (option_map (λ source. slice_get (line_bodies source) line)
+    ensures { ReturnsValue (option_map (λ source. slice_get (line_bodies source) line)
         (view_in (held_in view.old))) result text.old.now text.new.now }
 {
     match view_in(view) {
@@ -104,7 +103,7 @@ pub extern "C" fn sm_view_line<'a>(view: &'a mut Handle, line: u32, text: &mut &
     }
 }
 
-/// So many UTF-16 units of a line from a column on.
+/// Borrows a slice of a line. Column and span count UTF-16 units.
 #[unsafe(no_mangle)]
 pub extern "C" fn sm_view_slice<'a>(
     view: &'a mut Handle,
@@ -113,7 +112,7 @@ pub extern "C" fn sm_view_slice<'a>(
     span: u32,
     text: &mut &'a [u8],
 ) -> u32
-    ensures { Says (option_map (λ source. view_slice source line column span)
+    ensures { ReturnsValue (option_map (λ source. view_slice source line column span)
         (view_in (held_in view.old))) result text.old.now text.new.now }
 {
     match view_in(view) {

@@ -1,9 +1,9 @@
-//! Maps written as texts.
+//! Encoding of maps.
 ghost use Rattle.std.specs.Prelude.{◌≡◌, None, Some, ℕ, List, option_map};
 ghost use Rattle.sourcemap_headers.specs.DataUrl.{data_url_of};
-ghost use Rattle.sourcemap_handles.specs.Handles.{held_in};
+ghost use Rattle.sourcemap_c_handles.specs.Handles.{held_in};
 ghost use Rattle.sourcemap_index.specs.Family.{map_tree};
-ghost use Rattle.sourcemap_c.specs.Codes.{Answers, Does, NoError, OfLibrary, OfLibraryOrKind, Says};
+ghost use Rattle.sourcemap_c.specs.Codes.{Answers, Does, NoError, OfLibrary, OfLibraryOrKind, ReturnsValue};
 ghost use Rattle.sourcemap_c.specs.Kinds.{bytes_in, tree_in};
 ghost use Rattle.sourcemap_c.specs.Writing.{HoldsText, HoldsUrl};
 
@@ -12,11 +12,11 @@ use crate::kinds::{map_in, put_bytes};
 use sourcemap::DecodedMap;
 use sourcemap::decoder::data_url;
 use sourcemap::encoder::encode_to_vec;
-use sourcemap_handles::errors::{ErrorReport, Failure, Outcome, finish};
-use sourcemap_handles::{Handle, Held};
+use sourcemap_c_handles::errors::{ErrorReport, Failure, Outcome, finish};
+use sourcemap_c_handles::{Handle, Held};
 use std::alloc::Global;
 
-/// Fills a handle with the JSON text of a map.
+/// Fills `text` with the JSON text of the map.
 #[unsafe(no_mangle)]
 pub extern "C" fn sm_write(
     alloc: Global,
@@ -58,7 +58,7 @@ fn put_encoded(alloc: Global, map: &DecodedMap, text: &mut Handle) -> Outcome<()
     }
 }
 
-/// Fills a handle with the data URL of a map.
+/// Fills `text` with the data URL of the map.
 #[unsafe(no_mangle)]
 pub extern "C" fn sm_write_url(
     alloc: Global,
@@ -112,10 +112,10 @@ fn put_url_of(alloc: Global, encoded: &[u8], text: &mut Handle) -> Outcome<()>
     }
 }
 
-/// The text in a handle.
+/// Borrows the text.
 #[unsafe(no_mangle)]
 pub extern "C" fn sm_bytes_text<'a>(bytes: &'a mut Handle, text: &mut &'a [u8]) -> u32
-    ensures { Says (option_map (λ held. Some held) (bytes_in (held_in bytes.old)))
+    ensures { ReturnsValue (option_map (λ held. Some held) (bytes_in (held_in bytes.old)))
         result text.old.now text.new.now }
 {
     match bytes.get() {

@@ -1,14 +1,12 @@
 //! Laws: what follows from the definitions that contracts cite. A proof has one at hand where its
 //! function calls it; the call does nothing when it runs.
 
-pub use sourcemap_composition::moved::{
-    composed_tokens_stay_within, moved_positions_answer_as_before,
-};
-pub use sourcemap_digits::bits::bits_are_determined;
-pub use sourcemap_digits::vlq::segments_are_determined;
+pub use sourcemap_compose::moved::{composed_tokens_stay_within, moved_positions_answer_as_before};
+pub use sourcemap_file_urls::relative_paths::relative_paths_lead_to_their_targets;
 pub use sourcemap_line_index::line_index::binary_digits_are_fewest;
-pub use sourcemap_lists::tokens::{one_stable_order, reduced_answers_alike};
 pub use sourcemap_mappings::read::mappings_determine_one_answer;
 pub use sourcemap_mappings::write::written_texts_are_determined;
-pub use sourcemap_places::relative_paths::relative_paths_lead_to_their_targets;
-pub use sourcemap_views::lines::lines_make_their_text;
+pub use sourcemap_source_views::lines::lines_make_their_text;
+pub use sourcemap_tokens::tokens::{one_stable_order, reduced_answers_alike};
+pub use sourcemap_vlq::bits::bits_are_determined;
+pub use sourcemap_vlq::vlq::segments_are_determined;

@@ -11,8 +11,9 @@ pub mod utils;
 pub mod vlq;
 
 pub use sourcemap_bundle_bytes::bundle;
-pub use sourcemap_digits::bits;
 pub use sourcemap_errors::errors;
+pub use sourcemap_interning::interner;
 pub use sourcemap_line_index::{line_index, probe};
-pub use sourcemap_lists::{interner, tokens};
-pub use sourcemap_views::{js_identifiers, lines};
+pub use sourcemap_source_views::{js_identifiers, lines};
+pub use sourcemap_tokens::tokens;
+pub use sourcemap_vlq::bits;

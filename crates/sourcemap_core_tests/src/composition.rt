@@ -1,16 +1,17 @@
 //! Composition of two lists of tokens.
-use crate::checks::{again, check, error_text};
-use crate::mappings::{BARE, Row, token, tokens_told};
-use sourcemap_composition::composition::compose;
+use crate::checks::check;
+use crate::mappings::{BARE, Row, token, tokens_text};
+use sourcemap_compose::composition::compose;
 use sourcemap_core::errors::Result;
 use sourcemap_core::tokens::{NO_ID, RawToken};
+use sourcemap_test_support::results::{again, error_text};
 use std::alloc::Global;
 
-// Where a token stands, and the line and column that it leads to.
+// The generated and the original position of a token.
 type Way = ((u32, u32), (u32, u32));
 
-// What a row is about, the originals, the adjustments, and the answer. Originals have source 3 and
-// name 4, adjustments source 9 and name 8, but for one that leads nowhere, to (NO_ID, NO_ID).
+// Label, original tokens, adjustment tokens, result. Original tokens have source 3 and name 4,
+// adjustment tokens source 9 and name 8. (NO_ID, NO_ID) is no original position.
 static COMPOSED: [(&str, &[Way], &[Way], &str); 21] = [
     (
         "one cut and one whole",
@@ -29,25 +30,25 @@ static COMPOSED: [(&str, &[Way], &[Way], &str); 21] = [
         " 17:23=3:102:35#4 17:33=3:102:50#4",
     ),
     (
-        "two adjustments of one place inside of an original",
+        "two adjustments of one position inside of an original",
         &[((0, 0), (1, 1))],
         &[((3, 0), (0, 5)), ((4, 0), (0, 5))],
         " 3:0=3:1:1#4 4:0=3:1:1#4",
     ),
     (
-        "two adjustments of one place at the start of an original",
+        "two adjustments of one position at the start of an original",
         &[((0, 5), (1, 1))],
         &[((3, 0), (0, 5)), ((4, 0), (0, 5))],
         " 4:0=3:1:1#4",
     ),
     (
-        "two originals at one place inside of an adjustment",
+        "two originals at one position inside of an adjustment",
         &[((0, 5), (1, 1)), ((0, 5), (2, 2))],
         &[((0, 0), (0, 0))],
         " 0:5=3:1:1#4 0:5=3:2:2#4",
     ),
     (
-        "two originals at one place at the start of an adjustment",
+        "two originals at one position at the start of an adjustment",
         &[((0, 5), (1, 1)), ((0, 5), (2, 2))],
         &[((0, 0), (0, 5))],
         " 0:0=3:2:2#4",
@@ -101,7 +102,7 @@ static COMPOSED: [(&str, &[Way], &[Way], &str); 21] = [
         " 7:5=3:2:2#4",
     ),
     (
-        "two parts that come to one place",
+        "two parts that come to one position",
         &[((0, 0), (1, 1)), ((0, 5), (2, 2))],
         &[((0, 0), (0, 0)), ((0, 0), (0, 5))],
         " 0:0=3:1:1#4 0:0=3:2:2#4",
@@ -129,8 +130,7 @@ static COMPOSED: [(&str, &[Way], &[Way], &str); 21] = [
     ("none at all", &[], &[], ""),
 ];
 
-// What a row is about, an original, and the token that comes of it where columns from 10 on move to
-// line 5.
+// Label, an original token, and the token after columns from 10 on moved to line 5.
 static CUT: [(&str, Row, Row); 5] = [
     (
         "ten columns of a range token fall away",
@@ -159,7 +159,7 @@ static CUT: [(&str, Row, Row); 5] = [
     ),
 ];
 
-// The token of a way, without source and name where it leads nowhere.
+// Without source and name if there is no original position.
 fn token_of(way: Way, source: u32, name: u32) -> RawToken {
     let (dst, (line, col)) = way;
     if (line, col) == (NO_ID, NO_ID) {
@@ -176,9 +176,9 @@ fn tokens_of(alloc: Global, ways: &[Way], source: u32, name: u32) -> Result<Vec<
     Ok(tokens)
 }
 
-fn told(alloc: Global, original: &[RawToken], adjustment: &[RawToken]) -> Result<String> {
+fn composed_text(alloc: Global, original: &[RawToken], adjustment: &[RawToken]) -> Result<String> {
     match compose(alloc, original, adjustment) {
-        Ok(tokens) => tokens_told(alloc, tokens.as_slice()),
+        Ok(tokens) => tokens_text(alloc, tokens.as_slice()),
         Err(error) => error_text(alloc, &error),
     }
 }
@@ -186,7 +186,7 @@ fn told(alloc: Global, original: &[RawToken], adjustment: &[RawToken]) -> Result
 fn composed(alloc: Global, originals: &[Way], adjustments: &[Way]) -> Result<String> {
     let originals = tokens_of(alloc, originals, 3, 4)?;
     let adjustments = tokens_of(alloc, adjustments, 9, 8)?;
-    again(|| told(alloc, originals.as_slice(), adjustments.as_slice()))
+    again(|| composed_text(alloc, originals.as_slice(), adjustments.as_slice()))
 }
 
 #[test]

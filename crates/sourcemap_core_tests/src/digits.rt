@@ -1,11 +1,12 @@
-//! Segments of numbers and texts of bits.
-use crate::checks::{again, check, error_text};
+//! VLQ segments and range bits.
+use crate::checks::check;
 use sourcemap_core::bits::{decode_rmi, encode_rmi, push_bits};
 use sourcemap_core::errors::Result;
 use sourcemap_core::vlq::{generate_vlq_segment, parse_vlq_segment};
+use sourcemap_test_support::results::{again, error_text};
 use std::alloc::Global;
 
-// What a row is about, a segment, and its numbers or its fault.
+// Label, a segment, and its numbers or its error.
 static READ: [(&str, &str, &str); 12] = [
     ("four numbers", "AAAA", "[0, 0, 0, 0]"),
     ("five numbers", "GAAIA", "[3, 0, 0, 4, 0]"),
@@ -59,7 +60,7 @@ fn reads_segments(rt: HostRuntime) {
     }
 }
 
-// What a row is about, numbers, and their segment or their fault.
+// Label, numbers, and their segment or their error.
 static WRITTEN: [(&str, &[i64], &str); 5] = [
     ("four numbers", &[0, 0, 0, 0], "AAAA"),
     ("five numbers", &[3, 0, 0, 4, 0], "GAAIA"),
@@ -90,56 +91,55 @@ fn writes_segments(rt: HostRuntime) {
     }
 }
 
-// The places of the true bits among twenty, and their text.
+// The indexes of the set bits of twenty, and their text.
 static BITS: [(&[usize], &str); 4] = [(&[12], "AAB"), (&[5], "g"), (&[0, 11], "Bg"), (&[], "")];
 
-fn bits(alloc: Global, places: &[usize]) -> Result<Vec<bool>> {
+fn bits(alloc: Global, positions: &[usize]) -> Result<Vec<bool>> {
     let mut bits = Vec::new(alloc);
-    for place in 0..20 {
-        bits.push(places.contains(&place))?;
+    for position in 0..20 {
+        bits.push(positions.contains(&position))?;
     }
     Ok(bits)
 }
 
-fn bits_written(alloc: Global, places: &[usize]) -> Result<String> {
-    let bits = bits(alloc, places)?;
+fn bits_written(alloc: Global, positions: &[usize]) -> Result<String> {
+    let bits = bits(alloc, positions)?;
     encode_rmi(alloc, bits.as_slice())
 }
 
 #[test]
 fn writes_bits(rt: HostRuntime) {
-    for (places, want) in BITS.iter() {
-        check(&rt, want, bits_written(rt.alloc(), places), want);
+    for (positions, want) in BITS.iter() {
+        check(&rt, want, bits_written(rt.alloc(), positions), want);
     }
 }
 
-// A text, the places of the true bits among twenty, and the text with theirs behind it.
-static PUSHED: [(&str, &[usize], &str); 3] = [
+// A text, the indexes of the set bits of twenty, and the text with these bits appended.
+static APPENDED: [(&str, &[usize], &str); 3] = [
     (";", &[12], ";AAB"),
     ("", &[5], "g"),
     ("AAB;", &[], "AAB;"),
 ];
 
-fn bits_pushed(alloc: Global, start: &str, bits: &[bool]) -> Result<String> {
+fn bits_appended(alloc: Global, start: &str, bits: &[bool]) -> Result<String> {
     let mut text = String::from_str(alloc, start)?;
     push_bits(&mut text, bits)?;
     Ok(text)
 }
 
-fn pushed(alloc: Global, start: &str, places: &[usize]) -> Result<String> {
-    let bits = bits(alloc, places)?;
-    bits_pushed(alloc, start, bits.as_slice())
+fn appended(alloc: Global, start: &str, positions: &[usize]) -> Result<String> {
+    let bits = bits(alloc, positions)?;
+    bits_appended(alloc, start, bits.as_slice())
 }
 
 #[test]
-fn writes_bits_behind_a_text(rt: HostRuntime) {
-    for (start, places, want) in PUSHED.iter() {
-        check(&rt, want, pushed(rt.alloc(), start, places), want);
+fn appends_bits_to_a_text(rt: HostRuntime) {
+    for (start, positions, want) in APPENDED.iter() {
+        check(&rt, want, appended(rt.alloc(), start, positions), want);
     }
 }
 
-// What a row is about, a text, and how many bits it has and the places of the true ones, or its
-// fault.
+// Label, a text, and the number of its bits with the indexes of the set ones, or its error.
 static TEXTS: [(&str, &str, &str); 6] = [
     ("the lowest bit of the third digit", "AAB", "18: 12"),
     ("the highest bit of a digit", "g", "6: 5"),
@@ -153,19 +153,19 @@ static TEXTS: [(&str, &str, &str); 6] = [
     ),
 ];
 
-fn places(alloc: Global, bits: &[bool]) -> Result<String> {
-    let mut told = format!(in alloc; "{}:", bits.len())?;
-    for (place, bit) in bits.iter().enumerate() {
+fn positions(alloc: Global, bits: &[bool]) -> Result<String> {
+    let mut out = format!(in alloc; "{}:", bits.len())?;
+    for (position, bit) in bits.iter().enumerate() {
         if *bit {
-            write!(told, " {place}")?;
+            write!(out, " {position}")?;
         }
     }
-    Ok(told)
+    Ok(out)
 }
 
 fn bits_read(alloc: Global, text: &str) -> Result<String> {
     match decode_rmi(alloc, text) {
-        Ok(bits) => places(alloc, bits.as_slice()),
+        Ok(bits) => positions(alloc, bits.as_slice()),
         Err(error) => error_text(alloc, &error),
     }
 }

@@ -1,5 +1,5 @@
-//! Tests of what stands below records and maps: vectors from outside, and each call once. This
-//! crate holds nothing else, so that its tests are proved alone.
+//! Tests of the crates below records and maps, with vectors from other implementations. A crate of
+//! its own, so that its tests are proved alone.
 #![tactic(auto)]
 
 #[cfg(test)]
@@ -15,7 +15,7 @@ mod lists;
 #[cfg(test)]
 mod mappings;
 #[cfg(test)]
-mod places;
+mod paths;
 #[cfg(test)]
 mod text_index;
 #[cfg(test)]

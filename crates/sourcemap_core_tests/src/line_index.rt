@@ -1,17 +1,18 @@
-//! Lookups by a table of lines: which token, and by how many comparisons.
-use crate::checks::{again, check};
+//! Lookups with an index of lines: which token, and how many comparisons.
+use crate::checks::check;
 use sourcemap_core::errors::Result;
 use sourcemap_core::line_index::LineIndex;
 use sourcemap_core::probe::{KeyProbe, Probe};
 use sourcemap_core::tokens::{NO_ID, RawToken};
 use sourcemap_line_index::token_list::TokenList;
+use sourcemap_test_support::results::again;
 use std::alloc::Global;
 
-// A token at this place, known by its column in the source.
-fn token(place: (u32, u32), src_col: u32) -> RawToken {
+// A token at this generated position, identified by its original column.
+fn token(position: (u32, u32), src_col: u32) -> RawToken {
     RawToken {
-        dst_line: place.0,
-        dst_col: place.1,
+        dst_line: position.0,
+        dst_col: position.1,
         src_line: 0,
         src_col,
         src_id: 0,
@@ -20,33 +21,32 @@ fn token(place: (u32, u32), src_col: u32) -> RawToken {
     }
 }
 
-// As many tokens at line 0, column 0, known by their numbers from 0.
+// `count` tokens at line 0, column 0, identified by their index.
 fn equal_tokens(alloc: Global, count: u32) -> Result<TokenList> {
     let mut tokens = Vec::new(alloc);
     for src_col in 0..count {
         tokens.push(token((0, 0), src_col))?;
     }
-    Ok(TokenList::sorted(tokens)?)
+    Ok(TokenList::from_unsorted(tokens)?)
 }
 
-// What stands closest to a place, and whether it took from `least` to `most` comparisons.
+// The closest token, and whether the lookup took from `least` to `most` comparisons.
 fn found(
     alloc: Global,
     list: &TokenList,
-    place: (u32, u32),
+    position: (u32, u32),
     least: u32,
     most: u32,
 ) -> Result<String> {
     let index = LineIndex::new(alloc, list.as_slice())?;
-    let mut probe = KeyProbe::new(place.0, place.1);
+    let mut probe = KeyProbe::new(position.0, position.1);
     let at = index.closest(list.as_slice(), &mut probe);
     let is_counted = least <= probe.count() && probe.count() <= most;
     let col = at.and_then(|at| list.get(at)).map(|token| token.src_col);
     Ok(format!(in alloc; "{col:?} {is_counted}")?)
 }
 
-// How many equal tokens there are, a place, how many comparisons it takes at least and at most, and
-// the token that stands closest.
+// The number of equal tokens, a position, the fewest and most comparisons, and the closest token.
 static AMONG_EQUALS: [(u32, (u32, u32), u32, u32, &str); 6] = [
     (0, (0, 0), 0, 2, "None true"),
     (1000, (0, 0), 1, 22, "Some(0) true"),
@@ -59,35 +59,35 @@ static AMONG_EQUALS: [(u32, (u32, u32), u32, u32, &str); 6] = [
 fn among_equals(
     alloc: Global,
     count: u32,
-    place: (u32, u32),
+    position: (u32, u32),
     least: u32,
     most: u32,
 ) -> Result<String> {
     let list = equal_tokens(alloc, count)?;
-    found(alloc, &list, place, least, most)
+    found(alloc, &list, position, least, most)
 }
 
 #[test]
 fn finds_among_equals_by_few_comparisons(rt: HostRuntime) {
-    for (count, place, least, most, want) in AMONG_EQUALS.iter() {
-        let answer = among_equals(rt.alloc(), *count, *place, *least, *most);
+    for (count, position, least, most, want) in AMONG_EQUALS.iter() {
+        let answer = among_equals(rt.alloc(), *count, *position, *least, *most);
         check(&rt, want, answer, want);
     }
 }
 
-// Where tokens stand, in order; two of them are at one place, and line 3 holds none.
-static PLACES: [(u32, u32); 5] = [(0, 3), (2, 5), (2, 5), (2, 9), (4, 0)];
+// Sorted positions of tokens. Two are equal, and line 3 has none.
+static POSITIONS: [(u32, u32); 5] = [(0, 3), (2, 5), (2, 5), (2, 9), (4, 0)];
 
-// The tokens at these places, known by their numbers from 0.
+// The tokens at these positions, identified by their index.
 fn tokens_on_lines(alloc: Global) -> Result<TokenList> {
     let mut tokens = Vec::new(alloc);
-    for (at, place) in PLACES.iter().enumerate() {
-        tokens.push(token(*place, at as u32))?;
+    for (at, position) in POSITIONS.iter().enumerate() {
+        tokens.push(token(*position, at as u32))?;
     }
-    Ok(TokenList::sorted(tokens)?)
+    Ok(TokenList::from_unsorted(tokens)?)
 }
 
-// What a row is about, a place, and the number of the token that stands closest.
+// Label, a position, and the index of the closest token.
 static BETWEEN_LINES: [(&str, (u32, u32), &str); 9] = [
     ("before all tokens", (0, 2), "None true"),
     ("at a token", (0, 3), "Some(0) true"),
@@ -100,20 +100,20 @@ static BETWEEN_LINES: [(&str, (u32, u32), &str); 9] = [
     ("behind all tokens", (NO_ID, NO_ID), "Some(4) true"),
 ];
 
-fn between_lines(alloc: Global, place: (u32, u32)) -> Result<String> {
+fn between_lines(alloc: Global, position: (u32, u32)) -> Result<String> {
     let list = tokens_on_lines(alloc)?;
-    again(|| found(alloc, &list, place, 1, 8))
+    again(|| found(alloc, &list, position, 1, 8))
 }
 
 #[test]
 fn finds_between_lines(rt: HostRuntime) {
-    for (about, place, want) in BETWEEN_LINES.iter() {
-        check(&rt, about, between_lines(rt.alloc(), *place), want);
+    for (about, position, want) in BETWEEN_LINES.iter() {
+        check(&rt, about, between_lines(rt.alloc(), *position), want);
     }
 }
 
-// So many tokens a line on each second line, 70,000 in all, known by their numbers from 0. Columns
-// are 0, 10, 10, 20, 30 and so on.
+// 70,000 tokens, `a_line` on each second line, identified by their index. Columns are 0, 10, 10, 20,
+// 30 and so on.
 fn tokens_on_many_lines(alloc: Global, a_line: u32) -> Result<TokenList> {
     let mut tokens = Vec::new(alloc);
     for at in 0..70_000u32 {
@@ -122,12 +122,12 @@ fn tokens_on_many_lines(alloc: Global, a_line: u32) -> Result<TokenList> {
         let col = 10 * (number - u32::from(number > 1));
         tokens.push(token((row * 2, col), at))?;
     }
-    Ok(TokenList::sorted(tokens)?)
+    Ok(TokenList::from_unsorted(tokens)?)
 }
 
-// How many tokens stand on a line, a place, and the number of the token that stands closest.
+// The number of tokens on a line, a position, and the index of the closest token.
 static ON_MANY_LINES: [(u32, (u32, u32), &str); 21] = [
-    // Lines so short that their tokens are compared in turn; the odd lines hold none.
+    // Short lines are searched linearly; odd lines have no tokens.
     (5, (0, 0), "Some(0) true"),
     (5, (0, 10), "Some(1) true"),
     (5, (0, 15), "Some(2) true"),
@@ -141,11 +141,11 @@ static ON_MANY_LINES: [(u32, (u32, u32), &str); 21] = [
     (16, (8, 139), "Some(78) true"),
     (16, (8, 140), "Some(79) true"),
     (16, (9, 0), "Some(79) true"),
-    // One token more, so that lines are searched by halves.
+    // One more token, so that lines are searched by bisection.
     (17, (8, 10), "Some(69) true"),
     (17, (8, 149), "Some(83) true"),
     (17, (8, 150), "Some(84) true"),
-    // Long lines, of which the list keeps samples.
+    // Long lines, which the list samples.
     (1000, (4, 10), "Some(2001) true"),
     (1000, (4, 5005), "Some(2501) true"),
     (1000, (5, 0), "Some(2999) true"),
@@ -153,15 +153,15 @@ static ON_MANY_LINES: [(u32, (u32, u32), &str); 21] = [
     (9999, (14, 99), "Some(69999) true"),
 ];
 
-fn on_many_lines(alloc: Global, a_line: u32, place: (u32, u32)) -> Result<String> {
+fn on_many_lines(alloc: Global, a_line: u32, position: (u32, u32)) -> Result<String> {
     let list = tokens_on_many_lines(alloc, a_line)?;
-    found(alloc, &list, place, 1, 36)
+    found(alloc, &list, position, 1, 36)
 }
 
-// The same by the list itself, which knows samples of long lines.
-fn in_list_of_many_lines(alloc: Global, a_line: u32, place: (u32, u32)) -> Result<String> {
+// The same lookup by the list, which has samples of long lines.
+fn in_list_of_many_lines(alloc: Global, a_line: u32, position: (u32, u32)) -> Result<String> {
     let list = tokens_on_many_lines(alloc, a_line)?;
-    let (found, steps) = list.closest_steps(place.0, place.1);
+    let (found, steps) = list.closest_steps(position.0, position.1);
     let is_counted = 1 <= steps && steps <= 36;
     let col = found.map(|found| found.1.src_col);
     Ok(format!(in alloc; "{col:?} {is_counted}")?)
@@ -169,14 +169,19 @@ fn in_list_of_many_lines(alloc: Global, a_line: u32, place: (u32, u32)) -> Resul
 
 #[test]
 fn finds_on_many_lines_by_few_comparisons(rt: HostRuntime) {
-    for (a_line, place, want) in ON_MANY_LINES.iter() {
-        check(&rt, want, on_many_lines(rt.alloc(), *a_line, *place), want);
-        let by_list = in_list_of_many_lines(rt.alloc(), *a_line, *place);
+    for (a_line, position, want) in ON_MANY_LINES.iter() {
+        check(
+            &rt,
+            want,
+            on_many_lines(rt.alloc(), *a_line, *position),
+            want,
+        );
+        let by_list = in_list_of_many_lines(rt.alloc(), *a_line, *position);
         check(&rt, want, by_list, want);
     }
 }
 
-// The lines that hold tokens, and the place of the first token of each.
+// The lines that have tokens, and the index of the first token of each.
 static ROWS: [(u32, usize); 3] = [(0, 0), (2, 1), (4, 4)];
 
 fn table_by_rows(alloc: Global) -> Result<LineIndex> {
@@ -192,14 +197,14 @@ fn table_by_tokens(alloc: Global) -> Result<LineIndex> {
     LineIndex::new(alloc, list.as_slice())
 }
 
-fn table_told(alloc: Global, table: Result<LineIndex>) -> Result<String> {
+fn table_text(alloc: Global, table: Result<LineIndex>) -> Result<String> {
     let table = table?;
     Ok(format!(in alloc; "{table:?}")?)
 }
 
 fn tables_compared(alloc: Global) -> Result<String> {
-    let by_rows = table_told(alloc, table_by_rows(alloc))?;
-    let by_tokens = table_told(alloc, table_by_tokens(alloc))?;
+    let by_rows = table_text(alloc, table_by_rows(alloc))?;
+    let by_tokens = table_text(alloc, table_by_tokens(alloc))?;
     Ok(format!(in alloc; "{}", by_rows == by_tokens)?)
 }
 

@@ -1,4 +1,4 @@
-//! Lists of tokens and of texts, and searches in them.
+//! Lists of tokens and interned texts, and searches in them.
 use crate::checks::check;
 use sourcemap_core::errors::Result;
 use sourcemap_core::interner::Interner;
@@ -7,12 +7,12 @@ use sourcemap_core::utils::greatest_lower_bound;
 use sourcemap_line_index::token_list::TokenList;
 use std::alloc::Global;
 
-// Places, whose tokens are known by their column in the source: 0, 1, 2 and 3.
-static PLACES: [(u32, u32); 4] = [(2, 5), (0, 3), (2, 5), (0, 3)];
+// Generated positions of tokens, which are identified by their original column: 0, 1, 2 and 3.
+static POSITIONS: [(u32, u32); 4] = [(2, 5), (0, 3), (2, 5), (0, 3)];
 
 fn tokens(alloc: Global) -> Result<Vec<RawToken>> {
     let mut tokens = Vec::new(alloc);
-    for (at, (dst_line, dst_col)) in PLACES.iter().enumerate() {
+    for (at, (dst_line, dst_col)) in POSITIONS.iter().enumerate() {
         tokens.push(RawToken {
             dst_line: *dst_line,
             dst_col: *dst_col,
@@ -27,10 +27,10 @@ fn tokens(alloc: Global) -> Result<Vec<RawToken>> {
 }
 
 fn list(alloc: Global) -> Result<TokenList> {
-    Ok(TokenList::sorted(tokens(alloc)?)?)
+    Ok(TokenList::from_unsorted(tokens(alloc)?)?)
 }
 
-// What a row is about, a line, a column, and the closest token and its index.
+// Label, line, column, and the closest token with its index.
 static CLOSEST: [(&str, u32, u32, &str); 5] = [
     ("before the tokens of its line", 2, 4, "3 at 1"),
     ("on a line without tokens", 1, 0, "3 at 1"),
@@ -54,11 +54,11 @@ fn finds_the_closest_token(rt: HostRuntime) {
 }
 
 fn columns(alloc: Global, tokens: &[RawToken]) -> Result<String> {
-    let mut told = String::new(alloc);
+    let mut out = String::new(alloc);
     for token in tokens {
-        write!(told, "{} ", token.src_col)?;
+        write!(out, "{} ", token.src_col)?;
     }
-    Ok(told)
+    Ok(out)
 }
 
 fn sorted(alloc: Global) -> Result<String> {
@@ -66,8 +66,8 @@ fn sorted(alloc: Global) -> Result<String> {
     columns(alloc, list.as_slice())
 }
 
-// The same tokens, sorted where they stand.
-fn sorted_in_place(alloc: Global) -> Result<String> {
+// The same tokens, sorted in place.
+fn sorted_in_list(alloc: Global) -> Result<String> {
     let mut tokens = tokens(alloc)?;
     sort_tokens(&mut tokens)?;
     columns(alloc, tokens.as_slice())
@@ -76,7 +76,7 @@ fn sorted_in_place(alloc: Global) -> Result<String> {
 #[test]
 fn sorts_tokens_stably(rt: HostRuntime) {
     check(&rt, "sorted", sorted(rt.alloc()), "1 3 0 2 ");
-    check(&rt, "in place", sorted_in_place(rt.alloc()), "1 3 0 2 ");
+    check(&rt, "in place", sorted_in_list(rt.alloc()), "1 3 0 2 ");
 }
 
 fn orders(alloc: Global) -> Result<(bool, bool)> {
@@ -85,18 +85,18 @@ fn orders(alloc: Global) -> Result<(bool, bool)> {
 }
 
 #[test]
-fn tells_whether_tokens_are_in_order(rt: HostRuntime) -> Result<()> {
+fn detects_sorted_tokens(rt: HostRuntime) -> Result<()> {
     assert!(rt; orders(rt.alloc())? == (false, true));
     Ok(())
 }
 
-// Whether a list equals its copy, and that copy without its last token.
+// Whether a list equals its copy, and its copy without the last token.
 fn compared(list: &TokenList) -> Result<(bool, bool)> {
     let copy = list.clone()?;
     let is_same = copy == *list;
     let mut fewer = copy.into_vec();
     let _last = fewer.pop();
-    Ok((is_same, TokenList::of_ordered(fewer)? == *list))
+    Ok((is_same, TokenList::of_sorted(fewer)? == *list))
 }
 
 fn ends(alloc: Global) -> Result<String> {
@@ -113,7 +113,7 @@ fn compares_and_ends(rt: HostRuntime) {
 
 static PAIRS: [(u32, u32); 5] = [(1, 10), (1, 11), (1, 12), (1, 13), (1, 14)];
 
-// How many of the pairs are searched, by what key, and the pair that is found and its index.
+// The number of pairs searched, the key, and the pair found with its index.
 static BOUNDS: [(usize, u32, &str); 15] = [
     (1, 0, "None"),
     (1, 1, "Some((0, (1, 10)))"),
@@ -147,19 +147,19 @@ fn finds_first_at_and_last_before(rt: HostRuntime) {
 
 static TEXTS: [&str; 7] = ["b", "a", "b", "", "a", "B", ""];
 
-fn push_ids(told: &mut String, interner: &mut Interner) -> Result<()> {
+fn push_ids(out: &mut String, interner: &mut Interner) -> Result<()> {
     for text in TEXTS.iter() {
         let id = interner.add(text)?;
-        write!(told, "{id} ")?;
+        write!(out, "{id} ")?;
     }
     Ok(())
 }
 
 fn ids(alloc: Global) -> Result<String> {
-    let mut told = String::new(alloc);
+    let mut out = String::new(alloc);
     let mut interner = Interner::new(alloc);
-    push_ids(&mut told, &mut interner)?;
-    Ok(told)
+    push_ids(&mut out, &mut interner)?;
+    Ok(out)
 }
 
 fn filled(alloc: Global) -> Result<Interner> {
@@ -170,7 +170,7 @@ fn filled(alloc: Global) -> Result<Interner> {
     Ok(interner)
 }
 
-fn texts_told(alloc: Global) -> Result<String> {
+fn interned_texts(alloc: Global) -> Result<String> {
     let interner = filled(alloc)?;
     let texts = (
         interner.get(0),
@@ -194,13 +194,13 @@ fn equal_texts_have_one_number(rt: HostRuntime) {
     check(
         &rt,
         "texts",
-        texts_told(alloc),
+        interned_texts(alloc),
         r#"4 (Some("b"), Some(""), None, None)"#,
     );
     check(&rt, "all texts", kept(alloc), r#"["b", "a", "", "B"]"#);
 }
 
-// Made to share one digest, and so to be told apart by their bytes alone.
+// Texts with one digest: only their bytes differ.
 static COLLIDING: [&str; 4] = [
     "d2Vd/J8r/!qq!p9iuh1fYfw2a&.#!M};",
     "d2Vd/J8r/!qq!p9ifPNtsXs0*y~xFn!I",

@@ -1,16 +1,17 @@
-//! The text of mappings, read and written.
-use crate::checks::{check, error_text};
+//! Reading and writing of `mappings` and `rangeMappings`.
+use crate::checks::check;
 use sourcemap_core::errors::{Error, Result};
 use sourcemap_core::mappings::{
     parse_mappings, tokens_in_order, write_mappings, write_range_mappings,
 };
 use sourcemap_core::tokens::{NO_ID, RawToken};
+use sourcemap_test_support::results::error_text;
 use std::alloc::Global;
 
-// A text of mappings and one of range bits, and the counts of sources and names.
+// `mappings`, `rangeMappings`, and the numbers of sources and names.
 type Texts = (&'static str, &'static str, (u32, u32));
 
-// What a row is about, its texts and counts, and the tokens or the fault.
+// Label, texts and numbers, and the tokens or the error.
 static READ: [(&str, Texts, &str); 20] = [
     (
         "a line of nine tokens, three of them with names",
@@ -114,38 +115,38 @@ static READ: [(&str, Texts, &str); 20] = [
     ),
 ];
 
-// A token as its places, as `0:18=0:2:2#1+`: destination, source, name, and `+` for a range.
-fn push_token(told: &mut String, token: &RawToken) -> Result<()> {
-    write!(told, " {}:{}", token.dst_line, token.dst_col)?;
+// As `0:18=0:2:2#1+`: generated position, source with original position, name, `+` for a range token.
+fn push_token(out: &mut String, token: &RawToken) -> Result<()> {
+    write!(out, " {}:{}", token.dst_line, token.dst_col)?;
     if token.src_id != NO_ID {
         write!(
-            told,
+            out,
             "={}:{}:{}",
             token.src_id, token.src_line, token.src_col
         )?;
     }
     if token.name_id != NO_ID {
-        write!(told, "#{}", token.name_id)?;
+        write!(out, "#{}", token.name_id)?;
     }
     if token.is_range {
-        told.push('+')?;
+        out.push('+')?;
     }
     Ok(())
 }
 
 /// Each token in turn.
-pub fn tokens_told(alloc: Global, tokens: &[RawToken]) -> Result<String> {
-    let mut told = String::new(alloc);
+pub fn tokens_text(alloc: Global, tokens: &[RawToken]) -> Result<String> {
+    let mut out = String::new(alloc);
     for token in tokens {
-        push_token(&mut told, token)?;
+        push_token(&mut out, token)?;
     }
-    Ok(told)
+    Ok(out)
 }
 
 fn read(alloc: Global, texts: Texts) -> Result<String> {
     let (mappings, ranges, counts) = texts;
     match parse_mappings(alloc, mappings, ranges, counts.0, counts.1) {
-        Ok(tokens) => tokens_told(alloc, tokens.as_slice()),
+        Ok(tokens) => tokens_text(alloc, tokens.as_slice()),
         Err(error) => error_text(alloc, &error),
     }
 }
@@ -157,14 +158,13 @@ fn reads_mappings(rt: HostRuntime) {
     }
 }
 
-/// A token: its line and column, then source, line and column there, then name and range flag.
+/// Generated line and column, then source with original line and column, then name, then range flag.
 pub type Row = ((u32, u32), (u32, u32, u32), u32, bool);
 
-/// No source, and no place in one.
+/// No source and no original position.
 pub const BARE: (u32, u32, u32) = (NO_ID, NO_ID, NO_ID);
 
-// What a row is about, tokens, their mappings, and their range mappings if there are any. There are
-// two names.
+// Label, tokens, their mappings, and their range mappings if any. There are two names.
 static WRITTEN: [(&str, &[Row], &str, Option<&str>); 8] = [
     ("no token", &[], "", None),
     (

@@ -1,15 +1,15 @@
-//! Numbers of texts, also of texts that collide.
+//! Numbering of texts, also of texts whose hashes collide.
 use crate::checks::check;
 use sourcemap_core::errors::Result;
 use sourcemap_interning::text_index::TextIndex;
 use std::alloc::Global;
 
-// How many texts an index holds at most.
+// The largest number of texts of an index.
 const MOST: usize = 4294967295;
 
 static TEXTS: [&str; 7] = ["b", "a", "b", "", "ab", "a", ""];
 
-// The number of each text, and behind them how many texts there are.
+// The number of each text, then the number of texts.
 fn numbers(alloc: Global, texts: &[&str]) -> Result<String> {
     let mut index = TextIndex::new(alloc)?;
     let mut answer = String::new(alloc);
@@ -33,8 +33,8 @@ fn numbers_texts_by_their_first_use(rt: HostRuntime) {
     );
 }
 
-// So many texts that differ in eight digits.
-fn made(alloc: Global, start: &str, end: &str, count: usize) -> Result<Vec<String>> {
+// `count` texts that differ in eight digits.
+fn numbered_texts(alloc: Global, start: &str, end: &str, count: usize) -> Result<Vec<String>> {
     let mut texts = Vec::new(alloc);
     for number in 0..count {
         texts.push(format!(in alloc; "{start}{number:08}{end}")?)?;
@@ -42,27 +42,27 @@ fn made(alloc: Global, start: &str, end: &str, count: usize) -> Result<Vec<Strin
     Ok(texts)
 }
 
-// How many of these texts, from the first on, get their own place as number.
-fn placed<'a>(index: &mut TextIndex<'a>, texts: &'a [String]) -> Result<usize> {
-    for (place, text) in texts.iter().enumerate() {
+// How many of these texts, from the first on, get their index as number.
+fn count_numbered<'a>(index: &mut TextIndex<'a>, texts: &'a [String]) -> Result<usize> {
+    for (at, text) in texts.iter().enumerate() {
         if index.len() >= MOST {
-            return Ok(place);
+            return Ok(at);
         }
-        if index.number_of(text.as_str())? as usize != place {
-            return Ok(place);
+        if index.number_of(text.as_str())? as usize != at {
+            return Ok(at);
         }
     }
     Ok(texts.len())
 }
 
-// The same when they are entered, and when they are asked for again; whether the last one
-// is there, and a text that was not entered.
+// That count on the first and on a second pass, whether the last text is in the index, and whether a
+// text that was not entered is.
 fn numbered(alloc: Global, start: &str, end: &str, count: usize) -> Result<String> {
-    let texts = made(alloc, start, end, count)?;
+    let texts = numbered_texts(alloc, start, end, count)?;
     let other = format!(in alloc; "{start}{:08}{end}", count)?;
     let mut index = TextIndex::new(alloc)?;
-    let first = placed(&mut index, texts.as_slice())?;
-    let again = placed(&mut index, texts.as_slice())?;
+    let first = count_numbered(&mut index, texts.as_slice())?;
+    let again = count_numbered(&mut index, texts.as_slice())?;
     let is_there = match texts.last() {
         Some(text) => index.contains(text.as_str()),
         None => false,

@@ -1,10 +1,10 @@
-//! What paths have in common.
+//! Common prefixes of paths.
 use crate::checks::check;
 use sourcemap_core::errors::Result;
 use sourcemap_core::utils::find_common_prefix;
 use std::alloc::Global;
 
-// What a row is about, paths, and what they have in common.
+// Label, paths, and their common prefix.
 static PREFIXES: [(&str, &[&str], &str); 11] = [
     (
         "a folder and a drive",

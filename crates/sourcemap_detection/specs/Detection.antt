@@ -1,4 +1,4 @@
--- Which bytes hold a source map, by the keys of their JSON value that are there and not null.
+-- Which bytes are a source map, by the keys of their JSON value that are present and not null.
 use Rattle.std.specs.Prelude.{ℕ, List, Bool, false, ◌&&◌, ◌||◌, IsTrue, is_some}
 use Rattle.std.specs.Option.{option_map_or}
 use Rattle.serde_json.specs.Data.{Data}
@@ -6,7 +6,7 @@ use Rattle.sourcemap_records.specs.Bytes.{HoldJson}
 use Rattle.sourcemap_records.specs.Jsontypes.{minimal_of}
 use Rattle.sourcemap_records.specs.declared.jsontypes.MinimalRawSourceMap.{MinimalRawSourceMap}
 
--- the keys are those of an index of maps, or of a map
+-- the keys are those of an index map, or of a map
 abbrev pub has_map_keys : MinimalRawSourceMap → Bool
 has_map_keys keys =
     keys.sections
@@ -14,10 +14,10 @@ has_map_keys keys =
     && (keys.sources || keys.source_root || keys.sources_content || keys.names)
     && keys.mappings)
 
--- a value that has such keys; one that is no object, or whose version is no `u32`, has none
+-- a value has such keys; one that is not an object, or whose version is not a `u32`, does not
 abbrev pub is_map : Data → Bool
 is_map d = option_map_or has_map_keys (minimal_of d) false
 
--- bytes that hold such a value, behind a junk header or behind none
+-- bytes with such a value after the junk header, if there is one
 abbrev pub AreMap : List ℕ → Type 0
 AreMap bytes = (d : Data) × HoldJson bytes d × IsTrue (is_map d)

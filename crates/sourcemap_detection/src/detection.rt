@@ -1,4 +1,4 @@
-//! Whether bytes hold a source map: which keys their JSON value has, without a record of it.
+//! Detects source maps by the keys of their JSON value, without reading a record.
 ghost use Rattle.std.specs.Prelude.{◌≡◌, ◌≢◌, ◌↔◌, IsTrue, IfOk, IfSome, IsOkUnless, MatchResult, false};
 ghost use Rattle.serde_json.specs.View.{view};
 ghost use Rattle.sourcemap_errors.specs.declared.errors.Error.TheVariants.{OutOfMemory};
@@ -14,9 +14,9 @@ use std::io::Read;
 fn keys_are_of_map(keys: MinimalRawSourceMap) -> bool
     ensures { result ≡ has_map_keys keys }
 {
-    let has_heading = keys.version.is_some() || keys.file;
+    let has_version_or_file = keys.version.is_some() || keys.file;
     let has_lists = keys.sources || keys.source_root || keys.sources_content || keys.names;
-    keys.sections || (has_heading && has_lists && keys.mappings)
+    keys.sections || (has_version_or_file && has_lists && keys.mappings)
 }
 
 fn value_is_map(value: &Value) -> bool
@@ -28,8 +28,8 @@ fn value_is_map(value: &Value) -> bool
     }
 }
 
-// Bytes with an error hold no map; out of memory nothing is known of them.
-fn no_map(error: Error) -> Result<bool>
+// Bytes with an error are not a map. Out of memory stays an error.
+fn false_unless_memory(error: Error) -> Result<bool>
     ensures { MatchResult result
         (λ is. (is ≡ false) × (error ≢ OutOfMemory))
         (λ e. (e ≡ OutOfMemory) × (error ≡ OutOfMemory)) }
@@ -40,22 +40,22 @@ fn no_map(error: Error) -> Result<bool>
     }
 }
 
-/// Returns whether bytes hold a source map, behind a junk header or behind none: a JSON object that
+/// Returns whether bytes are a source map, after the junk header, if there is one: a JSON object that
 /// has `sections`, or `mappings` with `version` or `file` and with one of `sources`, `sourceRoot`,
-/// `sourcesContent` and `names`. A key that is null counts as missing, and the other values are not
-/// looked at, except that a version must be a `u32`. Bytes with an error, in their header or in
-/// their JSON, hold no map. Returns `OutOfMemory` only.
+/// `sourcesContent` and `names`. A null key counts as missing. Other values are not checked, except
+/// that a version must be a `u32`. Bytes with an invalid header or invalid JSON are not a map. The
+/// error is `OutOfMemory`.
 pub fn is_sourcemap_slice(alloc: Global, bytes: &[u8]) -> Result<bool>
     ensures answer { IfOk result (λ is. IsTrue is ↔ AreMap bytes.now) }
     ensures err { IsOkUnless result OutOfMemory }
 {
     match read_json(alloc, bytes) {
         Ok(value) => Ok(value_is_map(&value)),
-        Err(error) => no_map(error),
+        Err(error) => false_unless_memory(error),
     }
 }
 
-// Whether the bytes that were read hold a map; none do where a read failed.
+// Whether the bytes that were read are a map. They are not if a read failed.
 fn read_is_map(alloc: Global, read: Result<Vec<u8>>) -> Result<bool>
     ensures answer { MatchResult read
         (λ bytes. IfOk result (λ is. IsTrue is ↔ AreMap bytes.items))
@@ -64,14 +64,14 @@ fn read_is_map(alloc: Global, read: Result<Vec<u8>>) -> Result<bool>
 {
     match read {
         Ok(bytes) => is_sourcemap_slice(alloc, bytes.as_slice()),
-        Err(error) => no_map(error),
+        Err(error) => false_unless_memory(error),
     }
 }
 
-/// Returns whether a reader's bytes hold a source map, as by `is_sourcemap_slice`. The reader is
-/// read to its end first; where a read fails, the answer is false. Returns `OutOfMemory` only.
+/// Reads a reader to its end, and returns whether its bytes are a source map, as by
+/// `is_sourcemap_slice`. Returns false if a read fails. The error is `OutOfMemory`.
 pub fn is_sourcemap<R: Read + Drop>(alloc: Global, reader: R) -> Result<bool>
-    // no clause of a reader says when a read fails, so false may be the answer for any bytes
+    // no clause of a reader says when a read fails, so the result may be false for any bytes
     ensures answer { IfSome (R.remaining reader)
         (λ bytes. IfOk result (λ is. IsTrue is → AreMap bytes)) }
     ensures err { IsOkUnless result OutOfMemory }

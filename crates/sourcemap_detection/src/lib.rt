@@ -1,4 +1,4 @@
-//! Whether bytes hold a source map, by the keys of their JSON value.
+//! Detects source maps by the keys of their JSON value.
 #![tactic(auto)]
 
 pub mod detection;

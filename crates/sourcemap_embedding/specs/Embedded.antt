@@ -2,8 +2,8 @@
 use Rattle.std.specs.Prelude.{◌≡◌, ℕ, List, Option, Some, None, Result, Ok}
 use Rattle.std.specs.Bool.{MatchBool}
 use Rattle.sourcemap_errors.specs.declared.errors.Error.{Error}
-use Rattle.sourcemap_trees.specs.MapTree.{MapTree}
-use Rattle.sourcemap_trees.specs.Decode.{Then}
+use Rattle.sourcemap_index_model.specs.MapTree.{MapTree}
+use Rattle.sourcemap_index_model.specs.Decode.{Then}
 use Rattle.sourcemap_index.specs.Decode.{UrlDecodes}
 use Rattle.sourcemap_references.specs.Resolution.{is_data_url}
 

@@ -2,7 +2,7 @@
 ghost use Rattle.std.specs.Prelude.{ℕ, List, IfOk, IfSome, option_map};
 ghost use Rattle.sourcemap_errors.specs.Answer.{IsAnswer};
 ghost use Rattle.sourcemap_index.specs.Family.{map_tree};
-ghost use Rattle.sourcemap_trees.specs.WellFormed.{IsWellFormed};
+ghost use Rattle.sourcemap_index_model.specs.WellFormed.{IsWellFormed};
 ghost use Rattle.sourcemap_embedding.specs.Embedded.{EmbeddedAnswer};
 
 use sourcemap_errors::errors::Result;

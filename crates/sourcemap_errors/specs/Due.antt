@@ -1,4 +1,4 @@
--- What follows where a value is due: a call that succeeds gives it, and nothing but want of memory refuses.
+-- If a value is due, a call that succeeds returns that value, and the only error is `OutOfMemory`.
 use Rattle.std.specs.Prelude.{◌≡◌, Result, Ok, Err, IfErr, IfOk}
 use Rattle.std.proofs.Common.{ap, refl, sym}
 use Rattle.sourcemap_errors.specs.Answer.{UnlessMemory, Gives}

@@ -1,4 +1,4 @@
--- What each fault prints, and what the faults of other libraries become.
+-- The text that each error displays, and the conversions from the errors of other libraries.
 use Rattle.std.specs.Prelude.{◌≡◌, ◌≢◌, ℕ, List, ◌++◌, codes, Option, Some, None, encode_utf8, string_bytes}
 use Rattle.std.specs.Fmt.{decimal}
 use Rattle.std.specs.IoError.{error_kind}
@@ -14,21 +14,21 @@ use Rattle.sourcemap_errors.specs.declared.errors.Error.{Error}
 use Rattle.sourcemap_errors.specs.declared.errors.Error.TheVariants.{Io, Utf8, Scroll, BadJson, VlqLeftover, VlqNoValues, VlqOverflow, BadSegmentSize, BadSourceReference, BadNameReference, IncompatibleSourceMap, InvalidDataUrl, CannotFlatten, InvalidRamBundleMagic, InvalidRamBundleIndex, InvalidRamBundleEntry, NotARamBundle, InvalidRangeMappingIndex, InvalidBase64, OutOfMemory}
 
 abbrev pub range_fault_text : RangeFault → List ℕ
-range_fault_text fault = decimal fault.start ++ codes "+" ++ decimal fault.size ++ codes " past " ++ decimal fault.len
+range_fault_text error = decimal error.start ++ codes "+" ++ decimal error.size ++ codes " past " ++ decimal error.len
 
 abbrev pub json_fault_text : JsonFault → List ℕ
 json_fault_text Parse = codes "the text is not JSON"
 json_fault_text Shape = codes "a field has the wrong type"
 
 abbrev pub base64_fault_text : Base64Fault → List ℕ
-base64_fault_text fault = codes "bad base64 at " ++ decimal fault.at
+base64_fault_text error = codes "bad base64 at " ++ decimal error.at
 
--- what an error prints; std does not say what its own faults print
+-- the displayed text of an error; std does not specify that of its own errors
 abbrev pub error_text : Error → Option (List ℕ)
 error_text (Io _) = None
 error_text (Utf8 _) = None
-error_text (Scroll fault) = Some (codes "parse error: " ++ range_fault_text fault)
-error_text (BadJson fault) = Some (codes "bad json: " ++ json_fault_text fault)
+error_text (Scroll error) = Some (codes "parse error: " ++ range_fault_text error)
+error_text (BadJson error) = Some (codes "bad json: " ++ json_fault_text error)
 error_text VlqLeftover = Some (codes "leftover cur/shift in vlq decode")
 error_text VlqNoValues = Some (codes "vlq decode did not produce any values")
 error_text VlqOverflow = Some (codes "vlq decode caused an overflow")
@@ -42,17 +42,17 @@ error_text InvalidRamBundleMagic = Some (codes "invalid magic number for ram bun
 error_text InvalidRamBundleIndex = Some (codes "invalid module index in ram bundle")
 error_text InvalidRamBundleEntry = Some (codes "invalid ram bundle module entry")
 error_text NotARamBundle = Some (codes "not a ram bundle")
-error_text (InvalidRangeMappingIndex fault) = Some (codes "invalid range mapping index: " ++ base64_fault_text fault)
+error_text (InvalidRangeMappingIndex error) = Some (codes "invalid range mapping index: " ++ base64_fault_text error)
 error_text (InvalidBase64 byte) = Some (codes "invalid base64 character: " ++ encode_utf8 byte)
 error_text OutOfMemory = Some (codes "out of memory")
 
--- what a fault of a reader or writer becomes: its want of memory is told apart
+-- an error of a reader or writer: kind `OutOfMemory` becomes `OutOfMemory`, any other is kept
 abbrev pub FromIo : IoError → Error → Type 0
 FromIo cause OutOfMemory = error_kind cause ≡ NoMemory
 FromIo cause (Io kept) = (kept ≡ cause) × (error_kind cause ≢ NoMemory)
 FromIo _ _ = ⊥
 
--- serde_json's want of memory, or a text that it does not read
+-- an error of serde_json: out of memory, or a text that is not JSON
 abbrev pub FromJson : ParseError → Error → Type 0
 FromJson cause OutOfMemory = IsMemory cause
 FromJson cause (BadJson Parse) = ¬ IsMemory cause

@@ -1,21 +1,21 @@
-//! The faults that calls of this library answer, and what each prints.
+//! The errors that this library returns, and the text that each displays.
 ghost use Rattle.std.specs.Prelude.{◌≡◌};
 ghost use Rattle.sourcemap_errors.specs.declared.errors.Error.TheVariants.{BadJson, InvalidRangeMappingIndex, OutOfMemory, Scroll, Utf8};
 
 use std::alloc::{AllocError, AllocFailed};
 use std::{fmt, io, str};
 
-/// What the calls of this library answer.
+/// The result type of this library.
 pub type Result<T> = std::result::Result<T, Error>;
 
-/// A range of bytes that passes the end of the bytes it was asked of.
+/// A range that extends past the end of its bytes.
 #[derive(Clone, Copy, Debug, PartialEq, Eq)]
 pub struct RangeFault {
-    /// Where the range starts.
+    /// Start of the range, in bytes.
     pub start: u64,
-    /// How many bytes it has.
+    /// Size of the range, in bytes.
     pub size: u64,
-    /// How many bytes there are.
+    /// How many bytes there are in all.
     pub len: u64,
 }
 
@@ -23,7 +23,7 @@ impl fmt::Display for RangeFault {
     ghost use Rattle.std.specs.Prelude.{Some};
     ghost use Rattle.sourcemap_errors.specs.Errors.{range_fault_text};
 
-    ghost output = { λ fault. Some (range_fault_text fault) };
+    ghost output = { λ error. Some (range_fault_text error) };
 
     fn fmt<W: fmt::Write>(&self, f: &mut fmt::Formatter<W>) -> fmt::Result {
         let RangeFault { start, size, len } = *self;
@@ -31,12 +31,12 @@ impl fmt::Display for RangeFault {
     }
 }
 
-/// Why a JSON value is no record.
+/// Why a source map cannot be read from JSON.
 #[derive(Clone, Copy, Debug, PartialEq, Eq)]
 pub enum JsonFault {
     /// The text is not JSON.
     Parse,
-    /// The JSON is no record of the wanted kind.
+    /// The JSON value does not have the expected shape.
     Shape,
 }
 
@@ -44,7 +44,7 @@ impl fmt::Display for JsonFault {
     ghost use Rattle.std.specs.Prelude.{Some};
     ghost use Rattle.sourcemap_errors.specs.Errors.{json_fault_text};
 
-    ghost output = { λ fault. Some (json_fault_text fault) };
+    ghost output = { λ error. Some (json_fault_text error) };
 
     fn fmt<W: fmt::Write>(&self, f: &mut fmt::Formatter<W>) -> fmt::Result {
         match self {
@@ -54,10 +54,10 @@ impl fmt::Display for JsonFault {
     }
 }
 
-/// A place at which a text is not base64.
+/// The offset of the first byte that is not base64.
 #[derive(Clone, Copy, Debug, PartialEq, Eq)]
 pub struct Base64Fault {
-    /// How many bytes stand before it.
+    /// Offset in bytes.
     pub at: u64,
 }
 
@@ -65,7 +65,7 @@ impl fmt::Display for Base64Fault {
     ghost use Rattle.std.specs.Prelude.{Some};
     ghost use Rattle.sourcemap_errors.specs.Errors.{base64_fault_text};
 
-    ghost output = { λ fault. Some (base64_fault_text fault) };
+    ghost output = { λ error. Some (base64_fault_text error) };
 
     fn fmt<W: fmt::Write>(&self, f: &mut fmt::Formatter<W>) -> fmt::Result {
         let at = self.at;
@@ -73,47 +73,47 @@ impl fmt::Display for Base64Fault {
     }
 }
 
-/// Why a call of this library was refused.
+/// An error of this library.
 #[derive(Debug, Drop)]
 pub enum Error {
-    /// A reader or a writer failed, or a header is faulty.
+    /// A reader or writer failed, or the junk header is invalid.
     Io(io::Error),
-    /// Bytes that should be text are not UTF-8.
+    /// The bytes are not UTF-8.
     Utf8(str::Utf8Error),
-    /// A range passes the end of a bundle.
+    /// A range extends past the end of a bundle.
     Scroll(RangeFault),
-    /// The input is not JSON, or no record.
+    /// The input is not JSON, or not a source map.
     BadJson(JsonFault),
     /// A segment ends within a number.
     VlqLeftover,
     /// A segment has no number.
     VlqNoValues,
-    /// A number of a segment is 2^62 or more from 0, or has more than thirteen digits.
+    /// The absolute value of a number is 2^62 or more, or it has more than thirteen digits.
     VlqOverflow,
-    /// A segment has this many numbers, which is none of 1, 4 and 5. 4294967295 stands for itself
-    /// and for any greater count.
+    /// A segment has this many numbers; 1, 4 and 5 are valid. Counts above 4294967295 are
+    /// reported as 4294967295.
     BadSegmentSize(u32),
-    /// A segment names this source, which does not exist.
+    /// A segment refers to this source id, which does not exist.
     BadSourceReference(u32),
-    /// A segment names this name, which does not exist.
+    /// A segment refers to this name id, which does not exist.
     BadNameReference(u32),
-    /// The map is of another kind, or past a limit.
+    /// The map has another kind than expected, or exceeds a limit.
     IncompatibleSourceMap,
-    /// The text is no data URL of a source map.
+    /// The text is not a data URL of a source map.
     InvalidDataUrl,
-    /// An index map can't be made one regular map, for this reason.
+    /// The index map cannot be flattened, for this reason.
     CannotFlatten(String),
-    /// A bundle does not begin with its magic number.
+    /// The bundle does not begin with the magic number.
     InvalidRamBundleMagic,
-    /// A bundle has no module of that number.
+    /// The bundle has no module with this index.
     InvalidRamBundleIndex,
-    /// A bundle's entry of a module is faulty.
+    /// The bundle's table entry of a module is invalid.
     InvalidRamBundleEntry,
-    /// There is no bundle.
+    /// The file is not a RAM bundle.
     NotARamBundle,
-    /// Kept for callers that match on it. No call answers it.
+    /// Never returned; kept for callers that match on it.
     InvalidRangeMappingIndex(Base64Fault),
-    /// A byte is no digit: the character of the byte's number.
+    /// A byte is not a base64 digit. The character has the code of the byte.
     InvalidBase64(char),
     /// Memory ran out.
     OutOfMemory,
@@ -128,8 +128,8 @@ impl fmt::Display for Error {
         match self {
             Error::Io(cause) => write!(f, "{cause}"),
             Error::Utf8(cause) => write!(f, "{cause}"),
-            Error::Scroll(fault) => write!(f, "parse error: {fault}"),
-            Error::BadJson(fault) => write!(f, "bad json: {fault}"),
+            Error::Scroll(error) => write!(f, "parse error: {error}"),
+            Error::BadJson(error) => write!(f, "bad json: {error}"),
             Error::VlqLeftover => f.write_str("leftover cur/shift in vlq decode"),
             Error::VlqNoValues => f.write_str("vlq decode did not produce any values"),
             Error::VlqOverflow => f.write_str("vlq decode caused an overflow"),
@@ -148,9 +148,9 @@ impl fmt::Display for Error {
             Error::InvalidRamBundleIndex => f.write_str("invalid module index in ram bundle"),
             Error::InvalidRamBundleEntry => f.write_str("invalid ram bundle module entry"),
             Error::NotARamBundle => f.write_str("not a ram bundle"),
-            Error::InvalidRangeMappingIndex(fault) => write!(
+            Error::InvalidRangeMappingIndex(error) => write!(
                 f,
-                "invalid range mapping index: {fault}"
+                "invalid range mapping index: {error}"
             ),
             Error::InvalidBase64(byte) => write!(f, "invalid base64 character: {byte}"),
             Error::OutOfMemory => f.write_str("out of memory"),
@@ -190,34 +190,34 @@ impl From<io::Error> for Error {
 }
 
 impl From<RangeFault> for Error {
-    ghost from_gives = { λ fault e. e ≡ Scroll fault };
+    ghost from_gives = { λ error e. e ≡ Scroll error };
 
-    fn from(fault: RangeFault) -> Error {
-        Error::Scroll(fault)
+    fn from(error: RangeFault) -> Error {
+        Error::Scroll(error)
     }
 }
 
 impl From<str::Utf8Error> for Error {
-    ghost from_gives = { λ fault e. e ≡ Utf8 fault };
+    ghost from_gives = { λ error e. e ≡ Utf8 error };
 
-    fn from(fault: str::Utf8Error) -> Error {
-        Error::Utf8(fault)
+    fn from(error: str::Utf8Error) -> Error {
+        Error::Utf8(error)
     }
 }
 
 impl From<JsonFault> for Error {
-    ghost from_gives = { λ fault e. e ≡ BadJson fault };
+    ghost from_gives = { λ error e. e ≡ BadJson error };
 
-    fn from(fault: JsonFault) -> Error {
-        Error::BadJson(fault)
+    fn from(error: JsonFault) -> Error {
+        Error::BadJson(error)
     }
 }
 
 impl From<Base64Fault> for Error {
-    ghost from_gives = { λ fault e. e ≡ InvalidRangeMappingIndex fault };
+    ghost from_gives = { λ error e. e ≡ InvalidRangeMappingIndex error };
 
-    fn from(fault: Base64Fault) -> Error {
-        Error::InvalidRangeMappingIndex(fault)
+    fn from(error: Base64Fault) -> Error {
+        Error::InvalidRangeMappingIndex(error)
     }
 }
 

@@ -1,4 +1,4 @@
-//! Faults of source maps, and what a call may answer.
+//! The error type, and the definitions of what a call may return.
 #![tactic(auto)]
 
 pub mod errors;

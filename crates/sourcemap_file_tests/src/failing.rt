@@ -1,130 +1,60 @@
-// Files that fail while they are read.
-ghost use Rattle.std.specs.Prelude.{IsErr};
-
-use crate::folders::{check, count_shown, push_shown};
+// Files whose reads fail.
+use crate::checks::check;
+use crate::folders::count_or_error;
 use sourcemap::{Result, SourceMapBuilder};
+use sourcemap_test_support::files::{FakeFile, unsupported};
+use sourcemap_test_support::readers::NarrowReader;
+use sourcemap_test_support::results::push_optional;
 use std::alloc::{Allocator, Global};
-use std::fs::{Metadata, OpenFile, OpenOptions};
+use std::fs::{Metadata, OpenOptions};
 use std::io;
-use std::io::{ErrorKind, Read, Seek, SeekFrom, Write};
+use std::io::ErrorKind;
 use std::rt::Files;
 
-// A file system of six files: `/a.js`, `/late.js`, which fails after its first byte, `/never.js`,
-// which is not opened, `/strange.js`, of which only its bytes are known, and `/grown.js` and
-// `/cut.js`, which have more or fewer bytes than they had when they were opened.
+// A fake file system of six files: `/a.js`; `/late.js`, which fails after its first byte;
+// `/never.js`, which cannot be opened; `/strange.js`, without metadata; `/grown.js` and `/cut.js`,
+// whose metadata report fewer or more bytes than they have.
 #[derive(Drop)]
 struct Broken {
-    // with which kind it fails
+    // the kind of all errors
     kind: ErrorKind,
 }
 
-// What is left to be read, byte by byte.
-#[derive(Drop)]
-struct Bytes {
-    left: usize,
-    fault: Option<ErrorKind>,
-    // how many there are by its metadata, if that is known
+// A file that is read as these bytes, and then fails if `fails`.
+fn file(
+    bytes: &'static [u8],
+    fails: bool,
+    kind: ErrorKind,
     size: Option<u64>,
-}
-
-impl Read for Bytes {
-    fn read(&mut self, buf: &mut [u8]) -> io::Result<usize> {
-        if buf.is_empty() {
-            return Ok(0);
-        }
-        if self.left == 0 {
-            return match self.fault {
-                None => Ok(0),
-                Some(kind) => Err(io::Error::from(kind)),
-            };
-        }
-        self.left -= 1;
-        buf[0] = b'x';
-        Ok(1)
+) -> FakeFile<'static> {
+    FakeFile {
+        reader: NarrowReader {
+            rest: bytes,
+            left: if fails { Some(bytes.len()) } else { None },
+            kind,
+        },
+        size,
     }
-}
-
-impl Write for Bytes {
-    fn write(&mut self, _buf: &[u8]) -> io::Result<usize> {
-        unsupported()
-    }
-
-    fn flush(&mut self) -> io::Result<()> {
-        unsupported()
-    }
-}
-
-impl Seek for Bytes {
-    fn seek(&mut self, _to: SeekFrom) -> io::Result<u64> {
-        unsupported()
-    }
-}
-
-impl OpenFile for Bytes {
-    fn metadata(&self) -> io::Result<Metadata> {
-        match self.size {
-            Some(size) => Ok(Metadata::of_file(size)),
-            None => unsupported(),
-        }
-    }
-
-    fn set_len(&self, _size: u64) -> io::Result<()> {
-        unsupported()
-    }
-
-    fn sync_all(&self) -> io::Result<()> {
-        unsupported()
-    }
-
-    fn sync_data(&self) -> io::Result<()> {
-        unsupported()
-    }
-}
-
-fn unsupported<T>() -> io::Result<T>
-    ensures { IsErr result }
-{
-    Err(io::Error::from(ErrorKind::Unsupported))
 }
 
 impl Files for Broken {
-    type File = Bytes;
+    type File = FakeFile<'static>;
 
-    type Dir = Bytes;
+    type Dir = FakeFile<'static>;
 
-    fn open_file(&self, how: &OpenOptions, path: &str) -> io::Result<Bytes> {
+    fn open_file(&self, how: &OpenOptions, path: &str) -> io::Result<FakeFile<'static>> {
         how.check()?;
         match path {
-            "/a.js" => Ok(Bytes {
-                left: 2,
-                fault: None,
-                size: Some(2),
-            }),
-            "/grown.js" => Ok(Bytes {
-                left: 5,
-                fault: None,
-                size: Some(1),
-            }),
-            "/cut.js" => Ok(Bytes {
-                left: 1,
-                fault: None,
-                size: Some(5),
-            }),
-            "/late.js" => Ok(Bytes {
-                left: 1,
-                fault: Some(self.kind),
-                size: Some(1),
-            }),
-            "/strange.js" => Ok(Bytes {
-                left: 3,
-                fault: None,
-                size: None,
-            }),
+            "/a.js" => Ok(file(b"xx", false, self.kind, Some(2))),
+            "/grown.js" => Ok(file(b"xxxxx", false, self.kind, Some(1))),
+            "/cut.js" => Ok(file(b"x", false, self.kind, Some(5))),
+            "/late.js" => Ok(file(b"x", true, self.kind, Some(1))),
+            "/strange.js" => Ok(file(b"xxx", false, self.kind, None)),
             _ => Err(io::Error::from(self.kind)),
         }
     }
 
-    fn open_dir(&self, _path: &str) -> io::Result<Bytes> {
+    fn open_dir(&self, _path: &str) -> io::Result<FakeFile<'static>> {
         unsupported()
     }
 
@@ -167,14 +97,14 @@ fn loaded(alloc: Global, kind: ErrorKind, sources: &[&str]) -> Result<String> {
         builder.add_source(source)?;
     }
     let files = Broken { kind };
-    let mut out = count_shown(alloc, builder.load_local_source_contents(&files, "/", None))?;
+    let mut out = count_or_error(alloc, builder.load_local_source_contents(&files, "/", None))?;
     for id in 0..sources.len().min(100) {
-        push_shown(&mut out, builder.get_source_contents(id as u32))?;
+        push_optional(&mut out, builder.get_source_contents(id as u32))?;
     }
     Ok(out)
 }
 
-// The kind of the fault, the sources, and what is shown: an open that fails, and a read that does.
+// The kind of the error, the sources, and the output, for failing opens and failing reads.
 static ROWS: [(ErrorKind, &[&str], &str); 6] = [
     (
         ErrorKind::Other,
@@ -205,7 +135,7 @@ static ROWS: [(ErrorKind, &[&str], &str); 6] = [
 ];
 
 #[test]
-fn a_fault_skips_a_source_unless_memory_ran_out(rt: HostRuntime) {
+fn an_error_skips_a_source_unless_out_of_memory(rt: HostRuntime) {
     for (kind, sources, want) in ROWS.iter() {
         let answer = loaded(rt.alloc(), *kind, sources);
         check(&rt, want, answer, want);

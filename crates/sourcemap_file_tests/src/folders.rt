@@ -1,12 +1,11 @@
-// Folders that tests write to, and what they compare.
+// Folders that tests write to, and helpers to compare results.
 use sourcemap::{Error, Result, SourceMapBuilder};
 use std::alloc::Global;
 use std::os::unix::fs::symlink;
-use std::process::Abort;
 use std::rt::{Env, Files};
 use std::{env, fs, io};
 
-/// A new folder of this name in the current one, by its absolute path.
+/// Creates a folder of this name in the current one and returns its absolute path.
 pub fn folder<R: Files + Env + AllocGlobal>(rt: &R, name: &str) -> io::Result<String> {
     let _ = fs::remove_dir_all(rt, name);
     fs::create_dir(rt, name)?;
@@ -14,7 +13,7 @@ pub fn folder<R: Files + Env + AllocGlobal>(rt: &R, name: &str) -> io::Result<St
     Ok(format!(in rt.alloc(); "{current}/{name}")?)
 }
 
-// The files of a folder, and what they hold.
+// The files of a folder and their contents.
 static FILES: [(&str, &[u8]); 7] = [
     ("a.js", b"x"),
     ("b.js", b"\xff"),
@@ -25,7 +24,7 @@ static FILES: [(&str, &[u8]); 7] = [
     ("sub/c.js", b"c"),
 ];
 
-/// A new folder of this name with a few files in it, by its absolute path.
+/// Creates a folder of this name with a few files and returns its absolute path.
 pub fn fill<R: Files + Env + AllocGlobal>(rt: &R, name: &str) -> io::Result<String> {
     let folder = folder(rt, name)?;
     let sub = format!(in rt.alloc(); "{name}/sub")?;
@@ -48,41 +47,22 @@ fn link<R: Files + AllocGlobal>(rt: &R, folder: &str, path: &str, to: &str) -> i
     symlink(rt, to, path.as_str())
 }
 
-/// A text in which `@` at the start stands for the path of a folder.
-pub fn placed(alloc: Global, folder: &str, text: &str) -> Result<String> {
+/// Replaces `@` at the start of a text by the path of the folder.
+pub fn expand_folder(alloc: Global, folder: &str, text: &str) -> Result<String> {
     match text.strip_prefix('@') {
         Some(rest) => Ok(format!(in alloc; "{folder}{rest}")?),
         None => Ok(String::from_str(alloc, text)?),
     }
 }
 
-/// Ends the test, and says at which row, unless the answer is the wanted text.
-pub fn check(rt: &impl Abort, row: &str, answer: Result<String>, want: &str) {
-    let is_wanted = matches!(&answer, Ok(text) if text.as_str() == want);
-    assert!(rt; is_wanted, "{row}: {answer:?}");
-}
-
-/// Adds a text that may be missing, in brackets, so that an empty one is told from none.
-pub fn push_shown(out: &mut String, text: Option<&str>) -> Result<()> {
-    match text {
-        None => out.push_str(" none")?,
-        Some(text) => {
-            out.push_str(" [")?;
-            out.push_str(text)?;
-            out.push_str("]")?;
-        }
-    }
-    Ok(())
-}
-
-/// How many were loaded, or the kind of the refusal.
-pub fn count_shown(alloc: Global, loaded: Result<usize>) -> Result<String> {
+/// The count of loaded files, or the text of the error.
+pub fn count_or_error(alloc: Global, loaded: Result<usize>) -> Result<String> {
     match loaded {
         Ok(count) => Ok(format!(in alloc; "{count}")?),
         Err(Error::Io(cause)) if cause.kind() == io::ErrorKind::InvalidInput => {
             Ok(String::from_str(alloc, "invalid input")?)
         }
-        Err(fault) => Ok(format!(in alloc; "{fault}")?),
+        Err(error) => Ok(format!(in alloc; "{error}")?),
     }
 }
 
@@ -97,8 +77,8 @@ fn held(builder: &SourceMapBuilder, count: u32) -> usize {
     held
 }
 
-/// How many contents are loaded of so many sources. Where memory runs out, what was loaded stays, and
-/// the others are loaded by a second call.
+/// Loads contents of the first `count` sources and returns how many were loaded. After `OutOfMemory`
+/// the loaded ones stay, and a second call loads the others.
 pub fn load<F: Files>(
     rt: &F,
     builder: &mut SourceMapBuilder,

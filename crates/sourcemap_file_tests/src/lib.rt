@@ -1,8 +1,10 @@
-//! Tests of calls that read contents of sources from files, by the names that users know. Each test
-//! writes below a folder with a name of its own, which it removes first and last. This crate holds
-//! nothing else, so that no proof and no must-fail edit waits for it.
+//! Tests of calls that load source contents from files, over the facade `sourcemap`. Each test writes
+//! to a folder of its own, which it removes before and after. A crate of their own, so that no proof
+//! and no must-fail edit waits for them.
 #![tactic(auto)]
 
+#[cfg(test)]
+mod checks;
 #[cfg(test)]
 mod failing;
 #[cfg(test)]

@@ -1,11 +1,13 @@
-// Contents that a builder loads.
-use crate::folders::{check, count_shown, fill, folder, load, placed, push_shown};
+// Contents loaded by a builder.
+use crate::checks::check;
+use crate::folders::{count_or_error, expand_folder, fill, folder, load};
 use sourcemap::{Result, SourceMapBuilder};
+use sourcemap_test_support::results::push_optional;
 use std::alloc::Global;
 use std::rt::Files;
 use std::{fs, io};
 
-// A builder with these sources, of which the first has contents if they are given.
+// A builder with these sources; `contents` are those of the first.
 fn builder(
     alloc: Global,
     folder: &str,
@@ -14,7 +16,7 @@ fn builder(
 ) -> Result<SourceMapBuilder> {
     let mut builder = SourceMapBuilder::new(alloc, None)?;
     for source in sources {
-        let source = placed(alloc, folder, source)?;
+        let source = expand_folder(alloc, folder, source)?;
         let id = builder.add_source(source.as_str())?;
         if id == 0 {
             set_contents(&mut builder, contents)?;
@@ -30,7 +32,7 @@ fn set_contents(builder: &mut SourceMapBuilder, contents: Option<&str>) -> Resul
     builder.set_source_contents(0, contents)
 }
 
-// How many contents are loaded, the contents then, and how many a second call loads.
+// The count of loaded contents, all contents, and the count of a second call.
 fn loaded<F: Files>(
     rt: &F,
     alloc: Global,
@@ -39,18 +41,17 @@ fn loaded<F: Files>(
     base: Option<&str>,
     count: u32,
 ) -> Result<String> {
-    let mut out = count_shown(alloc, load(rt, builder, current, base, count))?;
+    let mut out = count_or_error(alloc, load(rt, builder, current, base, count))?;
     for id in 0..count {
-        push_shown(&mut out, builder.get_source_contents(id))?;
+        push_optional(&mut out, builder.get_source_contents(id))?;
     }
-    let again = count_shown(alloc, load(rt, builder, current, base, count))?;
+    let again = count_or_error(alloc, load(rt, builder, current, base, count))?;
     out.push_str(" ")?;
     out.push_str(again.as_str())?;
     Ok(out)
 }
 
-// What a row is about, the sources, the contents of the first, the current directory, the base
-// path, and what is shown. `@` stands for the path of the folder.
+// `@` stands for the path of the folder.
 struct Row {
     about: &'static str,
     sources: &'static [&'static str],
@@ -61,9 +62,9 @@ struct Row {
 }
 
 fn answer<F: Files>(rt: &F, alloc: Global, folder: &str, row: &Row) -> Result<String> {
-    let current = placed(alloc, folder, row.current)?;
+    let current = expand_folder(alloc, folder, row.current)?;
     let base = match row.base {
-        Some(base) => Some(placed(alloc, folder, base)?),
+        Some(base) => Some(expand_folder(alloc, folder, base)?),
         None => None,
     };
     let mut builder = builder(alloc, folder, row.sources, row.contents)?;
@@ -256,7 +257,7 @@ fn contents_are_loaded(rt: HostRuntime) -> io::Result<()> {
     fs::remove_dir_all(&rt, "contents_are_loaded")
 }
 
-// How many files are loaded, how many bytes of the first, and whether they are these.
+// The count of loaded files, the length of the first, and whether its bytes are right.
 fn long_loaded<F: Files>(rt: &F, alloc: Global, folder: &str, bytes: &[u8]) -> Result<String> {
     let mut builder = builder(alloc, folder, &["long.js"], None)?;
     let count = builder.load_local_source_contents(rt, folder, None)?;

@@ -1,18 +1,20 @@
-// Contents that rewriting loads, by maps of each kind.
-use crate::folders::{check, fill, push_shown};
+// Contents loaded while rewriting, for maps of each kind.
+use crate::checks::check;
+use crate::folders::fill;
 use sourcemap::types::{RewriteOptions, SourceMap, SourceMapIndex};
 use sourcemap::{Result, SourceMapHermes};
+use sourcemap_test_support::results::push_optional;
 use std::alloc::Global;
 use std::process::Abort;
 use std::rt::Files;
 use std::{fs, io};
 
-// Each source of a map, and its contents.
-fn shown(alloc: Global, map: &SourceMap) -> Result<String> {
+// The sources of a map with their contents.
+fn source_list(alloc: Global, map: &SourceMap) -> Result<String> {
     let mut out = String::new(alloc);
     for id in 0..map.get_source_count() {
         out.push_str(map.get_source(id).unwrap_or("none"))?;
-        push_shown(&mut out, map.get_source_contents(id))?;
+        push_optional(&mut out, map.get_source_contents(id))?;
         out.push_str(";")?;
     }
     Ok(out)
@@ -25,7 +27,7 @@ fn rewritten<F: Files>(
     options: &RewriteOptions<'_>,
 ) -> Result<String> {
     let map = SourceMap::from_slice(alloc, text.as_bytes())?;
-    shown(alloc, &map.rewrite(rt, options)?)
+    source_list(alloc, &map.rewrite(rt, options)?)
 }
 
 const FOUR: &str =
@@ -33,8 +35,7 @@ const FOUR: &str =
 
 const ROOT: &str = r#"{"mappings":"ACAA","sourceRoot":"sub","sources":["a.js","c.js"]}"#;
 
-// What a row is about, a map, whether contents are kept and loaded, the base path, the prefixes
-// to be cut, and the sources with their contents.
+// A map, options of rewriting, and the sources with their contents.
 struct Row {
     about: &'static str,
     text: &'static str,
@@ -123,7 +124,6 @@ fn rewritten_row<'a, F: Files>(
     rewritten(rt, alloc, row.text, &options)
 }
 
-// Whether the row at this index, if there is one, is answered as it says.
 fn check_row<R: Files + AllocGlobal + Abort>(rt: &R, folder: &str, at: usize) {
     if let Some(row) = ROWS.get(at) {
         let answer = rewritten_row(rt, rt.alloc(), folder, row);
@@ -151,7 +151,7 @@ fn hermes_rewritten<F: Files>(
 ) -> Result<String> {
     let map = SourceMapHermes::from_slice(alloc, text.as_bytes())?;
     let map = Box::new(alloc, map.rewrite(rt, options)?)?;
-    let mut out = shown(alloc, &map)?;
+    let mut out = source_list(alloc, &map)?;
     out.push_str(map.get_original_function_name(0).unwrap_or("none"))?;
     Ok(out)
 }
@@ -166,7 +166,7 @@ fn flat_rewritten<F: Files>(
     options: &RewriteOptions<'_>,
 ) -> Result<String> {
     let index = SourceMapIndex::from_slice(alloc, text.as_bytes())?;
-    shown(alloc, &index.flatten_and_rewrite(rt, options)?)
+    source_list(alloc, &index.flatten_and_rewrite(rt, options)?)
 }
 
 #[test]

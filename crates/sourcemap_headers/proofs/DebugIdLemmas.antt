@@ -1,4 +1,4 @@
--- A text that does not parse has no debug id.
+-- A text that is not a UUID has no debug id.
 use Rattle.std.proofs.Common.{◌≡◌, ℕ, ◌==◌, List, Option, Some, None, refl, true, false, ◌||◌, length, if◌then◌else◌}
 use Rattle.uuid.specs.Text.{parsed}
 use Rattle.sourcemap_headers.specs.DebugId.{debug_id_of}

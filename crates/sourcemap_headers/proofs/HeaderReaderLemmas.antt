@@ -3,11 +3,11 @@ use Rattle.std.proofs.Common.{◌≡◌, ◌≢◌, ℕ, suc, ◌+◌, ◌-◌, 
 use Rattle.std.proofs.Math.Seq.{drop-cons, take-append_seam}
 use Rattle.std.proofs.lemmas.List.{drop-take, length-take-le}
 use Rattle.std.proofs.lemmas.Bool.Decides.{nat_tests}
-use Rattle.sourcemap_headers.specs.Header.{behind_junk}
-use Rattle.sourcemap_headers.specs.HeaderReader.{left_at, left_of, Gave}
+use Rattle.sourcemap_headers.specs.Header.{after_junk}
+use Rattle.sourcemap_headers.specs.HeaderReader.{remaining_in, remaining_of, Outputs}
 use Rattle.sourcemap_headers.specs.declared.header_reader.StripHeaderReader.{StripHeaderReader}
-use Rattle.sourcemap_headers.specs.declared.header_reader.Place.{Place}
-use Rattle.sourcemap_headers.specs.declared.header_reader.Place.TheVariants.{Junk}
+use Rattle.sourcemap_headers.specs.declared.header_reader.HeaderState.{HeaderState}
+use Rattle.sourcemap_headers.specs.declared.header_reader.HeaderState.TheVariants.{InHeader}
 use Rattle.std.specs.Bool.{if◌then◌else◌}
 use Rattle.std.specs.Io.KnownBytes.{Consumes}
 
@@ -18,16 +18,16 @@ drop_either false bytes = refl
 no_newline : (b : ℕ) → b ≢ 10 → nat_eq b 10 ≡ false
 no_newline b h = grind (arith, nat_tests)
 
--- a junk byte that is no newline is dropped
-pub junk_byte : (b : ℕ) (rest : List ℕ) → b ≢ 10 → left_at (Junk false) (b ∷ rest) ≡ left_at (Junk (nat_eq b 13)) rest
-junk_byte b rest h = rw (no_newline b h) (drop_either _ (behind_junk rest))
+-- a junk byte that is not a newline is dropped
+pub junk_byte : (b : ℕ) (rest : List ℕ) → b ≢ 10 → remaining_in (InHeader false) (b ∷ rest) ≡ remaining_in (InHeader (nat_eq b 13)) rest
+junk_byte b rest h = rw (no_newline b h) (drop_either _ (after_junk rest))
 
 pub junk_byte_at : (chunk later : List ℕ) (i : ℕ) → i < length chunk → get_or chunk i 0 ≢ 10
-    → left_at (Junk false) (drop i chunk ++ later) ≡ left_at (Junk (nat_eq (get_or chunk i 0) 13)) (drop (i + 1) chunk ++ later)
+    → remaining_in (InHeader false) (drop i chunk ++ later) ≡ remaining_in (InHeader (nat_eq (get_or chunk i 0) 13)) (drop (i + 1) chunk ++ later)
 junk_byte_at chunk later i within h =
     rw (drop-cons chunk i 0 within, add-one) (junk_byte (get_or chunk i 0) (drop (suc i) chunk ++ later) h)
 
--- bytes that a known reader gave stand before those that it has left
+-- bytes that a reader returned are the first of those that it had
 pub consumed : (old new : Option (List ℕ)) (bytes : List ℕ) → Consumes old new bytes → (xs : List ℕ) → old ≡ Some xs
     → (ys : List ℕ) × (new ≡ Some ys) × (xs ≡ bytes ++ ys)
 consumed None new bytes h xs e = cc
@@ -39,37 +39,37 @@ none_before None = refl
 none_before (Some bytes) = refl
 
 -- a chunk that is all junk
-pub gave_junk : (place : Place) (after_return : Bool) (old new : Option (List ℕ)) (chunk : List ℕ) → Consumes old new chunk
-    → ((later : List ℕ) → left_at place (chunk ++ later) ≡ left_at (Junk after_return) later)
+pub outputs_junk : (state : HeaderState) (after_return : Bool) (old new : Option (List ℕ)) (chunk : List ℕ) → Consumes old new chunk
+    → ((later : List ℕ) → remaining_in state (chunk ++ later) ≡ remaining_in (InHeader after_return) later)
     → (xs : List ℕ) → old ≡ Some xs
-    → (ys : List ℕ) × (new ≡ Some ys) × (left_at place xs ≡ option_map (λ later. [] ++ later) (left_at (Junk after_return) ys))
-gave_junk place after_return old new chunk consumes junk xs known =
+    → (ys : List ℕ) × (new ≡ Some ys) × (remaining_in state xs ≡ option_map (λ later. [] ++ later) (remaining_in (InHeader after_return) ys))
+outputs_junk state after_return old new chunk consumes junk xs known =
     let k = consumed old new chunk consumes xs known in
-    (k.0, k.1, ap (left_at place) k.2 ∙ junk k.0 ∙ none_before _)
+    (k.0, k.1, ap (remaining_in state) k.2 ∙ junk k.0 ∙ none_before _)
 
 -- a chunk that ends the header
-pub gave_end : (place : Place) (old new : Option (List ℕ)) (chunk given : List ℕ) (taken : ℕ) → Consumes old new chunk
-    → ((later : List ℕ) → left_at place (chunk ++ later) ≡ Some (drop taken chunk ++ later)) → drop taken chunk ≡ given
+pub outputs_end : (state : HeaderState) (old new : Option (List ℕ)) (chunk output : List ℕ) (junk_len : ℕ) → Consumes old new chunk
+    → ((later : List ℕ) → remaining_in state (chunk ++ later) ≡ Some (drop junk_len chunk ++ later)) → drop junk_len chunk ≡ output
     → (xs : List ℕ) → old ≡ Some xs
-    → (ys : List ℕ) × (new ≡ Some ys) × (left_at place xs ≡ Some (given ++ ys))
-gave_end place old new chunk given taken consumes ends rest xs known =
+    → (ys : List ℕ) × (new ≡ Some ys) × (remaining_in state xs ≡ Some (output ++ ys))
+outputs_end state old new chunk output junk_len consumes ends rest xs known =
     let k = consumed old new chunk consumes xs known in
-    (k.0, k.1, ap (left_at place) k.2 ∙ ends k.0 ∙ ap (λ bytes. Some (bytes ++ k.0)) rest)
+    (k.0, k.1, ap (remaining_in state) k.2 ∙ ends k.0 ∙ ap (λ bytes. Some (bytes ++ k.0)) rest)
 
 drop_all : (count : ℕ) (buf : List ℕ) → drop count (take count buf) ≡ []
 drop_all count buf = let h : drop count (take (count + 0) buf) ≡ [] = drop-take count 0 buf in rw add-zero at h
 
-pub nothing_behind : (count taken : ℕ) (buf : List ℕ) → taken ≡ count → drop taken (take count buf) ≡ []
-nothing_behind count taken buf same = rw same (drop_all count buf)
+pub nothing_after : (count junk_len : ℕ) (buf : List ℕ) → junk_len ≡ count → drop junk_len (take count buf) ≡ []
+nothing_after count junk_len buf same = rw same (drop_all count buf)
 
--- what a chunk has behind its first bytes stands first in the chunk turned by them
-pub turned : (count taken : ℕ) (buf front later : List ℕ) → count ≤ length buf → taken ≤ count
-    → front ≡ drop taken (take count buf) ++ take taken (take count buf)
-    → drop taken (take count buf) ≡ take (count - taken) (front ++ later)
-turned count taken buf front later within most e =
+-- rotating a chunk by its junk moves the other bytes to the front
+pub rotated : (count junk_len : ℕ) (buf front later : List ℕ) → count ≤ length buf → junk_len ≤ count
+    → front ≡ drop junk_len (take count buf) ++ take junk_len (take count buf)
+    → drop junk_len (take count buf) ≡ take (count - junk_len) (front ++ later)
+rotated count junk_len buf front later within most e =
     let chunk : List ℕ = take count buf in
-    let size : length (drop taken chunk) ≡ count - taken = omega (arith, length-drop taken chunk, length-take-le count buf within) in
-    rw (e, append_assoc, ← size) (sym (take-append_seam (drop taken chunk) (take taken chunk ++ later)))
+    let size : length (drop junk_len chunk) ≡ count - junk_len = omega (arith, length-drop junk_len chunk, length-take-le count buf within) in
+    rw (e, append_assoc, ← size) (sym (take-append_seam (drop junk_len chunk) (take junk_len chunk ++ later)))
 
 known_consumed : (was middle is : Option (List ℕ)) (bytes : List ℕ) → was ≡ option_map (λ later. [] ++ later) middle
     → middle ≡ option_map (λ later. bytes ++ later) is → Consumes was is bytes
@@ -77,17 +77,17 @@ known_consumed was middle None bytes e f = let none : was ≡ None = rw f at e i
 known_consumed was middle (Some rest) bytes e f =
     let some : was ≡ Some (bytes ++ rest) = rw f at e in subst (λ known. Consumes known (Some rest) bytes) (sym some) refl
 
-left_consumed : {R : Type 0} (remaining : R → Option (List ℕ)) (old middle new : StripHeaderReader R) (bytes : List ℕ) (known : Option (List ℕ))
-    → remaining old.reader ≡ known → Gave remaining old middle [] → Gave remaining middle new bytes
-    → Consumes (option_and_then (left_at old.place) known) (left_of remaining new) bytes
-left_consumed remaining old middle new bytes None e first next = tt
-left_consumed remaining old middle new bytes (Some xs) e first next =
+remaining_consumed : {R : Type 0} (remaining : R → Option (List ℕ)) (old middle new : StripHeaderReader R) (bytes : List ℕ) (known : Option (List ℕ))
+    → remaining old.reader ≡ known → Outputs remaining old middle [] → Outputs remaining middle new bytes
+    → Consumes (option_and_then (remaining_in old.state) known) (remaining_of remaining new) bytes
+remaining_consumed remaining old middle new bytes None e first next = tt
+remaining_consumed remaining old middle new bytes (Some xs) e first next =
     let f = first xs e in
     let t = next f.0 f.1 in
-    rw t.1 (known_consumed (left_at old.place xs) (left_at middle.place f.0) (left_at new.place t.0) bytes f.2 t.2)
+    rw t.1 (known_consumed (remaining_in old.state xs) (remaining_in middle.state f.0) (remaining_in new.state t.0) bytes f.2 t.2)
 
--- junk, and then bytes from behind it
-pub gave_consumed : {R : Type 0} (remaining : R → Option (List ℕ)) (old middle new : StripHeaderReader R) (bytes : List ℕ)
-    → Gave remaining old middle [] → Gave remaining middle new bytes
-    → Consumes (left_of remaining old) (left_of remaining new) bytes
-gave_consumed remaining old middle new bytes first next = left_consumed remaining old middle new bytes (remaining old.reader) refl first next
+-- junk, then bytes after it
+pub outputs_consumed : {R : Type 0} (remaining : R → Option (List ℕ)) (old middle new : StripHeaderReader R) (bytes : List ℕ)
+    → Outputs remaining old middle [] → Outputs remaining middle new bytes
+    → Consumes (remaining_of remaining old) (remaining_of remaining new) bytes
+outputs_consumed remaining old middle new bytes first next = remaining_consumed remaining old middle new bytes (remaining old.reader) refl first next

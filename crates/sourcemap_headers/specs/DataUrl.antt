@@ -1,4 +1,4 @@
--- Data URLs of source maps: `data:application/json`, maybe a charset, `;base64,`, and bytes in base64.
+-- Data URLs of source maps: `data:application/json`, an optional charset, `;base64,`, and base64.
 use Rattle.std.specs.Prelude.{◌≡◌, ℕ, List, ◌++◌, drop, length, codes, nat_eq, Option, Some, None, option_and_then, unwrap_or, if◌then◌else◌, Result, Ok, Err}
 use Rattle.std.specs.List.{starts_with}
 use Rattle.std.specs.Option.{option_or}
@@ -7,27 +7,27 @@ use Rattle.base64.specs.GeneralPurpose.{encode_of, IsBytes}
 use Rattle.sourcemap_errors.specs.declared.errors.Error.{Error}
 use Rattle.sourcemap_errors.specs.declared.errors.Error.TheVariants.{InvalidDataUrl}
 
--- what stands behind a text that another one begins with
-abbrev pub behind : List ℕ → List ℕ → Option (List ℕ)
-behind front text = if starts_with nat_eq text front then Some (drop (length front) text) else None
+-- the rest of a text that begins with `front`, otherwise None
+abbrev pub after_front : List ℕ → List ℕ → Option (List ℕ)
+after_front front text = if starts_with nat_eq text front then Some (drop (length front) text) else None
 
--- a text without the charset that it may begin with
+-- a text without the charset at its front, if there is one
 abbrev pub without_charset : List ℕ → List ℕ
-without_charset text = unwrap_or (option_or (behind (codes ";charset=utf-8") text) (behind (codes ";charset=utf8") text)) text
+without_charset text = unwrap_or (option_or (after_front (codes ";charset=utf-8") text) (after_front (codes ";charset=utf8") text)) text
 
--- what stands behind `;base64,`
+-- the base64 text after `;base64,`
 abbrev pub body_of : List ℕ → Option (List ℕ)
-body_of url = option_and_then (λ rest. behind (codes ";base64,") (without_charset rest)) (behind (codes "data:application/json") url)
+body_of url = option_and_then (λ rest. after_front (codes ";base64,") (without_charset rest)) (after_front (codes "data:application/json") url)
 
--- the bytes that a data URL holds, in padded standard base64 of the one form that encoding gives
+-- the data URL contains these bytes in padded standard base64, exactly as encoding gives it
 abbrev pub Holds : List ℕ → List ℕ → Type 0
 Holds url bytes = IsBytes bytes × (body_of url ≡ Some (encode_of standard bytes))
 
--- what is read of a text
+-- the result of decoding a data URL
 abbrev pub DataUrlAnswer : List ℕ → Result (List ℕ) Error → Type 0
 DataUrlAnswer url (Ok bytes) = Holds url bytes
 DataUrlAnswer url (Err e) = (e ≡ InvalidDataUrl) × ((bytes : List ℕ) → ¬ Holds url bytes)
 
--- the data URL that bytes are written as
+-- the data URL of bytes
 abbrev pub data_url_of : List ℕ → List ℕ
 data_url_of bytes = codes "data:application/json;charset=utf-8;base64," ++ encode_of standard bytes

@@ -1,86 +1,86 @@
--- What a reader that drops a junk header has left, by how far it has come.
+-- The bytes that a reader that drops a junk header still returns, by its state.
 use Rattle.std.specs.Prelude.{◌≡◌, ℕ, List, [], drop, take, length, Result, Ok, ◌++◌, ◌≤◌, Option, Some, None, option_map, option_and_then, Bool, true, false, ◌&&◌, if◌then◌else◌, IsTrue, IfOk, OnOk, IfErr, IfSome, IsSome}
 use Rattle.std.specs.Io.KnownBytes.{IsAtEnd}
 use Rattle.std.specs.IoError.{error_kind}
 use Rattle.std.specs.declared.io.Error.{Error as IoError}
 use Rattle.std.specs.declared.io.ErrorKind.TheVariants.{InvalidData}
-use Rattle.sourcemap_headers.specs.declared.header_reader.Place.{Place}
-use Rattle.sourcemap_headers.specs.declared.header_reader.Place.TheVariants.{Start, Junk, Behind, Faulty}
+use Rattle.sourcemap_headers.specs.declared.header_reader.HeaderState.{HeaderState}
+use Rattle.sourcemap_headers.specs.declared.header_reader.HeaderState.TheVariants.{Start, InHeader, AfterHeader, Invalid}
 use Rattle.sourcemap_headers.specs.declared.header_reader.Skipped.{Skipped}
-use Rattle.sourcemap_headers.specs.declared.header_reader.Skipped.TheVariants.{StillJunk, Ends, IsFaulty}
+use Rattle.sourcemap_headers.specs.declared.header_reader.Skipped.TheVariants.{StillJunk, Ends, IsInvalid}
 use Rattle.sourcemap_headers.specs.declared.header_reader.StripHeaderReader.{StripHeaderReader}
-use Rattle.sourcemap_headers.specs.Header.{begins_junk, goes_on_in_line, behind_junk}
+use Rattle.sourcemap_headers.specs.Header.{begins_junk, continues_line, after_junk}
 
--- what stands behind the newline that ends the junk
-abbrev pub behind_newline : List ℕ → Option (List ℕ)
-behind_newline bytes = option_map (drop 1) (behind_junk bytes)
+-- the bytes after the newline that ends the junk
+abbrev pub after_newline : List ℕ → Option (List ℕ)
+after_newline bytes = option_map (drop 1) (after_junk bytes)
 
--- what the reader will give of the bytes that come next; a faulty header is not said
-abbrev pub left_at : Place → List ℕ → Option (List ℕ)
-left_at Start bytes = if begins_junk bytes then behind_newline bytes else Some bytes
-left_at (Junk after_return) bytes = if after_return && goes_on_in_line bytes then None else behind_newline bytes
-left_at Behind bytes = Some bytes
-left_at Faulty bytes = None
+-- what the reader returns for the next bytes of the inner reader; None if the header is invalid
+abbrev pub remaining_in : HeaderState → List ℕ → Option (List ℕ)
+remaining_in Start bytes = if begins_junk bytes then after_newline bytes else Some bytes
+remaining_in (InHeader after_return) bytes = if after_return && continues_line bytes then None else after_newline bytes
+remaining_in AfterHeader bytes = Some bytes
+remaining_in Invalid bytes = None
 
--- what the reader will give behind a chunk of which so much was skipped
-abbrev pub left_after : Skipped → List ℕ → List ℕ → Option (List ℕ)
-left_after (StillJunk after_return) chunk later = left_at (Junk after_return) later
-left_after (Ends taken) chunk later = Some (drop taken chunk ++ later)
-left_after IsFaulty chunk later = None
+-- what the reader returns after it has classified a chunk
+abbrev pub remaining_after : Skipped → List ℕ → List ℕ → Option (List ℕ)
+remaining_after (StillJunk after_return) chunk later = remaining_in (InHeader after_return) later
+remaining_after (Ends junk_len) chunk later = Some (drop junk_len chunk ++ later)
+remaining_after IsInvalid chunk later = None
 
--- no more is skipped than there is
+-- the header ends within the chunk
 abbrev pub IsWithin : Skipped → ℕ → Type 0
-IsWithin (Ends taken) size = taken ≤ size
+IsWithin (Ends junk_len) size = junk_len ≤ size
 IsWithin _ size = Unit {0}
 
--- no byte behind the header was given, and no fault met
-abbrev pub IsInHeader : Place → Type 0
+-- the header may continue
+abbrev pub IsInHeader : HeaderState → Type 0
 IsInHeader Start = Unit {0}
-IsInHeader (Junk _) = Unit {0}
+IsInHeader (InHeader _) = Unit {0}
 IsInHeader _ = ⊥
 
--- what is read of bytes that may begin with a header
-abbrev pub read_behind_header : List ℕ → Option (List ℕ)
-read_behind_header = left_at Start
+-- what is read from bytes that may begin with a header
+abbrev pub read_after_header : List ℕ → Option (List ℕ)
+read_after_header = remaining_in Start
 
-abbrev pub is_faulty : Place → Bool
-is_faulty Faulty = true
-is_faulty _ = false
+abbrev pub is_invalid : HeaderState → Bool
+is_invalid Invalid = true
+is_invalid _ = false
 
--- the header was found to be faulty
+-- the header was found to be invalid
 abbrev pub has_failed : {R : Type 0} → StripHeaderReader R → Bool
-has_failed r = is_faulty r.place
+has_failed r = is_invalid r.state
 
--- what a reader will give, where what its inner reader has left is known by `remaining`
-abbrev pub left_of : {R : Type 0} → (R → Option (List ℕ)) → StripHeaderReader R → Option (List ℕ)
-left_of remaining r = option_and_then (left_at r.place) (remaining r.reader)
+-- what a reader still returns, where `remaining` is what its inner reader still returns
+abbrev pub remaining_of : {R : Type 0} → (R → Option (List ℕ)) → StripHeaderReader R → Option (List ℕ)
+remaining_of remaining r = option_and_then (remaining_in r.state) (remaining r.reader)
 
--- what a turn put at the front of the buffer
-abbrev pub given : {E : Type 0} → Result (Option ℕ) E → List ℕ → List ℕ
-given (Ok (Some n)) buf = take n buf
-given _ buf = []
+-- the bytes that one read put into the buffer
+abbrev pub output : {E : Type 0} → Result (Option ℕ) E → List ℕ → List ℕ
+output (Ok (Some n)) buf = take n buf
+output _ buf = []
 
--- where the inner reader's bytes are known they still are, and what was left is these bytes and what is left now
-abbrev pub Gave : {R : Type 0} → (R → Option (List ℕ)) → StripHeaderReader R → StripHeaderReader R → List ℕ → Type 0
-Gave remaining old new bytes =
+-- if the bytes of the inner reader were known, they still are, and the reader output `bytes`
+abbrev pub Outputs : {R : Type 0} → (R → Option (List ℕ)) → StripHeaderReader R → StripHeaderReader R → List ℕ → Type 0
+Outputs remaining old new bytes =
     (xs : List ℕ) → remaining old.reader ≡ Some xs
     → (ys : List ℕ) × (remaining new.reader ≡ Some ys)
-    × (left_at old.place xs ≡ option_map (λ later. bytes ++ later) (left_at new.place ys))
+    × (remaining_in old.state xs ≡ option_map (λ later. bytes ++ later) (remaining_in new.state ys))
 
--- a buffer begins with bytes that make a header invalid, read at some state within it
-abbrev pub ShowsInvalidHeader : List ℕ → Type 0
-ShowsInvalidHeader buf = (state : Place) × (count : ℕ) × IsInHeader state × (count ≤ length buf)
-    × ((later : List ℕ) → left_at state (take count buf ++ later) ≡ None)
+-- a buffer begins with bytes that make the header invalid in some state within it
+abbrev pub ContainsInvalidHeader : List ℕ → Type 0
+ContainsInvalidHeader buf = (state : HeaderState) × (count : ℕ) × IsInHeader state × (count ≤ length buf)
+    × ((later : List ℕ) → remaining_in state (take count buf ++ later) ≡ None)
 
--- the bytes that come next make the header faulty
-abbrev pub HasFaultyHeader : {R : Type 0} → (R → Option (List ℕ)) → StripHeaderReader R → Type 0
-HasFaultyHeader remaining r = (xs : List ℕ) × (remaining r.reader ≡ Some xs) × (left_at r.place xs ≡ None)
+-- the next bytes make the header invalid
+abbrev pub HasInvalidHeader : {R : Type 0} → (R → Option (List ℕ)) → StripHeaderReader R → Type 0
+HasInvalidHeader remaining r = (xs : List ℕ) × (remaining r.reader ≡ Some xs) × (remaining_in r.state xs ≡ None)
 
--- what one read of the inner reader answers, which gave nothing but junk where that is none
-pub record IsTurn {R : Type 0} (remaining : R → Option (List ℕ)) (old new : StripHeaderReader R) (result : Result (Option ℕ) IoError) (buf : List ℕ) : Type 0 where
+-- the result of one read of the inner reader; None if it returned only junk
+pub record IsChunkRead {R : Type 0} (remaining : R → Option (List ℕ)) (old new : StripHeaderReader R) (result : Result (Option ℕ) IoError) (buf : List ℕ) : Type 0 where
   pub bound : IfOk result (λ count. IfSome count (λ n. n ≤ length buf))
-  pub gave : Gave remaining old new (given result buf)
-  pub end : IfOk result (λ count. count ≡ Some 0 → IsAtEnd (left_of remaining new))
+  pub outputs : Outputs remaining old new (output result buf)
+  pub end : IfOk result (λ count. count ≡ Some 0 → IsAtEnd (remaining_of remaining new))
   pub sound : OnOk result (has_failed new ≡ false)
-  pub known : IfOk result (λ count. IsSome count → ¬ HasFaultyHeader remaining new)
-  pub fault : IfErr result (λ e. IsTrue (has_failed new) → (error_kind e ≡ InvalidData) × ShowsInvalidHeader buf)
+  pub known : IfOk result (λ count. IsSome count → ¬ HasInvalidHeader remaining new)
+  pub error : IfErr result (λ e. IsTrue (has_failed new) → (error_kind e ≡ InvalidData) × ContainsInvalidHeader buf)

@@ -1,16 +1,16 @@
 //! Data URLs of source maps, read and written.
 ghost use Rattle.std.specs.Prelude.{◌≡◌, ℕ, List, Result as Answer, codes, IfOk, IsOkUnless, option_map, string_bytes};
-ghost use Rattle.sourcemap_errors.specs.declared.errors.Error.{Error as Fault};
+ghost use Rattle.sourcemap_errors.specs.declared.errors.Error.{Error as SourceMapError};
 ghost use Rattle.sourcemap_errors.specs.Answer.{IsAnswer};
-ghost use Rattle.sourcemap_headers.specs.DataUrl.{behind, without_charset, body_of, data_url_of, DataUrlAnswer, Holds};
+ghost use Rattle.sourcemap_headers.specs.DataUrl.{after_front, without_charset, body_of, data_url_of, DataUrlAnswer, Holds};
 
 use base64::DecodeAllocError;
 use base64::engine::general_purpose::STANDARD;
 use sourcemap_errors::errors::{Error, Result};
 use std::alloc::Global;
 
-fn behind<'a>(front: &[u8], text: &'a [u8]) -> Option<&'a [u8]>
-    ensures { option_map (λ rest. rest.now) result ≡ behind front.now text.now }
+fn after_front<'a>(front: &[u8], text: &'a [u8]) -> Option<&'a [u8]>
+    ensures { option_map (λ rest. rest.now) result ≡ after_front front.now text.now }
 {
     if text.starts_with(front) {
         Some(&text[front.len()..])
@@ -22,10 +22,10 @@ fn behind<'a>(front: &[u8], text: &'a [u8]) -> Option<&'a [u8]>
 fn without_charset(text: &[u8]) -> &[u8]
     ensures { result.now ≡ without_charset text.now }
 {
-    if let Some(rest) = behind(b";charset=utf-8", text) {
+    if let Some(rest) = after_front(b";charset=utf-8", text) {
         return rest;
     }
-    if let Some(rest) = behind(b";charset=utf8", text) {
+    if let Some(rest) = after_front(b";charset=utf8", text) {
         return rest;
     }
     text
@@ -34,15 +34,14 @@ fn without_charset(text: &[u8]) -> &[u8]
 fn body(url: &[u8]) -> Option<&[u8]>
     ensures { option_map (λ rest. rest.now) result ≡ body_of url.now }
 {
-    let rest = behind(b"data:application/json", url)?;
-    behind(b";base64,", without_charset(rest))
+    let rest = after_front(b"data:application/json", url)?;
+    after_front(b";base64,", without_charset(rest))
 }
 
-/// The bytes that a data URL of a source map holds: `data:application/json`, then `;charset=utf-8`,
-/// `;charset=utf8` or nothing, then `;base64,` and padded standard base64 in its canonical form: of
-/// all texts that could stand for some bytes the one that encoding them gives, with no white space,
-/// no padding left out, and no bits set behind the last byte. `InvalidDataUrl` for any other text,
-/// one with letters of another case included. Else only want of memory refuses.
+/// Decodes the data URL of a source map: `data:application/json`, then `;charset=utf-8`,
+/// `;charset=utf8` or nothing, then `;base64,` and standard base64. The base64 must be what
+/// encoding the bytes gives: padded, without white space, and without bits set after the last byte.
+/// Letter case matters. Returns `InvalidDataUrl` for any other text, otherwise only `OutOfMemory`.
 pub fn data_url_bytes(alloc: Global, url: &str) -> Result<Vec<u8>>
     ensures { IsAnswer (λ v. v.items) (DataUrlAnswer url.now) result }
 {
@@ -56,8 +55,8 @@ pub fn data_url_bytes(alloc: Global, url: &str) -> Result<Vec<u8>>
     }
 }
 
-/// The data URL of bytes, with the charset `utf-8`; `data_url_bytes` gives them back. Only want of
-/// memory refuses.
+/// Encodes bytes as a data URL with the charset `utf-8`, which `data_url_bytes` decodes. Returns
+/// only `OutOfMemory`.
 pub fn data_url(alloc: Global, bytes: &[u8]) -> Result<String>
     ensures text { IfOk result (λ url. string_bytes url ≡ data_url_of bytes.now) }
     ensures reads_back { IfOk result (λ url. Holds (string_bytes url) bytes.now) }
@@ -68,8 +67,8 @@ pub fn data_url(alloc: Global, bytes: &[u8]) -> Result<String>
     Ok(url)
 }
 
-/// A law: a text has one answer as a data URL.
+/// A law: decoding a data URL has exactly one result.
 pub fn data_urls_have_one_answer()
-    ensures { (url : List ℕ) (a b : Answer (List ℕ) Fault)
+    ensures { (url : List ℕ) (a b : Answer (List ℕ) SourceMapError)
         → DataUrlAnswer url a → DataUrlAnswer url b → a ≡ b }
 {}

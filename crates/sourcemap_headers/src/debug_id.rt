@@ -1,12 +1,12 @@
-//! Debug ids: the identifiers that tie maps to files.
+//! Debug ids, which associate source maps with files.
 ghost use Rattle.std.specs.Prelude.{◌≡◌};
 
 use std::fmt;
 use std::marker::Model;
 use uuid::{Bytes, Uuid};
 
-/// The identifier that ties a map to the file that it describes: a UUID. In contracts it is the
-/// list of its sixteen bytes.
+/// A UUID that associates a source map with its generated file. In contracts it is the list of its
+/// sixteen bytes.
 #[derive(Clone, Copy, PartialEq, Eq)]
 pub struct DebugId {
     uuid: Uuid,
@@ -28,8 +28,8 @@ impl Model for DebugId {
 impl DebugId {
     ghost use Rattle.sourcemap_headers.specs.DebugId.{IsId, debug_id_of};
 
-    /// The identifier that a text writes: 32 hexadecimal digits, or 36 bytes with the four hyphens
-    /// in their places. Any other text is `None`.
+    /// Parses 32 hexadecimal digits, or 36 bytes with the usual four hyphens. `None` for any other
+    /// text.
     pub fn parse(text: &str) -> Option<DebugId>
         ensures { result ≡ debug_id_of text.now }
     {
@@ -42,7 +42,7 @@ impl DebugId {
         }
     }
 
-    /// The identifier with these bytes.
+    /// The debug id with the bytes of `uuid`.
     pub fn from_uuid(uuid: Uuid) -> DebugId
         ensures { result ≡ uuid }
     {
@@ -50,7 +50,7 @@ impl DebugId {
         DebugId { uuid }
     }
 
-    /// The UUID with these bytes.
+    /// The UUID with the same bytes.
     pub fn uuid(self) -> Uuid
         ensures value { result ≡ self }
         ensures id { IsId result }
@@ -65,7 +65,7 @@ impl fmt::Display for DebugId {
 
     ghost output = { λ id. Some (debug_id_text id) };
 
-    /// Hyphenated, with letters in lower case.
+    /// Writes the hyphenated form in lower case.
     fn fmt<W: fmt::Write>(&self, f: &mut fmt::Formatter<W>) -> fmt::Result {
         let uuid = self.uuid;
         write!(f, "{uuid}")
@@ -80,7 +80,7 @@ impl fmt::Debug for DebugId {
 
 ghost use Rattle.sourcemap_headers.specs.DebugId.{IsId};
 
-// The bytes of an array are in range, which only code that reads them can show. Nothing runs.
+// prover: array bytes in range (compiles to nothing)
 #[inline]
 fn check_bytes(bytes: &Bytes)
     ensures { IsId bytes.now }

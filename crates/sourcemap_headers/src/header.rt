@@ -1,8 +1,8 @@
-//! Junk headers: the bytes behind one, of a text that is at hand.
+//! InHeader headers in a slice of bytes.
 ghost use Rattle.std.specs.Prelude.{◌≡◌, Some, None, IfOk, IfErr};
 ghost use Rattle.std.specs.IoError.{error_kind};
 ghost use Rattle.std.specs.declared.io.ErrorKind.TheVariants.{InvalidData};
-ghost use Rattle.sourcemap_headers.specs.Header.{begins_junk, goes_on_in_line, behind_header};
+ghost use Rattle.sourcemap_headers.specs.Header.{begins_junk, continues_line, after_header};
 
 use std::io;
 
@@ -15,8 +15,8 @@ fn begins_junk_header(bytes: &[u8]) -> bool
     }
 }
 
-fn goes_on(bytes: &[u8]) -> bool
-    ensures { result ≡ goes_on_in_line bytes.now }
+fn continues_line(bytes: &[u8]) -> bool
+    ensures { result ≡ continues_line bytes.now }
 {
     match bytes {
         [] => false,
@@ -24,14 +24,14 @@ fn goes_on(bytes: &[u8]) -> bool
     }
 }
 
-/// The bytes behind a junk header, from the newline that ends it on. A header is there if the first
-/// byte is `)`, `]`, `}` or `'`, and goes up to the first newline; where it never ends, no byte is
-/// left, and where there is none, all bytes are. A carriage return in the header with another byte
-/// than a newline behind it is a fault of kind `InvalidData`; one that is the last of all bytes is
-/// none. It takes no memory, and refuses nothing else.
+/// Strips the junk header and returns the rest, which begins with the newline that ends the header.
+/// There is a header if the first byte is `)`, `]`, `}` or `'`; it extends to the first newline, or
+/// to the end of the bytes if there is none. Without a header all bytes are returned. Returns an
+/// error of kind `InvalidData` if a carriage return in the header is followed by a byte other than
+/// a newline; a carriage return as the last byte is allowed. There is no other error.
 pub fn strip_junk_header(bytes: &[u8]) -> io::Result<&[u8]>
-    ensures bytes { IfOk result (λ rest. behind_header bytes.now ≡ Some rest.now) }
-    ensures fault { IfErr result (λ e. (behind_header bytes.now ≡ None)
+    ensures bytes { IfOk result (λ rest. after_header bytes.now ≡ Some rest.now) }
+    ensures error { IfErr result (λ e. (after_header bytes.now ≡ None)
         × (error_kind e ≡ InvalidData)) }
 {
     if !begins_junk_header(bytes) {
@@ -42,7 +42,7 @@ pub fn strip_junk_header(bytes: &[u8]) -> io::Result<&[u8]>
         if *first == b'\n' {
             return Ok(rest);
         }
-        if *first == b'\r' && goes_on(later) {
+        if *first == b'\r' && continues_line(later) {
             return Err(io::Error::from(io::ErrorKind::InvalidData));
         }
         rest = later;

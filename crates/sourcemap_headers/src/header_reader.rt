@@ -1,55 +1,56 @@
-//! A reader that drops a junk header, however the bytes come.
+//! A reader that drops a junk header, whatever the sizes of the reads.
 ghost use Rattle.std.specs.Prelude.{◌≡◌, ℕ, List, [], ◌++◌, IsTrue, ◌<◌, length, Some, None, Ok, false, IsErr, IfErr, OnOk, option_and_then};
-ghost use Rattle.sourcemap_headers.specs.HeaderReader.{left_at, left_after, read_behind_header, IsWithin, IsInHeader};
+ghost use Rattle.sourcemap_headers.specs.HeaderReader.{remaining_in, remaining_after, read_after_header, IsWithin, IsInHeader};
 ghost use Rattle.std.specs.declared.io.ErrorKind.TheVariants.{InvalidData};
-ghost use Rattle.sourcemap_headers.specs.declared.header_reader.Place.TheVariants.{Behind, Faulty};
+ghost use Rattle.sourcemap_headers.specs.declared.header_reader.HeaderState.TheVariants.{AfterHeader, Invalid};
 ghost use Rattle.sourcemap_headers.specs.declared.header_reader.Skipped.TheVariants.{Ends};
 
 use std::io;
 use std::io::Read;
 
-/// How far a reader has come in a junk header.
+/// The state of a reader with respect to the junk header.
 #[derive(Clone, Copy, Debug)]
-enum Place {
-    /// No byte was read.
+enum HeaderState {
+    /// No byte was read yet.
     Start,
-    /// Within the header; whether its last byte was a carriage return.
-    Junk { after_return: bool },
-    /// Behind the header, or there is none.
-    Behind,
-    /// The header is faulty.
-    Faulty,
+    /// Within the header. `after_return`: the last byte was a carriage return.
+    InHeader { after_return: bool },
+    /// The header was read, or there is none.
+    AfterHeader,
+    /// The header is invalid.
+    Invalid,
 }
 
-/// What a chunk of bytes is.
+/// Which bytes of a chunk belong to the header.
 #[derive(Clone, Copy, Debug)]
 enum Skipped {
-    /// All of it is junk, and more may come; whether its last byte was a carriage return.
+    /// All of them, and more may follow. `after_return`: the last byte was a carriage return.
     StillJunk { after_return: bool },
-    /// So many bytes are junk, the rest stands behind the header.
-    Ends { taken: usize },
-    /// It has a carriage return with another byte than a newline behind it.
-    IsFaulty,
+    /// The first `junk_len` bytes; the header ends there.
+    Ends { junk_len: usize },
+    /// The header is invalid: a carriage return is followed by a byte other than a newline.
+    IsInvalid,
 }
 
-/// The first bytes of a text, of which there is one at least.
+/// Classifies the first chunk, which is not empty.
 fn skip_first(chunk: &[u8]) -> Skipped
     requires { 0 < length chunk.now }
     ensures junk { (later : List ℕ)
-        → left_at Place.Start (chunk.now ++ later) ≡ left_after result chunk.now later }
+        → remaining_in HeaderState.Start (chunk.now ++ later)
+        ≡ remaining_after result chunk.now later }
     ensures within { IsWithin result (length chunk.now) }
 {
     match chunk {
         [b')' | b']' | b'}' | b'\'', ..] => skip_junk(false, chunk),
-        _ => Skipped::Ends { taken: 0 },
+        _ => Skipped::Ends { junk_len: 0 },
     }
 }
 
-/// The bytes that come next in a header, after a carriage return or not.
+/// Classifies the next chunk within a header.
 fn skip_junk(follows_return: bool, chunk: &[u8]) -> Skipped
     ensures junk { (later : List ℕ)
-        → left_at (Place.Junk follows_return) (chunk.now ++ later)
-        ≡ left_after result chunk.now later }
+        → remaining_in (HeaderState.InHeader follows_return) (chunk.now ++ later)
+        ≡ remaining_after result chunk.now later }
     ensures within { IsWithin result (length chunk.now) }
 {
     let mut after_return = follows_return;
@@ -57,125 +58,125 @@ fn skip_junk(follows_return: bool, chunk: &[u8]) -> Skipped
     for byte in chunk {
         at += 1;
         if *byte == b'\n' {
-            return Skipped::Ends { taken: at };
+            return Skipped::Ends { junk_len: at };
         }
         if after_return {
-            return Skipped::IsFaulty;
+            return Skipped::IsInvalid;
         }
         after_return = *byte == b'\r';
     }
     Skipped::StillJunk { after_return }
 }
 
-fn skip(place: Place, chunk: &[u8]) -> Skipped
+fn skip(state: HeaderState, chunk: &[u8]) -> Skipped
     requires { 0 < length chunk.now }
-    ensures junk { IsInHeader place → (later : List ℕ)
-        → left_at place (chunk.now ++ later) ≡ left_after result chunk.now later }
+    ensures junk { IsInHeader state → (later : List ℕ)
+        → remaining_in state (chunk.now ++ later) ≡ remaining_after result chunk.now later }
     ensures within { IsWithin result (length chunk.now) }
 {
-    match place {
-        Place::Start => skip_first(chunk),
-        Place::Junk { after_return } => skip_junk(after_return, chunk),
-        Place::Behind | Place::Faulty => Skipped::Ends { taken: 0 },
+    match state {
+        HeaderState::Start => skip_first(chunk),
+        HeaderState::InHeader { after_return } => skip_junk(after_return, chunk),
+        HeaderState::AfterHeader | HeaderState::Invalid => Skipped::Ends { junk_len: 0 },
     }
 }
 
-/// A reader that gives the bytes behind a junk header, without the newline that ends the header. A
-/// header is there if the first byte is `)`, `]`, `}` or `'`, and goes up to the first newline;
-/// where it never ends, no byte is given, and where there is none, all bytes are.
+/// A reader that drops the junk header and the newline that ends it. There is a header if the first
+/// byte is `)`, `]`, `}` or `'`; it extends to the first newline, or to the end of the bytes if
+/// there is none. Without a header all bytes are returned.
 ///
 /// A read has two errors of its own. One is of kind `InvalidData`: a carriage return in the header
-/// is followed by another byte than a newline. Each later read returns it again, one into an empty
-/// buffer too. The other is of kind `Other`: one read got nothing but junk from 2^64 - 1 reads of the
-/// inner reader. Any other error is the inner reader's, passed on as it is, whatever its kind; the
-/// next read goes on where that one was. No clause of std says which errors a reader returns, so
-/// that they are passed on unchanged is tested. A read has no allocator, so it takes no memory of
-/// its own.
+/// is followed by a byte other than a newline. Each later read returns it again, even one into an
+/// empty buffer. The other is of kind `Other`: during one read, 2^64 - 1 reads of the inner reader
+/// returned only junk.
+/// Any other error is the inner reader's and is passed on unchanged; the next read continues from
+/// there. std does not specify which errors a reader returns, so this is tested and not proved. A
+/// read allocates nothing of its own.
 #[derive(Debug, Drop)]
 pub struct StripHeaderReader<R> {
     reader: R,
-    place: Place,
+    state: HeaderState,
 }
 
 impl<R: Read + Drop> StripHeaderReader<R> {
-    ghost use Rattle.sourcemap_headers.specs.HeaderReader.{has_failed, left_of, HasFaultyHeader, IsTurn, ShowsInvalidHeader};
+    ghost use Rattle.sourcemap_headers.specs.HeaderReader.{has_failed, remaining_of, HasInvalidHeader, IsChunkRead, ContainsInvalidHeader};
     ghost use Rattle.std.specs.IoError.{error_kind};
     ghost use Rattle.std.specs.Io.{ReadsAtMost};
     ghost use Rattle.std.specs.Io.KnownBytes.{ReadConsumes};
 
-    /// A reader over `reader`, of which nothing was read here.
+    /// Wraps `reader`, whose next byte is the first that may be junk.
     pub fn new(reader: R) -> Self
         ensures fresh { has_failed result ≡ false }
-        ensures left { left_of R.remaining result
-            ≡ option_and_then read_behind_header (R.remaining reader) }
+        ensures unread { remaining_of R.remaining result
+            ≡ option_and_then read_after_header (R.remaining reader) }
     {
         StripHeaderReader {
             reader,
-            place: Place::Start,
+            state: HeaderState::Start,
         }
     }
 
-    /// One read of the inner reader; `None` if it gave nothing but junk, and reading goes on.
-    fn turn(&mut self, buf: &mut [u8]) -> io::Result<Option<usize>>
-        requires room { 0 < length buf.old }
+    /// Reads once from the inner reader. `None` if it returned only junk.
+    fn read_chunk(&mut self, buf: &mut [u8]) -> io::Result<Option<usize>>
+        requires not_empty { 0 < length buf.old }
         requires sound { has_failed self.old ≡ false }
-        ensures { IsTurn R.remaining self.old self.new result buf.new }
+        ensures { IsChunkRead R.remaining self.old self.new result buf.new }
     {
-        match self.place {
-            Place::Behind => Ok(Some(self.reader.read(buf)?)),
-            Place::Faulty => unreachable!(),
-            Place::Start => self.turn_in_header(buf),
-            Place::Junk { .. } => self.turn_in_header(buf),
+        match self.state {
+            HeaderState::AfterHeader => Ok(Some(self.reader.read(buf)?)),
+            HeaderState::Invalid => unreachable!(),
+            HeaderState::Start => self.read_header_chunk(buf),
+            HeaderState::InHeader { .. } => self.read_header_chunk(buf),
         }
     }
 
-    /// Turns until bytes come from behind the header.
-    fn read_behind_junk(&mut self, buf: &mut [u8]) -> io::Result<usize>
-        requires room { 0 < length buf.old }
+    /// Reads until there are bytes from after the header.
+    fn read_after_junk(&mut self, buf: &mut [u8]) -> io::Result<usize>
+        requires not_empty { 0 < length buf.old }
         requires sound { has_failed self.old ≡ false }
         ensures bound { ReadsAtMost result buf.new }
-        ensures bytes { ReadConsumes (left_of R.remaining self.old) (left_of R.remaining self.new)
-            result buf.new }
-        ensures refused { HasFaultyHeader R.remaining self.old → IsErr result }
-        ensures stays { HasFaultyHeader R.remaining self.old
-            → HasFaultyHeader R.remaining self.new }
+        ensures bytes { ReadConsumes (remaining_of R.remaining self.old)
+            (remaining_of R.remaining self.new) result buf.new }
+        ensures refused { HasInvalidHeader R.remaining self.old → IsErr result }
+        ensures stays { HasInvalidHeader R.remaining self.old
+            → HasInvalidHeader R.remaining self.new }
         ensures sound { OnOk result (has_failed self.new ≡ false) }
-        ensures fault { IfErr result (λ e. IsTrue (has_failed self.new)
-            → (error_kind e ≡ InvalidData) × ShowsInvalidHeader buf.new) }
+        ensures error { IfErr result (λ e. IsTrue (has_failed self.new)
+            → (error_kind e ≡ InvalidData) × ContainsInvalidHeader buf.new) }
     {
         for _ in 0..u64::MAX {
-            if let Some(count) = self.turn(buf)? {
+            if let Some(count) = self.read_chunk(buf)? {
                 return Ok(count);
             }
         }
         Err(io::Error::from(io::ErrorKind::Other))
     }
 
-    fn turn_in_header(&mut self, buf: &mut [u8]) -> io::Result<Option<usize>>
-        requires room { 0 < length buf.old }
-        requires in_header { IsInHeader self.old.place }
-        ensures { IsTurn R.remaining self.old self.new result buf.new }
+    fn read_header_chunk(&mut self, buf: &mut [u8]) -> io::Result<Option<usize>>
+        requires not_empty { 0 < length buf.old }
+        requires in_header { IsInHeader self.old.state }
+        ensures { IsChunkRead R.remaining self.old self.new result buf.new }
     {
         let count = self.reader.read(buf)?;
         if count == 0 {
             return Ok(Some(0));
         }
-        match skip(self.place, &buf[..count]) {
+        match skip(self.state, &buf[..count]) {
             Skipped::StillJunk { after_return } => {
-                self.place = Place::Junk { after_return };
+                self.state = HeaderState::InHeader { after_return };
                 Ok(None)
             }
-            Skipped::IsFaulty => {
-                self.place = Place::Faulty;
+            Skipped::IsInvalid => {
+                self.state = HeaderState::Invalid;
                 Err(io::Error::from(io::ErrorKind::InvalidData))
             }
-            Skipped::Ends { taken } => {
-                self.place = Place::Behind;
-                if taken == count {
+            Skipped::Ends { junk_len } => {
+                self.state = HeaderState::AfterHeader;
+                if junk_len == count {
                     return Ok(None);
                 }
-                buf[..count].rotate_left(taken);
-                Ok(Some(count - taken))
+                buf[..count].rotate_left(junk_len);
+                Ok(Some(count - junk_len))
             }
         }
     }
@@ -185,37 +186,38 @@ impl<R: Read + Drop> Read for StripHeaderReader<R> {
     ghost use Rattle.std.specs.Io.{ReadsAtMost};
     ghost use Rattle.std.specs.Io.KnownBytes.{ReadConsumes};
     ghost use Rattle.std.specs.IoError.{error_kind};
-    ghost use Rattle.sourcemap_headers.specs.HeaderReader.{has_failed, left_of, HasFaultyHeader, ShowsInvalidHeader};
+    ghost use Rattle.sourcemap_headers.specs.HeaderReader.{has_failed, remaining_of, HasInvalidHeader, ContainsInvalidHeader};
 
-    ghost remaining = { left_of R.remaining };
+    ghost remaining = { remaining_of R.remaining };
 
     fn read(&mut self, buf: &mut [u8]) -> io::Result<usize>
         ensures bound { ReadsAtMost result buf.new }
-        ensures bytes { ReadConsumes (left_of R.remaining self.old) (left_of R.remaining self.new)
-            result buf.new }
-        // a faulty header is refused by each read that has room, and no read gets past it
-        ensures refused { HasFaultyHeader R.remaining self.old → 0 < length buf.old
+        ensures bytes { ReadConsumes (remaining_of R.remaining self.old)
+            (remaining_of R.remaining self.new) result buf.new }
+        // each read with a buffer that is not empty refuses an invalid header, and none gets past
+        // it
+        ensures refused { HasInvalidHeader R.remaining self.old → 0 < length buf.old
             → IsErr result }
-        ensures stays { HasFaultyHeader R.remaining self.old
-            → HasFaultyHeader R.remaining self.new }
-        // once the fault was met, each later read answers it, one without room too
+        ensures stays { HasInvalidHeader R.remaining self.old
+            → HasInvalidHeader R.remaining self.new }
+        // once the error was found, each later read returns it, one into an empty buffer too
         ensures again { IsTrue (has_failed self.old) → IsErr result × IsTrue (has_failed self.new) }
-        ensures fault { IfErr result (λ e. IsTrue (has_failed self.new)
+        ensures error { IfErr result (λ e. IsTrue (has_failed self.new)
             → error_kind e ≡ InvalidData) }
-        // no other error is taken for that of the header: bytes that were read show it
-        ensures shown { has_failed self.old ≡ false → IsTrue (has_failed self.new)
-            → ShowsInvalidHeader buf.new }
+        // the error is only reported if the bytes in the buffer prove that the header is invalid
+        ensures in_buffer { has_failed self.old ≡ false → IsTrue (has_failed self.new)
+            → ContainsInvalidHeader buf.new }
         ensures sound { OnOk result (has_failed self.new ≡ false) }
-        // an empty buffer asks nothing of the inner reader
+        // an empty buffer does not read from the inner reader
         ensures empty { length buf.old ≡ 0 → has_failed self.old ≡ false
             → (result ≡ Ok 0) × (self.new ≡ self.old) }
     {
-        if let Place::Faulty = self.place {
+        if let HeaderState::Invalid = self.state {
             return Err(io::Error::from(io::ErrorKind::InvalidData));
         }
         if buf.is_empty() {
             return Ok(0);
         }
-        self.read_behind_junk(buf)
+        self.read_after_junk(buf)
     }
 }

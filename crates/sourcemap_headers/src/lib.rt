@@ -1,4 +1,4 @@
-//! What stands around the JSON text of a map: junk headers, data URLs, debug ids.
+//! What surrounds the JSON of a source map: junk headers, data URLs; and debug ids.
 #![tactic(auto)]
 
 pub mod data_url;

@@ -1,4 +1,4 @@
--- A record is decoded to one Hermes map, and its scopes say nothing of the regular map.
+-- A record decodes to one Hermes map, and its scopes do not change the regular map.
 use Rattle.std.proofs.Common.{◌≡◌, List, Option, Some, None, Result, Ok, Err, Vec, Global, option_map, sym, ap, subst, ◌∙◌, inl, inr}
 use Rattle.sourcemap_errors.specs.Answer.{IsAnswer}
 use Rattle.sourcemap_errors.specs.declared.errors.Error.{Error}
@@ -7,16 +7,16 @@ use Rattle.sourcemap_records.specs.Jsontypes.{Fields, Tree, plain, indexed, tree
 use Rattle.sourcemap_records.specs.declared.jsontypes.FacebookScopeMapping.{FacebookScopeMapping}
 use Rattle.sourcemap_records.specs.declared.jsontypes.RawSourceMap.{RawSourceMap, out-RawSourceMap, roll-RawSourceMap}
 use Rattle.sourcemap_records.proofs.JsontypesLemmas.{flat-tree, flat-roll}
-use Rattle.sourcemap_regular.specs.Decode.{HasRoom, RecordDecodes}
-use Rattle.sourcemap_regular.specs.Map.{MapValue}
-use Rattle.sourcemap_regular.proofs.DecodeLemmas.{RecordDecodes-same}
-use Rattle.sourcemap_scopes.specs.ScopeLists.{ScopeEntry, entries_in}
-use Rattle.sourcemap_scopes.proofs.SourceScopesLemmas.{function_maps_same}
+use Rattle.sourcemap_map_regular.specs.Decode.{HasFewItems, RecordDecodes}
+use Rattle.sourcemap_map_regular.specs.Map.{MapValue}
+use Rattle.sourcemap_map_regular.proofs.DecodeLemmas.{RecordDecodes-same}
+use Rattle.sourcemap_hermes_scopes.specs.ScopeLists.{ScopeEntry, entries_in}
+use Rattle.sourcemap_hermes_scopes.proofs.SourceScopesLemmas.{function_maps_same}
 use Rattle.sourcemap_hermes.specs.Map.{HermesValue, hermes_value}
 use Rattle.sourcemap_hermes.specs.Decode.{HermesDecodes, DecodesWith, EntriesDecode, OnlyHermesDecodes}
 use Rattle.sourcemap_hermes.specs.declared.map.SourceMapHermes.{SourceMapHermes}
 
--- What a record is decoded to is determined.
+-- The result of decoding is determined.
 
 pub EntriesDecode-same : (r : Fields) (entries : List ScopeEntry) (a b : Result HermesValue Error) → EntriesDecode r entries a → EntriesDecode r entries b → a ≡ b
 EntriesDecode-same r entries (Ok a) (Ok b) h k =
@@ -45,16 +45,16 @@ pub only_once : (t : Tree) (a b : Result HermesValue Error) → OnlyHermesDecode
 only_once (plain r) a b h k = HermesDecodes-same r a b h k
 only_once (indexed r sections) a b h k = h ∙ sym k
 
--- The regular map of a record with other scopes is the same.
+-- Records that differ in scopes only have the same regular map.
 
-room_alike : (r : Fields) (scopes : Option (List ScopeEntry)) → HasRoom (record r { x_facebook_sources = scopes }) → HasRoom r
-room_alike r scopes h = record { sources = h.sources; names = h.names; contents = h.contents }
+limits_alike : (r : Fields) (scopes : Option (List ScopeEntry)) → HasFewItems (record r { x_facebook_sources = scopes }) → HasFewItems r
+limits_alike r scopes h = record { sources = h.sources; names = h.names; contents = h.contents }
 
 pub record_alike : (r : Fields) (scopes : Option (List ScopeEntry)) (answer : Result MapValue Error)
     → RecordDecodes (record r { x_facebook_sources = scopes }) answer → RecordDecodes r answer
-record_alike r scopes (Ok m) h = (room_alike r scopes h.0, h.1, h.2)
-record_alike r scopes (Err e) (inl h) = inl ((λ room. h.0 (room_alike (record r { x_facebook_sources = scopes }) r.x_facebook_sources room)), h.1)
-record_alike r scopes (Err e) (inr h) = inr (room_alike r scopes h.0, h.1)
+record_alike r scopes (Ok m) h = (limits_alike r scopes h.0, h.1, h.2)
+record_alike r scopes (Err e) (inl h) = inl ((λ fits. h.0 (limits_alike (record r { x_facebook_sources = scopes }) r.x_facebook_sources fits)), h.1)
+record_alike r scopes (Err e) (inr h) = inr (limits_alike r scopes h.0, h.1)
 
 entries_alike : (r : Fields) (scopes : Option (List ScopeEntry)) (entries : List ScopeEntry) (answer : Result HermesValue Error)
     → EntriesDecode (record r { x_facebook_sources = scopes }) entries answer → EntriesDecode r entries answer
@@ -62,7 +62,7 @@ entries_alike r scopes entries (Ok h) k = (k.0, record_alike r scopes (Ok h.map)
 entries_alike r scopes entries (Err e) (inl k) = inl k
 entries_alike r scopes entries (Err e) (inr k) = inr (k.0, record_alike r scopes (Err e) k.1)
 
--- A record whose scopes were taken out.
+-- A record whose scopes were moved out.
 
 abbrev Lists : Type 0
 Lists = Vec (Option (Vec FacebookScopeMapping Global)) Global

@@ -2,10 +2,10 @@
 use Rattle.std.proofs.Common.{◌≡◌, List, Result, Ok, sym, ap, subst, ◌∙◌, refl}
 use Rattle.sourcemap_errors.specs.declared.errors.Error.{Error}
 use Rattle.sourcemap_records.specs.Jsontypes.{Fields, Tree, plain, indexed, flat, AreInRange, IsFine}
-use Rattle.sourcemap_regular.specs.Decode.{RecordDecodes}
-use Rattle.sourcemap_regular.specs.Encode.{ReadsBack, RecordAnswer as RegularAnswer, Restores as RestoresRegular}
-use Rattle.sourcemap_regular.proofs.WriteLemmas.{record_once}
-use Rattle.sourcemap_scopes.specs.ScopeLists.{ScopeEntry}
+use Rattle.sourcemap_map_regular.specs.Decode.{RecordDecodes}
+use Rattle.sourcemap_map_regular.specs.Encode.{ReadsBack, RecordAnswer as RegularAnswer, Restores as RestoresRegular}
+use Rattle.sourcemap_map_regular.proofs.WriteLemmas.{record_once}
+use Rattle.sourcemap_hermes_scopes.specs.ScopeLists.{ScopeEntry}
 use Rattle.sourcemap_hermes.specs.Decode.{HermesDecodes}
 use Rattle.sourcemap_hermes.specs.Encode.{IsRecordOf, RecordAnswer, Restores, with_scopes, scoped}
 use Rattle.sourcemap_hermes.specs.Map.{HermesValue, IsWellFormed}
@@ -27,7 +27,7 @@ flat-scoped : (t : Tree) (entries : List ScopeEntry) → flat (scoped t entries)
 flat-scoped (plain r) entries = refl
 flat-scoped (indexed r sections) entries = refl
 
--- what the regular map is read back as, with its scopes
+-- the regular map decoded again, with its scopes
 back-scoped : (h : HermesValue) (r : Fields) → IsWellFormed h → ReadsBack (RecordDecodes r) (RestoresRegular h.map)
     → ReadsBack (HermesDecodes (with_scopes r h.scopes.entries)) (Restores h)
 back-scoped h r well (back, decodes, restores) =
@@ -52,7 +52,7 @@ answered_with entries = Ok entries
 pub copied : (entries copies : List ScopeEntry) → answered_with entries ≡ answered_with copies → copies ≡ entries
 copied entries copies same = cc
 
--- a map is written as one record
+-- the record that a map is written as is determined
 pub scoped_once : (h : HermesValue) (a b : Tree) → IsRecordOf h a → IsRecordOf h b → a ≡ b
 scoped_once h a b (r, is, same) (s, is', same') =
     same ∙ ap (λ t. scoped t h.scopes.entries) (record_once h.map r s is is') ∙ sym same'

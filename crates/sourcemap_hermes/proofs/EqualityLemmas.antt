@@ -1,9 +1,9 @@
--- Hermes maps test equal exactly if they hold the same.
+-- Hermes maps compare equal exactly if their values are.
 use Rattle.std.proofs.Common.{◌≡◌, ap}
 use Rattle.std.specs.Bool.{Decides}
-use Rattle.sourcemap_lists.proofs.DecidesLemmas.{decides_both}
-use Rattle.sourcemap_regular.proofs.EqualityLemmas.{same_map_decides}
-use Rattle.sourcemap_scopes.proofs.SourceScopesLemmas.{source_scopes_decide}
+use Rattle.sourcemap_tokens.proofs.DecidesLemmas.{decides_both}
+use Rattle.sourcemap_map_regular.proofs.EqualityLemmas.{same_map_decides}
+use Rattle.sourcemap_hermes_scopes.proofs.SourceScopesLemmas.{source_scopes_decide}
 use Rattle.sourcemap_hermes.specs.Equality.{same_hermes}
 use Rattle.sourcemap_hermes.specs.Map.{HermesValue}
 

@@ -1,21 +1,21 @@
--- The text of a Hermes map's record is shallow, has no fraction and no junk header, and so reads back.
+-- The text of a Hermes map's record has few levels, no fraction and no junk header, and so reads back.
 use Rattle.std.proofs.Common.{◌≡◌, inl, ℕ, ◌≤◌, List, [], ◌∷◌, codes, Option, Some, Ok, ap, ◌∙◌, sym, subst, arith}
 use Rattle.serde_json.specs.Data.{Data, depth, string}
 use Rattle.serde_json.specs.Read.{max_depth}
-use Rattle.sourcemap_records.specs.Bytes.{HoldJson, BytesStandFor}
+use Rattle.sourcemap_records.specs.Bytes.{HoldJson, BytesHaveResult}
 use Rattle.sourcemap_records.specs.Field.{written_list, written_or_null}
 use Rattle.sourcemap_records.specs.Jsontypes.{Fields, Scopes, Tree, plain, flat, entries, written, written_fields, written_scopes, IsFine}
 use Rattle.sourcemap_records.proofs.BytesLemmas.{value_of_record}
 use Rattle.sourcemap_records.proofs.ReadBackLemmas.{record-back}
-use Rattle.sourcemap_regular.specs.Encode.{ReadsBack, record_with}
-use Rattle.sourcemap_regular.specs.Write.{IsText, IsEncoded}
-use Rattle.sourcemap_regular.proofs.WriteLemmas.{IsLow, EntriesAreLow, low_object, low_list, low_or_null, low_string, low_entries, entries_low, no_header}
-use Rattle.sourcemap_scopes.specs.ScopeLists.{ScopeEntry}
+use Rattle.sourcemap_map_regular.specs.Encode.{ReadsBack, record_with}
+use Rattle.sourcemap_map_regular.specs.Write.{IsText, IsEncoded}
+use Rattle.sourcemap_map_regular.proofs.WriteLemmas.{IsLow, EntriesAreLow, low_object, low_list, low_or_null, low_string, low_entries, entries_low, no_header}
+use Rattle.sourcemap_hermes_scopes.specs.ScopeLists.{ScopeEntry}
 use Rattle.sourcemap_hermes.specs.Decode.{HermesDecodes, OnlyHermesDecodes}
 use Rattle.sourcemap_hermes.specs.Encode.{IsRecordOf, IsCompactTextOf, RecordAnswer, Restores, with_scopes, scoped}
 use Rattle.sourcemap_hermes.specs.Map.{HermesValue, IsWellFormed}
 
--- the keys that a map is written as, where its tokens are written as these texts
+-- the keys of a map's record, where its tokens are written as these texts
 abbrev fields_with : HermesValue → List ℕ → Option (List ℕ) → Fields
 fields_with h mappings ranges = with_scopes (record_with h.map mappings ranges) h.scopes.entries
 
@@ -35,12 +35,12 @@ low_written h mappings ranges =
     low_entries 1 3 (entries (record_with h.map mappings ranges)) (entries_low h.map mappings ranges) in
     (version, (file, (sources, (root, (contents, (names, (of_ranges, (of_mappings, (ignored, (offsets, (paths, (low_lists h.scopes.entries, (debug_id, end))))))))))))))
 
--- a record of the map is that of some texts
+-- each record of the map is that of some texts
 record_plain : (h : HermesValue) (t : Tree) → IsRecordOf h t → (mappings : List ℕ) × (ranges : Option (List ℕ)) × (t ≡ plain (fields_with h mappings ranges))
 record_plain h t (r, (mappings, ranges, of_mappings, of_ranges, plain_is), is) =
     (mappings, ranges, is ∙ ap (λ r. scoped r h.scopes.entries) plain_is)
 
--- what a map is written as has five levels, and no number in it has a fraction
+-- the record of a map has five levels, and no number in it has a fraction
 pub record-low : (h : HermesValue) (t : Tree) → IsRecordOf h t → IsLow 5 (written t)
 record-low h t is =
     let (mappings, ranges, same) = record_plain h t is in
@@ -50,7 +50,7 @@ pub encoded-compact : (h : HermesValue) (text : List ℕ) → IsEncoded (RecordA
 encoded-compact h text (t, (is, fine, back), of_text) = (t, is, of_text.compact (record-low h t is).1)
 
 pub encoded-back : (h : HermesValue) (text : List ℕ) → IsEncoded (RecordAnswer h) text → IsWellFormed h
-    → ReadsBack (BytesStandFor OnlyHermesDecodes text) (Restores h)
+    → ReadsBack (BytesHaveResult OnlyHermesDecodes text) (Restores h)
 encoded-back h text (t, (is, fine, back), of_text) well =
     let (mappings, ranges, same) = record_plain h t is in
     text_back mappings ranges (subst IsFine same fine)
@@ -59,7 +59,7 @@ encoded-back h text (t, (is, fine, back), of_text) well =
   where
     text_back : (mappings : List ℕ) (ranges : Option (List ℕ)) → IsFine (plain (fields_with h mappings ranges))
         → ReadsBack (HermesDecodes (fields_with h mappings ranges)) (Restores h) → IsText (plain (fields_with h mappings ranges)) text
-        → ReadsBack (BytesStandFor OnlyHermesDecodes text) (Restores h)
+        → ReadsBack (BytesHaveResult OnlyHermesDecodes text) (Restores h)
     text_back mappings ranges fine back is =
         let t : Tree = plain (fields_with h mappings ranges) in
         let low : IsLow 5 (written t) = low_written h mappings ranges in

@@ -1,30 +1,30 @@
--- The Hermes map that a record stands for.
+-- The Hermes map that a record decodes to.
 use Rattle.std.specs.Prelude.{◌≡◌, ◌⊎◌, List, Option, Some, None, Result, Ok, Err}
 use Rattle.sourcemap_errors.specs.declared.errors.Error.{Error}
 use Rattle.sourcemap_errors.specs.declared.errors.Error.TheVariants.{IncompatibleSourceMap}
 use Rattle.sourcemap_records.specs.Jsontypes.{Fields, Tree, plain, indexed}
-use Rattle.sourcemap_regular.specs.Decode.{RecordDecodes}
-use Rattle.sourcemap_scopes.specs.ScopeLists.{ScopeEntry}
-use Rattle.sourcemap_scopes.specs.SourceScopes.{AreOfEntries}
+use Rattle.sourcemap_map_regular.specs.Decode.{RecordDecodes}
+use Rattle.sourcemap_hermes_scopes.specs.ScopeLists.{ScopeEntry}
+use Rattle.sourcemap_hermes_scopes.specs.SourceScopes.{AreOfEntries}
 use Rattle.sourcemap_hermes.specs.Map.{HermesValue, AreFewScopes}
 
--- what a record with these scopes of its sources is decoded to: too many of them come first, then the regular map
+-- what a record with these scopes of its sources decodes to: the error of too many comes first, then those of the regular map
 abbrev pub EntriesDecode : Fields → List ScopeEntry → Result HermesValue Error → Type 0
 EntriesDecode r entries (Ok h) =
     AreFewScopes entries × RecordDecodes r (Ok h.map) × (h.scopes.entries ≡ entries) × AreOfEntries h.scopes
 EntriesDecode r entries (Err e) =
     ((¬ AreFewScopes entries) × (e ≡ IncompatibleSourceMap)) ⊎ (AreFewScopes entries × RecordDecodes r (Err e))
 
--- the same, if there are scopes
+-- what a record decodes to, by whether it has scopes
 abbrev pub DecodesWith : Fields → Option (List ScopeEntry) → Result HermesValue Error → Type 0
 DecodesWith r None answer = answer ≡ Err IncompatibleSourceMap
 DecodesWith r (Some entries) answer = EntriesDecode r entries answer
 
--- what a record is decoded to as a Hermes map
+-- what a record decodes to as a Hermes map
 abbrev pub HermesDecodes : Fields → Result HermesValue Error → Type 0
 HermesDecodes r answer = DecodesWith r r.x_facebook_sources answer
 
--- the Hermes map that a record stands for, or why it stands for none; that of an index map is refused
+-- what the record of a Hermes map decodes to; the record of an index map is an error
 abbrev pub OnlyHermesDecodes : Tree → Result HermesValue Error → Type 0
 OnlyHermesDecodes (plain fields) answer = HermesDecodes fields answer
 OnlyHermesDecodes (indexed _ _) answer = answer ≡ Err IncompatibleSourceMap

@@ -1,10 +1,10 @@
--- The record that a Hermes map is written as, and what is left of the map when that is read back.
+-- The record that a Hermes map is written as, and what of the map is kept when it is decoded again.
 use Rattle.std.specs.Prelude.{◌≡◌, ℕ, List, Some, Result, Ok, Err}
 use Rattle.serde_json.specs.Written.{compact_text}
 use Rattle.sourcemap_errors.specs.declared.errors.Error.{Error}
 use Rattle.sourcemap_records.specs.Jsontypes.{Fields, Tree, plain, indexed, flat, written, IsFine}
-use Rattle.sourcemap_regular.specs.Encode.{ReadsBack, IsRecordOf as IsRecordOfRegular, Restores as RestoresRegular}
-use Rattle.sourcemap_scopes.specs.ScopeLists.{ScopeEntry}
+use Rattle.sourcemap_map_regular.specs.Encode.{ReadsBack, IsRecordOf as IsRecordOfRegular, Restores as RestoresRegular}
+use Rattle.sourcemap_hermes_scopes.specs.ScopeLists.{ScopeEntry}
 use Rattle.sourcemap_hermes.specs.Decode.{HermesDecodes}
 use Rattle.sourcemap_hermes.specs.Map.{HermesValue, IsWellFormed}
 
@@ -17,7 +17,7 @@ abbrev pub scoped : Tree → List ScopeEntry → Tree
 scoped (plain fields) entries = plain (with_scopes fields entries)
 scoped (indexed fields sections) entries = indexed (with_scopes fields entries) sections
 
--- a record that the map is written as: one of the regular map, with the scopes as they were read
+-- a record that the map is written as: one of the regular map, with the scopes as decoded
 abbrev pub IsRecordOf : HermesValue → Tree → Type 0
 IsRecordOf h t = (r : Tree) × IsRecordOfRegular h.map r × (t ≡ scoped r h.scopes.entries)
 
@@ -25,11 +25,11 @@ IsRecordOf h t = (r : Tree) × IsRecordOfRegular h.map r × (t ≡ scoped r h.sc
 abbrev pub IsCompactTextOf : HermesValue → List ℕ → Type 0
 IsCompactTextOf h text = (t : Tree) × IsRecordOf h t × (text ≡ compact_text (written t))
 
--- a map that restores another has the same meaning at every position, all its parts, and the functions of its sources
+-- `back` has the meaning of `h` at every position, all its parts, and the functions of its sources
 abbrev pub Restores : (h back : HermesValue) → Type 0
 Restores h back = RestoresRegular h.map back.map × (back.scopes ≡ h.scopes)
 
--- what a call that writes a map answers: a record that the map is written as, and that reads back; nothing but memory refuses
+-- the result of a call that encodes a map: a record that the map is written as, and that reads back; no error but out of memory
 abbrev pub RecordAnswer : HermesValue → Result Tree Error → Type 0
 RecordAnswer h (Ok t) = IsRecordOf h t × IsFine t × (IsWellFormed h → ReadsBack (HermesDecodes (flat t)) (Restores h))
 RecordAnswer h (Err _) = ⊥

@@ -4,8 +4,8 @@ use Rattle.std.specs.Ordering.{on, eq_of_both}
 use Rattle.std.specs.Cmp.{IsEquivalence}
 use Rattle.std.specs.Cmp.Rules.{comparing}
 use Rattle.std.proofs.Common.{rules}
-use Rattle.sourcemap_regular.specs.Equality.{same_map}
-use Rattle.sourcemap_scopes.specs.SourceScopes.{same_source_scopes}
+use Rattle.sourcemap_map_regular.specs.Equality.{same_map}
+use Rattle.sourcemap_hermes_scopes.specs.SourceScopes.{same_source_scopes}
 use Rattle.sourcemap_hermes.specs.Map.{HermesValue}
 
 abbrev pub same_hermes : HermesValue → HermesValue → Bool

@@ -1,14 +1,14 @@
--- A Hermes map as contracts see it: a regular map, and the functions that places in its sources stand in.
+-- A Hermes map as contracts see it: a regular map, and the scopes of its sources.
 use Rattle.std.specs.Prelude.{ℕ, ◌≤◌, List, length, Option, option_and_then}
 use Rattle.std.specs.Borrow.{Lends, MutBor, Fml}
-use Rattle.sourcemap_regular.specs.Map.{MapValue, TokenValue, says, lookup, IsWellFormed as IsWellFormedRegular}
-use Rattle.sourcemap_regular.specs.contracts.map.SourceMap.{the_row as map_row}
-use Rattle.sourcemap_scopes.specs.ScopeLists.{ScopeEntry}
-use Rattle.sourcemap_scopes.specs.SourceScopes.{SourceScopesValue, AreOfEntries, scope_at}
+use Rattle.sourcemap_map_regular.specs.Map.{MapValue, TokenValue, says, lookup, IsWellFormed as IsWellFormedRegular}
+use Rattle.sourcemap_map_regular.specs.contracts.map.SourceMap.{the_row as map_row}
+use Rattle.sourcemap_hermes_scopes.specs.ScopeLists.{ScopeEntry}
+use Rattle.sourcemap_hermes_scopes.specs.SourceScopes.{SourceScopesValue, AreOfEntries, scope_at}
 use Rattle.sourcemap_hermes.specs.contracts.map.SourceMapHermes.{the_row as hermes_row}
 use Rattle.sourcemap_hermes.specs.declared.map.SourceMapHermes.{SourceMapHermes}
 
--- all that a Hermes map holds
+-- the value of a Hermes map
 pub record HermesValue : Type 0 where
   pub map : MapValue
   pub scopes : SourceScopesValue
@@ -16,24 +16,24 @@ pub record HermesValue : Type 0 where
 abbrev pub hermes_value : SourceMapHermes → HermesValue
 hermes_value h = record { map = h.sm; scopes = h.scopes }
 
--- no more sources have scopes than there are ids
+-- there are no more entries than source ids
 abbrev pub AreFewScopes : List ScopeEntry → Type 0
 AreFewScopes entries = length entries ≤ 4294967295
 
--- the regular map is well-formed, the scopes are few, and the function maps are theirs
+-- the regular map is well-formed, the scopes are few, and the function maps are those of the entries
 pub record IsWellFormed (h : HermesValue) : Type 0 where
   pub map : IsWellFormedRegular h.map
   pub few : AreFewScopes h.scopes.entries
   pub of_entries : AreOfEntries h.scopes
 
--- the name of the function that a token's place in its source stands in
+-- the name of the function that contains a token's original position
 abbrev pub token_scope : SourceScopesValue → TokenValue → Option (List ℕ)
 token_scope scopes t = scope_at scopes t.raw.src_id ((says t).line, (says t).column)
 
--- the name of the function that a place in the bytecode, a column of line 0, stands in
+-- the name of the function at a bytecode offset, a generated column of line 0
 abbrev pub function_name : HermesValue → ℕ → Option (List ℕ)
 function_name h offset = option_and_then (token_scope h.scopes) (lookup h.map (0, offset))
 
--- what is written to the regular map that is lent stands in the Hermes map afterwards; the scopes stay
+-- the regular map is borrowed: what is written to it is in the Hermes map afterwards, with the scopes unchanged
 abbrev pub LendsMap : MutBor SourceMapHermes → MutBor MapValue → Fml
 LendsMap self result = Lends hermes_row map_row self result (λ m. record self.now { sm = m })

@@ -1,12 +1,12 @@
--- A rewriting of a Hermes map that loads no contents: the call returns the map rewritten, and only memory refuses it.
+-- Rewriting a Hermes map without loading contents: the call returns the rewritten map, and no error but out of memory.
 use Rattle.std.specs.Prelude.{◌≡◌, false, Result, Ok, Err}
 use Rattle.std.proofs.Common.{ap, sym}
 use Rattle.sourcemap_errors.specs.Answer.{Gives, IsAnswer}
 use Rattle.sourcemap_errors.specs.declared.errors.Error.{Error}
 use Rattle.sourcemap_errors.proofs.AnswerLemmas.{UnlessMemory-weaker}
-use Rattle.sourcemap_rewriting.specs.declared.options.RewriteOptions.{RewriteOptions}
-use Rattle.sourcemap_regular.specs.Rewrite.{removal_of}
-use Rattle.sourcemap_regular.specs.WithoutLoading.{without_loading as map_without_loading, lacks_none}
+use Rattle.sourcemap_map_rewrite.specs.declared.options.RewriteOptions.{RewriteOptions}
+use Rattle.sourcemap_map_regular.specs.Rewrite.{removal_of}
+use Rattle.sourcemap_map_regular.specs.WithoutLoading.{without_loading as map_without_loading, lacks_none}
 use Rattle.sourcemap_hermes.specs.Map.{HermesValue}
 use Rattle.sourcemap_hermes.specs.Rewrite.{rewritten, Rewrites}
 

@@ -7,7 +7,7 @@ use crate::map::SourceMapHermes;
 use sourcemap_errors::errors::Result;
 
 impl SourceMapHermes {
-    /// A map equal to this one. Only want of memory refuses.
+    /// A copy. The only error is `OutOfMemory`.
     pub fn clone(&self) -> Result<Self>
         ensures { Gives hermes_value result (Ok (hermes_value self.now)) }
     {

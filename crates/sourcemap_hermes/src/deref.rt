@@ -4,7 +4,7 @@ ghost use Rattle.std.specs.Borrow.{sem};
 ghost use Rattle.sourcemap_hermes.specs.Map.{hermes_value, LendsMap};
 
 use crate::map::SourceMapHermes;
-use sourcemap_regular::map::SourceMap;
+use sourcemap_map_regular::map::SourceMap;
 use std::ops::{Deref, DerefMut};
 
 impl Deref for SourceMapHermes {
@@ -23,7 +23,7 @@ impl Deref for SourceMapHermes {
 impl DerefMut for SourceMapHermes {
     ghost deref_mut_gives = { λ h m. m ≡ (hermes_value h).map };
 
-    /// The regular map, to be changed in its place. Scopes stay, by ids of sources.
+    /// The regular map, borrowed for changes. The scopes are unchanged and keep their source ids.
     fn deref_mut(&mut self) -> &mut SourceMap
         ensures* writes_back { sem 𝓛 (LendsMap self.entry result) }
         ensures value { result.now ≡ (hermes_value self.old).map }

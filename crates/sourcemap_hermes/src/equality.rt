@@ -8,7 +8,7 @@ ghost use Rattle.sourcemap_hermes.specs.Equality.{same_hermes, same_hermes_equiv
 
 use crate::map::SourceMapHermes;
 
-/// Hermes maps are equal exactly if their regular maps are, and the scopes of their sources.
+/// Hermes maps are equal exactly if their regular maps and the scopes of their sources are equal.
 impl PartialEq for SourceMapHermes {
     ghost eq = { on hermes_value same_hermes };
 
@@ -20,7 +20,7 @@ impl PartialEq for SourceMapHermes {
     {
         let map = self.sm == other.sm;
         let scopes = self.scopes == other.scopes;
-        // `&` for the prover: both parts are compared, and without a branch one goal is left
+        // prover: no branch
         map & scopes
     }
 }

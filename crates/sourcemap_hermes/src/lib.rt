@@ -1,4 +1,4 @@
-//! Hermes maps: regular maps that know the functions of their sources.
+//! Hermes maps: regular maps with the functions of their sources.
 #![tactic(auto)]
 
 mod clone;

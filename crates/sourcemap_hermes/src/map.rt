@@ -1,12 +1,12 @@
-//! A Hermes map: a regular map beside the scopes of its sources, and the names of functions.
+//! A Hermes map: a regular map with the scopes of its sources.
 ghost use Rattle.std.specs.Prelude.{◌≡◌, IfSome};
 ghost use Rattle.std.specs.Option.{option_copied};
 
-use sourcemap_regular::map::SourceMap;
-use sourcemap_regular::token::Token;
-use sourcemap_scopes::source_scopes::SourceScopes;
+use sourcemap_hermes_scopes::source_scopes::SourceScopes;
+use sourcemap_map_regular::map::SourceMap;
+use sourcemap_map_regular::token::Token;
 
-/// A source map that knows the functions of its sources. The scopes of a source stand by its id.
+/// A source map with the functions of its sources. Scopes are indexed by source id.
 #[derive(Debug, Drop)]
 pub struct SourceMapHermes {
     pub(crate) sm: SourceMap,
@@ -14,15 +14,15 @@ pub struct SourceMapHermes {
 }
 
 impl SourceMapHermes {
-    ghost use Rattle.sourcemap_regular.specs.Token.{token_value, lookup};
-    ghost use Rattle.sourcemap_scopes.specs.SourceScopes.{IsInOrderAt};
+    ghost use Rattle.sourcemap_map_regular.specs.Token.{token_value, lookup};
+    ghost use Rattle.sourcemap_hermes_scopes.specs.SourceScopes.{IsInOrderAt};
     ghost use Rattle.sourcemap_hermes.specs.Map.{hermes_value, function_name, token_scope};
 
-    /// The name of the function that a token's place in its source stands in, by the id of the
-    /// source; a range token that was looked up stands as many columns further. There is none where
-    /// the source has no function map, none of its functions begins so early, or the function has
-    /// no name. So it is where the functions of the source stand in order of their beginnings; of
-    /// others nothing is promised but that the call answers.
+    /// The name of the function that contains a token's original position. For a range token that
+    /// was looked up, the column is as far after the token's as the lookup was. `None` where the
+    /// source has no function map, no function starts so early, or the function has no name.
+    /// Requires functions of the source sorted by where they start; otherwise the result is
+    /// unspecified.
     pub fn get_scope_for_token(&self, token: Token<'_>) -> Option<&str>
         ensures { IsInOrderAt (hermes_value self.now).scopes (token_value token.entry).raw.src_id
             → option_copied result
@@ -32,9 +32,9 @@ impl SourceMapHermes {
         self.scopes.scope(token.get_src_id(), line, col)
     }
 
-    /// The name of the function that a place in the bytecode stands in: what `get_scope_for_token`
-    /// answers for the closest token to this column, from 0, of line 0 of the generated text.
-    /// `None` where that has none, and where there is no such token.
+    /// The name of the function at a bytecode offset: the result of `get_scope_for_token` for the
+    /// closest token to column `bytecode_offset` of generated line 0. `None` where there is no such
+    /// token, or no name for it.
     pub fn get_original_function_name(&self, bytecode_offset: u32) -> Option<&str>
         ensures { IfSome (lookup (hermes_value self.now).map (0, bytecode_offset))
             (λ t. IsInOrderAt (hermes_value self.now).scopes t.raw.src_id)

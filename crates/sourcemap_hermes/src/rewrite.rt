@@ -1,61 +1,62 @@
-//! A Hermes map rewritten with what its tokens use alone.
+//! Rewriting a Hermes map: only sources and names that tokens use are left.
 ghost use Rattle.std.specs.Prelude.{◌≡◌, ◌≤◌, IfOk, length};
 ghost use Rattle.sourcemap_errors.specs.Answer.{IsAnswer};
-ghost use Rattle.sourcemap_rewriting.specs.Options.{Removal, no_removal, removal_of};
-ghost use Rattle.sourcemap_regular.specs.Map.{MeansTheSame};
-ghost use Rattle.sourcemap_regular.specs.Rewrite.{LeavesMeaning, MeansLess, SaysLess};
+ghost use Rattle.sourcemap_map_rewrite.specs.Options.{Removal, no_removal, removal_of};
+ghost use Rattle.sourcemap_map_regular.specs.Map.{MeansTheSame};
+ghost use Rattle.sourcemap_map_regular.specs.Rewrite.{LeavesMeaning, MeansLess, TokensMeanLess};
 ghost use Rattle.sourcemap_hermes.specs.Map.{HermesValue, IsWellFormed, hermes_value};
 ghost use Rattle.sourcemap_hermes.specs.Rewrite.{HasDistinctSources, KeepsScopes, Rewrites, rewritten};
 
 use crate::map::SourceMapHermes;
 use sourcemap_errors::errors::Result;
-use sourcemap_rewriting::options::RewriteOptions;
+use sourcemap_map_rewrite::options::RewriteOptions;
 use std::rt::Files;
 
 impl SourceMapHermes {
-    /// The map with each source and each name that a token uses once, as by `rewrite` of its
-    /// regular map. A source has the scopes that stood by the first of its old ids, in the order
-    /// in which tokens use them, and none where that id had none; they are moved. Where no two
-    /// sources were shown as one text, each token keeps its scope.
+    /// The map with each source and each name that a token uses, once, as `rewrite` of its regular
+    /// map returns it. A source that had several ids gets the scopes of the one that tokens use
+    /// first, or none if that had none. Scopes are moved. If no two sources resolve against
+    /// `sourceRoot` to the same text, each token keeps its scope.
     ///
-    /// With `load_local_source_contents`, sources that have no contents then are read from files,
-    /// as by `rewrite` of the regular map. Returns `Io` of kind `InvalidInput` if the folder is not
-    /// absolute, else `OutOfMemory` only.
+    /// With `load_local_source_contents`, sources without contents are read from files, as by
+    /// `rewrite` of the regular map. Returns `Io` of kind `InvalidInput` if the folder is not
+    /// absolute; the only other error is `OutOfMemory`.
     pub fn rewrite<F: Files>(self, rt: &F, options: &RewriteOptions<'_>) -> Result<SourceMapHermes>
         ensures value { IsAnswer hermes_value (Rewrites options.now (hermes_value self)) result }
-        // It answers at each position as before, less what the options take away.
+        // The meaning of each position is unchanged, except for what the options remove.
         ensures meaning { IfOk result (λ h. MeansLess (removal_of options.now)
             (hermes_value self).map (hermes_value h).map) }
-        ensures tokens { IfOk result (λ h. SaysLess (removal_of options.now)
+        ensures tokens { IfOk result (λ h. TokensMeanLess (removal_of options.now)
             (hermes_value self).map (hermes_value h).map) }
         // Where names are kept and no prefix is cut, that is the same meaning.
         ensures same { LeavesMeaning (removal_of options.now)
             → IfOk result (λ h. MeansTheSame (hermes_value h).map (hermes_value self).map) }
         ensures well_formed { IfOk result
             (λ h. IsWellFormed (hermes_value self) → IsWellFormed (hermes_value h)) }
-        // Where no two sources are shown as one text, each token keeps its scope.
+        // If no two sources resolve to the same text, each token keeps its scope.
         ensures scopes { IfOk result
             (λ h. IsWellFormed (hermes_value self) → HasDistinctSources (hermes_value self)
             → KeepsScopes (hermes_value self) (hermes_value h)) }
     {
         let SourceMapHermes { sm, scopes } = self;
-        // for the prover: there are at most 4294967295 sources
+        // prover: there are at most 4294967295 sources
         let _ = sm.get_source_count();
         let alloc = sm.allocator();
         let (sm, ids) = sm.rewrite_with_ids(rt, options)?;
-        let scopes = scopes.picked(alloc, ids.as_slice())?;
+        let scopes = scopes.select(alloc, ids.as_slice())?;
         Ok(SourceMapHermes { sm, scopes })
     }
 }
 
-/// A law: rewritten, a well-formed map of which no two sources are shown as one text keeps the
-/// scope of each token, and the name of the function of each place in the bytecode.
+/// A law: if no two sources of a well-formed map resolve against `sourceRoot` to the same text, the
+/// rewritten map has the same scope for each token, and the same function name at each bytecode
+/// offset.
 pub fn rewriting_keeps_scopes()
     ensures { (removal : Removal) (h : HermesValue) → length h.map.sources ≤ 4294967295
         → IsWellFormed h → HasDistinctSources h → KeepsScopes h (rewritten removal h) }
 {}
 
-/// A law: a map rewritten with default options is kept by a second such rewriting, its scopes too.
+/// A law: rewriting with default options twice gives the same map as once, with its scopes.
 pub fn default_rewriting_keeps_scopes()
     ensures { (h : HermesValue) → length h.map.sources ≤ 4294967295
         → length h.map.names ≤ 4294967295

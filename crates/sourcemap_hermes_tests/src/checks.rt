@@ -1,9 +1,15 @@
-// How an answer is compared with the text that is wanted.
-use sourcemap_errors::errors::Result;
+// Ends the test and prints the row, unless the result is the wanted text. A library may not abort a
+// process, so this cannot be shared.
+use std::fmt::Debug;
 use std::process::Abort;
+use std::result;
 
-/// Ends the test, and says at which row, unless the answer is the wanted text.
-pub fn check(rt: &impl Abort, row: &str, answer: Result<String>, want: &str) {
-    let is_wanted = matches!(&answer, Ok(text) if text.as_str() == want);
-    assert!(rt; is_wanted, "{row}: {answer:?}");
+pub fn check<E: Debug + Drop>(
+    rt: &impl Abort,
+    row: &str,
+    got: result::Result<String, E>,
+    want: &str,
+) {
+    let is_wanted = matches!(&got, Ok(text) if text.as_str() == want);
+    assert!(rt; is_wanted, "{row}: {got:?}");
 }

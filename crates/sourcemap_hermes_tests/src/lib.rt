@@ -1,4 +1,4 @@
-//! Tests of Hermes maps and of the scopes of their sources, over JSON texts that they are read from.
+//! Tests of Hermes maps and of the scopes of their sources, decoded from JSON.
 #![tactic(auto)]
 
 #[cfg(test)]

@@ -1,32 +1,29 @@
-// Hermes maps that are read, asked and written, against values that were worked out by hand.
+// Decoding, lookups and encoding of Hermes maps. Expected values are worked out by hand.
 use crate::checks::check;
 use serde_json::Value;
 use sourcemap_errors::errors::{Error, Result};
 use sourcemap_hermes::decode::decode_hermes;
 use sourcemap_hermes::map::SourceMapHermes;
+use sourcemap_map_regular::encode::Encodable;
+use sourcemap_map_regular::token::Token;
 use sourcemap_records::jsontypes::RawSourceMap;
-use sourcemap_regular::encode::Encodable;
-use sourcemap_regular::token::Token;
+use sourcemap_test_support::results::boxed;
 use std::alloc::Global;
 
-pub fn name_told(alloc: Global, name: Option<&str>) -> Result<String> {
+pub fn name_or_none(alloc: Global, name: Option<&str>) -> Result<String> {
     Ok(String::from_str(alloc, name.unwrap_or("none"))?)
 }
 
-// A map that was read, in a box. The prover takes what lets a box go as one step, and what lets a map
-// go as one for each of its parts, on each way out of a function.
 fn map_of(alloc: Global, text: &str) -> Result<Box<SourceMapHermes>> {
-    let map = SourceMapHermes::from_slice(alloc, text.as_bytes())?;
-    Ok(Box::new(alloc, map)?)
+    boxed(alloc, SourceMapHermes::from_slice(alloc, text.as_bytes()))
 }
 
-// The name of the function at a place in the bytecode.
 fn name_at(alloc: Global, text: &str, offset: u32) -> Result<String> {
     let map = map_of(alloc, text)?;
-    name_told(alloc, map.get_original_function_name(offset))
+    name_or_none(alloc, map.get_original_function_name(offset))
 }
 
-// A map, a place in the bytecode, and the name of the function there.
+// A map, a bytecode offset, and the function name there.
 static NAMES: [(&str, u32, &str); 13] = [
     (TWO_FUNCTIONS, 0, "<global>"),
     (TWO_FUNCTIONS, 4, "<global>"),
@@ -38,9 +35,9 @@ static NAMES: [(&str, u32, &str); 13] = [
     (LONG, 0, "f"),
     // The last line of a source.
     (LAST_LINE, 0, "f"),
-    // A text of scopes that cannot be read.
+    // Invalid scope mappings.
     (BROKEN, 0, "none"),
-    // A range token stands as far in its source as the place in the bytecode.
+    // A range token moves its original position with the offset.
     (RANGE, 4, "a"),
     (RANGE, 5, "b"),
     // No token, and a token without a source.
@@ -75,10 +72,10 @@ const NO_TOKEN: &str =
 pub const NO_SOURCE: &str =
     r#"{"version":3,"sources":["a.js"],"mappings":"A","x_facebook_sources":[[{"names":["f"],"mappings":"AAA"}]]}"#;
 
-// Texts that are what their maps are written as.
+// Texts that are written unchanged.
 static WRITTEN: [&str; 4] = [SECOND_SOURCE, SHORT, LONG, BROKEN];
 
-// Texts of maps with functions of each kind.
+// Maps with scopes of each kind.
 static MAPS: [&str; 7] = [
     TWO_FUNCTIONS,
     SECOND_SOURCE,
@@ -97,18 +94,17 @@ fn names_of_functions(rt: HostRuntime) {
     }
 }
 
-fn scope_told(alloc: Global, map: &SourceMapHermes, token: Option<Token<'_>>) -> Result<String> {
+fn scope_text(alloc: Global, map: &SourceMapHermes, token: Option<Token<'_>>) -> Result<String> {
     match token {
-        None => name_told(alloc, None),
-        Some(token) => name_told(alloc, map.get_scope_for_token(token)),
+        None => name_or_none(alloc, None),
+        Some(token) => name_or_none(alloc, map.get_scope_for_token(token)),
     }
 }
 
-// The name of the function that the closest token to a place in the bytecode leads to.
+// The function name of the closest token to a bytecode offset.
 fn scope_at(alloc: Global, text: &str, offset: u32) -> Result<String> {
-    let map = SourceMapHermes::from_reader(alloc, text.as_bytes())?;
-    let map = Box::new(alloc, map)?;
-    scope_told(alloc, &*map, map.lookup_token(0, offset))
+    let map = boxed(alloc, SourceMapHermes::from_reader(alloc, text.as_bytes()))?;
+    scope_text(alloc, &*map, map.lookup_token(0, offset))
 }
 
 #[test]
@@ -122,20 +118,18 @@ fn record_of(alloc: Global, text: &str) -> Result<RawSourceMap> {
     map_of(alloc, text)?.as_raw_sourcemap()
 }
 
-// The record of a map, as text.
 fn written(alloc: Global, text: &str) -> Result<String> {
     let value = record_of(alloc, text)?.into_value(alloc)?;
     Ok(value.to_string(alloc)?)
 }
 
 #[test]
-fn scopes_are_written_as_they_were_read(rt: HostRuntime) {
+fn scopes_are_written_unchanged(rt: HostRuntime) {
     for text in WRITTEN.iter() {
         check(&rt, text, written(rt.alloc(), text), text);
     }
 }
 
-// The bytes that a map is written as, as text.
 fn bytes_written(alloc: Global, text: &str) -> Result<String> {
     let mut bytes = Vec::new(alloc);
     map_of(alloc, text)?.to_writer(&mut bytes)?;
@@ -152,7 +146,7 @@ fn bytes_are_those_of_the_record(rt: HostRuntime) {
     }
 }
 
-// Whether the bytes that a map is written as are read back as the same map.
+// Whether the encoded map decodes to an equal map.
 fn is_read_back(alloc: Global, text: &str) -> Result<String> {
     let map = map_of(alloc, text)?;
     let bytes = bytes_written(alloc, text)?;
@@ -172,19 +166,19 @@ fn equals_copy(map: &SourceMapHermes) -> Result<bool> {
     Ok(map.clone()? == *map)
 }
 
-// Whether a reader is read as the bytes are that it gives.
+// Whether a reader decodes to the same map as its bytes.
 fn is_streamed(alloc: Global, text: &str, map: &SourceMapHermes) -> Result<bool> {
     Ok(SourceMapHermes::from_reader(alloc, text.as_bytes())? == *map)
 }
 
-fn copies_told(alloc: Global, text: &str, map: &SourceMapHermes) -> Result<String> {
+fn copies_text(alloc: Global, text: &str, map: &SourceMapHermes) -> Result<String> {
     let is_copied = equals_copy(map)?;
     let is_streamed = is_streamed(alloc, text, map)?;
     Ok(format!(in alloc; "{is_copied} {is_streamed}")?)
 }
 
 fn copied(alloc: Global, text: &str) -> Result<String> {
-    copies_told(alloc, text, &*map_of(alloc, text)?)
+    copies_text(alloc, text, &*map_of(alloc, text)?)
 }
 
 #[test]
@@ -202,7 +196,7 @@ fn is_decoded(alloc: Global, text: &str) -> Result<bool> {
     match decode_hermes(alloc, record(alloc, text)?) {
         Ok(_) => Ok(true),
         Err(Error::IncompatibleSourceMap) => Ok(false),
-        Err(fault) => Err(fault),
+        Err(error) => Err(error),
     }
 }
 
@@ -210,17 +204,17 @@ fn is_read(alloc: Global, text: &str) -> Result<bool> {
     match SourceMapHermes::from_slice(alloc, text.as_bytes()) {
         Ok(_) => Ok(true),
         Err(Error::IncompatibleSourceMap) => Ok(false),
-        Err(fault) => Err(fault),
+        Err(error) => Err(error),
     }
 }
 
-fn told(alloc: Global, text: &str) -> Result<String> {
+fn kinds_text(alloc: Global, text: &str) -> Result<String> {
     let decoded = is_decoded(alloc, text)?;
     let read = is_read(alloc, text)?;
     Ok(format!(in alloc; "{decoded} {read}")?)
 }
 
-// A record, and whether it is decoded as a Hermes map, and read as one.
+// A record, and whether `decode_hermes` and `from_slice` decode it.
 static KINDS: [(&str, &str); 3] = [
     (r#"{"mappings":"","x_facebook_sources":[]}"#, "true true"),
     (r#"{"mappings":""}"#, "false false"),
@@ -230,6 +224,6 @@ static KINDS: [(&str, &str); 3] = [
 #[test]
 fn records_of_other_kinds(rt: HostRuntime) {
     for (text, want) in KINDS.iter() {
-        check(&rt, text, told(rt.alloc(), text), want);
+        check(&rt, text, kinds_text(rt.alloc(), text), want);
     }
 }

@@ -1,9 +1,9 @@
-// Hermes maps that are rewritten, against values that were worked out by hand.
+// Rewriting of Hermes maps. Expected values are worked out by hand.
 use crate::checks::check;
-use crate::maps::{BROKEN, LONG, NO_SOURCE, SECOND_SOURCE, SHORT, TWO_FUNCTIONS, name_told};
+use crate::maps::{BROKEN, LONG, NO_SOURCE, SECOND_SOURCE, SHORT, TWO_FUNCTIONS, name_or_none};
 use sourcemap_errors::errors::{Error, Result};
 use sourcemap_hermes::map::SourceMapHermes;
-use sourcemap_regular::rewrite::RewriteOptions;
+use sourcemap_map_regular::rewrite::RewriteOptions;
 use std::alloc::Global;
 use std::rt::Files;
 
@@ -24,7 +24,7 @@ fn written(alloc: Global, map: Result<SourceMapHermes>) -> Result<String> {
             Ok(value.to_string(alloc)?)
         }
         Err(Error::OutOfMemory) => Err(Error::OutOfMemory),
-        Err(fault) => Ok(format!(in alloc; "{fault}")?),
+        Err(error) => Ok(format!(in alloc; "{error}")?),
     }
 }
 
@@ -43,7 +43,7 @@ const HALF: &str =
 const ROOTED: &str =
     r#"{"mappings":"ACAA","sourceRoot":"r","sources":["a.js","b.js"],"x_facebook_sources":[null,[{"mappings":"AAA","names":["g"]}]]}"#;
 
-// A map, and what it is written as when it is rewritten by default.
+// A map, and the map rewritten with default options.
 static DEFAULT: [(&str, &str); 12] = [
     (
         SECOND_SOURCE,
@@ -73,7 +73,7 @@ static DEFAULT: [(&str, &str); 12] = [
         ROOTED,
         r#"{"mappings":"AAAA","names":[],"sources":["r/b.js"],"version":3,"x_facebook_sources":[[{"mappings":"AAA","names":["g"]}]]}"#,
     ),
-    // Lists that are as long as that of the sources that are kept, or shorter, but not empty.
+    // Lists of scopes that are as long as that of the sources left, or shorter, but not empty.
     (
         r#"{"mappings":"ACAA","sources":["a.js","b.js"],"x_facebook_sources":[null]}"#,
         r#"{"mappings":"AAAA","names":[],"sources":["b.js"],"version":3,"x_facebook_sources":[null]}"#,
@@ -82,7 +82,7 @@ static DEFAULT: [(&str, &str); 12] = [
         r#"{"mappings":"ACAA,CDAA","sources":["a.js","b.js"],"x_facebook_sources":[[{"mappings":"AAA","names":["f"]}]]}"#,
         r#"{"mappings":"AAAA,CCAA","names":[],"sources":["b.js","a.js"],"version":3,"x_facebook_sources":[null,[{"mappings":"AAA","names":["f"]}]]}"#,
     ),
-    // A text of scopes that cannot be read, and an empty list, stay as they are.
+    // Invalid scope mappings and an empty list are unchanged.
     (BROKEN, BROKEN),
     (
         r#"{"mappings":"AAAA","sources":["a.js","b.js"],"x_facebook_sources":[[],null]}"#,
@@ -96,15 +96,15 @@ static DEFAULT: [(&str, &str); 12] = [
 ];
 
 #[test]
-fn functions_go_along_with_sources(rt: HostRuntime) {
+fn functions_follow_their_sources(rt: HostRuntime) {
     let options = RewriteOptions::default();
     for (text, want) in DEFAULT.iter() {
         check(&rt, text, rewritten(&rt, rt.alloc(), text, &options), want);
     }
 }
 
-// A map, the prefixes to be cut, and what it is written as. Sources that are cut to one text stay
-// apart, and so do their functions.
+// A map, prefixes to strip, and the rewritten map. Sources that are stripped to the same text are
+// not merged, and keep their scopes.
 static CUT: [(&str, &[&str], &str); 2] = [
     (
         r#"{"mappings":"AAAA,CCAA","sources":["/x/a.js","/y/a.js"],"x_facebook_sources":[[{"mappings":"AAA","names":["f"]}],[{"mappings":"AAA","names":["g"]}]]}"#,
@@ -144,15 +144,15 @@ fn a_folder_is_needed_to_load_contents(rt: HostRuntime) {
     );
 }
 
-// The name of the function at a place in the bytecode, once the map is rewritten by default.
+// The function name at a bytecode offset after rewriting with default options.
 fn name_then<F: Files>(rt: &F, alloc: Global, text: &str, offset: u32) -> Result<String> {
     let map = SourceMapHermes::from_slice(alloc, text.as_bytes())?;
     let map = map.rewrite(rt, &RewriteOptions::default())?;
     let map = Box::new(alloc, map)?;
-    name_told(alloc, map.get_original_function_name(offset))
+    name_or_none(alloc, map.get_original_function_name(offset))
 }
 
-// A map, a place in the bytecode, and the name of the function there once the map is rewritten.
+// A map, a bytecode offset, and the function name there after rewriting.
 static NAMES: [(&str, u32, &str); 10] = [
     (TWO_FUNCTIONS, 0, "<global>"),
     (TWO_FUNCTIONS, 7, "foo"),
@@ -160,7 +160,7 @@ static NAMES: [(&str, u32, &str); 10] = [
     (SHORT, 0, "none"),
     (TURNED, 0, "h"),
     (TURNED, 1, "f"),
-    // Both tokens have the functions of the source that is used first.
+    // Both tokens get the scopes of the source that is used first.
     (TWINS, 0, "g"),
     (TWINS, 1, "g"),
     (HALF, 1, "none"),

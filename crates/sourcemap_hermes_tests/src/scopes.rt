@@ -1,14 +1,15 @@
-// Scopes that are asked, picked and written, against values that were worked out by hand.
+// Lookups in scopes, their selection by id and their encoding. Expected values are worked out by hand.
 use crate::checks::check;
+use crate::maps::name_or_none;
 use serde_json::Value;
 use sourcemap_errors::errors::{Error, Result};
+use sourcemap_hermes_scopes::function_map::HermesFunctionMap;
+use sourcemap_hermes_scopes::scope_lists::ScopeLists;
+use sourcemap_hermes_scopes::source_scopes::SourceScopes;
 use sourcemap_records::jsontypes::RawSourceMap;
-use sourcemap_scopes::function_map::HermesFunctionMap;
-use sourcemap_scopes::scope_lists::ScopeLists;
-use sourcemap_scopes::source_scopes::SourceScopes;
 use std::alloc::Global;
 
-// The lists that stand in a record under `x_facebook_sources`.
+// The lists of a record under `x_facebook_sources`.
 fn lists(alloc: Global, text: &str) -> Result<ScopeLists> {
     let mut record = RawSourceMap::from_owned(alloc, Value::from_str(alloc, text)?)?;
     record
@@ -21,27 +22,23 @@ fn scopes(alloc: Global, text: &str) -> Result<SourceScopes> {
     SourceScopes::new(alloc, lists(alloc, text)?)
 }
 
-fn name_told(alloc: Global, name: Option<&str>) -> Result<String> {
-    Ok(String::from_str(alloc, name.unwrap_or("none"))?)
-}
-
-fn asked(alloc: Global, text: &str, source: u32, line: u32, col: u32) -> Result<String> {
+fn name_at_position(alloc: Global, text: &str, source: u32, line: u32, col: u32) -> Result<String> {
     let scopes = scopes(alloc, text)?;
-    name_told(alloc, scopes.scope(source, line, col))
+    name_or_none(alloc, scopes.scope(source, line, col))
 }
 
-// The lists of two sources, of which the first has the names a, b and c and these mappings.
+// The lists of two sources. The first has the names a, b and c, and these mappings.
 fn with_mappings(alloc: Global, mappings: &str) -> Result<String> {
     let head = r#"{"x_facebook_sources":[[{"names":["a","b","c"],"mappings":""#;
     Ok(format!(in alloc; r#"{head}{mappings}"}}],null]}}"#)?)
 }
 
-fn asked_of_mappings(alloc: Global, mappings: &str, line: u32, col: u32) -> Result<String> {
+fn name_in_mappings(alloc: Global, mappings: &str, line: u32, col: u32) -> Result<String> {
     let text = with_mappings(alloc, mappings)?;
-    asked(alloc, text.as_str(), 0, line, col)
+    name_at_position(alloc, text.as_str(), 0, line, col)
 }
 
-// Scope mappings, a line and a column of the source, and the name of its function.
+// Scope mappings, an original line and column, and the function name.
 static MAPPINGS: [(&str, u32, u32, &str); 31] = [
     ("AAA,KCC", 0, 0, "a"),
     ("AAA,KCC", 1, 4, "a"),
@@ -50,12 +47,12 @@ static MAPPINGS: [(&str, u32, u32, &str); 31] = [
     ("KAA", 0, 4, "none"),
     ("AAA", 4294967295, 4294967295, "a"),
     ("", 0, 0, "none"),
-    // Missing numbers, and further ones.
+    // Too few and too many fields.
     ("K,KC", 0, 9, "a"),
     ("K,KC", 0, 10, "b"),
     ("KCAAAA", 0, 4, "none"),
     ("KCAAAA", 0, 5, "b"),
-    // The column begins anew on each line, the name and the line do not.
+    // The column restarts on each line, the name and the line do not.
     ("UAA;KCC", 1, 5, "b"),
     ("ACA;ACC", 1, 0, "c"),
     ("AAC;ACC", 1, 0, "a"),
@@ -68,12 +65,12 @@ static MAPPINGS: [(&str, u32, u32, &str); 31] = [
     ("AAD", 0, 0, "a"),
     ("AAF", 4294967293, 9, "none"),
     ("AAF", 4294967294, 0, "a"),
-    // A name that is not there.
+    // A name index out of range.
     ("AGA", 0, 0, "none"),
-    // Equal offsets: the first where they stand, the last behind them.
+    // Equal offsets: the first one at them, the last one after them.
     ("KAA,ACA,ACA", 0, 5, "a"),
     ("KAA,ACA,ACA", 0, 6, "c"),
-    // Parts that cannot be read.
+    // Invalid segments.
     ("AAA,!", 0, 0, "none"),
     ("AAA;!A,AAA", 0, 0, "none"),
     ("AAA,g", 0, 0, "none"),
@@ -86,16 +83,16 @@ static MAPPINGS: [(&str, u32, u32, &str); 31] = [
 #[test]
 fn names_of_functions(rt: HostRuntime) {
     for (mappings, line, col, want) in MAPPINGS.iter() {
-        let answer = asked_of_mappings(rt.alloc(), mappings, *line, *col);
+        let answer = name_in_mappings(rt.alloc(), mappings, *line, *col);
         check(&rt, mappings, answer, want);
     }
 }
 
-// Offsets in no order: some name of the source or none.
+// Unsorted offsets: some name of the source or none.
 static UNORDERED: [&str; 3] = ["KAA,LCA,UCA", "AAE;ACD", "UAA,FCA,FCA,UDA"];
 
 fn is_some_name_or_none(alloc: Global, mappings: &str, col: u32) -> Result<bool> {
-    let name = asked_of_mappings(alloc, mappings, 0, col)?;
+    let name = name_in_mappings(alloc, mappings, 0, col)?;
     Ok(matches!(name.as_str(), "a" | "b" | "c" | "none"))
 }
 
@@ -121,7 +118,7 @@ const EMPTY: &str = r#"{"x_facebook_sources":[]}"#;
 const LISTS: &str =
     r#"{"x_facebook_sources":[[],[{"names":["f"],"mappings":"!"},{"names":["g"],"mappings":"AAA"}],[{"names":["h"],"mappings":"AAA"},{"names":["i"],"mappings":"!"}],null]}"#;
 
-// Lists, a source, a line and a column of it, and the name of its function.
+// Lists, a source, an original line and column, and the function name.
 static SOURCES: [(&str, u32, u32, u32, &str); 13] = [
     (ROW, 0, 0, 0, "<global>"),
     (ROW, 0, 1, 5, "foo"),
@@ -144,7 +141,7 @@ fn names_by_source(rt: HostRuntime) {
         check(
             &rt,
             text,
-            asked(rt.alloc(), text, *source, *line, *col),
+            name_at_position(rt.alloc(), text, *source, *line, *col),
             want,
         );
     }
@@ -156,13 +153,13 @@ fn written(alloc: Global, lists: ScopeLists) -> Result<String> {
     Ok(record.into_value(alloc)?.to_string(alloc)?)
 }
 
-fn picked_written(alloc: Global, text: &str, ids: &[u32]) -> Result<String> {
-    let picked = scopes(alloc, text)?.picked(alloc, ids)?;
-    written(alloc, picked.into_entries())
+fn selected_written(alloc: Global, text: &str, ids: &[u32]) -> Result<String> {
+    let selected = scopes(alloc, text)?.select(alloc, ids)?;
+    written(alloc, selected.into_entries())
 }
 
-// What a row is about, lists, the ids that are picked, and what is written then.
-static PICKED: [(&str, &str, &[u32], &str); 5] = [
+// Label, lists, ids to select, and the lists then.
+static SELECTED: [(&str, &str, &[u32], &str); 5] = [
     (
         "one of two",
         SECOND,
@@ -196,21 +193,20 @@ static PICKED: [(&str, &str, &[u32], &str); 5] = [
 ];
 
 #[test]
-fn picked_scopes_are_written(rt: HostRuntime) {
-    for (about, text, ids, want) in PICKED.iter() {
-        check(&rt, about, picked_written(rt.alloc(), text, ids), want);
+fn selected_scopes_are_written(rt: HostRuntime) {
+    for (about, text, ids, want) in SELECTED.iter() {
+        check(&rt, about, selected_written(rt.alloc(), text, ids), want);
     }
 }
 
-fn asked_when_picked(alloc: Global, text: &str, ids: &[u32], source: u32) -> Result<String> {
-    let picked = scopes(alloc, text)?.picked(alloc, ids)?;
-    name_told(alloc, picked.scope(source, 0, 0))
+fn name_when_selected(alloc: Global, text: &str, ids: &[u32], source: u32) -> Result<String> {
+    let selected = scopes(alloc, text)?.select(alloc, ids)?;
+    name_or_none(alloc, selected.scope(source, 0, 0))
 }
 
-// What a row is about, lists, the ids that are picked, a source by its new id, and the name at its
-// beginning.
+// Label, lists, ids to select, a source by its new id, and the function name at its start.
 static MOVED: [(&str, &str, &[u32], u32, &str); 5] = [
-    ("the one that is picked", SECOND, &[1], 0, "f"),
+    ("the selected one", SECOND, &[1], 0, "f"),
     ("the first of two that are turned", SECOND, &[1, 0], 0, "f"),
     (
         "the second of them, without scopes",
@@ -224,12 +220,12 @@ static MOVED: [(&str, &str, &[u32], u32, &str); 5] = [
 ];
 
 #[test]
-fn picked_scopes_are_asked(rt: HostRuntime) {
+fn names_of_selected_scopes(rt: HostRuntime) {
     for (about, text, ids, source, want) in MOVED.iter() {
         check(
             &rt,
             about,
-            asked_when_picked(rt.alloc(), text, ids, *source),
+            name_when_selected(rt.alloc(), text, ids, *source),
             want,
         );
     }
@@ -249,7 +245,7 @@ fn copy_written(alloc: Global, scopes: &SourceScopes) -> Result<String> {
     written(alloc, scopes.copy_entries()?)
 }
 
-// Whether scopes are as their copy, as those of the same text and as those of another.
+// Whether scopes equal their copy, those of the same text, and those of another.
 fn compared(alloc: Global, text: &str, other: &str) -> Result<(bool, bool, bool)> {
     let scopes = scopes(alloc, text)?;
     let as_copy = is_as_its_copy(&scopes)?;
@@ -273,8 +269,8 @@ fn copies_are_equal(rt: HostRuntime) -> Result<()> {
     Ok(())
 }
 
-// Scope mappings, a line and a column of the source, and the index of the name of its function, or
-// that there are no functions.
+// Scope mappings, an original line and column, and the name index of the function, or that there is
+// no function map.
 static FUNCTIONS: [(&str, u32, u32, &str); 5] = [
     ("AAA,KCC", 0, 0, "Some(0) true"),
     ("AAA,KCC", 1, 5, "Some(1) true"),
@@ -283,8 +279,8 @@ static FUNCTIONS: [(&str, u32, u32, &str); 5] = [
     ("AAA,!", 0, 0, "no functions"),
 ];
 
-// The index by a copy, and whether that equals what it was made of.
-fn index_told(alloc: Global, map: &HermesFunctionMap, line: u32, col: u32) -> Result<String> {
+// The name index by a copy, and whether the copy is equal.
+fn index_text(alloc: Global, map: &HermesFunctionMap, line: u32, col: u32) -> Result<String> {
     let copy = map.clone()?;
     Ok(format!(in alloc; "{:?} {}", copy.name_index(line, col), copy == *map)?)
 }
@@ -292,7 +288,7 @@ fn index_told(alloc: Global, map: &HermesFunctionMap, line: u32, col: u32) -> Re
 fn index_at(alloc: Global, mappings: &str, line: u32, col: u32) -> Result<String> {
     match HermesFunctionMap::read(alloc, mappings)? {
         None => Ok(String::from_str(alloc, "no functions")?),
-        Some(map) => index_told(alloc, &map, line, col),
+        Some(map) => index_text(alloc, &map, line, col),
     }
 }
 

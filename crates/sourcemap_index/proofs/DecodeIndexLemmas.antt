@@ -11,17 +11,17 @@ use Rattle.sourcemap_records.specs.Jsontypes.{Fields, Tree, plain, indexed, flat
 use Rattle.sourcemap_records.specs.declared.jsontypes.RawSection.{RawSection}
 use Rattle.sourcemap_records.specs.declared.jsontypes.RawSourceMap.{RawSourceMap, out-RawSourceMap, roll-RawSourceMap}
 use Rattle.sourcemap_records.proofs.JsontypesLemmas.{flat-roll, flat-tree, tree-out}
-use Rattle.sourcemap_regular.specs.Decode.{RecordDecodes}
-use Rattle.sourcemap_regular.specs.Map.{MapValue}
-use Rattle.sourcemap_scopes.specs.ScopeLists.{ScopeEntry}
+use Rattle.sourcemap_map_regular.specs.Decode.{RecordDecodes}
+use Rattle.sourcemap_map_regular.specs.Map.{MapValue}
+use Rattle.sourcemap_hermes_scopes.specs.ScopeLists.{ScopeEntry}
 use Rattle.sourcemap_hermes.specs.Decode.{DecodesWith, HermesDecodes}
 use Rattle.sourcemap_hermes.specs.Map.{HermesValue}
-use Rattle.sourcemap_trees.specs.MapTree.{regular, hermes, MapTree, leaf, MapSection, IndexValue, index_tree, section_list, sections_from as maps_from}
-use Rattle.sourcemap_trees.specs.Decode.{Then, LeafDecodes, TreeDecodes, SectionsDecode, count, by_offset, index_parts}
-use Rattle.sourcemap_trees.specs.WellFormed.{IsWellFormed}
-use Rattle.sourcemap_trees.proofs.DecodeLemmas.{tree_decodes_once}
-use Rattle.sourcemap_trees.proofs.MapTreeLemmas.{section_list-from}
-use Rattle.sourcemap_trees.proofs.WellFormedLemmas.{decoded_well}
+use Rattle.sourcemap_index_model.specs.MapTree.{regular, hermes, MapTree, leaf, MapSection, IndexValue, index_tree, section_list, sections_from as maps_from}
+use Rattle.sourcemap_index_model.specs.Decode.{Then, LeafDecodes, TreeDecodes, SectionsDecode, count, by_offset, index_parts}
+use Rattle.sourcemap_index_model.specs.WellFormed.{IsWellFormed}
+use Rattle.sourcemap_index_model.proofs.DecodeLemmas.{tree_decodes_once}
+use Rattle.sourcemap_index_model.proofs.MapTreeLemmas.{section_list-from}
+use Rattle.sourcemap_index_model.proofs.WellFormedLemmas.{decoded_well}
 use Rattle.sourcemap_index.specs.Family.{index_value, map_tree}
 use Rattle.sourcemap_index.specs.declared.family.DecodedMap.{DecodedMap}
 use Rattle.sourcemap_index.specs.declared.family.SourceMapIndex.{SourceMapIndex}
@@ -36,17 +36,17 @@ abbrev mutual
 
   pub sections_among : Sections → ℕ
   sections_among no_more = 0
-  sections_among (bare place rest) = 1 + sections_among rest
-  sections_among (mapped place t rest) = 1 + sections_below t + sections_among rest
+  sections_among (bare head rest) = 1 + sections_among rest
+  sections_among (mapped head t rest) = 1 + sections_below t + sections_among rest
 
 abbrev pub sections_at : Option Tree → ℕ
 sections_at None = 0
 sections_at (Some t) = sections_below t
 
-pub among_with : (s : Section) (rest : Sections) → sections_among (section_with s.place s.map rest) ≡ 1 + sections_at s.map + sections_among rest
+pub among_with : (s : Section) (rest : Sections) → sections_among (section_with s.head s.map rest) ≡ 1 + sections_at s.map + sections_among rest
 among_with s rest = by_case s.map
   where
-    by_case : (m : Option Tree) → sections_among (section_with s.place m rest) ≡ 1 + sections_at m + sections_among rest
+    by_case : (m : Option Tree) → sections_among (section_with s.head m rest) ≡ 1 + sections_at m + sections_among rest
     by_case None = refl
     by_case (Some t) = refl
 
@@ -54,42 +54,42 @@ pub count-from : (ss : List Section) → count (sections_from ss) ≡ length ss
 count-from [] = refl
 count-from (s ∷ ss) = let rest = count-from ss in by_case s.map ∙ omega (arith, rest)
   where
-    by_case : (m : Option Tree) → count (section_with s.place m (sections_from ss)) ≡ 1 + count (sections_from ss)
+    by_case : (m : Option Tree) → count (section_with s.head m (sections_from ss)) ≡ 1 + count (sections_from ss)
     by_case None = refl
     by_case (Some t) = refl
 
 -- ---- answers
 
--- the answer of sections that stand behind these
-abbrev pub behind : List MapSection → Result (List MapSection) Error → Result (List MapSection) Error
-behind done (Ok ss) = Ok (done ++ ss)
-behind done (Err e) = Err e
+-- the answer of sections that come after these
+abbrev pub prepend : List MapSection → Result (List MapSection) Error → Result (List MapSection) Error
+prepend done (Ok ss) = Ok (done ++ ss)
+prepend done (Err e) = Err e
 
--- a section that is decoded stands before those that come after it
+-- a decoded section comes before those after it
 pub one_more : (s : Section) (rest : Sections) (v : MapSection) (a : Result (List MapSection) Error) → SectionDecodes s (Ok v) → SectionsDecode rest a
-    → SectionsDecode (section_with s.place s.map rest) (behind (v ∷ []) a)
+    → SectionsDecode (section_with s.head s.map rest) (prepend (v ∷ []) a)
 one_more s rest v a = by_case s.map a
   where
-    by_case : (m : Option Tree) (a : Result (List MapSection) Error) → SectionDecodes (record { place = s.place; map = m }) (Ok v) → SectionsDecode rest a
-        → SectionsDecode (section_with s.place m rest) (behind (v ∷ []) a)
-    by_case None (Ok ss) h k = inl (ss, k, (let same : v ≡ record { place = s.place; map = None } = cc in ap (λ v. Ok (v ∷ ss)) same))
+    by_case : (m : Option Tree) (a : Result (List MapSection) Error) → SectionDecodes (record { head = s.head; map = m }) (Ok v) → SectionsDecode rest a
+        → SectionsDecode (section_with s.head m rest) (prepend (v ∷ []) a)
+    by_case None (Ok ss) h k = inl (ss, k, (let same : v ≡ record { head = s.head; map = None } = cc in ap (λ v. Ok (v ∷ ss)) same))
     by_case None (Err e) h k = inr k
-    by_case (Some t) (Ok ss) (inl (m, f, n)) k = inl (m, f, inl (ss, k, (let same : v ≡ record { place = s.place; map = Some m } = cc in ap (λ v. Ok (v ∷ ss)) same)))
+    by_case (Some t) (Ok ss) (inl (m, f, n)) k = inl (m, f, inl (ss, k, (let same : v ≡ record { head = s.head; map = Some m } = cc in ap (λ v. Ok (v ∷ ss)) same)))
     by_case (Some t) (Err e) (inl (m, f, n)) k = inl (m, f, inr k)
     by_case (Some t) a (inr h) k = absurd h
 
--- a section that is refused is the first fault
-pub one_refused : (s : Section) (rest : Sections) (e : Error) → SectionDecodes s (Err e) → SectionsDecode (section_with s.place s.map rest) (Err e)
+-- a section that is refused is the first error
+pub one_refused : (s : Section) (rest : Sections) (e : Error) → SectionDecodes s (Err e) → SectionsDecode (section_with s.head s.map rest) (Err e)
 one_refused s rest e = by_case s.map
   where
-    by_case : (m : Option Tree) → SectionDecodes (record { place = s.place; map = m }) (Err e) → SectionsDecode (section_with s.place m rest) (Err e)
+    by_case : (m : Option Tree) → SectionDecodes (record { head = s.head; map = m }) (Err e) → SectionsDecode (section_with s.head m rest) (Err e)
     by_case None h = cc
     by_case (Some t) (inl (m, f, n)) = cc
     by_case (Some t) (inr h) = inr h
 
-pub behind-more : (done : List MapSection) (v : MapSection) (a : Result (List MapSection) Error) → behind done (behind (v ∷ []) a) ≡ behind (done ++ v ∷ []) a
-behind-more done v (Ok ss) = ap Ok (sym (append_assoc done (v ∷ []) ss))
-behind-more done v (Err e) = refl
+pub prepend-more : (done : List MapSection) (v : MapSection) (a : Result (List MapSection) Error) → prepend done (prepend (v ∷ []) a) ≡ prepend (done ++ v ∷ []) a
+prepend-more done v (Ok ss) = ap Ok (sym (append_assoc done (v ∷ []) ss))
+prepend-more done v (Err e) = refl
 
 -- ---- the kinds
 
@@ -99,24 +99,24 @@ module _ (fields : Fields) where
   hermes_made None h k = absurd cc
   hermes_made (Some entries) h k = inl (h, k, refl)
 
-  hermes_fault : (scopes : Option (List ScopeEntry)) (e : Error) → is_some scopes ≡ true → DecodesWith fields scopes (Err e) → LeafDecodes fields scopes (Err e)
-  hermes_fault None e there k = cc
-  hermes_fault (Some entries) e there k = inr k
+  hermes_error : (scopes : Option (List ScopeEntry)) (e : Error) → is_some scopes ≡ true → DecodesWith fields scopes (Err e) → LeafDecodes fields scopes (Err e)
+  hermes_error None e there k = cc
+  hermes_error (Some entries) e there k = inr k
 
   regular_made : (scopes : Option (List ScopeEntry)) (m : MapValue) → is_some scopes ≡ false → RecordDecodes fields (Ok m) → LeafDecodes fields scopes (Ok (leaf (regular m)))
   regular_made None m there h = inl (m, h, refl)
   regular_made (Some entries) m there h = cc
 
-  regular_fault : (scopes : Option (List ScopeEntry)) (e : Error) → is_some scopes ≡ false → RecordDecodes fields (Err e) → LeafDecodes fields scopes (Err e)
-  regular_fault None e there h = inr h
-  regular_fault (Some entries) e there h = cc
+  regular_error : (scopes : Option (List ScopeEntry)) (e : Error) → is_some scopes ≡ false → RecordDecodes fields (Err e) → LeafDecodes fields scopes (Err e)
+  regular_error None e there h = inr h
+  regular_error (Some entries) e there h = cc
 
   pub hermes_decodes : (h : HermesValue) → HermesDecodes fields (Ok h) → LeafDecodes fields fields.x_facebook_sources (Ok (leaf (hermes h)))
   hermes_decodes h k = hermes_made fields.x_facebook_sources h k
 
   pub hermes_refused : (e : Error) → is_some fields.x_facebook_sources ≡ true → UnlessMemory e (HermesDecodes fields (Err e))
       → UnlessMemory e (LeafDecodes fields fields.x_facebook_sources (Err e))
-  hermes_refused e there h = UnlessMemory-weaker e (hermes_fault fields.x_facebook_sources e there) h
+  hermes_refused e there h = UnlessMemory-weaker e (hermes_error fields.x_facebook_sources e there) h
 
   pub regular_decodes : (m : MapValue) → is_some fields.x_facebook_sources ≡ false → RecordDecodes fields (Ok m)
       → LeafDecodes fields fields.x_facebook_sources (Ok (leaf (regular m)))
@@ -124,7 +124,7 @@ module _ (fields : Fields) where
 
   pub regular_refused : (e : Error) → is_some fields.x_facebook_sources ≡ false → UnlessMemory e (RecordDecodes fields (Err e))
       → UnlessMemory e (LeafDecodes fields fields.x_facebook_sources (Err e))
-  regular_refused e none h = UnlessMemory-weaker e (regular_fault fields.x_facebook_sources e none) h
+  regular_refused e none h = UnlessMemory-weaker e (regular_error fields.x_facebook_sources e none) h
 
 is_some-map : {X Y : Type 0} (f : X → Y) (o : Option X) → is_some (option_map f o) ≡ is_some o
 is_some-map f None = refl
@@ -143,8 +143,8 @@ index_decodes fields ss v = by_case (nat_lt 4294967295 (count ss))
     by_case false (inl (xs, f, n)) = inl (xs, f, (let same : v ≡ index_in fields xs = cc in ap (λ v. Ok (index_tree v)) same))
     by_case false (inr h) = absurd h
 
-index_fault : (fields : Fields) (ss : Sections) (e : Error) → PartsDecode fields ss (Err e) → TreeDecodes (indexed fields ss) (Err e)
-index_fault fields ss e h = by_case (nat_lt 4294967295 (count ss)) h
+index_error : (fields : Fields) (ss : Sections) (e : Error) → PartsDecode fields ss (Err e) → TreeDecodes (indexed fields ss) (Err e)
+index_error fields ss e h = by_case (nat_lt 4294967295 (count ss)) h
   where
     by_case : (b : Bool) → MatchBool b (◌≡◌ {A = Result IndexValue Error} (Err e) (Err IncompatibleSourceMap)) (Then (λ a. SectionsDecode ss a) (λ ss a. a ≡ Ok (index_in fields ss)) (Err e))
         → MatchBool b (◌≡◌ {A = Result MapTree Error} (Err e) (Err IncompatibleSourceMap)) (Then (λ a. SectionsDecode ss a) (λ ss a. a ≡ Ok (index_tree (index_in fields ss))) (Err e))
@@ -153,9 +153,9 @@ index_fault fields ss e h = by_case (nat_lt 4294967295 (count ss)) h
     by_case false (inr h) = inr h
 
 pub index_refused : (fields : Fields) (ss : Sections) (e : Error) → UnlessMemory e (PartsDecode fields ss (Err e)) → UnlessMemory e (TreeDecodes (indexed fields ss) (Err e))
-index_refused fields ss e h = UnlessMemory-weaker e (index_fault fields ss e) h
+index_refused fields ss e h = UnlessMemory-weaker e (index_error fields ss e) h
 
--- ---- want of memory
+-- ---- out of memory
 
 never_refused : {X Y : Type 0} (x : X) (y : Y) (e : Error) → ◌≡◌ {A = Result X Error} (Ok x) (Err e) → ◌≡◌ {A = Result Y Error} (Ok y) (Err e)
 never_refused x y e h = cc
@@ -243,9 +243,9 @@ index_decodes_once (indexed fields ss) (Ok v) (Ok w) h k =
     let trees = tree_decodes_once (indexed fields ss) _ _ (index_decodes fields ss v h) (index_decodes fields ss w k) in
     let same : index_tree v ≡ index_tree w = cc in
     ap Ok (same_index v w same)
-index_decodes_once (indexed fields ss) (Ok v) (Err f) h k = let trees = tree_decodes_once (indexed fields ss) _ _ (index_decodes fields ss v h) (index_fault fields ss f k) in cc
-index_decodes_once (indexed fields ss) (Err e) (Ok w) h k = let trees = tree_decodes_once (indexed fields ss) _ _ (index_fault fields ss e h) (index_decodes fields ss w k) in cc
+index_decodes_once (indexed fields ss) (Ok v) (Err f) h k = let trees = tree_decodes_once (indexed fields ss) _ _ (index_decodes fields ss v h) (index_error fields ss f k) in cc
+index_decodes_once (indexed fields ss) (Err e) (Ok w) h k = let trees = tree_decodes_once (indexed fields ss) _ _ (index_error fields ss e h) (index_decodes fields ss w k) in cc
 index_decodes_once (indexed fields ss) (Err e) (Err f) h k =
-    let trees = tree_decodes_once (indexed fields ss) _ _ (index_fault fields ss e h) (index_fault fields ss f k) in
+    let trees = tree_decodes_once (indexed fields ss) _ _ (index_error fields ss e h) (index_error fields ss f k) in
     let same : e ≡ f = cc in
     ap Err same

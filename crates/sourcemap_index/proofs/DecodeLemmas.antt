@@ -10,9 +10,9 @@ use Rattle.sourcemap_records.specs.Field.{due}
 use Rattle.sourcemap_records.specs.Jsontypes.{Tree, record_of}
 use Rattle.sourcemap_records.proofs.BytesLemmas as reading
 use Rattle.sourcemap_records.proofs.BytesLemmas.{value_once, bytes_once, url_once, answer_only}
-use Rattle.sourcemap_trees.specs.MapTree.{MapTree}
-use Rattle.sourcemap_trees.specs.Decode.{TreeDecodes}
-use Rattle.sourcemap_trees.proofs.DecodeLemmas.{tree_decodes_once}
+use Rattle.sourcemap_index_model.specs.MapTree.{MapTree}
+use Rattle.sourcemap_index_model.specs.Decode.{TreeDecodes}
+use Rattle.sourcemap_index_model.proofs.DecodeLemmas.{tree_decodes_once}
 use Rattle.sourcemap_index.specs.Family.{map_tree}
 use Rattle.sourcemap_index.specs.Decode.{ValueDecodes, BytesDecode, UrlDecodes, AreSame, IsAnswerRead}
 use Rattle.sourcemap_index.specs.declared.family.DecodedMap.{DecodedMap}

@@ -4,7 +4,7 @@ use Rattle.sourcemap_errors.specs.declared.errors.Error.{Error}
 use Rattle.sourcemap_errors.specs.declared.errors.Error.TheVariants.{OutOfMemory}
 use Rattle.sourcemap_errors.specs.Answer.{UnlessMemory, Gives, IsAnswer}
 use Rattle.sourcemap_errors.proofs.AnswerLemmas.{UnlessMemory-weaker}
-use Rattle.sourcemap_regular.specs.Encode.{ReadsBack}
+use Rattle.sourcemap_map_regular.specs.Encode.{ReadsBack}
 use Rattle.sourcemap_index.specs.Decode.{AreSame}
 
 pub memory_alone : (e : Error) (P : Type 0) → ¬ P → UnlessMemory e P → e ≡ OutOfMemory
@@ -24,7 +24,7 @@ module _ {X Y : Type 0} (view : X → Y) where
   restored Answers IsRestored (Ok x) back only = subst IsRestored (only back.0 back.1) back.2
   restored Answers IsRestored (Err e) back only = only back.0 back.1
 
--- where a fault is none but want of memory
+-- where the only error is out of memory
 pub but_for_memory : {X : Type 0} (P : X → Type 0) (r : Result X Error) → MatchResult r P (λ e. UnlessMemory e ⊥)
     → MatchResult r P (λ e. e ≡ OutOfMemory)
 but_for_memory P (Ok x) h = h

@@ -3,16 +3,16 @@ use Rattle.std.proofs.Common.{◌≡◌, refl, List, [], ◌∷◌, ◌++◌, Op
 use Rattle.sourcemap_errors.specs.Answer.{IsAnswer}
 use Rattle.sourcemap_errors.specs.declared.errors.Error.{Error}
 use Rattle.sourcemap_records.specs.declared.jsontypes.RawSourceMap.{RawSourceMap}
-use Rattle.sourcemap_regular.specs.Encode.{ReadsBack}
-use Rattle.sourcemap_trees.specs.Decode.{TreeDecodes}
-use Rattle.sourcemap_trees.specs.WellFormed.{IsWellFormed}
-use Rattle.sourcemap_trees.proofs.EncodeLemmas.{tree_answer}
+use Rattle.sourcemap_map_regular.specs.Encode.{ReadsBack}
+use Rattle.sourcemap_index_model.specs.Decode.{TreeDecodes}
+use Rattle.sourcemap_index_model.specs.WellFormed.{IsWellFormed}
+use Rattle.sourcemap_index_model.proofs.EncodeLemmas.{tree_answer}
 use Rattle.sourcemap_records.specs.Jsontypes.{Tree, Section, section_with, sections_from, AreSectionsInRange, IsSectionInRange, IsFine, tree}
-use Rattle.sourcemap_trees.specs.Encode.{IsLeafAnswer, IsWrittenBy, AreWrittenBy, RecordAnswer, Restores}
-use Rattle.sourcemap_trees.specs.MapTree.{MapTree, MapSection, section_with as map_with, sections_from as maps_from}
+use Rattle.sourcemap_index_model.specs.Encode.{IsLeafAnswer, IsWrittenBy, AreWrittenBy, RecordAnswer, Restores}
+use Rattle.sourcemap_index_model.specs.MapTree.{MapTree, MapSection, section_with as map_with, sections_from as maps_from}
 use Rattle.sourcemap_index.specs.Encode.{SectionIsWritten, MapWrites}
 
--- each record is that of the section at its place
+-- each record is that of the section with its index
 abbrev pub ArePairs : List MapSection → List Section → Type 0
 ArePairs [] [] = Unit {0}
 ArePairs (s ∷ ss) (r ∷ rs) = SectionIsWritten s r × ArePairs ss rs
@@ -32,7 +32,7 @@ pairs_written (s ∷ ss) (r ∷ rs) pairs = by_case s.map pairs.0.2 (pairs_writt
   where
     by_case : (m : Option MapTree) → MatchOption m (r.map ≡ None) (λ t. (q : Tree) × (r.map ≡ Some q) × IsWrittenBy IsLeafAnswer t q)
         → AreWrittenBy IsLeafAnswer (maps_from ss) (sections_from rs)
-        → AreWrittenBy IsLeafAnswer (map_with s.place m (maps_from ss)) (section_with r.place r.map (sections_from rs))
+        → AreWrittenBy IsLeafAnswer (map_with s.head m (maps_from ss)) (section_with r.head r.map (sections_from rs))
     by_case None is rest = (sections_from rs, rw (pairs.0.0, is), rest)
     by_case (Some t) (q, is, written) rest = (q, sections_from rs, rw (pairs.0.0, is), written, rest)
 
@@ -42,7 +42,7 @@ pairs_in_range [] (r ∷ rs) pairs = absurd pairs
 pairs_in_range (s ∷ ss) [] pairs = absurd pairs
 pairs_in_range (s ∷ ss) (r ∷ rs) pairs = by_case r.map pairs.0.1 (pairs_in_range ss rs pairs.1)
   where
-    by_case : (m : Option Tree) → IsSectionInRange (record { place = r.place; map = m }) → AreSectionsInRange (sections_from rs) → AreSectionsInRange (section_with r.place m (sections_from rs))
+    by_case : (m : Option Tree) → IsSectionInRange (record { head = r.head; map = m }) → AreSectionsInRange (sections_from rs) → AreSectionsInRange (section_with r.head m (sections_from rs))
     by_case None h rest = (h.0, rest)
     by_case (Some t) h rest = (h.0, h.1, rest)
 

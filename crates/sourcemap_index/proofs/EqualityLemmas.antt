@@ -4,22 +4,22 @@ use Rattle.std.specs.Bool.{Decides}
 use Rattle.std.specs.Option.{option_eq}
 use Rattle.std.specs.Cmp.Lexicographic.{pointwise}
 use Rattle.std.proofs.Math.Bool.{and_assoc, and-false, and-true}
-use Rattle.sourcemap_records.specs.Jsontypes.{Place}
-use Rattle.sourcemap_trees.specs.Equality.{same_parts, same_place, same_tree, same_sections}
-use Rattle.sourcemap_trees.specs.MapTree.{MapTree, MapSections, no_sections, MapSection, IndexValue, index_tree, section_list, section_with, sections_from}
-use Rattle.sourcemap_trees.proofs.EqualityLemmas.{trees_decide, sections_decide}
-use Rattle.sourcemap_trees.proofs.MapTreeLemmas.{section_list-from}
+use Rattle.sourcemap_records.specs.Jsontypes.{SectionHead}
+use Rattle.sourcemap_index_model.specs.Equality.{same_parts, same_place, same_tree, same_sections}
+use Rattle.sourcemap_index_model.specs.MapTree.{MapTree, MapSections, no_sections, MapSection, IndexValue, index_tree, section_list, section_with, sections_from}
+use Rattle.sourcemap_index_model.proofs.EqualityLemmas.{trees_decide, sections_decide}
+use Rattle.sourcemap_index_model.proofs.MapTreeLemmas.{section_list-from}
 use Rattle.sourcemap_index.specs.Equality.{same_index, same_section}
 
-none_same : (place : Place) (m : Option MapTree) (rest : MapSections) → same_sections no_sections (section_with place m rest) ≡ false
-none_same place None rest = refl
-none_same place (Some t) rest = refl
+none_same : (head : SectionHead) (m : Option MapTree) (rest : MapSections) → same_sections no_sections (section_with head m rest) ≡ false
+none_same head None rest = refl
+none_same head (Some t) rest = refl
 
-same_none : (place : Place) (m : Option MapTree) (rest : MapSections) → same_sections (section_with place m rest) no_sections ≡ false
-same_none place None rest = refl
-same_none place (Some t) rest = refl
+same_none : (head : SectionHead) (m : Option MapTree) (rest : MapSections) → same_sections (section_with head m rest) no_sections ≡ false
+same_none head None rest = refl
+same_none head (Some t) rest = refl
 
-both_same : (p q : Place) (m n : Option MapTree) (rest rest' : MapSections)
+both_same : (p q : SectionHead) (m n : Option MapTree) (rest rest' : MapSections)
     → same_sections (section_with p m rest) (section_with q n rest') ≡ (same_place p q && option_eq same_tree m n) && same_sections rest rest'
 both_same p q None None rest rest' = sym (and_assoc (same_place p q) true (same_sections rest rest'))
 both_same p q None (Some u) rest rest' = sym (ap (λ b. b && same_sections rest rest') (and-false (same_place p q)))
@@ -28,10 +28,10 @@ both_same p q (Some t) (Some u) rest rest' = sym (and_assoc (same_place p q) (sa
 
 sections_same : (ss ts : List MapSection) → same_sections (sections_from ss) (sections_from ts) ≡ pointwise same_section ss ts
 sections_same [] [] = refl
-sections_same [] (t ∷ ts) = none_same t.place t.map (sections_from ts)
-sections_same (s ∷ ss) [] = same_none s.place s.map (sections_from ss)
+sections_same [] (t ∷ ts) = none_same t.head t.map (sections_from ts)
+sections_same (s ∷ ss) [] = same_none s.head s.map (sections_from ss)
 sections_same (s ∷ ss) (t ∷ ts) =
-    both_same s.place t.place s.map t.map (sections_from ss) (sections_from ts)
+    both_same s.head t.head s.map t.map (sections_from ss) (sections_from ts)
     ∙ ap (λ b. same_section s t && b) (sections_same ss ts)
 
 -- indexes are the same exactly where their maps are

@@ -6,10 +6,10 @@ use Rattle.std.specs.Option.{OnSome}
 use Rattle.std.proofs.lemmas.Option.{slice_get-map, slice_get_read, slice_get_past}
 use Rattle.std.proofs.lemmas.List.{map-set}
 use Rattle.sourcemap_records.specs.Jsontypes.{text_view}
-use Rattle.sourcemap_regular.specs.Map.{MapValue}
+use Rattle.sourcemap_map_regular.specs.Map.{MapValue}
 use Rattle.sourcemap_hermes.specs.Map.{hermes_value}
 use Rattle.sourcemap_hermes.specs.declared.map.SourceMapHermes.{SourceMapHermes}
-use Rattle.sourcemap_trees.specs.MapTree.{regular, hermes, MapTree, leaf, MapSection, IndexValue, index_tree, section_offset}
+use Rattle.sourcemap_index_model.specs.MapTree.{regular, hermes, MapTree, leaf, MapSection, IndexValue, index_tree, section_offset}
 use Rattle.sourcemap_index.specs.Family.{map_step, index_step, section_step, map_tree, index_value, section_value, parts_view}
 use Rattle.sourcemap_index.specs.Index.{with_section}
 use Rattle.sourcemap_index.specs.declared.family.DecodedMap.{DecodedMap, fold_out-DecodedMap}
@@ -23,7 +23,7 @@ index-out i = fold_out-SourceMapIndex MapTree IndexValue MapSection map_step ind
 pub index-roll : (r : SourceMapIndex-F DecodedMap SourceMapIndex SourceMapSection) → index_value (roll-SourceMapIndex r) ≡ record { parts = parts_view r; sections = map section_value r.sections.items }
 index-roll r = fold-roll-SourceMapIndex MapTree IndexValue MapSection map_step index_step section_step r
 
--- an item that is lent, seen by a function
+-- a borrowed item, seen by a function
 pub item_seen : {R X Y : Type 0} (now : R → X) (f : X → Y) (xs : List X) (i : ℕ) (found : Option R) → ItemBy now xs i i found → option_map (λ r. f (now r)) found ≡ slice_get (map f xs) i
 item_seen now f xs i (Some x) h = sym (slice_get-map f xs i ∙ ap (option_map f) (slice_get_read xs (length xs) i (now x) refl h.3.0 h.1))
 item_seen now f xs i None h = sym (slice_get-map f xs i ∙ ap (option_map f) (slice_get_past xs i h.3))
@@ -32,7 +32,7 @@ pub on_some : {X : Type 0} (found : Option X) (P : Type 0) → P → OnSome foun
 on_some (Some x) P h = h
 on_some None P h = tt
 
--- an index with another section in the place of one
+-- an index with another section instead of one
 pub section_put : (i : SourceMapIndex) (id : ℕ) (s : SourceMapSection)
     → index_value (roll-SourceMapIndex (record (out-SourceMapIndex i) { sections = with_item (out-SourceMapIndex i).sections id s })) ≡ with_section (index_value i) id (section_value s)
 section_put i id s =
@@ -52,9 +52,9 @@ boxed_map s (Some b) = refl
 pub section_map : (s : SourceMapSection) → (section_value s).map ≡ option_map (λ b. map_tree b.value) s.map
 section_map s = ap (λ (v : MapSection). v.map) (fold_out-SourceMapSection MapTree IndexValue MapSection map_step index_step section_step s) ∙ boxed_map s s.map
 
--- where a section stands, and its URL
-pub section_place : (s : SourceMapSection) → (section_value s).place ≡ record { line = s.offset.0; column = s.offset.1; url = text_view s.url }
-section_place s = ap (λ (v : MapSection). v.place) (fold_out-SourceMapSection MapTree IndexValue MapSection map_step index_step section_step s)
+-- the offset of a section, and its URL
+pub section_offset_and_url : (s : SourceMapSection) → (section_value s).head ≡ record { line = s.offset.0; column = s.offset.1; url = text_view s.url }
+section_offset_and_url s = ap (λ (v : MapSection). v.head) (fold_out-SourceMapSection MapTree IndexValue MapSection map_step index_step section_step s)
 
 pub section_at : (s : SourceMapSection) → section_offset (section_value s) ≡ s.offset
 section_at s = ap section_offset (fold_out-SourceMapSection MapTree IndexValue MapSection map_step index_step section_step s)

@@ -7,19 +7,19 @@ use Rattle.sourcemap_errors.specs.Answer.{UnlessMemory, Gives, IsAnswer}
 use Rattle.sourcemap_errors.specs.declared.errors.Error.{Error}
 use Rattle.sourcemap_errors.specs.declared.errors.Error.TheVariants.{CannotFlatten}
 use Rattle.sourcemap_errors.proofs.AnswerLemmas.{UnlessMemory-weaker}
-use Rattle.sourcemap_regular.specs.Map.{MapValue, Meaning, MeansTheSame, meaning as meaning_regular}
-use Rattle.sourcemap_regular.specs.Rewrite.{Removal, taken_away, MeansLess}
-use Rattle.sourcemap_regular.specs.declared.map.SourceMap.{SourceMap}
-use Rattle.sourcemap_trees.specs.MapTree.{held, MapTree, MapSection, IndexValue, index_tree, section_with, sections_from, offset_of}
-use Rattle.sourcemap_lists.specs.Tokens.{AreInOrder}
-use Rattle.sourcemap_trees.specs.WellFormed.{HasTokensInOrder}
-use Rattle.sourcemap_trees.proofs.MapTreeLemmas.{each_section}
-use Rattle.sourcemap_trees.specs.Flat.{AnswersLike, Piece, flat, FlatAnswer, merged, on_ok, pieces_behind, with_piece, unresolved}
-use Rattle.sourcemap_trees.specs.Meaning.{meaning}
-use Rattle.sourcemap_flattening.specs.Faults.{GivesReason, Refuses}
-use Rattle.sourcemap_flattening.specs.Gathering.{Gathers, GathersMore, IsFlat, RefusesFor}
-use Rattle.sourcemap_flattening.specs.declared.gathering.Gathering.{Gathering}
-use Rattle.sourcemap_flattening.specs.declared.gathering.FlatMap.{FlatMap}
+use Rattle.sourcemap_map_regular.specs.Map.{MapValue, Meaning, MeansTheSame, meaning as meaning_regular}
+use Rattle.sourcemap_map_regular.specs.Rewrite.{Removal, without_removed, MeansLess}
+use Rattle.sourcemap_map_regular.specs.declared.map.SourceMap.{SourceMap}
+use Rattle.sourcemap_index_model.specs.MapTree.{held, MapTree, MapSection, IndexValue, index_tree, section_with, sections_from, offset_of}
+use Rattle.sourcemap_tokens.specs.Tokens.{AreInOrder}
+use Rattle.sourcemap_index_model.specs.WellFormed.{HasTokensInOrder}
+use Rattle.sourcemap_index_model.proofs.MapTreeLemmas.{each_section}
+use Rattle.sourcemap_index_model.specs.Flat.{AnswersLike, Piece, flat, FlatAnswer, merged, on_ok, pieces_after, with_piece, unresolved}
+use Rattle.sourcemap_index_model.specs.Meaning.{meaning}
+use Rattle.sourcemap_index_flatten.specs.Errors.{GivesReason, Refuses}
+use Rattle.sourcemap_index_flatten.specs.Gathering.{Gathers, GathersMore, IsFlat, RefusesFor}
+use Rattle.sourcemap_index_flatten.specs.declared.gathering.Gathering.{Gathering}
+use Rattle.sourcemap_index_flatten.specs.declared.gathering.FlatMap.{FlatMap}
 use Rattle.sourcemap_index.specs.Flatten.{map_added, place_added, section_added, AnswersLess, Gathered, IsSectionInOrder, MadeFlat}
 use Rattle.sourcemap_index.specs.Family.{section_value}
 use Rattle.sourcemap_index.specs.declared.family.SourceMapSection.{SourceMapSection}
@@ -28,11 +28,11 @@ use Rattle.sourcemap_index.proofs.LookupLemmas.{indexes, indexes_below}
 -- ---- one map
 
 -- what is made of an index is added as one map
-pub index_added : (v : IndexValue) (before : List Piece) (offset : ℕ × ℕ) (pieces : List Piece) → pieces_behind [] (sections_from v.sections) ≡ Ok pieces
+pub index_added : (v : IndexValue) (before : List Piece) (offset : ℕ × ℕ) (pieces : List Piece) → pieces_after [] (sections_from v.sections) ≡ Ok pieces
     → map_added before offset (index_tree v) ≡ with_piece before (offset, merged v.parts.file pieces)
 index_added v before offset pieces due = ap (λ r. on_ok (on_ok r (λ pieces. Ok (merged v.parts.file pieces))) (λ m. with_piece before (offset, m))) due
 
-pub index_refused : (v : IndexValue) (before : List Piece) (offset : ℕ × ℕ) (e : Error) → RefusesFor (pieces_behind [] (sections_from v.sections)) e
+pub index_refused : (v : IndexValue) (before : List Piece) (offset : ℕ × ℕ) (e : Error) → RefusesFor (pieces_after [] (sections_from v.sections)) e
     → RefusesFor (map_added before offset (index_tree v)) e
 index_refused v before offset e refused =
     UnlessMemory-weaker e (λ h. (h.0, ap (λ r. on_ok (on_ok r (λ pieces. Ok (merged v.parts.file pieces))) (λ m. with_piece before (offset, m))) h.1, h.2)) refused
@@ -45,30 +45,30 @@ refused-as due other e is refused = UnlessMemory-weaker e (λ h. (h.0, is ∙ h.
 
 -- ---- one section
 
-pub section-filled : (before : List Piece) (s : MapSection) (offset : ℕ × ℕ) (t : MapTree) → s.map ≡ Some t → offset_of s.place ≡ offset → section_added before s ≡ map_added before offset t
-section-filled before s offset t is at = ap (place_added before s.place) is ∙ ap (λ o. map_added before o t) at
+pub section-filled : (before : List Piece) (s : MapSection) (offset : ℕ × ℕ) (t : MapTree) → s.map ≡ Some t → offset_of s.head ≡ offset → section_added before s ≡ map_added before offset t
+section-filled before s offset t is at = ap (place_added before s.head) is ∙ ap (λ o. map_added before o t) at
 
-pub section-hollow : (before : List Piece) (s : MapSection) (url : Option (List ℕ)) (e : Error) → s.map ≡ None → url ≡ s.place.url → Refuses (unresolved url) e → RefusesFor (section_added before s) e
+pub section-hollow : (before : List Piece) (s : MapSection) (url : Option (List ℕ)) (e : Error) → s.map ≡ None → url ≡ s.head.url → Refuses (unresolved url) e → RefusesFor (section_added before s) e
 section-hollow before s url e is same refused =
-    UnlessMemory-weaker e (λ says. (unresolved url, ap (place_added before s.place) is ∙ ap (λ u. Err (unresolved u)) (sym same), says)) refused
+    UnlessMemory-weaker e (λ says. (unresolved url, ap (place_added before s.head) is ∙ ap (λ u. Err (unresolved u)) (sym same), says)) refused
 
 -- ---- all sections
 
-pieces-next : (before : List Piece) (s : MapSection) (rest : List MapSection) → pieces_behind before (sections_from (s ∷ rest)) ≡ on_ok (section_added before s) (λ pieces. pieces_behind pieces (sections_from rest))
+pieces-next : (before : List Piece) (s : MapSection) (rest : List MapSection) → pieces_after before (sections_from (s ∷ rest)) ≡ on_ok (section_added before s) (λ pieces. pieces_after pieces (sections_from rest))
 pieces-next before s rest = by_map s.map
   where
-    by_flat : (r : Result MapValue (List ℕ)) → on_ok r (λ m. on_ok (with_piece before (offset_of s.place, m)) (λ pieces. pieces_behind pieces (sections_from rest)))
-        ≡ on_ok (on_ok r (λ m. with_piece before (offset_of s.place, m))) (λ pieces. pieces_behind pieces (sections_from rest))
+    by_flat : (r : Result MapValue (List ℕ)) → on_ok r (λ m. on_ok (with_piece before (offset_of s.head, m)) (λ pieces. pieces_after pieces (sections_from rest)))
+        ≡ on_ok (on_ok r (λ m. with_piece before (offset_of s.head, m))) (λ pieces. pieces_after pieces (sections_from rest))
     by_flat (Ok m) = refl
     by_flat (Err e) = refl
 
-    by_map : (m : Option MapTree) → pieces_behind before (section_with s.place m (sections_from rest)) ≡ on_ok (place_added before s.place m) (λ pieces. pieces_behind pieces (sections_from rest))
+    by_map : (m : Option MapTree) → pieces_after before (section_with s.head m (sections_from rest)) ≡ on_ok (place_added before s.head m) (λ pieces. pieces_after pieces (sections_from rest))
     by_map None = refl
     by_map (Some t) = by_flat (flat t)
 
 -- so far all but the rest is gathered
 abbrev pub SoFar : (all rest : List MapSection) → Gathering → Type 0
-SoFar all rest g = (pieces : List Piece) × (pieces_behind [] (sections_from all) ≡ pieces_behind pieces (sections_from rest)) × Gathers pieces g
+SoFar all rest g = (pieces : List Piece) × (pieces_after [] (sections_from all) ≡ pieces_after pieces (sections_from rest)) × Gathers pieces g
 
 pub so_far-none : (all : List MapSection) (g : Gathering) → Gathers [] g → SoFar all all g
 so_far-none all g none = ([], refl, none)
@@ -77,20 +77,20 @@ pub so_far-more : (all : List MapSection) (s : MapSection) (rest : List MapSecti
     → ((before : List Piece) → Gathers before old → Gathered (section_added before s) new) → SoFar all rest new
 so_far-more all s rest old new so_far adds =
     let added = adds so_far.0 so_far.2 in
-    (added.0, so_far.1 ∙ pieces-next so_far.0 s rest ∙ ap (λ r. on_ok r (λ pieces. pieces_behind pieces (sections_from rest))) added.1, added.2)
+    (added.0, so_far.1 ∙ pieces-next so_far.0 s rest ∙ ap (λ r. on_ok r (λ pieces. pieces_after pieces (sections_from rest))) added.1, added.2)
 
 pub so_far-refused : (all : List MapSection) (s : MapSection) (rest : List MapSection) (old : Gathering) (e : Error) → SoFar all (s ∷ rest) old
-    → ((before : List Piece) → Gathers before old → RefusesFor (section_added before s) e) → RefusesFor (pieces_behind [] (sections_from all)) e
+    → ((before : List Piece) → Gathers before old → RefusesFor (section_added before s) e) → RefusesFor (pieces_after [] (sections_from all)) e
 so_far-refused all s rest old e so_far refuses =
-    UnlessMemory-weaker e (λ h. (h.0, so_far.1 ∙ pieces-next so_far.0 s rest ∙ ap (λ r. on_ok r (λ pieces. pieces_behind pieces (sections_from rest))) h.1, h.2))
+    UnlessMemory-weaker e (λ h. (h.0, so_far.1 ∙ pieces-next so_far.0 s rest ∙ ap (λ r. on_ok r (λ pieces. pieces_after pieces (sections_from rest))) h.1, h.2))
     (refuses so_far.0 so_far.2)
 
-pub made_flat : (all : List MapSection) (g : Gathering) (f : FlatMap) → SoFar all [] g → ((pieces : List Piece) → Gathers pieces g → IsFlat pieces f) → MadeFlat (pieces_behind [] (sections_from all)) f
+pub made_flat : (all : List MapSection) (g : Gathering) (f : FlatMap) → SoFar all [] g → ((pieces : List Piece) → Gathers pieces g → IsFlat pieces f) → MadeFlat (pieces_after [] (sections_from all)) f
 made_flat all g f so_far finish = (so_far.0, so_far.1, finish so_far.0 so_far.2)
 
 -- ---- what is answered
 
-pub answer-made : (v : IndexValue) (file : Option (List ℕ)) (pieces : List Piece) (result : Result SourceMap Error) → file ≡ v.parts.file → pieces_behind [] (sections_from v.sections) ≡ Ok pieces
+pub answer-made : (v : IndexValue) (file : Option (List ℕ)) (pieces : List Piece) (result : Result SourceMap Error) → file ≡ v.parts.file → pieces_after [] (sections_from v.sections) ≡ Ok pieces
     → Gives (λ m. m) result (Ok (merged file pieces)) → IsAnswer (λ m. m) (FlatAnswer (index_tree v)) result
 answer-made v file pieces (Ok m) same due gives =
     let made : merged file pieces ≡ m = cc in
@@ -101,7 +101,7 @@ refusal-due : (t : MapTree) (reason : List ℕ) (e : Error) → flat t ≡ Err r
 refusal-due t reason (CannotFlatten text) due says = due ∙ ap Err (sym says)
 refusal-due t reason _ due says = says
 
-pub answer-refused : (v : IndexValue) (e : Error) → RefusesFor (pieces_behind [] (sections_from v.sections)) e → UnlessMemory e (FlatAnswer (index_tree v) (Err e))
+pub answer-refused : (v : IndexValue) (e : Error) → RefusesFor (pieces_after [] (sections_from v.sections)) e → UnlessMemory e (FlatAnswer (index_tree v) (Err e))
 answer-refused v e refused =
     UnlessMemory-weaker e (λ h. refusal-due (index_tree v) h.0 e (ap (λ r. on_ok r (λ pieces. Ok (merged v.parts.file pieces))) h.1) h.2) refused
 
@@ -165,16 +165,16 @@ in_order-all v items i past same all = (
       (subst (AllByRecursion IsSectionInOrder) (ap (map section_value) (take_all i items past) ∙ same) all),
 )
 
--- ---- made flat and rewritten
+-- ---- flattened and rewritten
 
 module _ (t : MapTree) (whole new : MapValue) (like : AnswersLike t whole) where
   pub answers_less : (removal : Removal) → flat t ≡ Ok whole → MeansLess removal whole new → AnswersLess removal t new
   answers_less removal is less = (whole, is, λ p. at p (meaning t p) (like p))
     where
       at : (p : ℕ × ℕ) (found : Option Meaning) → IfSome found (λ says. meaning_regular whole p ≡ Some says)
-          → IfSome found (λ says. meaning_regular new p ≡ Some (taken_away removal whole says))
+          → IfSome found (λ says. meaning_regular new p ≡ Some (without_removed removal whole says))
       at p None h = tt
-      at p (Some says) h = less p ∙ ap (option_map (taken_away removal whole)) h
+      at p (Some says) h = less p ∙ ap (option_map (without_removed removal whole)) h
 
   pub answers_alike : MeansTheSame new whole → AnswersLike t new
   answers_alike same = λ p. at p (meaning t p) (like p)

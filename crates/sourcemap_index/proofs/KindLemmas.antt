@@ -5,15 +5,15 @@ use Rattle.serde_json.specs.Data.{Data}
 use Rattle.sourcemap_errors.specs.declared.errors.Error.{Error}
 use Rattle.sourcemap_errors.specs.declared.errors.Error.TheVariants.{BadJson, IncompatibleSourceMap}
 use Rattle.sourcemap_errors.specs.declared.errors.JsonFault.TheVariants.{Shape}
-use Rattle.sourcemap_records.specs.Bytes.{ValueStandsFor, BytesStandFor, UrlStandsFor}
+use Rattle.sourcemap_records.specs.Bytes.{ValueHasResult, BytesHaveResult, UrlHasResult}
 use Rattle.sourcemap_records.specs.Jsontypes.{Fields, Tree, plain, indexed, Sections, record_of}
-use Rattle.sourcemap_regular.specs.Decode.{RecordDecodes, RegularDecodes}
-use Rattle.sourcemap_regular.specs.Map.{MapValue}
-use Rattle.sourcemap_scopes.specs.ScopeLists.{ScopeEntry}
+use Rattle.sourcemap_map_regular.specs.Decode.{RecordDecodes, RegularDecodes}
+use Rattle.sourcemap_map_regular.specs.Map.{MapValue}
+use Rattle.sourcemap_hermes_scopes.specs.ScopeLists.{ScopeEntry}
 use Rattle.sourcemap_hermes.specs.Decode.{DecodesWith, EntriesDecode, OnlyHermesDecodes}
 use Rattle.sourcemap_hermes.specs.Map.{HermesValue}
-use Rattle.sourcemap_trees.specs.Decode.{Then, LeafDecodes, TreeDecodes, SectionsDecode, count, index_of}
-use Rattle.sourcemap_trees.specs.MapTree.{LeafMap, regular, hermes, leaf}
+use Rattle.sourcemap_index_model.specs.Decode.{Then, LeafDecodes, TreeDecodes, SectionsDecode, count, index_of}
+use Rattle.sourcemap_index_model.specs.MapTree.{LeafMap, regular, hermes, leaf}
 use Rattle.sourcemap_index.specs.Decode.{ValueDecodes, BytesDecode, UrlDecodes}
 
 no_index : (many : Bool) (fields : Fields) (sections : Sections) (l : LeafMap)
@@ -90,27 +90,27 @@ module _ {X : Type 0} (kind : X → LeafMap) (Decodes : Tree → Result X Error 
   value_own None x h = absurd cc
   value_own (Some t) x h = as_own t x h
 
-  pub values_of : (d : Data) (x : X) → ValueStandsFor Decodes d (Ok x) ↔ ValueDecodes d (Ok (leaf (kind x)))
+  pub values_of : (d : Data) (x : X) → ValueHasResult Decodes d (Ok x) ↔ ValueDecodes d (Ok (leaf (kind x)))
   values_of d x = (value_any (record_of d) x, value_own (record_of d) x)
 
-  bytes_any : (bytes : List ℕ) (x : X) → BytesStandFor Decodes bytes (Ok x) → BytesDecode bytes (Ok (leaf (kind x)))
+  bytes_any : (bytes : List ℕ) (x : X) → BytesHaveResult Decodes bytes (Ok x) → BytesDecode bytes (Ok (leaf (kind x)))
   bytes_any bytes x (inl (d, holds, h)) = inl (d, holds, (values_of d x).0 h)
   bytes_any bytes x (inr h) = absurd h
 
-  bytes_own : (bytes : List ℕ) (x : X) → BytesDecode bytes (Ok (leaf (kind x))) → BytesStandFor Decodes bytes (Ok x)
+  bytes_own : (bytes : List ℕ) (x : X) → BytesDecode bytes (Ok (leaf (kind x))) → BytesHaveResult Decodes bytes (Ok x)
   bytes_own bytes x (inl (d, holds, h)) = inl (d, holds, (values_of d x).1 h)
   bytes_own bytes x (inr h) = absurd h
 
-  pub bytes_of : (bytes : List ℕ) (x : X) → BytesStandFor Decodes bytes (Ok x) ↔ BytesDecode bytes (Ok (leaf (kind x)))
+  pub bytes_of : (bytes : List ℕ) (x : X) → BytesHaveResult Decodes bytes (Ok x) ↔ BytesDecode bytes (Ok (leaf (kind x)))
   bytes_of bytes x = (bytes_any bytes x, bytes_own bytes x)
 
-  url_any : (url : List ℕ) (x : X) → UrlStandsFor Decodes url (Ok x) → UrlDecodes url (Ok (leaf (kind x)))
+  url_any : (url : List ℕ) (x : X) → UrlHasResult Decodes url (Ok x) → UrlDecodes url (Ok (leaf (kind x)))
   url_any url x (inl (bytes, holds, h)) = inl (bytes, holds, bytes_any bytes x h)
   url_any url x (inr h) = absurd (let no = h.0 in cc)
 
-  url_own : (url : List ℕ) (x : X) → UrlDecodes url (Ok (leaf (kind x))) → UrlStandsFor Decodes url (Ok x)
+  url_own : (url : List ℕ) (x : X) → UrlDecodes url (Ok (leaf (kind x))) → UrlHasResult Decodes url (Ok x)
   url_own url x (inl (bytes, holds, h)) = inl (bytes, holds, bytes_own bytes x h)
   url_own url x (inr h) = absurd (let no = h.0 in cc)
 
-  pub urls_of : (url : List ℕ) (x : X) → UrlStandsFor Decodes url (Ok x) ↔ UrlDecodes url (Ok (leaf (kind x)))
+  pub urls_of : (url : List ℕ) (x : X) → UrlHasResult Decodes url (Ok x) ↔ UrlDecodes url (Ok (leaf (kind x)))
   urls_of url x = (url_any url x, url_own url x)

@@ -10,5 +10,5 @@ pub mod LookupLemmas
 pub mod ReadLemmas
 pub mod RowsLemmas
 pub mod WriteLemmas
-pub mod UrlFaultLemmas
+pub mod UrlErrorLemmas
 pub mod WrittenValueLemmas

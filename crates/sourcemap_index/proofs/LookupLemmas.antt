@@ -4,16 +4,16 @@ use Rattle.std.specs.Prelude.{option_and_then}
 use Rattle.std.specs.List.{AllByRecursion}
 use Rattle.std.specs.declared.cmp.Ordering.{Ordering}
 use Rattle.std.proofs.lemmas.List.{get_or-map, length-map}
-use Rattle.sourcemap_lists.specs.Search.{closest, closest_item}
-use Rattle.sourcemap_lists.specs.Tokens.{position_cmp}
-use Rattle.sourcemap_lists.proofs.SearchLemmas.{closest_item-has, closest_item-change, item-closest}
-use Rattle.sourcemap_records.specs.Jsontypes.{Place}
-use Rattle.sourcemap_regular.specs.Token.{TokenValue, answers, says, token_value, lookup as lookup_regular}
-use Rattle.sourcemap_regular.specs.declared.token.Token.{Token}
-use Rattle.sourcemap_trees.specs.MapTree.{MapTree, LeafMap, held, leaf, index, MapSections, no_sections, hollow, filled, MapSection, IndexValue, index_tree, offset_of, section_offset, section_with, sections_from, InEachSection}
-use Rattle.sourcemap_trees.specs.Meaning.{lowered, lookup, lookups, meaning, closest_answer}
-use Rattle.sourcemap_trees.specs.WellFormed.{IsInOrder, AreSectionsInOrder}
-use Rattle.sourcemap_trees.proofs.MapTreeLemmas.{InSection, section_list-from}
+use Rattle.sourcemap_tokens.specs.Search.{closest, closest_item}
+use Rattle.sourcemap_tokens.specs.Tokens.{position_cmp}
+use Rattle.sourcemap_tokens.proofs.SearchLemmas.{closest_item-has, closest_item-change, item-closest}
+use Rattle.sourcemap_records.specs.Jsontypes.{SectionHead}
+use Rattle.sourcemap_map_regular.specs.Token.{TokenValue, meaning_of_token, says, token_value, lookup as lookup_regular}
+use Rattle.sourcemap_map_regular.specs.declared.token.Token.{Token}
+use Rattle.sourcemap_index_model.specs.MapTree.{MapTree, LeafMap, held, leaf, index, MapSections, no_sections, hollow, filled, MapSection, IndexValue, index_tree, offset_of, section_offset, section_with, sections_from, InEachSection}
+use Rattle.sourcemap_index_model.specs.Meaning.{relative_position, lookup, lookups, meaning, closest_answer}
+use Rattle.sourcemap_index_model.specs.WellFormed.{IsInOrder, AreSectionsInOrder}
+use Rattle.sourcemap_index_model.proofs.MapTreeLemmas.{InSection, section_list-from}
 use Rattle.sourcemap_index.specs.Lookup.{AnyHasToken, HasToken, IsAmong}
 
 -- ---- how far a map goes down
@@ -26,21 +26,21 @@ abbrev mutual
 
   pub indexes_in : MapSections → ℕ
   indexes_in no_sections = 0
-  indexes_in (hollow place rest) = indexes_in rest
-  indexes_in (filled place t rest) = indexes t + indexes_in rest
+  indexes_in (hollow head rest) = indexes_in rest
+  indexes_in (filled head t rest) = indexes t + indexes_in rest
 
-indexes_with : (place : Place) (map : Option MapTree) (rest : MapSections) → indexes_in rest ≤ indexes_in (section_with place map rest)
-indexes_with place None rest = omega arith
-indexes_with place (Some t) rest = omega arith
+indexes_with : (head : SectionHead) (map : Option MapTree) (rest : MapSections) → indexes_in rest ≤ indexes_in (section_with head map rest)
+indexes_with head None rest = omega arith
+indexes_with head (Some t) rest = omega arith
 
 indexes_at : (ss : List MapSection) (k : ℕ) (s : MapSection) (t : MapTree) → slice_get ss k ≡ Some s → s.map ≡ Some t → indexes t ≤ indexes_in (sections_from ss)
 indexes_at [] k s t at is = cc
 indexes_at (s' ∷ ss) zero s t at is =
     let same : s' ≡ s = cc in
-    subst (λ m. indexes t ≤ indexes_in (section_with s'.place m (sections_from ss))) (sym (ap (λ (s : MapSection). s.map) same ∙ is)) (omega arith)
+    subst (λ m. indexes t ≤ indexes_in (section_with s'.head m (sections_from ss))) (sym (ap (λ (s : MapSection). s.map) same ∙ is)) (omega arith)
 indexes_at (s' ∷ ss) (suc k) s t at is =
     let less = indexes_at ss k s t at is in
-    let more = indexes_with s'.place s'.map (sections_from ss) in
+    let more = indexes_with s'.head s'.map (sections_from ss) in
     omega (arith, less, more)
 
 -- the map of a section holds less than the index
@@ -60,21 +60,21 @@ lookups-from : (ss : List MapSection) → lookups (sections_from ss) ≡ map ent
 lookups-from [] = refl
 lookups-from (s ∷ ss) = by_case s.map ∙ ap (λ rest. entry s ∷ rest) (lookups-from ss)
   where
-    by_case : (m : Option MapTree) → lookups (section_with s.place m (sections_from ss)) ≡ (offset_of s.place, λ p. answer_of m p) ∷ lookups (sections_from ss)
+    by_case : (m : Option MapTree) → lookups (section_with s.head m (sections_from ss)) ≡ (offset_of s.head, λ p. answer_of m p) ∷ lookups (sections_from ss)
     by_case None = refl
     by_case (Some t) = refl
 
 -- what the closest section answers
 abbrev pub found_answer : Option MapSection → ℕ × ℕ → Option TokenValue
-found_answer found p = option_and_then (λ s. answer_of s.map (lowered (section_offset s) p)) found
+found_answer found p = option_and_then (λ s. answer_of s.map (relative_position (section_offset s) p)) found
 
 lookup-index : (v : IndexValue) (p : ℕ × ℕ) → lookup (index_tree v) p ≡ found_answer (closest_item {K = ℕ × ℕ} section_offset position_cmp v.sections p) p
 lookup-index v p =
     ap (λ xs. closest_answer xs p) (lookups-from v.sections)
-    ∙ ap (option_and_then (λ section. section.1 (lowered section.0 p))) (closest_item-change section_offset (λ e. e.0) position_cmp entry (λ s. refl) v.sections p)
+    ∙ ap (option_and_then (λ section. section.1 (relative_position section.0 p))) (closest_item-change section_offset (λ e. e.0) position_cmp entry (λ s. refl) v.sections p)
     ∙ by_case (closest_item {K = ℕ × ℕ} section_offset position_cmp v.sections p)
   where
-    by_case : (found : Option MapSection) → option_and_then (λ section. section.1 (lowered section.0 p)) (option_map entry found) ≡ found_answer found p
+    by_case : (found : Option MapSection) → option_and_then (λ section. section.1 (relative_position section.0 p)) (option_map entry found) ≡ found_answer found p
     by_case None = refl
     by_case (Some s) = refl
 
@@ -85,7 +85,7 @@ each_in_order : (ss : List MapSection) → InEachSection (λ l. Unit {0}) AreSec
 each_in_order [] h = tt
 each_in_order (s ∷ ss) h = let both = by_case s.map h in (both.0, each_in_order ss both.1)
   where
-    by_case : (m : Option MapTree) → InEachSection (λ l. Unit {0}) AreSectionsInOrder (section_with s.place m (sections_from ss))
+    by_case : (m : Option MapTree) → InEachSection (λ l. Unit {0}) AreSectionsInOrder (section_with s.head m (sections_from ss))
         → IfSome m (λ t. IsInOrder t) × InEachSection (λ l. Unit {0}) AreSectionsInOrder (sections_from ss)
     by_case None h = (tt, h)
     by_case (Some t) h = h
@@ -125,10 +125,10 @@ closest_seen {X} f key cmp xs p found is sorted =
     both (Some e) = refl
 
 -- the token that was found means what the position does
-pub meaning_found : (t : MapTree) (p : ℕ × ℕ) (found : Option Token) → option_map token_value found ≡ lookup t p → option_map answers found ≡ meaning t p
+pub meaning_found : (t : MapTree) (p : ℕ × ℕ) (found : Option Token) → option_map token_value found ≡ lookup t p → option_map meaning_of_token found ≡ meaning t p
 meaning_found t p found is = both found ∙ ap (option_map says) is
   where
-    both : (found : Option Token) → option_map answers found ≡ option_map says (option_map token_value found)
+    both : (found : Option Token) → option_map meaning_of_token found ≡ option_map says (option_map token_value found)
     both None = refl
     both (Some token) = refl
 
@@ -139,19 +139,19 @@ pub found_in_leaf : (l : LeafMap) (p : ℕ × ℕ) (found : Option Token) → op
 found_in_leaf l p None is = tt
 found_in_leaf l p (Some token) is = (p, sym is)
 
-in_rest : (place : Place) (map : Option MapTree) (rest : MapSections) (token : TokenValue) → AnyHasToken rest token
-    → AnyHasToken (section_with place map rest) token
-in_rest place None rest token has = has
-in_rest place (Some t) rest token has = inr has
+in_rest : (head : SectionHead) (map : Option MapTree) (rest : MapSections) (token : TokenValue) → AnyHasToken rest token
+    → AnyHasToken (section_with head map rest) token
+in_rest head None rest token has = has
+in_rest head (Some t) rest token has = inr has
 
 in_section : (ss : List MapSection) (k : ℕ) (s : MapSection) (t : MapTree) (token : TokenValue) → slice_get ss k ≡ Some s
     → s.map ≡ Some t → HasToken t token → AnyHasToken (sections_from ss) token
 in_section [] k s t token at is has = cc
 in_section (s' ∷ ss) zero s t token at is has =
     let same : s' ≡ s = cc in
-    subst (λ m. AnyHasToken (section_with s'.place m (sections_from ss)) token) (sym (ap (λ (s : MapSection). s.map) same ∙ is)) (inl has)
+    subst (λ m. AnyHasToken (section_with s'.head m (sections_from ss)) token) (sym (ap (λ (s : MapSection). s.map) same ∙ is)) (inl has)
 in_section (s' ∷ ss) (suc k) s t token at is has =
-    in_rest s'.place s'.map (sections_from ss) token (in_section ss k s t token at is has)
+    in_rest s'.head s'.map (sections_from ss) token (in_section ss k s t token at is has)
 
 -- a token of a section's map is one of the index
 pub found_in_section : (v : IndexValue) (s : MapSection) (t : MapTree) (found : Option Token) → IsAmong v.sections s → s.map ≡ Some t

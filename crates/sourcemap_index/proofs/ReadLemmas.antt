@@ -4,10 +4,10 @@ use Rattle.serde_json.specs.Data.{Data}
 use Rattle.sourcemap_errors.specs.declared.errors.Error.TheVariants.{BadJson}
 use Rattle.sourcemap_errors.specs.declared.errors.JsonFault.TheVariants.{Shape}
 use Rattle.sourcemap_records.specs.Jsontypes.{Tree, record_of}
-use Rattle.sourcemap_trees.specs.Decode.{TreeDecodes}
-use Rattle.sourcemap_trees.specs.MapTree.{MapTree}
-use Rattle.sourcemap_trees.specs.WellFormed.{HasTokensInOrder, IsWellFormed}
-use Rattle.sourcemap_trees.proofs.WellFormedLemmas.{decoded_in_order, decoded_well}
+use Rattle.sourcemap_index_model.specs.Decode.{TreeDecodes}
+use Rattle.sourcemap_index_model.specs.MapTree.{MapTree}
+use Rattle.sourcemap_index_model.specs.WellFormed.{HasTokensInOrder, IsWellFormed}
+use Rattle.sourcemap_index_model.proofs.WellFormedLemmas.{decoded_in_order, decoded_well}
 use Rattle.sourcemap_index.specs.Decode.{BytesDecode, UrlDecodes, ValueDecodes}
 
 record_read : (found : Option Tree) (t : MapTree) → MatchOption found (Ok t ≡ Err (BadJson Shape)) (λ r. TreeDecodes r (Ok t))

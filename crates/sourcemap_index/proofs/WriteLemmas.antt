@@ -1,17 +1,17 @@
 -- The text that a map is written as is the compact one, and reads back.
 use Rattle.std.proofs.Common.{◌≡◌, refl, sym, ap, ◌∙◌, inl, ℕ, List, Some, Ok}
 use Rattle.serde_json.specs.Written.{compact_text}
-use Rattle.sourcemap_headers.specs.Header.{behind_header}
+use Rattle.sourcemap_headers.specs.Header.{after_header}
 use Rattle.sourcemap_headers.specs.DataUrl.{Holds}
 use Rattle.sourcemap_records.specs.Jsontypes.{Tree, plain, indexed, written}
 use Rattle.sourcemap_records.proofs.BytesLemmas.{value_of_record}
 use Rattle.sourcemap_records.proofs.ReadBackLemmas.{record-back}
-use Rattle.sourcemap_regular.specs.Encode.{ReadsBack}
-use Rattle.sourcemap_regular.specs.Write.{IsEncoded}
-use Rattle.sourcemap_trees.specs.Decode.{TreeDecodes}
-use Rattle.sourcemap_trees.specs.Encode.{RecordAnswer, Restores}
-use Rattle.sourcemap_trees.specs.MapTree.{MapTree}
-use Rattle.sourcemap_trees.specs.WellFormed.{IsWellFormed}
+use Rattle.sourcemap_map_regular.specs.Encode.{ReadsBack}
+use Rattle.sourcemap_map_regular.specs.Write.{IsEncoded}
+use Rattle.sourcemap_index_model.specs.Decode.{TreeDecodes}
+use Rattle.sourcemap_index_model.specs.Encode.{RecordAnswer, Restores}
+use Rattle.sourcemap_index_model.specs.MapTree.{MapTree}
+use Rattle.sourcemap_index_model.specs.WellFormed.{IsWellFormed}
 use Rattle.sourcemap_index.specs.Decode.{BytesDecode, UrlDecodes}
 use Rattle.sourcemap_index.specs.DecodedMap.{IsShallow, IsTextOf}
 use Rattle.sourcemap_index.proofs.WrittenValueLemmas.{whole_value}
@@ -20,9 +20,9 @@ pub text_compact : (t : MapTree) (text : List ℕ) → IsEncoded (RecordAnswer t
 text_compact t text (r, (of, fine, back), is) = (written r, (r, of, refl), is.compact (whole_value t (written r) (r, of, refl)))
 
 -- a text that begins with a brace has no junk header
-no_header : (r : Tree) (text : List ℕ) → text ≡ compact_text (written r) → behind_header text ≡ Some text
-no_header (plain fields) text is = ap behind_header is ∙ ap Some (sym is)
-no_header (indexed fields sections) text is = ap behind_header is ∙ ap Some (sym is)
+no_header : (r : Tree) (text : List ℕ) → text ≡ compact_text (written r) → after_header text ≡ Some text
+no_header (plain fields) text is = ap after_header is ∙ ap Some (sym is)
+no_header (indexed fields sections) text is = ap after_header is ∙ ap Some (sym is)
 
 pub text_back : (t : MapTree) (text : List ℕ) → IsEncoded (RecordAnswer t) text → IsWellFormed t → IsShallow t → ReadsBack (BytesDecode text) (Restores t)
 text_back t text (r, (of, fine, back), is) well shallow =

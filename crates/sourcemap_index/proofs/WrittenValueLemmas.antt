@@ -6,12 +6,12 @@ use Rattle.serde_json.specs.Read.{max_depth}
 use Rattle.serde_json.specs.Written.{compact_text, has_float, items_have_float}
 use Rattle.sourcemap_headers.specs.DebugId.{debug_id_text}
 use Rattle.sourcemap_records.specs.Field.{written_number, written_or_null, written_list, put_if, put_all}
-use Rattle.sourcemap_records.specs.Jsontypes.{Tree, Sections, Place, entries, written, written_fields, written_sections, written_section, written_offset}
-use Rattle.sourcemap_regular.proofs.WriteLemmas.{IsLow, EntriesAreLow, low_object, low_list, low_or_null, low_if, low_number, low_string, low_entries, neither, record-low as regular-low}
+use Rattle.sourcemap_records.specs.Jsontypes.{Tree, Sections, SectionHead, entries, written, written_fields, written_sections, written_section, written_offset}
+use Rattle.sourcemap_map_regular.proofs.WriteLemmas.{IsLow, EntriesAreLow, low_object, low_list, low_or_null, low_if, low_number, low_string, low_entries, neither, record-low as regular-low}
 use Rattle.sourcemap_hermes.proofs.WriteLemmas.{record-low as hermes-low}
-use Rattle.sourcemap_trees.specs.Encode.{index_fields, AreWrittenBy, IsLeafRecord, IsRecordOf}
-use Rattle.sourcemap_trees.specs.MapTree.{LeafMap, regular, hermes, IndexParts, MapTree, leaf, index, MapSections, no_sections, hollow, filled}
-use Rattle.sourcemap_trees.proofs.EncodeLemmas.{tree_written_once}
+use Rattle.sourcemap_index_model.specs.Encode.{index_fields, AreWrittenBy, IsLeafRecord, IsRecordOf}
+use Rattle.sourcemap_index_model.specs.MapTree.{LeafMap, regular, hermes, IndexParts, MapTree, leaf, index, MapSections, no_sections, hollow, filled}
+use Rattle.sourcemap_index_model.proofs.EncodeLemmas.{tree_written_once}
 use Rattle.sourcemap_index.specs.DecodedMap.{levels, deepest, IsShallow, IsValueOf, IsTextOf}
 
 -- more levels do not matter
@@ -73,13 +73,13 @@ low_offset line column =
     (codes "column", Some (written_number column)) ∷ [])
     (low_number 0 line, (low_number 0 column, tt))
 
-low_section : (n : ℕ) (place : Place) (d : Data) → 1 ≤ n → IsLow n d → IsLow (n + 1) (written_section place d)
-low_section n place d some low =
+low_section : (n : ℕ) (head : SectionHead) (d : Data) → 1 ≤ n → IsLow n d → IsLow (n + 1) (written_section head d)
+low_section n head d some low =
     low_object n (
     (codes "map", Some d) ∷
-    (codes "offset", Some (written_offset (record { line = place.line; column = place.column }))) ∷
-    (codes "url", Some (written_or_null string place.url)) ∷ [])
-    (low, (low_more 1 n (written_offset (record { line = place.line; column = place.column })) some (low_offset place.line place.column), (low_or_null n string (low_string n) place.url, tt)))
+    (codes "offset", Some (written_offset (record { line = head.line; column = head.column }))) ∷
+    (codes "url", Some (written_or_null string head.url)) ∷ [])
+    (low, (low_more 1 n (written_offset (record { line = head.line; column = head.column })) some (low_offset head.line head.column), (low_or_null n string (low_string n) head.url, tt)))
 
 low_leaf : (l : LeafMap) (r : Tree) → IsLeafRecord l r → IsLow 5 (written r)
 low_leaf (regular m) r is = low_more 2 5 (written r) (omega arith) (regular-low m r is)
@@ -116,13 +116,13 @@ mutual
   low_sections : (ss : MapSections) (xs : Sections) → AreWrittenBy IsLeafRecord ss xs → (n : ℕ) → deepest ss ≤ n
       → AreLowItems n (written_sections xs)
   low_sections no_sections xs is n upto = subst (AreLowItems n) (sym (ap written_sections is)) (omega arith, refl)
-  low_sections (hollow place rest) xs (ys, is, all) n upto =
-      let here = low_section (3 * n + 5) place null (omega arith) (omega arith, refl) in
-      subst (AreLowItems n) (sym (ap written_sections is)) (low_item n (written_section place null) ys here (low_sections rest ys all n upto))
-  low_sections (filled place t rest) xs (r, ys, is, of, all) n upto =
+  low_sections (hollow head rest) xs (ys, is, all) n upto =
+      let here = low_section (3 * n + 5) head null (omega arith) (omega arith, refl) in
+      subst (AreLowItems n) (sym (ap written_sections is)) (low_item n (written_section head null) ys here (low_sections rest ys all n upto))
+  low_sections (filled head t rest) xs (r, ys, is, of, all) n upto =
       let inner = low_more (3 * levels t + 5) (3 * n + 5) (written r) (omega (arith, upto)) (low_tree t r of) in
-      let here = low_section (3 * n + 5) place (written r) (omega arith) inner in
-      subst (AreLowItems n) (sym (ap written_sections is)) (low_item n (written_section place (written r)) ys here (low_sections rest ys all n (omega (arith, upto))))
+      let here = low_section (3 * n + 5) head (written r) (omega arith) inner in
+      subst (AreLowItems n) (sym (ap written_sections is)) (low_item n (written_section head (written r)) ys here (low_sections rest ys all n (omega (arith, upto))))
 
 -- no number in what a map is written as has a fraction
 pub whole_value : (t : MapTree) (d : Data) → IsValueOf t d → has_float d ≡ false

@@ -1,13 +1,13 @@
--- What a map of any kind answers by its kind, and which values and texts it is written as.
+-- The debug id of a map of any kind, and the values and texts that it is written as.
 use Rattle.std.specs.Prelude.{◌≡◌, ◌≤◌, ℕ, suc, max, List, Option}
 use Rattle.serde_json.specs.Data.{Data, depth}
 use Rattle.serde_json.specs.Read.{max_depth}
 use Rattle.serde_json.specs.Written.{compact_text}
 use Rattle.sourcemap_records.specs.Jsontypes.{Tree, written}
-use Rattle.sourcemap_trees.specs.Encode.{IsRecordOf}
-use Rattle.sourcemap_trees.specs.MapTree.{LeafMap, regular, hermes, held, MapTree, leaf, index, MapSections, no_sections, hollow, filled}
+use Rattle.sourcemap_index_model.specs.Encode.{IsRecordOf}
+use Rattle.sourcemap_index_model.specs.MapTree.{LeafMap, regular, hermes, held, MapTree, leaf, index, MapSections, no_sections, hollow, filled}
 
--- the identifier that ties a map to its file
+-- the debug id
 abbrev pub debug_id_of : MapTree → Option (List ℕ)
 debug_id_of (leaf l) = (held l).debug_id
 debug_id_of (index parts ss) = parts.debug_id
@@ -28,7 +28,7 @@ IsValueOf t d = (r : Tree) × IsRecordOf t r × (d ≡ written r)
 abbrev pub IsTextOf : MapTree → List ℕ → Type 0
 IsTextOf t text = (d : Data) × IsValueOf t d × (text ≡ compact_text d)
 
--- how many indexes stand in one another, which are not the levels of what they are written as
+-- how deep indexes are nested; JSON has more levels
 abbrev mutual
   pub levels : MapTree → ℕ
   levels (leaf l) = 0
@@ -36,8 +36,8 @@ abbrev mutual
 
   pub deepest : MapSections → ℕ
   deepest no_sections = 0
-  deepest (hollow place rest) = deepest rest
-  deepest (filled place t rest) = max (levels t) (deepest rest)
+  deepest (hollow head rest) = deepest rest
+  deepest (filled head t rest) = max (levels t) (deepest rest)
 
 -- what the map is written as has at most 127 levels: a regular map has two, a Hermes map up to five, and an index three
 -- more than the deepest of its maps, or at most four where it has none

@@ -2,10 +2,10 @@
 use Rattle.std.specs.Prelude.{◌≡◌, None, Some, MatchOption, Result, Ok, Err}
 use Rattle.sourcemap_errors.specs.declared.errors.Error.{Error}
 use Rattle.sourcemap_records.specs.Jsontypes.{Tree, Section, Sections, IsInRange, AreSectionsInRange, IsSectionInRange}
-use Rattle.sourcemap_trees.specs.Encode.{IsLeafAnswer, IsWrittenBy, AreWrittenBy}
-use Rattle.sourcemap_trees.specs.MapTree.{MapTree, MapSections, MapSection}
+use Rattle.sourcemap_index_model.specs.Encode.{IsLeafAnswer, IsWrittenBy, AreWrittenBy}
+use Rattle.sourcemap_index_model.specs.MapTree.{MapTree, MapSections, MapSection}
 
--- a record of the map, those in it that are no index written as is due; nothing but memory refuses
+-- a record of the map; the only error is out of memory
 abbrev pub MapWrites : MapTree → Result Tree Error → Type 0
 MapWrites t (Ok r) = IsWrittenBy IsLeafAnswer t r × IsInRange r
 MapWrites t (Err _) = ⊥
@@ -17,7 +17,7 @@ SectionsWrite ss (Err _) = ⊥
 -- the record of one section
 abbrev pub SectionIsWritten : MapSection → Section → Type 0
 SectionIsWritten s r =
-    (r.place ≡ s.place) × IsSectionInRange r
+    (r.head ≡ s.head) × IsSectionInRange r
     × MatchOption s.map (r.map ≡ None) (λ t. (q : Tree) × (r.map ≡ Some q) × IsWrittenBy IsLeafAnswer t q)
 
 abbrev pub SectionWrites : MapSection → Result Section Error → Type 0

@@ -1,4 +1,4 @@
--- Equality of sections and of indexes: of all that they hold.
+-- Equality of sections and of indexes, by all their parts.
 use Rattle.std.specs.Prelude.{Bool}
 use Rattle.std.specs.Option.{option_eq}
 use Rattle.std.specs.Ordering.{on, eq_of_both}
@@ -6,14 +6,14 @@ use Rattle.std.specs.Cmp.{IsEquivalence}
 use Rattle.std.specs.Cmp.Rules.{comparing}
 use Rattle.std.specs.Cmp.Lexicographic.{pointwise}
 use Rattle.std.proofs.Common.{rules}
-use Rattle.sourcemap_trees.specs.Equality.{same_parts, same_place, same_tree}
-use Rattle.sourcemap_trees.specs.MapTree.{MapSection, IndexValue}
-use Rattle.sourcemap_trees.proofs.EqualityLemmas.{same_tree_equiv}
+use Rattle.sourcemap_index_model.specs.Equality.{same_parts, same_place, same_tree}
+use Rattle.sourcemap_index_model.specs.MapTree.{MapSection, IndexValue}
+use Rattle.sourcemap_index_model.proofs.EqualityLemmas.{same_tree_equiv}
 
 abbrev pub same_section : MapSection → MapSection → Bool
 same_section =
     eq_of_both
-    (on (λ s. s.place) same_place)
+    (on (λ s. s.head) same_place)
     (on (λ s. s.map) (option_eq same_tree))
 
 abbrev pub same_index : IndexValue → IndexValue → Bool

@@ -2,7 +2,7 @@
 use Rattle.std.specs.Prelude.{map, option_map, string_bytes}
 use Rattle.sourcemap_records.specs.Jsontypes.{text_view}
 use Rattle.sourcemap_hermes.specs.Map.{hermes_value}
-use Rattle.sourcemap_trees.specs.MapTree.{regular, hermes, MapTree, leaf, MapSection, IndexParts, IndexValue, index_tree}
+use Rattle.sourcemap_index_model.specs.MapTree.{regular, hermes, MapTree, leaf, MapSection, IndexParts, IndexValue, index_tree}
 use Rattle.sourcemap_index.specs.declared.family.DecodedMap.{DecodedMap, DecodedMap-F, fold-DecodedMap}
 use Rattle.sourcemap_index.specs.declared.family.DecodedMap.TheOpen.{Regular, Index, Hermes}
 use Rattle.sourcemap_index.specs.declared.family.SourceMapIndex.{SourceMapIndex, SourceMapIndex-F, fold-SourceMapIndex}
@@ -26,7 +26,7 @@ index_step i = record { parts = parts_view i; sections = i.sections.items }
 
 abbrev pub section_step : SourceMapSection-F MapTree IndexValue MapSection → MapSection
 section_step s = record {
-  place = record { line = s.offset.0; column = s.offset.1; url = text_view s.url };
+  head = record { line = s.offset.0; column = s.offset.1; url = text_view s.url };
   map = option_map (λ b. b.value) s.map;
 }
 

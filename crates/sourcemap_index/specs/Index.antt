@@ -1,8 +1,8 @@
--- An index changed in one part, and lent for writing section by section.
+-- An index changed in one part, and borrowed mutably section by section.
 use Rattle.std.specs.Prelude.{◌≡◌, ℕ, List, slice_set, Option, None}
 use Rattle.std.specs.Option.{OnSome}
 use Rattle.std.specs.Borrow.{LendsSo, MutBor, Fml}
-use Rattle.sourcemap_trees.specs.MapTree.{MapSection, IndexValue}
+use Rattle.sourcemap_index_model.specs.MapTree.{MapSection, IndexValue}
 use Rattle.sourcemap_index.specs.Family.{index_value, section_value}
 use Rattle.sourcemap_index.specs.contracts.family.SourceMapIndex.{the_row as index_row}
 use Rattle.sourcemap_index.specs.contracts.family.SourceMapSection.{the_row as section_row}
@@ -22,11 +22,11 @@ with_file i file = record i { parts = record i.parts { file = file } }
 abbrev pub with_debug_id : IndexValue → Option (List ℕ) → IndexValue
 with_debug_id i id = record i { parts = record i.parts { debug_id = id } }
 
--- the index with this section in the place of one of its own
+-- the index with this section instead of one of its own
 abbrev pub with_section : IndexValue → ℕ → MapSection → IndexValue
 with_section i id s = record i { sections = slice_set i.sections id s }
 
--- what is written to the section that is lent stands in its place afterwards; all else stays
+-- what is written to the borrowed section is in the index afterwards; all else stays
 abbrev pub LendsSection : MutBor SourceMapIndex → ℕ → Option (MutBor SourceMapSection) → Fml
 LendsSection self id result = LendsSo index_row section_row self result
     (λ new s. OnSome result (index_value new ≡ with_section (index_value self.now) id (section_value s)))

@@ -1,7 +1,7 @@
 -- The section that a position is looked up in, and the tokens that a lookup may find.
 use Rattle.std.specs.Prelude.{◌≡◌, ◌⊎◌, ℕ, List, Some, slice_get}
-use Rattle.sourcemap_regular.specs.Token.{TokenValue, lookup as lookup_regular}
-use Rattle.sourcemap_trees.specs.MapTree.{MapTree, leaf, index, held, MapSections, no_sections, hollow, filled, MapSection}
+use Rattle.sourcemap_map_regular.specs.Token.{TokenValue, lookup as lookup_regular}
+use Rattle.sourcemap_index_model.specs.MapTree.{MapTree, leaf, index, held, MapSections, no_sections, hollow, filled, MapSection}
 
 -- the section is one of these
 abbrev pub IsAmong : List MapSection → MapSection → Type 0
@@ -15,5 +15,5 @@ abbrev mutual
 
   pub AnyHasToken : MapSections → TokenValue → Type 0
   AnyHasToken no_sections token = ⊥
-  AnyHasToken (hollow place rest) token = AnyHasToken rest token
-  AnyHasToken (filled place t rest) token = HasToken t token ⊎ AnyHasToken rest token
+  AnyHasToken (hollow head rest) token = AnyHasToken rest token
+  AnyHasToken (filled head t rest) token = HasToken t token ⊎ AnyHasToken rest token

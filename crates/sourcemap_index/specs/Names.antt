@@ -1,12 +1,12 @@
 -- The original names of functions in maps of any kind.
 use Rattle.std.specs.Prelude.{◌≡◌, ℕ, ◌==◌, if◌then◌else◌, List, Option, None, Some, IfSome, option_and_then}
 use Rattle.sourcemap_hermes.specs.Map.{HermesValue, function_name as function_in_bytecode}
-use Rattle.sourcemap_regular.specs.Map.{lookup as lookup_regular}
-use Rattle.sourcemap_regular.specs.Walk.{guessed_from}
-use Rattle.sourcemap_scopes.specs.SourceScopes.{IsInOrderAt}
-use Rattle.sourcemap_trees.specs.MapTree.{MapTree, leaf, hermes}
-use Rattle.sourcemap_trees.specs.Meaning.{lookup}
-use Rattle.sourcemap_trees.specs.WellFormed.{IsInOrder}
+use Rattle.sourcemap_map_regular.specs.Map.{lookup as lookup_regular}
+use Rattle.sourcemap_map_regular.specs.Walk.{guessed_from}
+use Rattle.sourcemap_hermes_scopes.specs.SourceScopes.{IsInOrderAt}
+use Rattle.sourcemap_index_model.specs.MapTree.{MapTree, leaf, hermes}
+use Rattle.sourcemap_index_model.specs.Meaning.{lookup}
+use Rattle.sourcemap_index_model.specs.WellFormed.{IsInOrder}
 
 -- the name of a function with this minified name in a text: guessed by the walk from the closest
 -- token back along its own map, an index's token along that of its section
@@ -28,8 +28,8 @@ function_name (leaf (hermes h)) source minified p = name_in_bytecode h p
 function_name t (Some source) (Some minified) p = guessed_in t source minified p
 function_name t _ _ p = None
 
--- what the answer rests on: for a place in the bytecode that the functions of its source are in order,
--- for a guess that sections are; that there is none rests on nothing
+-- the premise of an answer: of a position in the bytecode that the functions of its source are in order, of a guess
+-- that sections are sorted; no answer needs no premise
 abbrev pub AreNamesInOrder : MapTree → (source minified : Option (List ℕ)) → ℕ × ℕ → Type 0
 AreNamesInOrder (leaf (hermes h)) _ _ p = IsInOrderInBytecode h p
 AreNamesInOrder t (Some _) (Some _) p = IsInOrder t

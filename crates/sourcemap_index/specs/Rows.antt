@@ -1,6 +1,6 @@
 -- An index with other sections.
 use Rattle.std.specs.Prelude.{List}
-use Rattle.sourcemap_trees.specs.MapTree.{MapSection, IndexValue}
+use Rattle.sourcemap_index_model.specs.MapTree.{MapSection, IndexValue}
 
 abbrev pub with_sections : IndexValue → List MapSection → IndexValue
 with_sections i ss = record i { sections = ss }

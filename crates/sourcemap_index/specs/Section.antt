@@ -1,8 +1,8 @@
--- A section changed in one part, and lent for writing.
+-- A section changed in one part, and borrowed mutably.
 use Rattle.std.specs.Prelude.{◌≡◌, ℕ, List, map, Option, Some}
 use Rattle.std.specs.Option.{OnSome}
 use Rattle.std.specs.Borrow.{LendsSo, MutBor, Fml}
-use Rattle.sourcemap_trees.specs.MapTree.{MapTree, MapSection}
+use Rattle.sourcemap_index_model.specs.MapTree.{MapTree, MapSection}
 use Rattle.sourcemap_index.specs.Family.{map_tree, section_value}
 use Rattle.sourcemap_index.specs.contracts.family.DecodedMap.{the_row as map_row}
 use Rattle.sourcemap_index.specs.contracts.family.SourceMapSection.{the_row as section_row}
@@ -12,15 +12,15 @@ use Rattle.sourcemap_index.specs.declared.section.SourceMapSectionIter.{SourceMa
 
 -- a section of these parts
 abbrev pub section_made : (offset : ℕ × ℕ) (url : Option (List ℕ)) (t : Option MapTree) → MapSection
-section_made offset url t = record { place = record { line = offset.0; column = offset.1; url = url }; map = t }
+section_made offset url t = record { head = record { line = offset.0; column = offset.1; url = url }; map = t }
 
 abbrev pub with_url : MapSection → Option (List ℕ) → MapSection
-with_url s url = record s { place = record s.place { url = url } }
+with_url s url = record s { head = record s.head { url = url } }
 
 abbrev pub with_map : MapSection → Option MapTree → MapSection
 with_map s t = record s { map = t }
 
--- what is written to the map that is lent stands in the section afterwards; all else stays
+-- what is written to the borrowed map is in the section afterwards; all else stays
 abbrev pub LendsMap : MutBor SourceMapSection → Option (MutBor DecodedMap) → Fml
 LendsMap self result = LendsSo section_row map_row self result
     (λ new m. OnSome result (section_value new ≡ with_map (section_value self.now) (Some (map_tree m))))

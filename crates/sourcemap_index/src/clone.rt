@@ -5,10 +5,10 @@ ghost use Rattle.sourcemap_index.specs.Family.{index_value, map_tree, section_va
 
 use crate::family::{DecodedMap, SourceMapIndex, SourceMapSection};
 use sourcemap_errors::errors::Result;
-use sourcemap_parts::text_lists::{copy_text, copy_texts};
+use sourcemap_map_parts::text_lists::{copy_string, copy_texts};
 use std::alloc::Global;
 
-// The same lines, where there is a list of them.
+// A copy of the list of lines, if there is one.
 pub(crate) fn copy_lines(
     alloc: Global,
     lines: &Option<Vec<Option<u32>>>,
@@ -25,7 +25,7 @@ pub(crate) fn copy_lines(
     }
 }
 
-// The same paths, where there is a list of them.
+// A copy of the list of paths, if there is one.
 pub(crate) fn copy_paths(alloc: Global, paths: &Option<Vec<String>>) -> Result<Option<Vec<String>>>
     ensures { Gives (option_map (λ v. map string_bytes v.items)) result
         (Ok (option_map (λ v. map string_bytes v.items) paths.now)) }
@@ -37,7 +37,7 @@ pub(crate) fn copy_paths(alloc: Global, paths: &Option<Vec<String>>) -> Result<O
 }
 
 impl SourceMapSection {
-    /// A section equal to this one, its map with it. Only want of memory refuses.
+    /// An equal section, with a copy of its map. The only error is `OutOfMemory`.
     #[cycle(clone)]
     pub fn clone(&self) -> Result<Self>
         ensures { Gives section_value result (Ok (section_value self.now)) }
@@ -46,7 +46,7 @@ impl SourceMapSection {
             Some(map) => Some(Box::new(self.alloc, (**map).clone()?)?),
             None => None,
         };
-        let url = copy_text(self.alloc, &self.url)?;
+        let url = copy_string(self.alloc, &self.url)?;
         Ok(SourceMapSection {
             offset: self.offset,
             url,
@@ -56,7 +56,7 @@ impl SourceMapSection {
     }
 }
 
-// The same sections, in their order.
+// Copies of the sections, in order.
 #[cycle(clone)]
 fn copy_sections(alloc: Global, sections: &Vec<SourceMapSection>) -> Result<Vec<SourceMapSection>>
     ensures { Gives (λ v. map section_value v.items) result
@@ -70,13 +70,12 @@ fn copy_sections(alloc: Global, sections: &Vec<SourceMapSection>) -> Result<Vec<
 }
 
 impl SourceMapIndex {
-    /// An index equal to this one, its sections and their maps with it. Only want of memory
-    /// refuses.
+    /// An equal index, with copies of its sections and their maps. The only error is `OutOfMemory`.
     #[cycle(clone)]
     pub fn clone(&self) -> Result<Self>
         ensures { Gives index_value result (Ok (index_value self.now)) }
     {
-        let file = copy_text(self.alloc, &self.file)?;
+        let file = copy_string(self.alloc, &self.file)?;
         let sections = copy_sections(self.alloc, &self.sections)?;
         let x_facebook_offsets = copy_lines(self.alloc, &self.x_facebook_offsets)?;
         let x_metro_module_paths = copy_paths(self.alloc, &self.x_metro_module_paths)?;
@@ -92,7 +91,7 @@ impl SourceMapIndex {
 }
 
 impl DecodedMap {
-    /// A map equal to this one, of the same kind. Only want of memory refuses.
+    /// An equal map, of the same kind. The only error is `OutOfMemory`.
     #[cycle(clone)]
     pub fn clone(&self) -> Result<Self>
         ensures { Gives map_tree result (Ok (map_tree self.now)) }

@@ -5,11 +5,11 @@ ghost use Rattle.serde_json.specs.View.{view};
 ghost use Rattle.sourcemap_errors.specs.Answer.{IsAnswer};
 ghost use Rattle.sourcemap_errors.specs.declared.errors.Error.{Error};
 ghost use Rattle.sourcemap_errors.specs.declared.errors.Error.TheVariants.{InvalidDataUrl};
-ghost use Rattle.sourcemap_records.specs.Bytes.{BytesStandFor};
+ghost use Rattle.sourcemap_records.specs.Bytes.{BytesHaveResult};
 ghost use Rattle.sourcemap_records.specs.Jsontypes.{tree};
-ghost use Rattle.sourcemap_trees.specs.MapTree.{IndexValue, MapTree, index_tree};
-ghost use Rattle.sourcemap_trees.specs.WellFormed.{IsWellFormed};
-ghost use Rattle.sourcemap_trees.specs.Decode.{TreeDecodes};
+ghost use Rattle.sourcemap_index_model.specs.MapTree.{IndexValue, MapTree, index_tree};
+ghost use Rattle.sourcemap_index_model.specs.WellFormed.{IsWellFormed};
+ghost use Rattle.sourcemap_index_model.specs.Decode.{TreeDecodes};
 ghost use Rattle.sourcemap_index.specs.Family.{index_value, map_tree};
 ghost use Rattle.sourcemap_index.specs.Decode.{ValueDecodes, BytesDecode, UrlDecodes, IndexDecodes, IsNoUrl, AreSame, IsAnswerRead, Reading};
 
@@ -41,7 +41,7 @@ fn decode_bytes(alloc: Global, bytes: &[u8]) -> Result<DecodedMap>
     decode_map(alloc, raw)
 }
 
-// The map of bytes, which are let go once their JSON value is read.
+// The map of bytes, which are dropped once their JSON value is read.
 fn decode_owned(alloc: Global, bytes: Vec<u8>) -> Result<DecodedMap>
     ensures answer { IsAnswer map_tree (BytesDecode bytes.items) result }
     ensures well_formed { IfOk result (λ m. IsWellFormed (map_tree m)) }
@@ -50,13 +50,12 @@ fn decode_owned(alloc: Global, bytes: Vec<u8>) -> Result<DecodedMap>
     decode_map(alloc, raw)
 }
 
-/// The map that bytes hold, behind a junk header or behind none. A faulty header is `Io` of kind
-/// `InvalidData`, bytes that are not JSON behind it are `BadJson(Parse)`. JSON that is no record is
-/// `BadJson(Shape)`. Then come the faults of the record: without sections those of `decode_hermes`
-/// for a map with scopes of its sources, and those of `decode_regular` for one without. Of a map
-/// with sections more than 4294967295 of them are `IncompatibleSourceMap` before anything in them
-/// is looked at, and then comes the first fault of their maps, in the order of the text; scopes of
-/// its own are passed over.
+/// Returns the map in these bytes, after a junk header if there is one. Errors come in this order:
+/// an invalid header is `Io` of kind `InvalidData`; bytes that are not JSON are `BadJson(Parse)`;
+/// JSON that is no record is `BadJson(Shape)`. Of a record without sections the errors of
+/// `decode_hermes` follow if its sources have scopes, else those of `decode_regular`. A record with
+/// sections is an index map: more than 4294967295 sections are `IncompatibleSourceMap`, then comes
+/// the first error of their maps, in the order of the text. Its own scopes are ignored.
 pub fn decode_slice(alloc: Global, bytes: &[u8]) -> Result<DecodedMap>
     ensures answer { IsAnswer map_tree (BytesDecode bytes.now) result }
     // No other answer is right.
@@ -67,8 +66,8 @@ pub fn decode_slice(alloc: Global, bytes: &[u8]) -> Result<DecodedMap>
     decode_bytes(alloc, bytes)
 }
 
-/// The same map as by `decode_slice`, and the same faults. The bytes are let go as soon as their
-/// JSON value is read, before the map is made.
+/// Returns the same as `decode_slice`. The bytes are dropped once their JSON value is read, before
+/// the map is made.
 pub fn decode_vec(alloc: Global, input: Vec<u8>) -> Result<DecodedMap>
     ensures answer { IsAnswer map_tree (BytesDecode input.items) result }
     // No other answer is right.
@@ -79,8 +78,8 @@ pub fn decode_vec(alloc: Global, input: Vec<u8>) -> Result<DecodedMap>
     decode_owned(alloc, input)
 }
 
-/// The map that a reader's bytes hold, as by `decode_slice`. The reader is read to its end first,
-/// and a read's fault is `Io`.
+/// Returns the map in a reader's bytes, with the errors of `decode_slice`. The reader is read to
+/// its end first; an error of a read is `Io`.
 pub fn decode<R: Read + Drop>(alloc: Global, reader: R) -> Result<DecodedMap>
     ensures answer { Reading (R.remaining reader)
         (λ bytes. IsAnswerRead map_tree (BytesDecode bytes) result) }
@@ -101,14 +100,14 @@ fn decode_url(alloc: Global, url: &str) -> Result<DecodedMap>
     decode_owned(alloc, held)
 }
 
-/// The map that a data URL holds: `InvalidDataUrl` if the text is none, else as by `decode_slice`
-/// of the bytes in it, which is never `InvalidDataUrl`.
+/// Returns the map in a data URL. A text that is no data URL is `InvalidDataUrl`; else the result
+/// is that of `decode_slice` for its payload, which is never `InvalidDataUrl`.
 pub fn decode_data_url(alloc: Global, url: &str) -> Result<DecodedMap>
     ensures answer { IsAnswer map_tree (UrlDecodes url.now) result }
     // No other answer is right.
     ensures only { (due : Result MapTree Error) → UrlDecodes url.now due
         → IsAnswer map_tree (AreSame due) result }
-    // What is refused as no data URL is none: no fault of the bytes in one is told so.
+    // Errors in the payload are never reported as `InvalidDataUrl`.
     ensures no_url { IfErr result (λ e. e ≡ InvalidDataUrl → IsNoUrl url.now) }
     ensures well_formed { IfOk result (λ m. IsWellFormed (map_tree m)) }
 {
@@ -117,16 +116,16 @@ pub fn decode_data_url(alloc: Global, url: &str) -> Result<DecodedMap>
 
 // The index of bytes.
 fn index_in(alloc: Global, bytes: &[u8]) -> Result<SourceMapIndex>
-    ensures answer { IsAnswer index_value (BytesStandFor IndexDecodes bytes.now) result }
+    ensures answer { IsAnswer index_value (BytesHaveResult IndexDecodes bytes.now) result }
     ensures well_formed { IfOk result (λ i. IsWellFormed (index_tree (index_value i))) }
 {
     let raw = read_record(alloc, bytes)?;
     only_index(alloc, raw)
 }
 
-// The same of bytes that are let go once their JSON value is read.
+// The index of bytes, which are dropped once their JSON value is read.
 fn index_in_owned(alloc: Global, bytes: Vec<u8>) -> Result<SourceMapIndex>
-    ensures answer { IsAnswer index_value (BytesStandFor IndexDecodes bytes.items) result }
+    ensures answer { IsAnswer index_value (BytesHaveResult IndexDecodes bytes.items) result }
     ensures well_formed { IfOk result (λ i. IsWellFormed (index_tree (index_value i))) }
 {
     let raw = read_record_owned(alloc, bytes)?;
@@ -134,26 +133,26 @@ fn index_in_owned(alloc: Global, bytes: Vec<u8>) -> Result<SourceMapIndex>
 }
 
 impl SourceMapIndex {
-    /// The index that bytes hold, behind a junk header or behind none. The faults are those of
-    /// `decode_slice`, but for the record of a map of another kind, without sections: it is
-    /// `IncompatibleSourceMap` before anything of it is decoded.
+    /// Returns the index map in these bytes, after a junk header if there is one. The errors are
+    /// those of `decode_slice`. A record without sections is `IncompatibleSourceMap`, before its
+    /// keys are decoded.
     pub fn from_slice(alloc: Global, bytes: &[u8]) -> Result<Self>
-        ensures answer { IsAnswer index_value (BytesStandFor IndexDecodes bytes.now) result }
+        ensures answer { IsAnswer index_value (BytesHaveResult IndexDecodes bytes.now) result }
         // No other answer is right.
-        ensures only { (due : Result IndexValue Error) → BytesStandFor IndexDecodes bytes.now due
+        ensures only { (due : Result IndexValue Error) → BytesHaveResult IndexDecodes bytes.now due
             → IsAnswer index_value (AreSame due) result }
         ensures well_formed { IfOk result (λ i. IsWellFormed (index_tree (index_value i))) }
     {
         index_in(alloc, bytes)
     }
 
-    /// The index that a reader's bytes hold, as by `from_slice`. The reader is read to its end
-    /// first, and a read's fault is `Io`. The bytes are let go once their JSON value is read.
+    /// Returns the index map in a reader's bytes, with the errors of `from_slice`. The reader is
+    /// read to its end first; an error of a read is `Io`.
     pub fn from_reader<R: Read + Drop>(alloc: Global, reader: R) -> Result<Self>
         ensures answer { Reading (R.remaining reader)
-            (λ bytes. IsAnswerRead index_value (BytesStandFor IndexDecodes bytes) result) }
+            (λ bytes. IsAnswerRead index_value (BytesHaveResult IndexDecodes bytes) result) }
         ensures only { IfSome (R.remaining reader) (λ bytes. (due : Result IndexValue Error)
-            → BytesStandFor IndexDecodes bytes due
+            → BytesHaveResult IndexDecodes bytes due
             → IsAnswerRead index_value (AreSame due) result) }
         ensures well_formed { IfOk result (λ i. IsWellFormed (index_tree (index_value i))) }
     {
@@ -162,8 +161,8 @@ impl SourceMapIndex {
     }
 }
 
-/// A law: a JSON value, bytes and a data URL each stand for one map, or for none for one reason.
-/// Of a faulty header the kind of the fault is determined.
+/// A law: a JSON value, bytes and a data URL each stand for one map, or for none for one reason. Of
+/// an invalid header the kind of the error is determined.
 pub fn answers_are_determined()
     ensures values { (d : Data) (a b : Result MapTree Error)
         → ValueDecodes d a → ValueDecodes d b → a ≡ b }
@@ -173,8 +172,8 @@ pub fn answers_are_determined()
         → UrlDecodes url a → UrlDecodes url b → AreSame a b }
 {}
 
-/// A law: `InvalidDataUrl` is what a text that is no data URL stands for, and nothing else does: no
-/// JSON value, no bytes, and no data URL, whatever it holds.
+/// A law: a text is `InvalidDataUrl` exactly if it is no data URL. No JSON value, no bytes and no
+/// payload are.
 pub fn no_other_fault_is_of_urls()
     ensures values { (d : Data) → ¬ ValueDecodes d (Err InvalidDataUrl) }
     ensures bytes { (bytes : List ℕ) → ¬ BytesDecode bytes (Err InvalidDataUrl) }

@@ -3,17 +3,17 @@ ghost use Rattle.std.specs.Prelude.{◌≡◌, Ok, OnOk, IfErr, IfOk, map};
 ghost use Rattle.sourcemap_errors.specs.Answer.{IsAnswer, Gives};
 ghost use Rattle.sourcemap_errors.specs.declared.errors.Error.TheVariants.{OutOfMemory};
 ghost use Rattle.sourcemap_records.specs.Jsontypes.{flat, tree, section, sections_from};
-ghost use Rattle.sourcemap_trees.specs.Decode.{LeafDecodes, TreeDecodes, SectionsDecode, by_offset, index_parts};
-ghost use Rattle.sourcemap_trees.specs.WellFormed.{IsWellFormed};
+ghost use Rattle.sourcemap_index_model.specs.Decode.{LeafDecodes, TreeDecodes, SectionsDecode, by_offset, index_parts};
+ghost use Rattle.sourcemap_index_model.specs.WellFormed.{IsWellFormed};
 ghost use Rattle.sourcemap_index.specs.Family.{index_value, map_tree, section_value};
 ghost use Rattle.sourcemap_index.specs.Decode.{SectionDecodes, IndexDecodes, PartsDecode, index_with};
 
 use crate::family::{DecodedMap, SourceMapIndex, SourceMapSection};
-use sourcemap_conversions::from_record::file_in;
 use sourcemap_errors::errors::{Error, Result};
 use sourcemap_hermes::decode::decode_hermes;
+use sourcemap_map_conversions::from_record::file_in;
+use sourcemap_map_regular::decode::decode_regular;
 use sourcemap_records::jsontypes::{RawSection, RawSourceMap};
-use sourcemap_regular::decode::decode_regular;
 use std::alloc::Global;
 
 // The most sections that an index may have.
@@ -27,8 +27,8 @@ pub(crate) fn decode_map(alloc: Global, raw: RawSourceMap) -> Result<DecodedMap>
     decode_record(alloc, raw)
 }
 
-/// The index that a record stands for: a record without sections is `IncompatibleSourceMap` before
-/// anything of it is looked at.
+/// The index that a record stands for. A record without sections is `IncompatibleSourceMap`, before
+/// its keys are decoded.
 pub(crate) fn only_index(alloc: Global, mut raw: RawSourceMap) -> Result<SourceMapIndex>
     ensures { IsAnswer index_value (IndexDecodes (tree raw)) result }
 {
@@ -48,7 +48,7 @@ fn decode_record(alloc: Global, mut raw: RawSourceMap) -> Result<DecodedMap>
     }
 }
 
-// The map of a record whose sections are not looked at: with scopes of sources it is a Hermes map.
+// The map of a record, its sections ignored: a Hermes map if its sources have scopes.
 fn decode_leaf(alloc: Global, raw: RawSourceMap) -> Result<DecodedMap>
     ensures { IsAnswer map_tree
         (LeafDecodes (flat (tree raw)) (flat (tree raw)).x_facebook_sources) result }
@@ -62,7 +62,7 @@ fn decode_leaf(alloc: Global, raw: RawSourceMap) -> Result<DecodedMap>
     }
 }
 
-// The index of a record's keys and of sections, which are decoded in their order and then sorted.
+// The index of a record's keys and sections. Sections are decoded in order, then sorted.
 #[cycle(decode)]
 fn decode_parts(
     alloc: Global,
@@ -107,7 +107,7 @@ fn decode_section(alloc: Global, part: RawSection) -> Result<SourceMapSection>
     }
 }
 
-// Sorts sections by their offsets, those of one offset as they stood.
+// Sorts sections stably by offset.
 fn sort_sections(sections: &mut Vec<SourceMapSection>) -> Result<()>
     ensures sorted { OnOk result (map section_value sections.new.items
         ≡ by_offset (map section_value sections.old.items)) }

@@ -1,15 +1,15 @@
-//! A map of any kind, and the calls that it answers by its kind.
-ghost use Rattle.std.specs.Prelude.{◌≡◌, ℕ, List, Result, IfOk, IfErr, IfSome, OnOk, MatchResult};
+//! A map of any kind.
+ghost use Rattle.std.specs.Prelude.{◌≡◌, ℕ, List, Result, IfOk, IfErr, IfSome, OnOk};
 ghost use Rattle.serde_json.specs.View.{view};
 ghost use Rattle.sourcemap_errors.specs.Answer.{UnlessMemory, Gives, IsAnswer};
 ghost use Rattle.sourcemap_errors.specs.declared.errors.Error.{Error};
 ghost use Rattle.sourcemap_errors.specs.declared.errors.Error.TheVariants.{OutOfMemory};
 ghost use Rattle.sourcemap_records.specs.Jsontypes.{tree};
-ghost use Rattle.sourcemap_regular.specs.Encode.{ReadsBack};
-ghost use Rattle.sourcemap_regular.specs.Write.{IsEncoded, IsIo};
-ghost use Rattle.sourcemap_trees.specs.Encode.{RecordAnswer, Restores};
-ghost use Rattle.sourcemap_trees.specs.MapTree.{MapTree};
-ghost use Rattle.sourcemap_trees.specs.WellFormed.{IsWellFormed};
+ghost use Rattle.sourcemap_map_regular.specs.Encode.{ReadsBack};
+ghost use Rattle.sourcemap_map_regular.specs.Write.{IsEncoded, IsIo};
+ghost use Rattle.sourcemap_index_model.specs.Encode.{RecordAnswer, Restores};
+ghost use Rattle.sourcemap_index_model.specs.MapTree.{MapTree};
+ghost use Rattle.sourcemap_index_model.specs.WellFormed.{IsWellFormed};
 ghost use Rattle.sourcemap_index.specs.Family.{map_tree};
 
 use crate::decode::{decode, decode_value};
@@ -17,9 +17,9 @@ use crate::encode::map_into_record;
 use crate::family::DecodedMap;
 use serde_json::Value;
 use sourcemap_errors::errors::Result;
+use sourcemap_map_regular::encode::Encodable;
+use sourcemap_map_regular::write::encode;
 use sourcemap_records::jsontypes::{DebugId, RawSourceMap};
-use sourcemap_regular::encode::Encodable;
-use sourcemap_regular::write::encode;
 use std::alloc::Global;
 use std::io::{Read, Write};
 
@@ -36,7 +36,7 @@ impl DecodedMap {
         }
     }
 
-    /// The identifier that ties the map to its file.
+    /// The debug id.
     pub fn debug_id(&self) -> Option<DebugId>
         ensures { result ≡ debug_id_of (map_tree self.now) }
     {
@@ -47,7 +47,7 @@ impl DecodedMap {
         }
     }
 
-    /// Sets the identifier that ties the map to its file.
+    /// Sets the debug id.
     pub fn set_debug_id(&mut self, debug_id: Option<DebugId>)
         ensures { map_tree self.new ≡ with_debug_id (map_tree self.old) debug_id }
     {
@@ -58,7 +58,7 @@ impl DecodedMap {
         }
     }
 
-    /// The map as a JSON value, its keys in the order of their bytes. Only want of memory refuses.
+    /// The map as a JSON value, with its keys in byte order. The only error is `OutOfMemory`.
     pub fn to_value(&self) -> Result<Value>
         ensures written { IfOk result (λ v. IsValueOf (map_tree self.now) (view v)) }
         // Read back, a well-formed map means the same at every position, with all parts kept.
@@ -70,16 +70,16 @@ impl DecodedMap {
         raw.into_value(self.allocator())
     }
 
-    /// The same record as by `as_raw_sourcemap` of a map that is not needed any more: all texts are
-    /// moved, in an index those of its sections, too. Only want of memory refuses.
+    /// The record of `as_raw_sourcemap`, from a map that is consumed: all texts are moved, those of
+    /// sections too. The only error is `OutOfMemory`.
     pub fn into_raw_sourcemap(self) -> Result<RawSourceMap>
         ensures { IsAnswer tree (RecordAnswer (map_tree self)) result }
     {
         map_into_record(self)
     }
 
-    /// The same value as by `to_value` of a map that is not needed any more: all texts are moved.
-    /// Only want of memory refuses.
+    /// The value of `to_value`, from a map that is consumed: all texts are moved. The only error is
+    /// `OutOfMemory`.
     pub fn into_value(self) -> Result<Value>
         ensures written { IfOk result (λ v. IsValueOf (map_tree self) (view v)) }
         // Read back, a well-formed map means the same at every position, with all parts kept.
@@ -92,8 +92,8 @@ impl DecodedMap {
         raw.into_value(alloc)
     }
 
-    /// The map that a JSON value stands for. `BadJson(Shape)` if it is no record, then the faults
-    /// of the record, as by `decode_slice`.
+    /// Returns the map of a JSON value. The error is `BadJson(Shape)` if the value is no record,
+    /// else that of `decode_slice`.
     pub fn from_value(alloc: Global, value: &Value) -> Result<Self>
         ensures answer { IsAnswer map_tree (ValueDecodes (view value.now)) result }
         ensures only { (due : Result MapTree Error) → ValueDecodes (view value.now) due
@@ -103,7 +103,7 @@ impl DecodedMap {
         decode_value(alloc, value)
     }
 
-    /// The map that a reader's bytes hold, as by `decode`.
+    /// Returns the map in a reader's bytes, as `decode` does.
     pub fn from_reader<R: Read + Drop>(alloc: Global, reader: R) -> Result<Self>
         ensures answer { Reading (R.remaining reader)
             (λ bytes. IsAnswerRead map_tree (BytesDecode bytes) result) }
@@ -114,25 +114,14 @@ impl DecodedMap {
         decode(alloc, reader)
     }
 
-    /// Writes the map's compact JSON text. A write's fault is `Io`, else only want of memory
-    /// refuses. The clause says that such a text was made. That the writer, which is given away,
-    /// gets all of it and nothing else is tested; `encode_to` promises it of a writer that is lent.
+    /// Writes the map's compact JSON text. An error of the writer is `Io`; the only other one is
+    /// `OutOfMemory`. The writer is consumed, so its contents are tested, not proved; `encode_to`
+    /// proves them of a borrowed writer.
     pub fn to_writer<W: Write + Drop>(&self, writer: W) -> Result<()>
         ensures encoded { OnOk result ((text : List ℕ)
             × IsEncoded (RecordAnswer (map_tree self.now)) text) }
-        ensures fault { IfErr result (λ e. UnlessMemory e (IsIo e)) }
+        ensures error { IfErr result (λ e. UnlessMemory e (IsIo e)) }
     {
         encode(self.allocator(), self, writer)
     }
-}
-
-// What is written as a value and read back means the same, with all parts kept: nothing but memory
-// refuses.
-fn read_back(map: &DecodedMap) -> Result<DecodedMap>
-    ensures { IsWellFormed (map_tree map.now) → MatchResult result
-        (λ back. Restores (map_tree map.now) (map_tree back))
-        (λ e. e ≡ OutOfMemory) }
-{
-    let value = map.to_value()?;
-    DecodedMap::from_value(map.allocator(), &value)
 }

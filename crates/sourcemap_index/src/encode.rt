@@ -3,34 +3,33 @@ ghost use Rattle.std.specs.Prelude.{◌≡◌, ℕ, List, Ok, IfSome, IfOk, IfEr
 ghost use Rattle.std.specs.List.{AllByRecursion};
 ghost use Rattle.sourcemap_errors.specs.Answer.{IsAnswer, Gives, UnlessMemory};
 ghost use Rattle.sourcemap_records.specs.Jsontypes.{tree, flat, indexed, section, sections_from, text_view, FitsU32, AreInRange, IsFine};
-ghost use Rattle.sourcemap_regular.specs.Encode.{ReadsBack};
-ghost use Rattle.sourcemap_regular.specs.Write.{IsEncoded, IsIo};
-ghost use Rattle.sourcemap_trees.specs.Decode.{TreeDecodes};
-ghost use Rattle.sourcemap_trees.specs.Encode.{index_fields, RecordAnswer, Restores};
-ghost use Rattle.sourcemap_trees.specs.WellFormed.{IsWellFormed};
-ghost use Rattle.sourcemap_trees.specs.MapTree.{index_tree, sections_from as sections_of};
+ghost use Rattle.sourcemap_map_regular.specs.Encode.{ReadsBack};
+ghost use Rattle.sourcemap_map_regular.specs.Write.{IsEncoded, IsIo};
+ghost use Rattle.sourcemap_index_model.specs.Decode.{TreeDecodes};
+ghost use Rattle.sourcemap_index_model.specs.Encode.{index_fields, RecordAnswer, Restores};
+ghost use Rattle.sourcemap_index_model.specs.WellFormed.{IsWellFormed};
+ghost use Rattle.sourcemap_index_model.specs.MapTree.{index_tree, sections_from as sections_of};
 ghost use Rattle.sourcemap_index.specs.Encode.{MapWrites, SectionsWrite, SectionWrites};
 ghost use Rattle.sourcemap_index.specs.Family.{index_value, map_tree, section_value};
 
 use crate::clone::{copy_lines, copy_paths};
 use crate::family::{DecodedMap, SourceMapIndex, SourceMapSection};
 use serde_json::Value;
-use sourcemap_conversions::to_record::checked_id;
 use sourcemap_errors::errors::Result;
-use sourcemap_parts::text_lists::copy_text;
+use sourcemap_map_conversions::to_record::checked_id;
+use sourcemap_map_parts::text_lists::copy_string;
+use sourcemap_map_regular::encode::Encodable;
+use sourcemap_map_regular::write::encode;
 use sourcemap_records::jsontypes::{DebugId, RawSection, RawSectionOffset, RawSourceMap};
-use sourcemap_regular::encode::Encodable;
-use sourcemap_regular::write::encode;
 use std::alloc::Global;
 use std::io::Write;
 
 impl Encodable for DecodedMap {
     ghost encodes = { λ m. RecordAnswer (map_tree m) };
 
-    /// The record of the map. That of a Hermes map has the scopes of its sources as they were read.
-    /// That of an index has version 3 and its sections, each with its offset, its URL and the
-    /// record of its map; file, debug id and bundle lists if there are such. Only want of memory
-    /// refuses.
+    /// The record of the map. A Hermes map keeps the scopes of its sources as they were read. An
+    /// index has version 3, its sections (offset, URL, the record of the map), and file, debug id
+    /// and bundle lists if there are any. The only error is `OutOfMemory`.
     fn as_raw_sourcemap(&self) -> Result<RawSourceMap>
         ensures answer { IsAnswer tree (RecordAnswer (map_tree self.now)) result }
         ensures fine { IfOk result (λ r. IsFine (tree r)) }
@@ -44,7 +43,7 @@ impl Encodable for DecodedMap {
 impl Encodable for SourceMapIndex {
     ghost encodes = { λ i. RecordAnswer (index_tree (index_value i)) };
 
-    /// The record of the index, as by `DecodedMap`.
+    /// The record of the index, as for a `DecodedMap`.
     fn as_raw_sourcemap(&self) -> Result<RawSourceMap>
         ensures answer { IsAnswer tree (RecordAnswer (index_tree (index_value self.now))) result }
         ensures fine { IfOk result (λ r. IsFine (tree r)) }
@@ -56,21 +55,21 @@ impl Encodable for SourceMapIndex {
 }
 
 impl SourceMapIndex {
-    /// The same record as by `as_raw_sourcemap` of an index that is not needed any more: its texts
-    /// and those of its sections are moved. Only want of memory refuses.
+    /// The record of `as_raw_sourcemap`, from an index that is consumed: its texts and those of its
+    /// sections are moved. The only error is `OutOfMemory`.
     pub fn into_raw_sourcemap(self) -> Result<RawSourceMap>
         ensures { IsAnswer tree (RecordAnswer (index_tree (index_value self))) result }
     {
         index_into_record(self)
     }
 
-    /// Writes the index's compact JSON text. A write's fault is `Io`, else only want of memory
-    /// refuses. The clause says that such a text was made. That the writer, which is given away,
-    /// gets all of it and nothing else is tested; `encode_to` promises it of a writer that is lent.
+    /// Writes the index's compact JSON text. An error of the writer is `Io`; the only other one is
+    /// `OutOfMemory`. The writer is consumed, so its contents are tested, not proved; `encode_to`
+    /// proves them of a borrowed writer.
     pub fn to_writer<W: Write + Drop>(&self, writer: W) -> Result<()>
         ensures encoded { OnOk result ((text : List ℕ)
             × IsEncoded (RecordAnswer (index_tree (index_value self.now))) text) }
-        ensures fault { IfErr result (λ e. UnlessMemory e (IsIo e)) }
+        ensures error { IfErr result (λ e. UnlessMemory e (IsIo e)) }
     {
         encode(self.alloc, self, writer)
     }
@@ -116,7 +115,7 @@ fn record_of_section(part: &SourceMapSection) -> Result<RawSection>
         Some(map) => Some(Box::new(part.alloc, record_of_map(map)?)?),
         None => None,
     };
-    let url = copy_text(part.alloc, &part.url)?;
+    let url = copy_string(part.alloc, &part.url)?;
     Ok(RawSection {
         offset: RawSectionOffset { line, column },
         url,
@@ -198,7 +197,7 @@ fn copied_with(index: &SourceMapIndex, sections: Vec<RawSection>) -> Result<RawS
     ensures in_range { OnOk result (AreInRange (index_fields (index_value index.now).parts)) }
 {
     let alloc = index.alloc;
-    let file = copy_text(alloc, &index.file)?;
+    let file = copy_string(alloc, &index.file)?;
     let offsets = copy_lines(alloc, &index.x_facebook_offsets)?;
     let paths = copy_paths(alloc, &index.x_metro_module_paths)?;
     Ok(record_with(file, index.debug_id, offsets, paths, sections))
@@ -252,7 +251,7 @@ fn checked_lines(lines: Option<Vec<Option<u32>>>) -> Option<Vec<Option<u32>>>
     }
 }
 
-// For the prover, which learns of each number alone that it is below 2^32.
+// prover: each number is below 2^32
 fn look_at(numbers: &[Option<u32>])
     ensures { AllByRecursion (λ n. IfSome n FitsU32) numbers.now }
 {

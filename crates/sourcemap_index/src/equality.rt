@@ -5,14 +5,14 @@ ghost use Rattle.std.specs.Ordering.{on};
 ghost use Rattle.std.specs.Option.{option_eq};
 ghost use Rattle.std.specs.Cmp.{on_equiv, partial_equiv_from_equiv};
 ghost use Rattle.std.specs.Cmp.Lexicographic.{pointwise};
-ghost use Rattle.sourcemap_parts.specs.TextLists.{same_text};
-ghost use Rattle.sourcemap_trees.specs.Equality.{same_parts, same_tree};
-ghost use Rattle.sourcemap_trees.proofs.EqualityLemmas.{same_tree_equiv};
+ghost use Rattle.sourcemap_map_parts.specs.TextLists.{same_text};
+ghost use Rattle.sourcemap_index_model.specs.Equality.{same_parts, same_tree};
+ghost use Rattle.sourcemap_index_model.proofs.EqualityLemmas.{same_tree_equiv};
 ghost use Rattle.sourcemap_index.specs.Equality.{same_index, same_index_equiv, same_section, same_section_equiv};
 ghost use Rattle.sourcemap_index.specs.Family.{index_value, map_tree, section_value};
 
 use crate::family::{DecodedMap, SourceMapIndex, SourceMapSection};
-use sourcemap_parts::text_lists::{same_maybe, same_texts};
+use sourcemap_map_parts::text_lists::{same_optional_texts, same_texts};
 
 // Whether both lists of lines are missing, or both are there and hold the same.
 fn same_lines(a: &Option<Vec<Option<u32>>>, b: &Option<Vec<Option<u32>>>) -> bool
@@ -35,15 +35,15 @@ fn same_paths(a: &Option<Vec<String>>, b: &Option<Vec<String>>) -> bool
     }
 }
 
-// Whether all but the sections is the same.
+// Whether all but the sections are equal.
 fn have_same_parts(a: &SourceMapIndex, b: &SourceMapIndex) -> bool
     ensures { result ≡ same_parts (index_value a.now).parts (index_value b.now).parts }
 {
-    let file = same_maybe(&a.file, &b.file);
+    let file = same_optional_texts(&a.file, &b.file);
     let debug_id = a.debug_id == b.debug_id;
     let lines = same_lines(&a.x_facebook_offsets, &b.x_facebook_offsets);
     let paths = same_paths(&a.x_metro_module_paths, &b.x_metro_module_paths);
-    // `&` for the prover: all parts are compared, and without a branch one goal is left
+    // prover: `&` leaves one goal
     file & debug_id & lines & paths
 }
 
@@ -89,7 +89,7 @@ fn are_same_sections(a: &SourceMapSection, b: &SourceMapSection) -> bool
     ensures { result ≡ same_section (section_value a.now) (section_value b.now) }
 {
     let offset = a.offset == b.offset;
-    let url = same_maybe(&a.url, &b.url);
+    let url = same_optional_texts(&a.url, &b.url);
     let map = match (&a.map, &b.map) {
         (Some(map), Some(other)) => are_same_maps(map, other),
         (None, None) => true,
@@ -98,8 +98,7 @@ fn are_same_sections(a: &SourceMapSection, b: &SourceMapSection) -> bool
     offset & url & map
 }
 
-/// Sections are equal exactly if they start at the same place and have the same URL and the same
-/// map.
+/// Sections are equal exactly if their offsets, URLs and maps are.
 impl PartialEq for SourceMapSection {
     ghost eq = { on section_value same_section };
 
@@ -113,8 +112,7 @@ impl PartialEq for SourceMapSection {
     }
 }
 
-/// Indexes are equal exactly if they hold the same: file, debug id, both lists of a bundle, and the
-/// same sections in the same order.
+/// Indexes are equal exactly if their files, debug ids, bundle lists and sections are, in order.
 impl PartialEq for SourceMapIndex {
     ghost eq = { on index_value same_index };
 
@@ -128,7 +126,7 @@ impl PartialEq for SourceMapIndex {
     }
 }
 
-/// Maps are equal exactly if they are of one kind and hold the same.
+/// Maps are equal exactly if they are of one kind and their parts are equal.
 impl PartialEq for DecodedMap {
     ghost eq = { on map_tree same_tree };
 

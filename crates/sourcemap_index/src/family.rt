@@ -1,11 +1,11 @@
-//! The types of maps of any kind, of index maps and of their sections, which name one another.
+//! The types of maps of any kind, index maps and sections, which name one another.
 use sourcemap_hermes::map::SourceMapHermes;
+use sourcemap_map_regular::map::SourceMap;
 use sourcemap_records::jsontypes::DebugId;
-use sourcemap_regular::map::SourceMap;
 use std::alloc::Global;
 
-/// A section of an index map: where it starts in the generated text, and the map of what stands
-/// from there on, or the URL of one. Lines and columns count from 0, columns in UTF-16 units.
+/// A section of an index map: an offset in the generated text, and the map from there on, or its
+/// URL. Lines and columns count from 0, columns in UTF-16 units.
 #[derive(Debug, Drop)]
 #[cycle(family)]
 pub struct SourceMapSection {
@@ -15,7 +15,7 @@ pub struct SourceMapSection {
     pub(crate) alloc: Global,
 }
 
-/// An index map: maps beside one another, each in a section of the generated text.
+/// An index map: a map for each section of the generated text.
 #[derive(Debug, Drop)]
 #[cycle(family)]
 pub struct SourceMapIndex {
@@ -35,6 +35,6 @@ pub enum DecodedMap {
     Regular(SourceMap),
     /// An index map.
     Index(SourceMapIndex),
-    /// A regular map that knows the functions of its sources.
+    /// A regular map with the functions of its sources.
     Hermes(SourceMapHermes),
 }

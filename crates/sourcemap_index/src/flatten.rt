@@ -1,39 +1,39 @@
-//! Index maps made flat: one regular map of all that they hold.
+//! Index maps flattened to one regular map.
 ghost use Rattle.std.specs.Prelude.{◌≡◌, [], List, IfErr, IfOk, OnOk};
 ghost use Rattle.sourcemap_errors.specs.Answer.{IsAnswer};
-ghost use Rattle.sourcemap_regular.specs.Map.{IsWellFormed as IsWellFormedRegular};
-ghost use Rattle.sourcemap_regular.specs.Rewrite.{LeavesMeaning, removal_of};
-ghost use Rattle.sourcemap_trees.specs.Flat.{AnswersLike, FlatAnswer, Piece, SaysFlat, pieces_behind};
-ghost use Rattle.sourcemap_trees.specs.FlatList.{IsOrderly};
-ghost use Rattle.sourcemap_trees.specs.MapTree.{index_tree, sections_from};
-ghost use Rattle.sourcemap_trees.specs.WellFormed.{HasTokensInOrder, IsWellFormed};
-ghost use Rattle.sourcemap_flattening.specs.Gathering.{Gathers, RefusesFor};
+ghost use Rattle.sourcemap_map_regular.specs.Map.{IsWellFormed as IsWellFormedRegular};
+ghost use Rattle.sourcemap_map_regular.specs.Rewrite.{LeavesMeaning, removal_of};
+ghost use Rattle.sourcemap_index_model.specs.Flat.{AnswersLike, FlatAnswer, Piece, SaysFlat, pieces_after};
+ghost use Rattle.sourcemap_index_model.specs.FlatList.{IsOrderly};
+ghost use Rattle.sourcemap_index_model.specs.MapTree.{index_tree, sections_from};
+ghost use Rattle.sourcemap_index_model.specs.WellFormed.{HasTokensInOrder, IsWellFormed};
+ghost use Rattle.sourcemap_index_flatten.specs.Gathering.{Gathers, RefusesFor};
 ghost use Rattle.sourcemap_index.specs.Family.{index_value, map_tree, section_value};
 ghost use Rattle.sourcemap_index.specs.Flatten.{AnswersLess, Gathered, IsSectionInOrder, MadeFlat, MeansFlatLess, RewriteAnswer, SaysFlatLess, map_added, section_added};
 
 use crate::family::{DecodedMap, SourceMapIndex, SourceMapSection};
 use sourcemap_errors::errors::Result;
-use sourcemap_flattening::faults::unresolved;
-use sourcemap_flattening::gathering::{FlatMap, Gathering};
-use sourcemap_regular::map::SourceMap;
-use sourcemap_regular::rewrite::RewriteOptions;
+use sourcemap_index_flatten::errors::unresolved;
+use sourcemap_index_flatten::gathering::{FlatMap, Gathering};
+use sourcemap_map_regular::map::SourceMap;
+use sourcemap_map_regular::rewrite::RewriteOptions;
 use std::alloc::Global;
 use std::rt::Files;
 
 impl SourceMapIndex {
-    /// The index as one regular map: the tokens of all sections, each where its section stands, in
-    /// order, those of one place section by section. Sources, behind their roots, and names are
-    /// there once each; a source has the contents that were given for it last; a source is passed
-    /// over if a map passes over it that a token of it leads to. Of a Hermes map its regular map
-    /// counts, without scopes. The file is that of the index; root and debug id are none.
+    /// The index as one regular map. It has the tokens of all sections, each moved by the offset of
+    /// its section and sorted stably. Each resolved source and each name is there once. A source
+    /// has the last contents given for it, and is on the ignore list if the map of one of its
+    /// tokens ignores it. A Hermes map counts as its regular map, without scopes. The file is that
+    /// of the index; there is no root and no debug id.
     ///
-    /// `CannotFlatten` for the first section, in their order, that has no map, or a map that can't
-    /// be made flat, or brings more than 4294967295 sources or names, or a token that would pass
-    /// the last line or column, 4294967295. Else only `OutOfMemory`.
+    /// The error is `CannotFlatten` for the first section, in order, that has no map, whose map
+    /// cannot be flattened, or that brings more than 4294967295 sources or names or a token past
+    /// line or column 4294967295. Any other error is `OutOfMemory`.
     pub fn flatten(&self) -> Result<SourceMap>
         ensures answer { IsAnswer (λ m. m) (FlatAnswer (index_tree (index_value self.now))) result }
         ensures tokens { IfOk result (SaysFlat (index_tree (index_value self.now))) }
-        // It answers wherever the index does, where no section reaches into the next one.
+        // It answers wherever the index does, if no section reaches into the next one.
         ensures meaning { IfOk result (λ m. IsOrderly (index_tree (index_value self.now))
             → AnswersLike (index_tree (index_value self.now)) m) }
         ensures well_formed { IfOk result (λ m. IsWellFormed (index_tree (index_value self.now))
@@ -43,8 +43,8 @@ impl SourceMapIndex {
         flat.into_map(self.alloc, self.get_file())
     }
 
-    /// The flat map, rewritten: as by `flatten`, and then as by `SourceMap::rewrite`, which with
-    /// `load_local_source_contents` reads sources that have no contents then from files. Returns
+    /// The flat map of `flatten`, rewritten as by `SourceMap::rewrite`. With
+    /// `load_local_source_contents`, contents that are missing then are read from files. Returns
     /// the errors of `flatten` first, then those of `rewrite`: `Io` of kind `InvalidInput` if
     /// contents are to be loaded and the folder is not absolute, else `OutOfMemory` only.
     pub fn flatten_and_rewrite<F: Files>(
@@ -74,37 +74,37 @@ impl SourceMapIndex {
         flat.rewrite(rt, options)
     }
 
-    // What its sections hold, put beside one another.
+    // The maps of all sections, gathered.
     #[cycle(flatten)]
     fn gathered(&self) -> Result<FlatMap<'_>>
         ensures ok { IfOk result
-            (MadeFlat (pieces_behind [] (sections_from (index_value self.now).sections))) }
+            (MadeFlat (pieces_after [] (sections_from (index_value self.now).sections))) }
         ensures in_order { IfOk result (λ _. HasTokensInOrder (index_tree (index_value self.now))) }
         ensures refused { IfErr result
-            (RefusesFor (pieces_behind [] (sections_from (index_value self.now).sections))) }
+            (RefusesFor (pieces_after [] (sections_from (index_value self.now).sections))) }
     {
-        let mut gathering = Gathering::with_room(self.alloc, self.token_room())?;
+        let mut gathering = Gathering::with_capacity(self.alloc, self.token_capacity())?;
         for section in &self.sections {
             section.gather(&mut gathering)?;
         }
         gathering.finish()
     }
 
-    // How many tokens its regular maps bring. No answer depends on it: it saves a growing list from
-    // being copied.
-    fn token_room(&self) -> usize {
-        let mut room: usize = 0;
+    // The number of tokens of all regular maps. No result depends on it; it avoids copies of a
+    // growing list.
+    fn token_capacity(&self) -> usize {
+        let mut capacity: usize = 0;
         for section in &self.sections {
             if let Some(map) = &section.map {
-                room = room.saturating_add(map.token_room());
+                capacity = capacity.saturating_add(map.token_capacity());
             }
         }
-        room
+        capacity
     }
 }
 
 impl SourceMapSection {
-    // Puts the section's map beside those that are gathered.
+    // Adds the section's map to the gathered ones.
     #[cycle(flatten)]
     fn gather<'a>(&'a self, gathering: &mut Gathering<'a>) -> Result<()>
         ensures ok { (before : List Piece) → Gathers before gathering.old
@@ -123,8 +123,8 @@ impl SourceMapSection {
 }
 
 impl DecodedMap {
-    // How many tokens it brings, if it is no index.
-    fn token_room(&self) -> usize {
+    // The number of its tokens; of an index, the sum.
+    fn token_capacity(&self) -> usize {
         match self {
             DecodedMap::Regular(map) => map.get_token_count() as usize,
             DecodedMap::Index(_) => 0,
@@ -132,7 +132,7 @@ impl DecodedMap {
         }
     }
 
-    // Puts the map beside those that are gathered, from this line and column on.
+    // Adds the map to the gathered ones, from this line and column on.
     #[cycle(flatten)]
     fn gather<'a>(
         &'a self,

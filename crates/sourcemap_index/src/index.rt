@@ -10,7 +10,7 @@ use crate::family::{SourceMapIndex, SourceMapSection};
 use crate::section::SourceMapSectionIter;
 use sourcemap_errors::errors::Result;
 use sourcemap_records::jsontypes::DebugId;
-use sourcemap_texts::copies::owned;
+use sourcemap_texts::copies::copy_text;
 use std::alloc::Global;
 
 impl SourceMapIndex {
@@ -18,8 +18,8 @@ impl SourceMapIndex {
     ghost use Rattle.sourcemap_index.specs.Index.{index_made, with_file, with_debug_id, LendsSection};
     ghost use Rattle.sourcemap_index.specs.Section.{sections_left};
 
-    /// An index of these sections, without bundle lists and debug id. A position is found if the
-    /// sections stand in order of their offsets.
+    /// An index of these sections, without bundle lists and debug id. Lookups require sections
+    /// sorted by offset.
     pub fn new(alloc: Global, file: Option<String>, sections: Vec<SourceMapSection>) -> Self
         ensures { index_value result
             ≡ index_made (text_view file) (map section_value sections.items) None None }
@@ -58,38 +58,38 @@ impl SourceMapIndex {
         self.file.as_deref()
     }
 
-    /// Sets the name of the generated file. Only want of memory refuses, and then nothing is
-    /// changed.
+    /// Sets the name of the generated file. The only error is `OutOfMemory`; the index is then
+    /// unchanged.
     pub fn set_file(&mut self, file: Option<&str>) -> Result<()>
         ensures { Changes result (index_value self.old) (index_value self.new)
             (with_file (index_value self.old) (option_copied file.entry)) }
     {
-        self.file = owned(self.alloc, file)?;
+        self.file = copy_text(self.alloc, file)?;
         Ok(())
     }
 
-    // The identifier that ties the map to its file.
+    // The debug id.
     pub(crate) fn debug_id(&self) -> Option<DebugId>
         ensures { result ≡ (index_value self.now).parts.debug_id }
     {
         self.debug_id
     }
 
-    // Sets the identifier that ties the map to its file.
+    // Sets the debug id.
     pub(crate) fn set_debug_id(&mut self, debug_id: Option<DebugId>)
         ensures { index_value self.new ≡ with_debug_id (index_value self.old) debug_id }
     {
         self.debug_id = debug_id;
     }
 
-    /// How many sections there are; 4294967295 stands for more, too.
+    /// The number of sections, at most 4294967295.
     pub fn get_section_count(&self) -> u32
         ensures { result ≡ min (length (index_value self.now).sections) 4294967295 }
     {
         u32::try_from(self.sections.len()).unwrap_or(u32::MAX)
     }
 
-    /// The section with this id, from 0 on in the order of the index; `None` if there is none.
+    /// The section with this id, counted from 0, or `None`.
     pub fn get_section(&self, id: u32) -> Option<&SourceMapSection>
         ensures { option_map (λ s. section_value s.now) result
             ≡ slice_get (index_value self.now).sections id }
@@ -97,7 +97,7 @@ impl SourceMapIndex {
         self.sections.get(id as usize)
     }
 
-    /// The section with this id, if there is one, to be changed in its place.
+    /// The section with this id, borrowed mutably, or `None`.
     pub fn get_section_mut(&mut self, id: u32) -> Option<&mut SourceMapSection>
         ensures* writes_back { sem 𝓛 (LendsSection self.entry id result) }
         ensures value { option_map (λ s. section_value s.now) result
@@ -120,12 +120,12 @@ impl SourceMapIndex {
         ensures { Decides result (((index_value self.now).parts.x_facebook_offsets ≢ None)
             × ((index_value self.now).parts.x_metro_module_paths ≢ None)) }
     {
-        // `&` for the prover: both sides are cheap, and without a branch one goal is left
+        // prover: `&` leaves one goal
         self.x_facebook_offsets.is_some() & self.x_metro_module_paths.is_some()
     }
 
-    /// The line, from 0, at which each module of a bundle starts, if the index has that list; in it
-    /// `None` stands for a number without a module.
+    /// The line, from 0, at which each module of a bundle starts, if the index has that list.
+    /// `None` in it is a number without a module.
     pub fn x_facebook_offsets(&self) -> Option<&[Option<u32>]>
         ensures { option_map (λ xs. xs.now) result
             ≡ (index_value self.now).parts.x_facebook_offsets }

@@ -3,16 +3,16 @@ ghost use Rattle.std.specs.Prelude.{◌≡◌, ◌≤◌, false, List, Ok, ℕ, 
 ghost use Rattle.serde_json.specs.Data.{Data};
 ghost use Rattle.serde_json.specs.Written.{has_float};
 ghost use Rattle.sourcemap_headers.specs.DataUrl.{Holds};
-ghost use Rattle.sourcemap_records.specs.Bytes.{BytesStandFor, UrlStandsFor, ValueStandsFor};
-ghost use Rattle.sourcemap_regular.specs.Decode.{RegularDecodes};
-ghost use Rattle.sourcemap_regular.specs.Encode.{ReadsBack};
-ghost use Rattle.sourcemap_regular.specs.Map.{MapValue};
-ghost use Rattle.sourcemap_regular.specs.Write.{IsEncoded};
-ghost use Rattle.sourcemap_trees.specs.Encode.{RecordAnswer, Restores};
+ghost use Rattle.sourcemap_records.specs.Bytes.{BytesHaveResult, UrlHasResult, ValueHasResult};
+ghost use Rattle.sourcemap_map_regular.specs.Decode.{RegularDecodes};
+ghost use Rattle.sourcemap_map_regular.specs.Encode.{ReadsBack};
+ghost use Rattle.sourcemap_map_regular.specs.Map.{MapValue};
+ghost use Rattle.sourcemap_map_regular.specs.Write.{IsEncoded};
+ghost use Rattle.sourcemap_index_model.specs.Encode.{RecordAnswer, Restores};
 ghost use Rattle.sourcemap_hermes.specs.Decode.{OnlyHermesDecodes};
 ghost use Rattle.sourcemap_hermes.specs.Map.{HermesValue};
-ghost use Rattle.sourcemap_trees.specs.MapTree.{MapTree, hermes, leaf, regular};
-ghost use Rattle.sourcemap_trees.specs.WellFormed.{HasTokensInOrder, IsWellFormed};
+ghost use Rattle.sourcemap_index_model.specs.MapTree.{MapTree, hermes, leaf, regular};
+ghost use Rattle.sourcemap_index_model.specs.WellFormed.{HasTokensInOrder, IsWellFormed};
 ghost use Rattle.sourcemap_index.specs.Decode.{BytesDecode, UrlDecodes, ValueDecodes};
 ghost use Rattle.sourcemap_index.specs.DecodedMap.{IsShallow, IsTextOf, IsValueOf, levels};
 
@@ -20,26 +20,26 @@ ghost use Rattle.sourcemap_index.specs.DecodedMap.{IsShallow, IsTextOf, IsValueO
 /// a map of any kind.
 pub fn regular_maps_are_of_a_kind()
     ensures values { (d : Data) (m : MapValue)
-        → ValueStandsFor RegularDecodes d (Ok m) ↔ ValueDecodes d (Ok (leaf (regular m))) }
+        → ValueHasResult RegularDecodes d (Ok m) ↔ ValueDecodes d (Ok (leaf (regular m))) }
     ensures bytes { (bytes : List ℕ) (m : MapValue)
-        → BytesStandFor RegularDecodes bytes (Ok m) ↔ BytesDecode bytes (Ok (leaf (regular m))) }
+        → BytesHaveResult RegularDecodes bytes (Ok m) ↔ BytesDecode bytes (Ok (leaf (regular m))) }
     ensures urls { (url : List ℕ) (m : MapValue)
-        → UrlStandsFor RegularDecodes url (Ok m) ↔ UrlDecodes url (Ok (leaf (regular m))) }
+        → UrlHasResult RegularDecodes url (Ok m) ↔ UrlDecodes url (Ok (leaf (regular m))) }
 {}
 
-/// A law: so it is with Hermes maps.
+/// A law: the same of Hermes maps.
 pub fn hermes_maps_are_of_a_kind()
     ensures values { (d : Data) (h : HermesValue)
-        → ValueStandsFor OnlyHermesDecodes d (Ok h) ↔ ValueDecodes d (Ok (leaf (hermes h))) }
+        → ValueHasResult OnlyHermesDecodes d (Ok h) ↔ ValueDecodes d (Ok (leaf (hermes h))) }
     ensures bytes { (bytes : List ℕ) (h : HermesValue)
-        → BytesStandFor OnlyHermesDecodes bytes (Ok h)
+        → BytesHaveResult OnlyHermesDecodes bytes (Ok h)
         ↔ BytesDecode bytes (Ok (leaf (hermes h))) }
     ensures urls { (url : List ℕ) (h : HermesValue)
-        → UrlStandsFor OnlyHermesDecodes url (Ok h) ↔ UrlDecodes url (Ok (leaf (hermes h))) }
+        → UrlHasResult OnlyHermesDecodes url (Ok h) ↔ UrlDecodes url (Ok (leaf (hermes h))) }
 {}
 
-/// A law: the map that a JSON value, bytes or a data URL stand for is well-formed, and has its tokens
-/// in order, which is what the laws of flat maps ask of it.
+/// A law: the map that a JSON value, bytes or a data URL stand for is well-formed, and has its
+/// tokens in order, as the laws of flat maps require.
 pub fn read_maps_are_well_formed()
     ensures values { (d : Data) (t : MapTree) → ValueDecodes d (Ok t)
         → IsWellFormed t × HasTokensInOrder t }
@@ -62,15 +62,15 @@ pub fn encoded_texts_are_compact()
     ensures { (t : MapTree) (text : List ℕ) → IsEncoded (RecordAnswer t) text → IsTextOf t text }
 {}
 
-/// A law: what a map is written as has few levels, and a reader of JSON takes them, where at most
-/// 40 indexes stand in one another.
+/// A law: a map in which at most 40 indexes are nested is written as JSON of few enough levels to
+/// be read.
 pub fn maps_of_forty_levels_are_shallow()
     ensures { (t : MapTree) → levels t ≤ 40 → IsShallow t }
 {}
 
 /// A law: the bytes that a well-formed map of any kind is written as, and a data URL of them, stand
-/// for a map of the same meaning at every position, with all parts kept, where a reader of JSON
-/// takes as many levels.
+/// for a map of the same meaning at every position, with all parts kept. It requires JSON of few
+/// enough levels to be read.
 pub fn encoded_texts_read_back()
     ensures bytes { (t : MapTree) (text : List ℕ)
         → IsEncoded (RecordAnswer t) text → IsWellFormed t → IsShallow t

@@ -1,5 +1,4 @@
-//! Maps of any kind: which map a record, a value, bytes or a data URL hold, and what can be asked
-//! of it without knowing its kind.
+//! Maps of any kind, decoded from records, JSON values, bytes and data URLs, and their calls.
 #![tactic(auto)]
 
 mod clone;

@@ -2,21 +2,21 @@
 ghost use Rattle.std.specs.Prelude.{◌≡◌};
 ghost use Rattle.std.specs.Option.{option_copied};
 ghost use Rattle.sourcemap_hermes.specs.Map.{hermes_value};
-ghost use Rattle.sourcemap_trees.specs.MapTree.{index_tree};
-ghost use Rattle.sourcemap_trees.specs.WellFormed.{IsInOrder};
+ghost use Rattle.sourcemap_index_model.specs.MapTree.{index_tree};
+ghost use Rattle.sourcemap_index_model.specs.WellFormed.{IsInOrder};
 ghost use Rattle.sourcemap_index.specs.Names.{AreNamesInOrder, IsInOrderInBytecode, function_name, guessed_in, name_in_bytecode};
 
 use crate::family::{DecodedMap, SourceMapIndex};
 use sourcemap_hermes::map::SourceMapHermes;
-use sourcemap_views::sourceview::SourceView;
+use sourcemap_source_views::sourceview::SourceView;
 
 impl SourceMapIndex {
     ghost use Rattle.sourcemap_index.specs.Family.{index_value};
 
-    /// The original name of the function that stands at a line and a column of the generated text,
-    /// both from 0, the column in UTF-16 units, as by `SourceMap::get_original_function_name`. The
-    /// walk begins at the token that `lookup_token` finds, and goes back along the map of its
-    /// section alone; tokens stand in the view where that map has them. It takes no memory.
+    /// The original name of the function at a generated position, as by
+    /// `SourceMap::get_original_function_name`. The walk begins at the token that `lookup_token`
+    /// returns and goes back along the map of its section alone, whose positions count in the view.
+    /// Allocates nothing.
     pub fn get_original_function_name(
         &self,
         line: u32,
@@ -36,11 +36,10 @@ impl SourceMapIndex {
 impl DecodedMap {
     ghost use Rattle.sourcemap_index.specs.Family.{map_tree};
 
-    /// The original name of the function that stands at a line and a column of the generated text,
-    /// both from 0, the column in UTF-16 units. A Hermes map has it for a column of line 0, the
-    /// bytecode, and for no other line, and looks at neither the minified name nor the view. Other
-    /// maps guess it by the minified name in a view of the generated text, as by the call of their
-    /// kind; without both there is none. It takes no memory.
+    /// The original name of the function at a generated position. A Hermes map has one for columns
+    /// of line 0, the bytecode, alone, and ignores the minified name and the view. Other maps guess
+    /// it by the minified name in a view of the generated text; without both the result is `None`.
+    /// Allocates nothing.
     pub fn get_original_function_name(
         &self,
         line: u32,

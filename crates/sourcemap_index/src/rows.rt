@@ -1,13 +1,13 @@
 //! The sections of an index map moved down.
 ghost use Rattle.std.specs.Prelude.{◌≡◌, map};
 ghost use Rattle.std.specs.Bool.{Decides, MatchBool};
-ghost use Rattle.sourcemap_trees.specs.Shift.{HaveRowsLeft, shifted};
+ghost use Rattle.sourcemap_index_model.specs.Shift.{HaveRowsLeft, shifted};
 ghost use Rattle.sourcemap_index.specs.Family.{index_value, section_value};
 ghost use Rattle.sourcemap_index.specs.Rows.{with_sections};
 
 use crate::family::{SourceMapIndex, SourceMapSection};
 
-// Whether each section may stand so many rows further down.
+// Whether each section can be moved down by so many rows.
 fn have_rows_left(sections: &[SourceMapSection], rows: u32) -> bool
     ensures { Decides result (HaveRowsLeft rows (map section_value sections.now)) }
 {
@@ -19,7 +19,7 @@ fn have_rows_left(sections: &[SourceMapSection], rows: u32) -> bool
     true
 }
 
-// Moves each section down by so many rows, which it has left.
+// Moves each section down by so many rows.
 fn move_down(sections: &mut [SourceMapSection], rows: u32)
     ensures { HaveRowsLeft rows (map section_value sections.old)
         → map section_value sections.new ≡ shifted rows (map section_value sections.old) }
@@ -30,9 +30,8 @@ fn move_down(sections: &mut [SourceMapSection], rows: u32)
 }
 
 impl SourceMapIndex {
-    /// Moves each section down by so many rows, and answers true; where a section would come to
-    /// stand on a row beyond 4294967295, answers false, and nothing is changed. Maps of sections
-    /// and the lists of a bundle stay as they are.
+    /// Moves each section down by so many rows and returns true. Returns false, and changes
+    /// nothing, if a section would pass row 4294967295. Maps of sections and bundle lists stay.
     pub fn adjust_sections_offset_rows(&mut self, rows: u32) -> bool
         ensures possible { Decides result (HaveRowsLeft rows (index_value self.old).sections) }
         ensures value { MatchBool result (index_value self.new

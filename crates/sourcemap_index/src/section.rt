@@ -4,11 +4,11 @@ ghost use Rattle.std.specs.Option.{option_copied};
 ghost use Rattle.std.specs.Borrow.{sem};
 ghost use Rattle.sourcemap_errors.specs.Answer.{Gives, Changes};
 ghost use Rattle.sourcemap_records.specs.Jsontypes.{text_view};
-ghost use Rattle.sourcemap_trees.specs.MapTree.{section_offset};
+ghost use Rattle.sourcemap_index_model.specs.MapTree.{section_offset};
 
 use crate::family::{DecodedMap, SourceMapSection};
 use sourcemap_errors::errors::Result;
-use sourcemap_texts::copies::owned;
+use sourcemap_texts::copies::copy_text;
 use std::alloc::Global;
 
 // A map on the heap.
@@ -25,8 +25,8 @@ impl SourceMapSection {
     ghost use Rattle.sourcemap_index.specs.Family.{map_tree, section_value};
     ghost use Rattle.sourcemap_index.specs.Section.{section_made, with_url, with_map, LendsMap};
 
-    /// A section that starts at this line and column of the generated text, with the map of what
-    /// stands from there on, the URL of one, both or neither. Only want of memory refuses.
+    /// A section from this line and column of the generated text on, with its map, the URL of the
+    /// map, both or neither. The only error is `OutOfMemory`.
     pub fn new(
         alloc: Global,
         offset: (u32, u32),
@@ -47,14 +47,14 @@ impl SourceMapSection {
 
     /// The line, from 0, on which the section starts.
     pub fn get_offset_line(&self) -> u32
-        ensures { result ≡ (section_value self.now).place.line }
+        ensures { result ≡ (section_value self.now).head.line }
     {
         self.offset.0
     }
 
     /// The column, from 0 and in UTF-16 units, at which the section starts.
     pub fn get_offset_col(&self) -> u32
-        ensures { result ≡ (section_value self.now).place.column }
+        ensures { result ≡ (section_value self.now).head.column }
     {
         self.offset.1
     }
@@ -69,17 +69,18 @@ impl SourceMapSection {
 
     /// The URL of the section's map, if the section has one.
     pub fn get_url(&self) -> Option<&str>
-        ensures { option_copied result ≡ (section_value self.now).place.url }
+        ensures { option_copied result ≡ (section_value self.now).head.url }
     {
         self.url.as_deref()
     }
 
-    /// Sets the URL of the section's map. Only want of memory refuses, and then nothing is changed.
+    /// Sets the URL of the section's map. The only error is `OutOfMemory`; the section is then
+    /// unchanged.
     pub fn set_url(&mut self, url: Option<&str>) -> Result<()>
         ensures { Changes result (section_value self.old) (section_value self.new)
             (with_url (section_value self.old) (option_copied url.entry)) }
     {
-        self.url = owned(self.alloc, url)?;
+        self.url = copy_text(self.alloc, url)?;
         Ok(())
     }
 
@@ -90,7 +91,7 @@ impl SourceMapSection {
         self.map.as_deref()
     }
 
-    /// The map of the section, if it has one, to be changed in its place.
+    /// The map of the section, borrowed mutably, or `None`.
     pub fn get_sourcemap_mut(&mut self) -> Option<&mut DecodedMap>
         ensures* writes_back { sem 𝓛 (LendsMap self.entry result) }
         ensures value { option_map (λ m. map_tree m.now) result ≡ (section_value self.old).map }
@@ -101,8 +102,8 @@ impl SourceMapSection {
         }
     }
 
-    /// Sets the map of the section. Only want of memory refuses: then the section is unchanged, and
-    /// the map that was given is let go.
+    /// Sets the map of the section. The only error is `OutOfMemory`; the section is then unchanged,
+    /// and the given map is dropped.
     pub fn set_sourcemap(&mut self, map: Option<DecodedMap>) -> Result<()>
         ensures { Changes result (section_value self.old) (section_value self.new)
             (with_map (section_value self.old) (option_map map_tree map)) }

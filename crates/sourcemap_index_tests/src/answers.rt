@@ -1,6 +1,6 @@
-// Index maps that answer by their parts.
+// Getters of index maps.
 use crate::checks::check;
-use crate::debug_ids::id_told;
+use crate::debug_ids::id_text;
 use crate::maps::map_of;
 use sourcemap::errors::{Error, Result};
 use sourcemap::types::{DecodedMap, SourceMapIndex};
@@ -9,13 +9,13 @@ use std::alloc::Global;
 const FULL: &str =
     r#"{"version":3,"file":"out.js","debugId":"0123456789abcdef0123456789abcdef","x_facebook_offsets":[5,null],"x_metro_module_paths":["a.js"],"sections":[{"offset":{"line":2,"column":0},"map":{"mappings":""}},{"offset":{"line":1,"column":4},"url":"u"}]}"#;
 
-// Sections that do not stand in the order of their offsets.
+// Sections that are not sorted by offset.
 const UNSORTED: &str =
     r#"{"sections":[{"offset":{"line":10,"column":4},"map":{"sources":["b.js"],"mappings":"AAAA"}},{"offset":{"line":0,"column":0},"url":"u"}]}"#;
 
-// What is asked of the map.
+// The getter called.
 #[derive(Clone, Copy)]
-enum Question {
+enum Getter {
     Parts,
     Lists,
     DebugId,
@@ -23,19 +23,19 @@ enum Question {
     Section(u32),
 }
 
-fn parts_told(alloc: Global, index: &SourceMapIndex) -> Result<String> {
+fn parts_as_text(alloc: Global, index: &SourceMapIndex) -> Result<String> {
     let counts = (index.get_section_count(), index.sections().count());
     Ok(format!(in alloc; "{:?} {counts:?}", index.get_file())?)
 }
 
 /// The lists of a bundle, and whether the index is one.
-pub fn lists_told(alloc: Global, index: &SourceMapIndex) -> Result<String> {
+pub fn lists_text(alloc: Global, index: &SourceMapIndex) -> Result<String> {
     let offsets = index.x_facebook_offsets();
     let paths = index.x_metro_module_paths();
     Ok(format!(in alloc; "{offsets:?} {paths:?} {}", index.is_for_ram_bundle())?)
 }
 
-fn section_told(alloc: Global, index: &SourceMapIndex, id: u32) -> Result<String> {
+fn section_text(alloc: Global, index: &SourceMapIndex, id: u32) -> Result<String> {
     let Some(section) = index.get_section(id) else {
         return Ok(String::from_str(alloc, "none")?);
     };
@@ -49,63 +49,63 @@ fn section_told(alloc: Global, index: &SourceMapIndex, id: u32) -> Result<String
     )?)
 }
 
-fn told(alloc: Global, map: &DecodedMap, question: Question) -> Result<String> {
+fn describe(alloc: Global, map: &DecodedMap, getter: Getter) -> Result<String> {
     let DecodedMap::Index(index) = map else {
         return Err(Error::IncompatibleSourceMap);
     };
-    match question {
-        Question::Parts => parts_told(alloc, index),
-        Question::Lists => lists_told(alloc, index),
-        Question::DebugId => id_told(alloc, map),
-        Question::Section(id) => section_told(alloc, index, id),
+    match getter {
+        Getter::Parts => parts_as_text(alloc, index),
+        Getter::Lists => lists_text(alloc, index),
+        Getter::DebugId => id_text(alloc, map),
+        Getter::Section(id) => section_text(alloc, index, id),
     }
 }
 
-fn answer(alloc: Global, text: &str, question: Question) -> Result<String> {
-    told(alloc, &*map_of(alloc, text)?, question)
+fn answer(alloc: Global, text: &str, getter: Getter) -> Result<String> {
+    describe(alloc, &*map_of(alloc, text)?, getter)
 }
 
-// An index, a question, and the answer.
-static ANSWERS: [(&str, Question, &str); 13] = [
-    (FULL, Question::Parts, r#"Some("out.js") (2, 2)"#),
+// An index map, a getter, and its result.
+static ANSWERS: [(&str, Getter, &str); 13] = [
+    (FULL, Getter::Parts, r#"Some("out.js") (2, 2)"#),
     (
         FULL,
-        Question::Lists,
+        Getter::Lists,
         r#"Some([Some(5), None]) Some(["a.js"]) true"#,
     ),
     (
         FULL,
-        Question::DebugId,
+        Getter::DebugId,
         "01234567-89ab-cdef-0123-456789abcdef",
     ),
-    (FULL, Question::Section(0), r#"1 4 (1, 4) Some("u") false"#),
-    (FULL, Question::Section(1), "2 0 (2, 0) None true"),
-    (FULL, Question::Section(2), "none"),
+    (FULL, Getter::Section(0), r#"1 4 (1, 4) Some("u") false"#),
+    (FULL, Getter::Section(1), "2 0 (2, 0) None true"),
+    (FULL, Getter::Section(2), "none"),
     // Sections are numbered in the order of their offsets, and not of the text.
     (
         UNSORTED,
-        Question::Section(0),
+        Getter::Section(0),
         r#"0 0 (0, 0) Some("u") false"#,
     ),
-    (UNSORTED, Question::Section(1), "10 4 (10, 4) None true"),
-    (r#"{"sections":[]}"#, Question::Parts, "None (0, 0)"),
-    (r#"{"sections":[]}"#, Question::Lists, "None None false"),
-    (r#"{"sections":[]}"#, Question::DebugId, "none"),
+    (UNSORTED, Getter::Section(1), "10 4 (10, 4) None true"),
+    (r#"{"sections":[]}"#, Getter::Parts, "None (0, 0)"),
+    (r#"{"sections":[]}"#, Getter::Lists, "None None false"),
+    (r#"{"sections":[]}"#, Getter::DebugId, "none"),
     (
         r#"{"sections":[],"x_facebook_offsets":[]}"#,
-        Question::Lists,
+        Getter::Lists,
         "Some([]) None false",
     ),
     (
         r#"{"sections":[],"x_metro_module_paths":[]}"#,
-        Question::Lists,
+        Getter::Lists,
         "None Some([]) false",
     ),
 ];
 
 #[test]
-fn indexes_answer_by_their_parts(rt: HostRuntime) {
-    for (text, question, want) in ANSWERS.iter() {
-        check(&rt, want, answer(rt.alloc(), text, *question), want);
+fn getters_return_parts(rt: HostRuntime) {
+    for (text, getter, want) in ANSWERS.iter() {
+        check(&rt, want, answer(rt.alloc(), text, *getter), want);
     }
 }

@@ -1,15 +1,16 @@
-// Index maps that are made of parts, and changed in one of them.
-use crate::answers::lists_told;
+// Index maps made of parts, and changes of one part.
+use crate::answers::lists_text;
 use crate::checks::check;
-use crate::decoding::sections_told;
-use crate::maps::{boxed, map_of, record_told};
+use crate::decoding::sections_text;
+use crate::maps::{map_of, record_text};
 use sourcemap::decoder::decode_slice;
 use sourcemap::encoder::Encodable;
 use sourcemap::errors::{Error, Result};
 use sourcemap::types::{DecodedMap, SourceMapIndex, SourceMapSection};
+use sourcemap_test_support::results::boxed;
 use std::alloc::Global;
 
-// What is done to an index of two sections, or to one of them.
+// A change of an index map of two sections, or of one of the sections.
 #[derive(Clone, Copy)]
 enum Change {
     Nothing,
@@ -18,7 +19,7 @@ enum Change {
     Url(u32),
     // the map of the section of this number is taken away
     Map(u32),
-    // the section of this number gets an index of no section in place of its map
+    // the section of this number gets an index of no section instead of its map
     NewMap(u32),
     // the debug id of the map of the section of this number is taken away
     DebugId(u32),
@@ -104,7 +105,7 @@ fn has_debug_id(section: Option<&SourceMapSection>) -> bool {
     }
 }
 
-// Makes a change. Where memory runs out, the index is to be as before, and the change is made again.
+// Makes a change. If out of memory, the index must be unchanged, and the change is repeated.
 fn apply_beside(
     alloc: Global,
     index: &mut SourceMapIndex,
@@ -126,15 +127,15 @@ fn apply_whole(alloc: Global, index: &mut SourceMapIndex, change: Change) -> Res
     apply_beside(alloc, index, &*before, change)
 }
 
-fn change_told(alloc: Global, index: &mut SourceMapIndex, change: Change) -> Result<String> {
+fn change_text(alloc: Global, index: &mut SourceMapIndex, change: Change) -> Result<String> {
     apply_whole(alloc, index, change)?;
-    let sections = sections_told(alloc, index)?;
+    let sections = sections_text(alloc, index)?;
     let has_id = has_debug_id(index.get_section(1));
     Ok(format!(in alloc; "{:?} {sections} {has_id}", index.get_file())?)
 }
 
 fn changed(alloc: Global, change: Change) -> Result<String> {
-    change_told(alloc, &mut *made(alloc)?, change)
+    change_text(alloc, &mut *made(alloc)?, change)
 }
 
 // A change, and what the index is afterwards.
@@ -219,14 +220,14 @@ fn paths(alloc: Global) -> Result<Vec<String>> {
     Ok(paths)
 }
 
-fn bundle_told(alloc: Global) -> Result<String> {
-    lists_told(alloc, &*bundled(alloc)?)
+fn bundle_text(alloc: Global) -> Result<String> {
+    lists_text(alloc, &*bundled(alloc)?)
 }
 
 #[test]
 fn indexes_are_made_for_bundles(rt: HostRuntime) {
     let want = r#"Some([Some(5), None]) Some(["a.js"]) true"#;
-    check(&rt, "a bundle", bundle_told(rt.alloc()), want);
+    check(&rt, "a bundle", bundle_text(rt.alloc()), want);
 }
 
 fn empty(alloc: Global) -> Result<Box<SourceMapIndex>> {
@@ -245,27 +246,27 @@ fn is_read_from(alloc: Global, text: &str, index: &SourceMapIndex) -> Result<boo
 }
 
 // The text that an index is written as, and whether it is read back as the same index.
-fn writing_told(alloc: Global, index: &SourceMapIndex) -> Result<String> {
-    let text = record_told(alloc, index.as_raw_sourcemap())?;
+fn writing_text(alloc: Global, index: &SourceMapIndex) -> Result<String> {
+    let text = record_text(alloc, index.as_raw_sourcemap())?;
     let is_read_back = is_read_from(alloc, text.as_str(), index)?;
     Ok(format!(in alloc; "{text} {is_read_back}")?)
 }
 
-fn made_index_told(alloc: Global, index: Result<Box<SourceMapIndex>>) -> Result<String> {
-    writing_told(alloc, &*index?)
+fn made_index_text(alloc: Global, index: Result<Box<SourceMapIndex>>) -> Result<String> {
+    writing_text(alloc, &*index?)
 }
 
 #[test]
 fn indexes_of_no_section_are_written_and_read_back(rt: HostRuntime) {
     let alloc = rt.alloc();
     let want = r#"{"file":"test.js","sections":[],"sources":null,"version":3} true"#;
-    check(&rt, "a file", made_index_told(alloc, empty(alloc)), want);
+    check(&rt, "a file", made_index_text(alloc, empty(alloc)), want);
     let want =
         r#"{"sections":[],"sources":null,"version":3,"x_facebook_offsets":[5,null],"x_metro_module_paths":["a.js"]} true"#;
     check(
         &rt,
         "a bundle",
-        made_index_told(alloc, bundled(alloc)),
+        made_index_text(alloc, bundled(alloc)),
         want,
     );
 }

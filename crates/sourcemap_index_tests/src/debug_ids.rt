@@ -1,16 +1,17 @@
 // Debug ids of index maps: read under either key, set, taken away and written.
 use crate::changes::filed;
-use crate::checks::{check, fault_told};
-use crate::maps::{boxed, map_of, value_told};
+use crate::checks::check;
+use crate::maps::{map_of, value_text};
 use sourcemap::errors::Result;
 use sourcemap::jsontypes::DebugId;
 use sourcemap::types::DecodedMap;
+use sourcemap_test_support::results::{boxed, error_of};
 use std::alloc::Global;
 
 const ID: &str = "0123456789abcdef0123456789abcdef";
 
 /// The debug id of a map.
-pub fn id_told(alloc: Global, map: &DecodedMap) -> Result<String> {
+pub fn id_text(alloc: Global, map: &DecodedMap) -> Result<String> {
     match map.debug_id() {
         None => Ok(String::from_str(alloc, "none")?),
         Some(id) => Ok(format!(in alloc; "{id}")?),
@@ -19,22 +20,22 @@ pub fn id_told(alloc: Global, map: &DecodedMap) -> Result<String> {
 
 // The debug id of a map, and the text that it is written as.
 fn id_and_text(alloc: Global, map: &DecodedMap) -> Result<String> {
-    let id = id_told(alloc, map)?;
-    let text = value_told(alloc, map.to_value())?;
+    let id = id_text(alloc, map)?;
+    let text = value_text(alloc, map.to_value())?;
     Ok(format!(in alloc; "{id} {text}")?)
 }
 
 fn read(alloc: Global, text: &str) -> Result<String> {
     match map_of(alloc, text) {
         Ok(map) => id_and_text(alloc, &*map),
-        fault => fault_told(alloc, fault),
+        error => error_of(alloc, error),
     }
 }
 
 const BOTH: &str =
     r#"{"sections":[],"debug_id":"11111111-1111-1111-1111-111111111111","debugId":"00000000-0000-0000-0000-000000000000"}"#;
 
-// The text of an index, and its debug id beside the text that it is written as, or the fault.
+// The text of an index, and its debug id beside the text that it is written as, or the error.
 static READ: [(&str, &str); 8] = [
     (
         r#"{"sections":[]}"#,
@@ -49,7 +50,7 @@ static READ: [(&str, &str); 8] = [
         r#"{"sections":[],"debug_id":"0123456789abcdef0123456789abcdef"}"#,
         r#"01234567-89ab-cdef-0123-456789abcdef {"debugId":"01234567-89ab-cdef-0123-456789abcdef","sections":[],"sources":null,"version":3}"#,
     ),
-    // Of both keys the newer one counts, wherever it stands.
+    // The newer key is used, in any order.
     (
         BOTH,
         r#"00000000-0000-0000-0000-000000000000 {"debugId":"00000000-0000-0000-0000-000000000000","sections":[],"sources":null,"version":3}"#,
@@ -63,7 +64,7 @@ static READ: [(&str, &str); 8] = [
         r#"{"sections":[],"debug_id":"11111111-1111-1111-1111-111111111111","debugId":null}"#,
         r#"11111111-1111-1111-1111-111111111111 {"debugId":"11111111-1111-1111-1111-111111111111","sections":[],"sources":null,"version":3}"#,
     ),
-    // Both keys are read, so what is no id is a fault under either.
+    // Both keys are read, so what is no id is an error under either.
     (
         r#"{"sections":[],"debugId":"0123456789abcdef"}"#,
         "bad json: a field has the wrong type",
@@ -81,13 +82,13 @@ fn debug_ids_of_indexes_are_read(rt: HostRuntime) {
     }
 }
 
-fn told_with(alloc: Global, map: &mut DecodedMap, id: Option<&str>) -> Result<String> {
+fn text_with(alloc: Global, map: &mut DecodedMap, id: Option<&str>) -> Result<String> {
     map.set_debug_id(id.and_then(|id| DebugId::parse(id)));
     id_and_text(alloc, map)
 }
 
 fn set(alloc: Global, text: &str, id: Option<&str>) -> Result<String> {
-    told_with(alloc, &mut *map_of(alloc, text)?, id)
+    text_with(alloc, &mut *map_of(alloc, text)?, id)
 }
 
 // The text of an index, the debug id that it gets, and its debug id then beside the text that it is
@@ -131,7 +132,7 @@ fn made(alloc: Global) -> Result<Box<DecodedMap>> {
 
 // An index that was made gets a debug id: whether it had none before, and whether it is then the map
 // of a text with that id, and has it.
-fn made_told(alloc: Global, map: &mut DecodedMap) -> Result<String> {
+fn made_text(alloc: Global, map: &mut DecodedMap) -> Result<String> {
     let had_none = map.debug_id().is_none();
     map.set_debug_id(DebugId::parse(ID));
     let text =
@@ -142,7 +143,7 @@ fn made_told(alloc: Global, map: &mut DecodedMap) -> Result<String> {
 }
 
 fn made_with_id(alloc: Global) -> Result<String> {
-    made_told(alloc, &mut *made(alloc)?)
+    made_text(alloc, &mut *made(alloc)?)
 }
 
 #[test]

@@ -1,12 +1,12 @@
-// Texts and data URLs that are read as index maps, and what is refused.
-use crate::checks::{check, fault_told};
-use crate::maps::boxed;
+// Decoding of index maps from texts and data URLs, and its errors.
+use crate::checks::check;
 use sourcemap::decoder::{decode, decode_data_url, decode_slice, decode_vec};
 use sourcemap::errors::Result;
 use sourcemap::types::{DecodedMap, SourceMapIndex, SourceMapSection};
+use sourcemap_test_support::results::{boxed, error_of};
 use std::alloc::Global;
 
-fn section_told(alloc: Global, section: &SourceMapSection) -> Result<String> {
+fn section_text(alloc: Global, section: &SourceMapSection) -> Result<String> {
     let held = match section.get_sourcemap() {
         None => "no map",
         Some(DecodedMap::Regular(_)) => "a map",
@@ -17,33 +17,33 @@ fn section_told(alloc: Global, section: &SourceMapSection) -> Result<String> {
     Ok(format!(in alloc; "{line}:{col} {:?} {held};", section.get_url())?)
 }
 
-/// The place, the URL and the kind of the map of each section.
-pub fn sections_told(alloc: Global, index: &SourceMapIndex) -> Result<String> {
-    let mut told = String::new(alloc);
+/// The position, the URL and the kind of the map of each section.
+pub fn sections_text(alloc: Global, index: &SourceMapIndex) -> Result<String> {
+    let mut out = String::new(alloc);
     for section in index.sections() {
-        told.push_str(section_told(alloc, section)?.as_str())?;
+        out.push_str(section_text(alloc, section)?.as_str())?;
     }
-    Ok(told)
+    Ok(out)
 }
 
-fn map_told(alloc: Global, map: &DecodedMap) -> Result<String> {
+fn map_text(alloc: Global, map: &DecodedMap) -> Result<String> {
     match map {
-        DecodedMap::Index(index) => sections_told(alloc, index),
+        DecodedMap::Index(index) => sections_text(alloc, index),
         DecodedMap::Regular(_) => Ok(String::from_str(alloc, "a regular map")?),
         DecodedMap::Hermes(_) => Ok(String::from_str(alloc, "a Hermes map")?),
     }
 }
 
-fn told(alloc: Global, answer: Result<DecodedMap>) -> Result<String> {
+fn describe(alloc: Global, answer: Result<DecodedMap>) -> Result<String> {
     match boxed(alloc, answer) {
-        Ok(map) => map_told(alloc, &*map),
-        fault => fault_told(alloc, fault),
+        Ok(map) => map_text(alloc, &*map),
+        error => error_of(alloc, error),
     }
 }
 
-// A text, and the sections of its index or its fault.
+// A text, and the sections of its index or its error.
 static TEXTS: [(&str, &str); 19] = [
-    // Sections are put in order, those of one place as they stood.
+    // Sections are sorted stably by offset.
     (
         r#"{"sections":[{"offset":{"line":10,"column":4},"url":"p"},{"offset":{"line":0,"column":7},"url":"q"},{"offset":{"line":10,"column":4},"url":"r"},{"offset":{"line":10,"column":3},"map":{"sections":[]}}]}"#,
         r#"0:7 Some("q") no map;10:3 None an index;10:4 Some("p") no map;10:4 Some("r") no map;"#,
@@ -52,7 +52,7 @@ static TEXTS: [(&str, &str); 19] = [
         r#"{"sections":[{"offset":{"line":0,"column":0},"url":"u","map":{"mappings":"A"}}]}"#,
         r#"0:0 Some("u") a map;"#,
     ),
-    // What else a record holds for a map is not looked at.
+    // Other keys of the record are ignored.
     (
         r#"{"sections":[],"x_facebook_sources":[],"mappings":"!"}"#,
         "",
@@ -75,7 +75,7 @@ static TEXTS: [(&str, &str); 19] = [
         r#"{"x_facebook_sources":[],"mappings":"!"}"#,
         "invalid base64 character: !",
     ),
-    // Scopes that are no records are a fault, and those whose text cannot be read are none.
+    // Scopes that are no records are an error, and those whose text cannot be read are none.
     (
         r#"{"x_facebook_sources":[[{"names":["f"]}]],"mappings":"A"}"#,
         "bad json: a field has the wrong type",
@@ -84,7 +84,7 @@ static TEXTS: [(&str, &str); 19] = [
         r#"{"x_facebook_sources":[[{"names":["f"],"mappings":"!"}]],"mappings":"A"}"#,
         "a Hermes map",
     ),
-    // Of two faults the first of the text is answered, whatever the order of the offsets.
+    // Of two errors the first one of the text is returned, whatever the order of the offsets.
     (
         r#"{"sections":[{"offset":{"line":9,"column":0},"map":{"mappings":"!"}},{"offset":{"line":0,"column":0},"map":{"mappings":"AAAAAA"}}]}"#,
         "invalid base64 character: !",
@@ -127,16 +127,16 @@ fn records_are_read_section_by_section(rt: HostRuntime) {
     let alloc = rt.alloc();
     for (text, want) in TEXTS.iter() {
         let bytes = text.as_bytes();
-        check(&rt, text, told(alloc, decode_slice(alloc, bytes)), want);
-        check(&rt, text, told(alloc, read_owned(alloc, text)), want);
-        check(&rt, text, told(alloc, decode(alloc, bytes)), want);
+        check(&rt, text, describe(alloc, decode_slice(alloc, bytes)), want);
+        check(&rt, text, describe(alloc, read_owned(alloc, text)), want);
+        check(&rt, text, describe(alloc, decode(alloc, bytes)), want);
     }
 }
 
-fn index_told(alloc: Global, answer: Result<SourceMapIndex>) -> Result<String> {
+fn index_text(alloc: Global, answer: Result<SourceMapIndex>) -> Result<String> {
     match boxed(alloc, answer) {
-        Ok(index) => sections_told(alloc, &*index),
-        fault => fault_told(alloc, fault),
+        Ok(index) => sections_text(alloc, &*index),
+        error => error_of(alloc, error),
     }
 }
 
@@ -147,7 +147,7 @@ static INDEXES: [(&str, &str); 8] = [
         r#"1:2 None a map;3:0 Some("p") no map;"#,
     ),
     (r#"{"sections":[]}"#, ""),
-    // The record of a map of another kind is refused before anything of it is decoded.
+    // The record of a map of another kind is an error before anything of it is decoded.
     (
         r#"{"mappings":"!"}"#,
         "encountered incompatible sourcemap format",
@@ -174,13 +174,13 @@ fn indexes_alone_are_read(rt: HostRuntime) {
     for (text, want) in INDEXES.iter() {
         let bytes = text.as_bytes();
         let read = SourceMapIndex::from_slice(alloc, bytes);
-        check(&rt, text, index_told(alloc, read), want);
+        check(&rt, text, index_text(alloc, read), want);
         let streamed = SourceMapIndex::from_reader(alloc, bytes);
-        check(&rt, text, index_told(alloc, streamed), want);
+        check(&rt, text, index_text(alloc, streamed), want);
     }
 }
 
-// A data URL, and the sections of its index or its fault.
+// A data URL, and the sections of its index or its error.
 static URLS: [(&str, &str); 2] = [
     (
         "data:application/json;base64,eyJzZWN0aW9ucyI6W3sib2Zmc2V0Ijp7ImxpbmUiOjEsImNvbHVtbiI6Mn0sInVybCI6InUifV19",
@@ -196,6 +196,6 @@ static URLS: [(&str, &str); 2] = [
 fn data_urls_are_read(rt: HostRuntime) {
     let alloc = rt.alloc();
     for (url, want) in URLS.iter() {
-        check(&rt, url, told(alloc, decode_data_url(alloc, url)), want);
+        check(&rt, url, describe(alloc, decode_data_url(alloc, url)), want);
     }
 }

@@ -1,11 +1,12 @@
 // Hermes maps among maps of any kind, on their own and in sections.
-use crate::checks::{check, fault_told};
-use crate::debug_ids::id_told;
-use crate::maps::{map_of, value_told};
+use crate::checks::check;
+use crate::debug_ids::id_text;
+use crate::maps::{map_of, value_text};
 use serde_json::Value;
 use sourcemap::errors::Result;
 use sourcemap::types::DecodedMap;
 use sourcemap::{SourceMap, SourceMapHermes};
+use sourcemap_test_support::results::error_of;
 use std::alloc::Global;
 
 const TWO_FUNCTIONS: &str =
@@ -38,7 +39,7 @@ fn hermes_in(map: &DecodedMap) -> Option<&SourceMapHermes> {
     }
 }
 
-fn name_told(map: &DecodedMap, offset: u32) -> &str {
+fn name_text(map: &DecodedMap, offset: u32) -> &str {
     match hermes_in(map) {
         Some(map) => map.get_original_function_name(offset).unwrap_or("none"),
         None => "no Hermes map",
@@ -46,14 +47,14 @@ fn name_told(map: &DecodedMap, offset: u32) -> &str {
 }
 
 fn name_copied(alloc: Global, map: &DecodedMap, offset: u32) -> Result<String> {
-    Ok(String::from_str(alloc, name_told(map, offset))?)
+    Ok(String::from_str(alloc, name_text(map, offset))?)
 }
 
 fn name_at(alloc: Global, text: &str, offset: u32) -> Result<String> {
     name_copied(alloc, &*map_of(alloc, text)?, offset)
 }
 
-// A map, a place in the bytecode, and the name of the function there.
+// A map, a bytecode offset, and the name of the function there.
 static NAMES: [(&str, u32, &str); 8] = [
     (TWO_FUNCTIONS, 0, "<global>"),
     (TWO_FUNCTIONS, 7, "foo"),
@@ -83,7 +84,7 @@ fn read_back(alloc: Global, value: &Value) -> Result<Value> {
 // The text that a map is written as, read back and written once more.
 fn written_again(alloc: Global, text: &str) -> Result<String> {
     let value = value_of(alloc, text)?;
-    value_told(alloc, read_back(alloc, &value))
+    value_text(alloc, read_back(alloc, &value))
 }
 
 #[test]
@@ -94,15 +95,15 @@ fn scopes_are_written_as_they_were_read(rt: HostRuntime) {
 }
 
 // The debug id of a map, and what is left of it once it is taken away.
-fn ids_told(alloc: Global, map: &mut DecodedMap) -> Result<String> {
-    let old = id_told(alloc, map)?;
+fn ids_text(alloc: Global, map: &mut DecodedMap) -> Result<String> {
+    let old = id_text(alloc, map)?;
     map.set_debug_id(None);
-    let new = id_told(alloc, map)?;
-    Ok(format!(in alloc; "{old} {new} {}", name_told(map, 0))?)
+    let new = id_text(alloc, map)?;
+    Ok(format!(in alloc; "{old} {new} {}", name_text(map, 0))?)
 }
 
 fn ids(alloc: Global, text: &str) -> Result<String> {
-    ids_told(alloc, &mut *map_of(alloc, text)?)
+    ids_text(alloc, &mut *map_of(alloc, text)?)
 }
 
 #[test]
@@ -115,8 +116,8 @@ fn debug_ids_of_hermes_maps_are_set(rt: HostRuntime) {
 
 // What a text is read as by the reader of regular maps, and by that of Hermes maps.
 fn kinds(alloc: Global, text: &str) -> Result<String> {
-    let regular = fault_told(alloc, SourceMap::from_slice(alloc, text.as_bytes()))?;
-    let hermes = fault_told(alloc, SourceMapHermes::from_slice(alloc, text.as_bytes()))?;
+    let regular = error_of(alloc, SourceMap::from_slice(alloc, text.as_bytes()))?;
+    let hermes = error_of(alloc, SourceMapHermes::from_slice(alloc, text.as_bytes()))?;
     Ok(format!(in alloc; "{regular}; {hermes}")?)
 }
 
@@ -134,7 +135,7 @@ static KINDS: [(&str, &str); 3] = [
 ];
 
 #[test]
-fn each_kind_is_read_alone(rt: HostRuntime) {
+fn each_kind_is_decoded_by_its_own_reader(rt: HostRuntime) {
     for (text, want) in KINDS.iter() {
         check(&rt, text, kinds(rt.alloc(), text), want);
     }

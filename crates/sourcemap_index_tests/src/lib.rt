@@ -1,5 +1,5 @@
-//! Tests of index maps: read, made of parts, asked and changed; and of RAM bundles, split by index
-//! maps. This crate holds nothing else, so that no proof and no must-fail edit waits for it.
+//! Tests of index maps: decoding, construction, lookups, changes; and of RAM bundles, split by index
+//! maps. A crate of its own, so that no proof and no must-fail edit waits for it.
 #![tactic(auto)]
 
 #[cfg(test)]

@@ -1,8 +1,9 @@
-// Positions that are looked up in index maps.
+// Lookups in index maps.
 use crate::checks::check;
-use crate::maps::{boxed, index_of, map_of};
+use crate::maps::{index_of, map_of};
 use sourcemap::errors::Result;
 use sourcemap::types::{SourceMapIndex, Token};
+use sourcemap_test_support::results::boxed;
 use std::alloc::Global;
 
 // Two maps, the second from the middle of a line on.
@@ -13,11 +14,11 @@ const TWO: &str =
 const LINES: &str =
     r#"{"sections":[{"offset":{"line":2,"column":4},"map":{"sources":["a.js"],"mappings":"AAAA,IAAI;IACA"}}]}"#;
 
-// A range token counts from its own place in the map of its section.
+// A range token counts from its own position in the map of its section.
 const RANGED: &str =
     r#"{"sections":[{"offset":{"line":1,"column":3},"map":{"sources":["a.js"],"mappings":"AAAO","rangeMappings":"B"}}]}"#;
 
-// Of sections at one place the first answers there, and the last behind it.
+// Of sections at one position the first answers there, and the last after it.
 const EQUAL: &str =
     r#"{"sections":[{"offset":{"line":1,"column":2},"map":{"sources":["a.js"],"mappings":"AAAA"}},{"offset":{"line":1,"column":2},"map":{"sources":["b.js"],"mappings":"AAAA"}}]}"#;
 
@@ -29,7 +30,7 @@ const LINKED: &str =
 const NESTED: &str =
     r#"{"sections":[{"offset":{"line":2,"column":3},"map":{"sections":[{"offset":{"line":1,"column":0},"map":{"sources":["a.js"],"mappings":"AAAA"}}]}}]}"#;
 
-// Nothing stands before the first section.
+// There is no token before the first section.
 const LATE: &str =
     r#"{"sections":[{"offset":{"line":5,"column":0},"map":{"sources":["a.js"],"mappings":"AAAA"}}]}"#;
 
@@ -41,8 +42,8 @@ const MIXED: &str =
 const HERMES: &str =
     r#"{"sections":[{"offset":{"line":0,"column":0},"map":{"sources":["a.js"],"mappings":"AAAA"}},{"offset":{"line":1,"column":2},"map":{"sources":["b.js"],"mappings":"AAAO","rangeMappings":"B","x_facebook_sources":[[{"names":["f"],"mappings":"AAA"}]]}}]}"#;
 
-// An index, a line and a column, and what is printed there.
-static PLACES: [(&str, u32, u32, &str); 28] = [
+// An index, a line and a column, and the text of the token there.
+static POSITIONS: [(&str, u32, u32, &str); 28] = [
     (TWO, 0, 0, "a.js:0:0"),
     (TWO, 10, 3, "a.js:0:0"),
     (TWO, 10, 4, "b.js:0:0"),
@@ -74,7 +75,7 @@ static PLACES: [(&str, u32, u32, &str); 28] = [
 ];
 
 /// The text of a token.
-pub fn token_told(alloc: Global, token: Option<Token<'_>>) -> Result<String> {
+pub fn token_text(alloc: Global, token: Option<Token<'_>>) -> Result<String> {
     match token {
         None => Ok(String::from_str(alloc, "none")?),
         Some(token) => Ok(format!(in alloc; "{token}")?),
@@ -83,18 +84,18 @@ pub fn token_told(alloc: Global, token: Option<Token<'_>>) -> Result<String> {
 
 fn looked_up(alloc: Global, text: &str, line: u32, col: u32) -> Result<String> {
     let map = map_of(alloc, text)?;
-    token_told(alloc, map.lookup_token(line, col))
+    token_text(alloc, map.lookup_token(line, col))
 }
 
 fn looked_up_by_index(alloc: Global, text: &str, line: u32, col: u32) -> Result<String> {
     let index = index_of(alloc, text)?;
-    token_told(alloc, index.lookup_token(line, col))
+    token_text(alloc, index.lookup_token(line, col))
 }
 
 #[test]
 fn positions_are_looked_up_in_the_closest_section(rt: HostRuntime) {
     let alloc = rt.alloc();
-    for (text, line, col, want) in PLACES.iter() {
+    for (text, line, col, want) in POSITIONS.iter() {
         check(&rt, text, looked_up(alloc, text, *line, *col), want);
         check(
             &rt,
@@ -105,34 +106,35 @@ fn positions_are_looked_up_in_the_closest_section(rt: HostRuntime) {
     }
 }
 
-// An index, a line and a column, and what is printed there by the index, and by its flat map. Where
-// the earlier section has a token behind the start of the later one, the flat map has it there.
-static FLAT_PLACES: [(&str, u32, u32, &str, &str); 4] = [
+// An index, a line and a column, and the text of the token there by the index, and by its flattened
+// map. Where the earlier section has a token after the start of the later one, the flattened map
+// has it there.
+static FLAT_POSITIONS: [(&str, u32, u32, &str, &str); 4] = [
     (TWO, 10, 4, "b.js:0:0", "b.js:0:0"),
     (TWO, 10, 9, "b.js:0:0", "b.js:0:0"),
     (TWO, 10, 3, "a.js:0:0", "a.js:0:0"),
     (MIXED, 0, 9, "b.js:0:0", "a.js:0:0"),
 ];
 
-/// The text of a token of the flat map of an index.
-pub fn flat_token_told(
+/// The text of a token of the flattened map of an index.
+pub fn flat_token_text(
     alloc: Global,
     index: &SourceMapIndex,
     line: u32,
     col: u32,
 ) -> Result<String> {
     let map = boxed(alloc, index.flatten())?;
-    token_told(alloc, map.lookup_token(line, col))
+    token_text(alloc, map.lookup_token(line, col))
 }
 
 fn looked_up_flat(alloc: Global, text: &str, line: u32, col: u32) -> Result<String> {
-    flat_token_told(alloc, &*index_of(alloc, text)?, line, col)
+    flat_token_text(alloc, &*index_of(alloc, text)?, line, col)
 }
 
 #[test]
 fn positions_are_looked_up_in_an_index_and_in_its_flat_map(rt: HostRuntime) {
     let alloc = rt.alloc();
-    for (text, line, col, by_index, by_flat) in FLAT_PLACES.iter() {
+    for (text, line, col, by_index, by_flat) in FLAT_POSITIONS.iter() {
         check(
             &rt,
             text,

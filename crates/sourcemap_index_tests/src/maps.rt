@@ -1,17 +1,11 @@
-// Maps that are read from texts, and the texts that they are written as.
-use crate::checks::fault_told;
+// Decoding of maps from texts, and their encoded texts.
 use serde_json::Value;
 use sourcemap::decoder::decode_slice;
 use sourcemap::errors::{Error, Result};
 use sourcemap::jsontypes::RawSourceMap;
 use sourcemap::types::{DecodedMap, SourceMapIndex};
+use sourcemap_test_support::results::{boxed, error_of};
 use std::alloc::Global;
-
-/// What was made, in a box. The prover takes what lets a box go as one step, and what lets a map go as
-/// one for each of its parts, on each way out of a function.
-pub fn boxed<T: Drop>(alloc: Global, made: Result<T>) -> Result<Box<T>> {
-    Ok(Box::new(alloc, made?)?)
-}
 
 /// The map of a text.
 pub fn map_of(alloc: Global, text: &str) -> Result<Box<DecodedMap>> {
@@ -30,15 +24,15 @@ fn index_in(map: DecodedMap) -> Result<SourceMapIndex> {
     }
 }
 
-/// The text of a record, or its fault.
-pub fn record_told(alloc: Global, record: Result<RawSourceMap>) -> Result<String> {
-    value_told(alloc, record?.into_value(alloc))
+/// The text of a record, or its error.
+pub fn record_text(alloc: Global, record: Result<RawSourceMap>) -> Result<String> {
+    value_text(alloc, record?.into_value(alloc))
 }
 
-/// The text of a value, or its fault.
-pub fn value_told(alloc: Global, value: Result<Value>) -> Result<String> {
+/// The text of a value, or its error.
+pub fn value_text(alloc: Global, value: Result<Value>) -> Result<String> {
     match value {
         Ok(value) => Ok(value.to_string(alloc)?),
-        fault => fault_told(alloc, fault),
+        error => error_of(alloc, error),
     }
 }

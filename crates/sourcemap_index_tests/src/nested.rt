@@ -1,11 +1,12 @@
-// Index maps in one another, made in memory and read from text.
-use crate::checks::{again, check, fault_told};
-use crate::lookups::{flat_token_told, token_told};
-use crate::maps::{boxed, map_of};
+// Nested index maps, made in memory and decoded.
+use crate::checks::check;
+use crate::lookups::{flat_token_text, token_text};
+use crate::maps::map_of;
 use serde_json::Value;
 use sourcemap::decoder::decode_slice;
 use sourcemap::errors::Result;
 use sourcemap::types::{DecodedMap, SourceMapIndex, SourceMapSection};
+use sourcemap_test_support::results::{again, boxed, error_of};
 use std::alloc::Global;
 
 const INNERMOST: &str = r#"{"sources":["a.js"],"mappings":"AAAA"}"#;
@@ -41,8 +42,8 @@ fn nested_text(alloc: Global, depth: usize) -> Result<String> {
 
 fn looked_up(alloc: Global, map: Result<Box<DecodedMap>>) -> Result<String> {
     match map {
-        Ok(map) => token_told(alloc, map.lookup_token(0, 0)),
-        fault => fault_told(alloc, fault),
+        Ok(map) => token_text(alloc, map.lookup_token(0, 0)),
+        error => error_of(alloc, error),
     }
 }
 
@@ -61,7 +62,7 @@ static TEXTS: [(usize, &str); 4] = [
 ];
 
 #[test]
-fn indexes_in_one_another_are_looked_up(rt: HostRuntime) {
+fn nested_index_maps_are_looked_up(rt: HostRuntime) {
     let alloc = rt.alloc();
     for (depth, want) in TEXTS.iter() {
         check(
@@ -74,10 +75,10 @@ fn indexes_in_one_another_are_looked_up(rt: HostRuntime) {
     }
 }
 
-// What the flat map of an index prints at the place 0:0.
+// What the flattened map of an index prints at position 0:0.
 fn flat_looked_up(alloc: Global, map: &DecodedMap) -> Result<String> {
     match map {
-        DecodedMap::Index(index) => flat_token_told(alloc, index, 0, 0),
+        DecodedMap::Index(index) => flat_token_text(alloc, index, 0, 0),
         _ => Ok(String::from_str(alloc, "no index")?),
     }
 }
@@ -87,9 +88,9 @@ fn flattened(alloc: Global, depth: usize) -> Result<String> {
     again(|| flat_looked_up(alloc, &*map))
 }
 
-// What a map made of another one prints at the place 0:0, and whether it is the same map.
-fn told_beside(alloc: Global, map: &DecodedMap, made: &DecodedMap) -> Result<String> {
-    let token = token_told(alloc, made.lookup_token(0, 0))?;
+// What a map made of another one prints at position 0:0, and whether it is the same map.
+fn text_beside(alloc: Global, map: &DecodedMap, made: &DecodedMap) -> Result<String> {
+    let token = token_text(alloc, made.lookup_token(0, 0))?;
     Ok(format!(in alloc; "{token} {}", *made == *map)?)
 }
 
@@ -98,30 +99,30 @@ fn value_read(alloc: Global, value: Result<Value>) -> Result<Box<DecodedMap>> {
     boxed(alloc, DecodedMap::from_value(alloc, &value))
 }
 
-fn read_back_told(alloc: Global, map: &DecodedMap) -> Result<String> {
-    told_beside(alloc, map, &*value_read(alloc, map.to_value())?)
+fn read_back_text(alloc: Global, map: &DecodedMap) -> Result<String> {
+    text_beside(alloc, map, &*value_read(alloc, map.to_value())?)
 }
 
 fn read_back(alloc: Global, depth: usize) -> Result<String> {
     let map = nested(alloc, depth)?;
-    again(|| read_back_told(alloc, &*map))
+    again(|| read_back_text(alloc, &*map))
 }
 
-fn copy_told(alloc: Global, map: &DecodedMap) -> Result<String> {
-    told_beside(alloc, map, &*boxed(alloc, map.clone())?)
+fn copy_text(alloc: Global, map: &DecodedMap) -> Result<String> {
+    text_beside(alloc, map, &*boxed(alloc, map.clone())?)
 }
 
 fn copied(alloc: Global, depth: usize) -> Result<String> {
-    copy_told(alloc, &*nested(alloc, depth)?)
+    copy_text(alloc, &*nested(alloc, depth)?)
 }
 
-fn moved_told(alloc: Global, map: &DecodedMap, value: Result<Value>) -> Result<String> {
-    told_beside(alloc, map, &*value_read(alloc, value)?)
+fn moved_text(alloc: Global, map: &DecodedMap, value: Result<Value>) -> Result<String> {
+    text_beside(alloc, map, &*value_read(alloc, value)?)
 }
 
 fn moved(alloc: Global, depth: usize) -> Result<String> {
     let value = wrapped_often(alloc, depth)?.into_value();
-    moved_told(alloc, &*nested(alloc, depth)?, value)
+    moved_text(alloc, &*nested(alloc, depth)?, value)
 }
 
 // How many sections a map is printed with.
@@ -136,7 +137,7 @@ fn printed(alloc: Global, depth: usize) -> Result<String> {
 }
 
 #[test]
-fn a_hundred_indexes_in_one_another_are_made_flat_copied_and_read_back(rt: HostRuntime) {
+fn a_hundred_nested_index_maps_are_flattened_copied_and_read_back(rt: HostRuntime) {
     let alloc = rt.alloc();
     check(&rt, "flat", flattened(alloc, 100), "a.js:0:0");
     check(&rt, "copied", copied(alloc, 100), "a.js:0:0 true");
@@ -145,10 +146,10 @@ fn a_hundred_indexes_in_one_another_are_made_flat_copied_and_read_back(rt: HostR
     check(&rt, "printed", printed(alloc, 100), "100");
 }
 
-fn told_of_bytes(alloc: Global, map: &DecodedMap, bytes: &[u8]) -> Result<String> {
+fn text_of_bytes(alloc: Global, map: &DecodedMap, bytes: &[u8]) -> Result<String> {
     match boxed(alloc, decode_slice(alloc, bytes)) {
-        Ok(back) => told_beside(alloc, map, &*back),
-        fault => fault_told(alloc, fault),
+        Ok(back) => text_beside(alloc, map, &*back),
+        error => error_of(alloc, error),
     }
 }
 
@@ -158,13 +159,13 @@ fn bytes_of(alloc: Global, map: &DecodedMap) -> Result<Vec<u8>> {
     Ok(bytes)
 }
 
-fn written_told(alloc: Global, map: &DecodedMap) -> Result<String> {
+fn written_text(alloc: Global, map: &DecodedMap) -> Result<String> {
     let bytes = bytes_of(alloc, map)?;
-    told_of_bytes(alloc, map, bytes.as_slice())
+    text_of_bytes(alloc, map, bytes.as_slice())
 }
 
 fn written(alloc: Global, depth: usize) -> Result<String> {
-    written_told(alloc, &*nested(alloc, depth)?)
+    written_text(alloc, &*nested(alloc, depth)?)
 }
 
 // How many indexes there are in one another, and what is read of the text that they are written as:
@@ -177,7 +178,7 @@ static WRITTEN: [(usize, &str); 4] = [
 ];
 
 #[test]
-fn indexes_in_one_another_are_written_at_any_depth(rt: HostRuntime) {
+fn nested_index_maps_are_written_at_any_depth(rt: HostRuntime) {
     for (depth, want) in WRITTEN.iter() {
         check(&rt, want, written(rt.alloc(), *depth), want);
     }

@@ -1,12 +1,13 @@
 // Readers that give a byte a read, are interrupted before each and fail, for maps of each kind.
-use crate::checks::{again, check, fault_told};
-use crate::lookups::token_told;
-use crate::maps::{boxed, map_of};
+use crate::checks::check;
+use crate::lookups::token_text;
+use crate::maps::map_of;
 use sourcemap::SourceMapHermes;
 use sourcemap::decoder::decode;
 use sourcemap::errors::{Error, Result};
 use sourcemap::types::{DecodedMap, SourceMap, SourceMapIndex};
-use sourcemap_test_writers::HaltingReader;
+use sourcemap_test_support::readers::HaltingReader;
+use sourcemap_test_support::results::{again, boxed, error_of};
 use std::alloc::Global;
 use std::io::ErrorKind;
 
@@ -17,7 +18,7 @@ const HERMES: &str = r#"{"sources":["a.js"],"mappings":"AAAA","x_facebook_source
 const INDEX: &str =
     r#"{"sections":[{"offset":{"line":0,"column":0},"map":{"sources":["a.js"],"mappings":"AAAA"}}]}"#;
 
-// A text, and whether it is a map; each is also read behind a junk header.
+// A text, and whether it is a map; each is also read after a junk header.
 static TEXTS: [&str; 4] = [
     REGULAR,
     HERMES,
@@ -30,17 +31,17 @@ fn halting(text: &str, reads: usize, kind: ErrorKind) -> HaltingReader<'_> {
     HaltingReader::new(text.as_bytes(), reads, kind)
 }
 
-// What a map prints at the place 0:0, or its error.
-fn place_told(alloc: Global, map: Result<Box<DecodedMap>>) -> Result<String> {
+// What a map prints at position 0:0, or its error.
+fn position_text(alloc: Global, map: Result<Box<DecodedMap>>) -> Result<String> {
     match map {
-        Ok(map) => token_told(alloc, map.lookup_token(0, 0)),
-        error => fault_told(alloc, error),
+        Ok(map) => token_text(alloc, map.lookup_token(0, 0)),
+        error => error_of(alloc, error),
     }
 }
 
 fn decoded(alloc: Global, text: &str, reads: usize) -> Result<String> {
     let reader = halting(text, reads, ErrorKind::TimedOut);
-    place_told(alloc, boxed(alloc, decode(alloc, reader)))
+    position_text(alloc, boxed(alloc, decode(alloc, reader)))
 }
 
 fn is_as_from_slice(alloc: Global, map: &DecodedMap, text: &str) -> Result<bool> {
@@ -86,12 +87,12 @@ enum Kind {
 }
 
 // The error of a reader that fails after so many reads.
-fn error_of(alloc: Global, kind: Kind, text: &str, reads: usize) -> Result<String> {
+fn read_error(alloc: Global, kind: Kind, text: &str, reads: usize) -> Result<String> {
     let reader = halting(text, reads, ErrorKind::TimedOut);
     match kind {
-        Kind::Regular => fault_told(alloc, SourceMap::from_reader(alloc, reader)),
-        Kind::Hermes => fault_told(alloc, SourceMapHermes::from_reader(alloc, reader)),
-        Kind::Index => fault_told(alloc, SourceMapIndex::from_reader(alloc, reader)),
+        Kind::Regular => error_of(alloc, SourceMap::from_reader(alloc, reader)),
+        Kind::Hermes => error_of(alloc, SourceMapHermes::from_reader(alloc, reader)),
+        Kind::Index => error_of(alloc, SourceMapIndex::from_reader(alloc, reader)),
     }
 }
 
@@ -110,17 +111,22 @@ fn maps_of_one_kind_are_read(rt: HostRuntime) {
         check(
             &rt,
             text,
-            error_of(alloc, *kind, text, usize::MAX),
+            read_error(alloc, *kind, text, usize::MAX),
             "no fault",
         );
         check(
             &rt,
             other,
-            error_of(alloc, *kind, other, usize::MAX),
+            read_error(alloc, *kind, other, usize::MAX),
             incompatible,
         );
         for reads in 0..=text.len() {
-            check(&rt, text, error_of(alloc, *kind, text, reads), "timed out");
+            check(
+                &rt,
+                text,
+                read_error(alloc, *kind, text, reads),
+                "timed out",
+            );
         }
     }
 }

@@ -1,10 +1,11 @@
 // RAM bundles that are split by their index maps into the texts and the maps of their modules.
-use crate::checks::{check, fault_told};
-use crate::maps::{index_of, record_told};
+use crate::checks::check;
+use crate::maps::{index_of, record_text};
 use sourcemap::errors::{Error, Result};
 use sourcemap::ram_bundle::{RamBundle, SplitRamBundleModuleIter, split_ram_bundle};
 use sourcemap::sourceview::SourceView;
 use sourcemap::types::{SourceMap, SourceMapIndex};
+use sourcemap_test_support::results::error_of;
 use std::alloc::Global;
 
 // One module, `xyz`, after the startup code `ab`; the same without its last two bytes; and with two
@@ -206,7 +207,7 @@ static ROWS: [Row; 28] = [
 ];
 
 fn parts_text(alloc: Global, name: &str, source: &str, map: SourceMap) -> Result<String> {
-    let record = record_told(alloc, map.into_raw_sourcemap())?;
+    let record = record_text(alloc, map.into_raw_sourcemap())?;
     Ok(format!(in alloc; "{name} [{source}] {record}")?)
 }
 
@@ -214,7 +215,7 @@ fn parts_text(alloc: Global, name: &str, source: &str, map: SourceMap) -> Result
 fn item_text(alloc: Global, item: Result<(String, SourceView, SourceMap)>) -> Result<String> {
     match item {
         Ok((name, view, map)) => parts_text(alloc, name.as_str(), view.source(), map),
-        Err(fault) => fault_told(alloc, Err::<(), Error>(fault)),
+        Err(error) => error_of(alloc, Err::<(), Error>(error)),
     }
 }
 
@@ -234,7 +235,7 @@ fn items_text(alloc: Global, items: SplitRamBundleModuleIter<'_>) -> Result<Stri
 fn split_text(alloc: Global, bundle: &RamBundle<'_>, index: &SourceMapIndex) -> Result<String> {
     match split_ram_bundle(alloc, bundle, index) {
         Ok(items) => items_text(alloc, items),
-        Err(fault) => fault_told(alloc, Err::<(), Error>(fault)),
+        Err(error) => error_of(alloc, Err::<(), Error>(error)),
     }
 }
 
@@ -258,7 +259,7 @@ static ITEMS: [&str; 3] = [
 ];
 
 // Whether an item is the wanted one, or was refused for lack of memory.
-fn is_wanted_or_refused(
+fn is_wanted_or_out_of_memory(
     alloc: Global,
     item: Result<(String, SourceView, SourceMap)>,
     want: &str,
@@ -275,7 +276,7 @@ fn wanted_items(alloc: Global, bundle: &RamBundle<'_>, index: &SourceMapIndex) -
     let items = split_ram_bundle(alloc, &*bundle, index)?;
     let mut count = 0usize;
     for (item, want) in items.zip(&ITEMS) {
-        if is_wanted_or_refused(alloc, item, want) {
+        if is_wanted_or_out_of_memory(alloc, item, want) {
             count = count.saturating_add(1);
         }
     }
@@ -294,10 +295,10 @@ fn split_where_memory_fails(alloc: Global) -> Result<String> {
     Ok(format!(in alloc; "{count} | {again}")?)
 }
 
-// Where one allocation of the test is refused, the item that asked for it is lost alone, and the bundle
-// is split whole once there is memory again.
+// If one allocation of the test fails, only the item that needed it is lost, and the bundle is split
+// completely by the next call.
 #[test]
-fn a_refused_item_costs_no_other(rt: HostRuntime) {
+fn an_error_of_an_item_costs_no_other(rt: HostRuntime) {
     check(
         &rt,
         "items",

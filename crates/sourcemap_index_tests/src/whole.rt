@@ -1,9 +1,10 @@
-// Index maps as a whole: made flat, moved down, copied, compared and written.
-use crate::checks::{again, check, fault_told};
-use crate::decoding::sections_told;
-use crate::maps::{boxed, index_of, map_of, record_told, value_told};
+// Index maps as a whole: flattened, moved down, copied, compared and written.
+use crate::checks::check;
+use crate::decoding::sections_text;
+use crate::maps::{index_of, map_of, record_text, value_text};
 use sourcemap::errors::{Error, Result};
 use sourcemap::types::{DecodedMap, RewriteOptions, SourceMap, SourceMapIndex, SourceMapSection};
+use sourcemap_test_support::results::{again, boxed, error_of};
 use std::alloc::Global;
 use std::rt::Files;
 
@@ -36,23 +37,23 @@ const SHARED: &str =
 const INDENTED: &str =
     r#"{"sections":[{"offset":{"line":10,"column":4},"map":{"sources":["a.js"],"mappings":"AAAA;AAAA"}}]}"#;
 
-// Of two faults that of the first section.
+// Of two errors that of the first section.
 const PAST_THE_COLUMNS: &str =
     r#"{"sections":[{"offset":{"line":0,"column":4294967295},"map":{"sources":["a.js"],"mappings":"CAAA"}},{"offset":{"line":1,"column":0}}]}"#;
 
-fn map_told(alloc: Global, map: Result<SourceMap>) -> Result<String> {
+fn map_text(alloc: Global, map: Result<SourceMap>) -> Result<String> {
     match map {
-        Ok(map) => record_told(alloc, map.into_raw_sourcemap()),
-        fault => fault_told(alloc, fault),
+        Ok(map) => record_text(alloc, map.into_raw_sourcemap()),
+        error => error_of(alloc, error),
     }
 }
 
 fn flat(alloc: Global, text: &str) -> Result<String> {
     let index = index_of(alloc, text)?;
-    again(|| map_told(alloc, index.flatten()))
+    again(|| map_text(alloc, index.flatten()))
 }
 
-// An index, and its flat map or the fault.
+// An index, and its flattened map or the error.
 static FLAT: [(&str, &str); 13] = [
     (
         TWO,
@@ -86,12 +87,12 @@ static FLAT: [(&str, &str); 13] = [
         NESTED,
         r#"{"file":"f","ignoreList":[0],"mappings":";;IAAAA;AAAA","names":["n"],"sources":["r/a.js"],"sourcesContent":["x"],"version":3}"#,
     ),
-    // What stands on a later line of a nested index keeps its column.
+    // Tokens on later lines of a nested index map keep their column.
     (
         r#"{"sections":[{"offset":{"line":2,"column":3},"map":{"sections":[{"offset":{"line":1,"column":0},"map":{"sources":["a.js"],"mappings":"AAAA"}}]}}]}"#,
         r#"{"mappings":";;;AAAA","names":[],"sources":["a.js"],"version":3}"#,
     ),
-    // Of two faults the first one, which stands deeper.
+    // Of two errors the first one, which is deeper.
     (
         r#"{"sections":[{"offset":{"line":0,"column":0},"map":{"sections":[{"offset":{"line":0,"column":0},"url":"inner"}]}},{"offset":{"line":1,"column":0},"url":"outer"}]}"#,
         "cannot flatten the indexed sourcemap: Section has an unresolved sourcemap: inner",
@@ -112,7 +113,7 @@ static FLAT: [(&str, &str); 13] = [
 ];
 
 #[test]
-fn indexes_are_made_flat(rt: HostRuntime) {
+fn index_maps_are_flattened(rt: HostRuntime) {
     let alloc = rt.alloc();
     for (text, want) in FLAT.iter() {
         check(&rt, text, flat(alloc, text), want);
@@ -126,13 +127,13 @@ fn flat_rewritten<F: Files>(
     options: &RewriteOptions<'_>,
 ) -> Result<String> {
     let index = Box::into_inner(index_of(alloc, text)?);
-    map_told(alloc, index.flatten_and_rewrite(rt, options))
+    map_text(alloc, index.flatten_and_rewrite(rt, options))
 }
 
 const UNUSED: &str =
     r#"{"sections":[{"offset":{"line":0,"column":0},"map":{"sources":["x.js","a.js"],"sourcesContent":["x","y"],"mappings":"ACAA"}}]}"#;
 
-// An index, whether names are kept, whether contents are loaded from files, and its flat map
+// An index, whether names are kept, whether contents are loaded from files, and its flattened map
 // rewritten or the error.
 static REWRITTEN: [(&str, bool, bool, &str); 6] = [
     (
@@ -159,7 +160,7 @@ static REWRITTEN: [(&str, bool, bool, &str); 6] = [
         false,
         r#"{"file":"f","mappings":";;IAAA;AAAA","names":[],"sources":["r/a.js"],"sourcesContent":["x"],"version":3}"#,
     ),
-    // The error of the flat map comes before that of the options.
+    // The error of the flattened map comes before that of the options.
     (
         LINKED,
         true,
@@ -186,14 +187,14 @@ fn flat_maps_are_rewritten(rt: HostRuntime) {
     }
 }
 
-fn moved_told(alloc: Global, index: &mut SourceMapIndex, rows: u32) -> Result<String> {
+fn moved_text(alloc: Global, index: &mut SourceMapIndex, rows: u32) -> Result<String> {
     let fits = index.adjust_sections_offset_rows(rows);
-    let told = sections_told(alloc, index)?;
-    Ok(format!(in alloc; "{fits} {told}")?)
+    let out = sections_text(alloc, index)?;
+    Ok(format!(in alloc; "{fits} {out}")?)
 }
 
 fn moved(alloc: Global, text: &str, rows: u32) -> Result<String> {
-    moved_told(alloc, &mut *index_of(alloc, text)?, rows)
+    moved_text(alloc, &mut *index_of(alloc, text)?, rows)
 }
 
 const ROWS: &str =
@@ -252,7 +253,7 @@ fn sections_move_down_all_or_none(rt: HostRuntime) {
     }
 }
 
-// An index of a file, at whose second row another index stands.
+// An index map with a file name, and a nested index map at its second row.
 const FILED: &str =
     r#"{"file":"test.js","debugId":"0123456789abcdef0123456789abcdef","sections":[{"offset":{"line":0,"column":7},"url":"u"},{"offset":{"line":1,"column":3},"map":{"sections":[{"offset":{"line":0,"column":1},"map":{"sources":["a.js"],"mappings":"AAAA"}}]}}]}"#;
 
@@ -284,7 +285,7 @@ static MOVED_WHOLE: [(&str, u32, &str, &str); 4] = [
 ];
 
 #[test]
-fn all_but_rows_stays_where_sections_move(rt: HostRuntime) {
+fn only_rows_change_when_sections_move(rt: HostRuntime) {
     let alloc = rt.alloc();
     for (text, rows, after, want) in MOVED_WHOLE.iter() {
         check(&rt, text, moved_to(alloc, text, *rows, after), want);
@@ -293,16 +294,16 @@ fn all_but_rows_stays_where_sections_move(rt: HostRuntime) {
 
 fn written(alloc: Global, text: &str) -> Result<String> {
     let map = map_of(alloc, text)?;
-    again(|| value_told(alloc, map.to_value()))
+    again(|| value_text(alloc, map.to_value()))
 }
 
 fn written_away(alloc: Global, text: &str) -> Result<String> {
-    value_told(alloc, Box::into_inner(map_of(alloc, text)?).into_value())
+    value_text(alloc, Box::into_inner(map_of(alloc, text)?).into_value())
 }
 
 fn index_written_away(alloc: Global, text: &str) -> Result<String> {
     let index = Box::into_inner(index_of(alloc, text)?);
-    record_told(alloc, index.into_raw_sourcemap())
+    record_text(alloc, index.into_raw_sourcemap())
 }
 
 fn put(alloc: Global, text: &str, bytes: &mut Vec<u8>) -> Result<()> {
@@ -394,14 +395,14 @@ fn equals(alloc: Global, map: &DecodedMap, other: &str) -> Result<bool> {
     Ok(*map == *map_of(alloc, other)?)
 }
 
-fn compared_told(alloc: Global, map: &DecodedMap, other: &str) -> Result<String> {
+fn compared_text(alloc: Global, map: &DecodedMap, other: &str) -> Result<String> {
     let copied = equals_copy(alloc, map)?;
     let same = equals(alloc, map, other)?;
     Ok(format!(in alloc; "{copied} {same}")?)
 }
 
 fn compared(alloc: Global, text: &str, other: &str) -> Result<String> {
-    compared_told(alloc, &*map_of(alloc, text)?, other)
+    compared_text(alloc, &*map_of(alloc, text)?, other)
 }
 
 // Whether a copy of an index is equal to it, and the index to another map.
@@ -444,14 +445,14 @@ fn section_equals_copy(alloc: Global, section: Option<&SourceMapSection>) -> Res
     }
 }
 
-fn copies_told(alloc: Global, index: &SourceMapIndex) -> Result<String> {
+fn copies_text(alloc: Global, index: &SourceMapIndex) -> Result<String> {
     let index_copied = index_equals_copy(alloc, index)?;
     let section_copied = section_equals_copy(alloc, index.get_section(0))?;
     Ok(format!(in alloc; "{index_copied} {section_copied}")?)
 }
 
 fn parts_copied(alloc: Global, text: &str) -> Result<String> {
-    copies_told(alloc, &*index_of(alloc, text)?)
+    copies_text(alloc, &*index_of(alloc, text)?)
 }
 
 #[test]

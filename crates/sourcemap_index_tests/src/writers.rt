@@ -5,7 +5,7 @@ use crate::maps::map_of;
 use sourcemap::encoder::encode;
 use sourcemap::errors::{Error, Result};
 use sourcemap::types::DecodedMap;
-use sourcemap_test_writers::{HaltingWriter, NarrowWriter};
+use sourcemap_test_support::writers::{HaltingWriter, NarrowWriter};
 use std::alloc::Global;
 use std::io::{BufWriter, Write};
 use std::process::Abort;
@@ -43,7 +43,7 @@ fn put<W: Write + Drop>(map: &DecodedMap, writer: W) -> Result<()> {
     }
 }
 
-fn held_told(alloc: Global, held: &[u8], outcome: Result<()>) -> Result<String> {
+fn held_text(alloc: Global, held: &[u8], outcome: Result<()>) -> Result<String> {
     let held = str::from_utf8(held)?;
     match outcome {
         Ok(()) => Ok(String::from_str(alloc, held)?),
@@ -62,7 +62,7 @@ fn narrow(alloc: Global, left: Option<usize>) -> NarrowWriter {
 fn by_failing(alloc: Global, map: &DecodedMap, left: Option<usize>) -> Result<String> {
     let mut writer = narrow(alloc, left);
     let outcome = put(map, &mut writer);
-    held_told(alloc, writer.held.as_slice(), outcome)
+    held_text(alloc, writer.held.as_slice(), outcome)
 }
 
 fn by_halting(alloc: Global, map: &DecodedMap, left: Option<usize>) -> Result<String> {
@@ -72,7 +72,7 @@ fn by_halting(alloc: Global, map: &DecodedMap, left: Option<usize>) -> Result<St
         is_interrupted: false,
     };
     let outcome = put(map, &mut writer);
-    held_told(alloc, writer.held.as_slice(), outcome)
+    held_text(alloc, writer.held.as_slice(), outcome)
 }
 
 fn put_buffered(alloc: Global, map: &DecodedMap, writer: &mut NarrowWriter) -> Result<()> {
@@ -94,10 +94,10 @@ fn by_buffer(alloc: Global, map: &DecodedMap, is_any: bool) -> Result<String> {
     } else {
         put_buffered(alloc, map, &mut writer)
     };
-    held_told(alloc, writer.held.as_slice(), outcome)
+    held_text(alloc, writer.held.as_slice(), outcome)
 }
 
-fn told(alloc: Global, map: &DecodedMap, way: Way) -> Result<String> {
+fn describe(alloc: Global, map: &DecodedMap, way: Way) -> Result<String> {
     match way {
         Way::Failing(left) => by_failing(alloc, map, left),
         Way::Halting(left) => by_halting(alloc, map, left),
@@ -107,7 +107,7 @@ fn told(alloc: Global, map: &DecodedMap, way: Way) -> Result<String> {
 }
 
 fn written(alloc: Global, text: &str, way: Way) -> Result<String> {
-    told(alloc, &*map_of(alloc, text)?, way)
+    describe(alloc, &*map_of(alloc, text)?, way)
 }
 
 static WHOLE: [Way; 4] = [
@@ -126,15 +126,15 @@ fn all_bytes_are_written(rt: HostRuntime) {
     }
 }
 
-// So many characters of a text, and what is said behind them.
+// So many characters of a text, and what is said after them.
 fn cut(alloc: Global, text: &str, most: usize, error: &str) -> Result<String> {
-    let mut told = String::new(alloc);
+    let mut out = String::new(alloc);
     for letter in text.chars().take(most) {
-        told.push(letter)?;
+        out.push(letter)?;
     }
-    told.push(' ')?;
-    told.push_str(error)?;
-    Ok(told)
+    out.push(' ')?;
+    out.push_str(error)?;
+    Ok(out)
 }
 
 fn check_cut(rt: &impl Abort, alloc: Global, text: &str, way: Way, want: Result<String>) {

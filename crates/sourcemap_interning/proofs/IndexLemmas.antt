@@ -1,12 +1,12 @@
--- What slots hold of a text, and slots after one more text.
+-- The result of a search, and the table after one more text.
 use Rattle.std.proofs.Common.{◌≡◌, ◌≢◌, refl, sym, ap, subst, ◌∙◌, ℕ, zero, suc, ◌+◌, ◌<◌, List, [], ◌∷◌, ◌++◌, length, Bool, true, false, cond, Some, None, Option, arith, inl, inr, ◌⊎◌, slice_get, slice_set, take, is_some, if◌then◌else◌}
 use Rattle.std.specs.Str.{bytes_eq}
 use Rattle.std.proofs.lemmas.Bool.{cases_Bool, cases_eq}
 use Rattle.std.proofs.lemmas.List.{length_push, length-set}
 use Rattle.std.proofs.lemmas.Option.{slice_get_within}
 use Rattle.std.proofs.lemmas.Slice.Eq.{bytes_eq-Decides}
-use Rattle.sourcemap_lists.specs.Interner.{AreDistinct, id_of, with_text}
-use Rattle.sourcemap_lists.proofs.InternerLemmas.{AreDistinct-append, slice_get-append, slice_get-id_of}
+use Rattle.sourcemap_interning.specs.Interner.{AreDistinct, id_of, with_text}
+use Rattle.sourcemap_interning.proofs.InternerLemmas.{AreDistinct-append, slice_get-append, slice_get-id_of}
 use Rattle.sourcemap_interning.specs.Slots.{IsTaken, IsFree, IsRight, AreRight, ArePassed, AreTaken, IsReached, IsIndex, IsProbed, hash_of, start_of}
 use Rattle.sourcemap_interning.specs.declared.slots.Probe.{Probe}
 use Rattle.sourcemap_interning.specs.declared.slots.Slot.{Slot}
@@ -19,14 +19,14 @@ none_has texts text never = by_case (id_of text texts) refl
     by_case None e = e
     by_case (Some n) e = absurd (never n (slice_get-id_of text texts n e))
 
-one_slot : (slots : List Slot) (place : ℕ) (a b : Slot) → slice_get slots place ≡ Some a → slice_get slots place ≡ Some b → a ≡ b
-one_slot slots place a b e f = cc
+one_slot : (slots : List Slot) (slot_index : ℕ) (a b : Slot) → slice_get slots slot_index ≡ Some a → slice_get slots slot_index ≡ Some b → a ≡ b
+one_slot slots slot_index a b e f = cc
 
-taken_or_free : (slots : List Slot) (place : ℕ) → IsTaken slots place → IsFree slots place → ⊥
-taken_or_free slots place taken free = taken.2 (ap (λ (s : Slot). s.number) (one_slot slots place taken.0 free.0 taken.1 free.1) ∙ free.2)
+taken_or_free : (slots : List Slot) (slot_index : ℕ) → IsTaken slots slot_index → IsFree slots slot_index → ⊥
+taken_or_free slots slot_index taken free = taken.2 (ap (λ (s : Slot). s.number) (one_slot slots slot_index taken.0 free.0 taken.1 free.1) ∙ free.2)
 
 module _ (texts : List (List ℕ)) (mask : ℕ) (slots : List Slot) (others : List ℕ → Option ℕ) (is : IsIndex texts mask slots others) (text : List ℕ) where
-  -- a text that has a number is in one of the slots before the first free one
+  -- a numbered text is in none of the slots that a search has passed
   passed_not : (count n : ℕ) → ArePassed texts slots (start_of mask (hash_of text)) text count → slice_get texts n ≡ Some text
       → (reached : IsReached slots (start_of mask (hash_of text)) n) → reached.steps < count → ⊥
   passed_not count n passed named reached below =
@@ -71,7 +71,7 @@ module _ (texts : List (List ℕ)) (mask : ℕ) (slots : List Slot) (others : Li
       ])
 
   -- one more text
-  module _ (room : length texts < 4294967295) where
+  module _ (below_max : length texts < 4294967295) where
     abbrev new_slot : Slot
     new_slot = record { hash = hash_of text; number = length texts }
 
@@ -79,16 +79,16 @@ module _ (texts : List (List ℕ)) (mask : ℕ) (slots : List Slot) (others : Li
     right_more slot right = (right.0, slice_get-pushed texts text right.0 slot.number right.1, right.2)
 
     module _ (k : ℕ) (few : k < 32) (free : IsFree slots (start_of mask (hash_of text) + k)) (passed : ArePassed texts slots (start_of mask (hash_of text)) text k) where
-      abbrev place : ℕ
-      place = start_of mask (hash_of text) + k
+      abbrev slot_index : ℕ
+      slot_index = start_of mask (hash_of text) + k
 
       abbrev after : List Slot
-      after = slice_set slots place new_slot
+      after = slice_set slots slot_index new_slot
 
       stays : (p : ℕ) (slot : Slot) → slice_get slots p ≡ Some slot → slot.number ≢ 4294967295 → slice_get after p ≡ Some slot
-      stays p slot at taken = elim (cases_eq p place) [
-        | inl same ↦ absurd (taken_or_free slots place (slot, subst (λ q. slice_get slots q ≡ Some slot) same at, taken) free)
-        | inr apart ↦ slice_get-set_other slots place p new_slot apart ∙ at
+      stays p slot at taken = elim (cases_eq p slot_index) [
+        | inl same ↦ absurd (taken_or_free slots slot_index (slot, subst (λ q. slice_get slots q ≡ Some slot) same at, taken) free)
+        | inr apart ↦ slice_get-set_other slots slot_index p new_slot apart ∙ at
       ]
 
       taken_still : (p : ℕ) → IsTaken slots p → IsTaken after p
@@ -104,27 +104,27 @@ module _ (texts : List (List ℕ)) (mask : ℕ) (slots : List Slot) (others : Li
         before = λ j below. taken_still (begin + j) (reached.before j below);
       }
 
-      -- in the free slot
+      -- the text goes to the free slot
       pub index-free : IsIndex (texts ++ text ∷ []) mask after others
       index-free = record {
-        few = let more = length_push texts text in omega (arith, more, room);
+        few = let more = length_push texts text in omega (arith, more, below_max);
         distinct = AreDistinct-append texts text is.distinct (none-free k few free passed);
-        long = length-set slots place new_slot ∙ is.long;
+        long = length-set slots slot_index new_slot ∙ is.long;
         right = right';
         found = found';
         others_right = λ n t e. slice_get-pushed texts text t n (is.others_right n t e);
       }
         where
           right' : AreRight (texts ++ text ∷ []) after
-          right' p slot at taken = elim (cases_eq p place) [
+          right' p slot at taken = elim (cases_eq p slot_index) [
             | inl same ↦
-                let here : slice_get after p ≡ Some new_slot = subst (λ q. slice_get after q ≡ Some new_slot) (sym same) (slice_get-set_same slots place new_slot (slice_get_within slots place free.0 free.1)) in
+                let here : slice_get after p ≡ Some new_slot = subst (λ q. slice_get after q ≡ Some new_slot) (sym same) (slice_get-set_same slots slot_index new_slot (slice_get_within slots slot_index free.0 free.1)) in
                 subst (IsRight (texts ++ text ∷ [])) (one_slot after p new_slot slot here at) (text, slice_get-last texts text, refl)
-            | inr apart ↦ right_more slot (is.right p slot (sym (slice_get-set_other slots place p new_slot apart) ∙ at) taken)
+            | inr apart ↦ right_more slot (is.right p slot (sym (slice_get-set_other slots slot_index p new_slot apart) ∙ at) taken)
           ]
 
           number_below : (n : ℕ) (t : List ℕ) → slice_get texts n ≡ Some t → n ≢ 4294967295
-          number_below n t named e = let within = slice_get_within texts n t named in absurd (omega (arith, within, e, room))
+          number_below n t named e = let within = slice_get_within texts n t named in absurd (omega (arith, within, e, below_max))
 
           found' : (n : ℕ) (t : List ℕ) → slice_get (texts ++ text ∷ []) n ≡ Some t
               → IsReached after (start_of mask (hash_of t)) n ⊎ (AreTaken after (start_of mask (hash_of t)) × (others t ≡ Some n))
@@ -138,18 +138,18 @@ module _ (texts : List (List ℕ)) (mask : ℕ) (slots : List Slot) (others : Li
                   steps = k;
                   few = few;
                   slot = new_slot;
-                  at = slice_get-set_same slots place new_slot (slice_get_within slots place free.0 free.1);
+                  at = slice_get-set_same slots slot_index new_slot (slice_get_within slots slot_index free.0 free.1);
                   is = sym new.0;
                   before = λ j below. let slot = passed j below in taken_still (start_of mask (hash_of text) + j) (slot.0, slot.1, slot.2);
                 } in
                 inl (subst (λ u. IsReached after (start_of mask (hash_of u)) n) new.1 here)
           ]
 
-    -- where none is free
+    -- no slot is free: the text goes to the tree
     pub index-full : (others' : List ℕ → Option ℕ) → ArePassed texts slots (start_of mask (hash_of text)) text 32 → others text ≡ None
         → ((t : List ℕ) → others' t ≡ cond (bytes_eq text t) (Some (length texts)) (others t)) → IsIndex (texts ++ text ∷ []) mask slots others'
     index-full others' passed new now = record {
-      few = let more = length_push texts text in omega (arith, more, room);
+      few = let more = length_push texts text in omega (arith, more, below_max);
       distinct = AreDistinct-append texts text is.distinct (others-full passed ∙ new);
       long = is.long;
       right = λ p slot at taken. right_more slot (is.right p slot at taken);
@@ -199,10 +199,10 @@ probed-here texts texts' slots slots' mask hash hash' text result t s h probed =
 pub with-new : (texts : List (List ℕ)) (text : List ℕ) → id_of text texts ≡ None → with_text texts text ≡ texts ++ text ∷ []
 with-new texts text e = ap (λ o. cond (is_some o) texts (texts ++ text ∷ [])) e
 
-pub with-known : (texts : List (List ℕ)) (text : List ℕ) (n : ℕ) → id_of text texts ≡ Some n → with_text texts text ≡ texts
-with-known texts text n e = ap (λ o. cond (is_some o) texts (texts ++ text ∷ [])) e
+pub with-present : (texts : List (List ℕ)) (text : List ℕ) (n : ℕ) → id_of text texts ≡ Some n → with_text texts text ≡ texts
+with-present texts text n e = ap (λ o. cond (is_some o) texts (texts ++ text ∷ [])) e
 
--- a text is not among those before it
+-- a text of a list of distinct texts does not occur before its index
 pub new-among : (texts : List (List ℕ)) (i : ℕ) (text : List ℕ) → AreDistinct texts → slice_get texts i ≡ Some text → id_of text (take i texts) ≡ None
 new-among texts i text distinct at = none_has (take i texts) text never
   where
@@ -219,12 +219,12 @@ new-among texts i text distinct at = none_has (take i texts) text never
         let same : n ≡ i = cc in
         absurd (omega (arith, same, before.0))
 
--- a text that was to be put into the tree
+-- an attempt to put a text into the tree, successful or not
 pub index-put : (texts : List (List ℕ)) (mask : ℕ) (slots : List Slot) (others : List ℕ → Option ℕ) (is : IsIndex texts mask slots others) (text : List ℕ) → length texts < 4294967295
     → ArePassed texts slots (start_of mask (hash_of text)) text 32 → others text ≡ None
     → (put : Bool) (texts' : List (List ℕ)) (others' : List ℕ → Option ℕ) → texts' ≡ (if put then texts ++ text ∷ [] else texts)
     → ((t : List ℕ) → others' t ≡ (if put then cond (bytes_eq text t) (Some (length texts)) (others t) else others t)) → IsIndex texts' mask slots others'
-index-put texts mask slots others is text room passed new true texts' others' t o =
-    subst (λ us. IsIndex us mask slots others') (sym t) (index-full texts mask slots others is text room others' passed new o)
-index-put texts mask slots others is text room passed new false texts' others' t o =
+index-put texts mask slots others is text below_max passed new true texts' others' t o =
+    subst (λ us. IsIndex us mask slots others') (sym t) (index-full texts mask slots others is text below_max others' passed new o)
+index-put texts mask slots others is text below_max passed new false texts' others' t o =
     subst (λ us. IsIndex us mask slots others') (sym t) (subst (IsIndex texts mask slots) (λ i u. sym (o u) i) is)

@@ -1,4 +1,4 @@
--- Items of lists in which one is set, or to which one is added.
+-- Items of a list after one is set or appended.
 use Rattle.std.proofs.Common.{◌≡◌, ◌≢◌, refl, ap, ℕ, zero, suc, ◌<◌, List, [], ◌∷◌, ◌++◌, length, Some, arith, slice_get, slice_set}
 
 module _ {X : Type 0} where

@@ -1,2 +1,4 @@
 pub mod ItemLemmas
+pub mod DigestIndexLemmas
 mod IndexLemmas
+pub mod InternerLemmas

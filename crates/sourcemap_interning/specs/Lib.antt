@@ -1,1 +1,4 @@
+pub mod DigestIndex
+pub mod Digests
+pub mod Interner
 pub mod Slots

@@ -1,4 +1,4 @@
--- Slots that lead from the hash of a text to its number.
+-- A hash table with open addressing from the hash of a text to its number.
 use Rattle.std.specs.Prelude.{◌≡◌, ◌≢◌, ◌≤◌, ◌<◌, ◌+◌, ◌/◌, ◌^◌, ◌⊎◌, ℕ, List, length, slice_get, Option, Some}
 use Rattle.std.specs.BTreeMap.{BTreeMap, get_by}
 use Rattle.std.specs.Cmp.Lexicographic.{slice_cmp}
@@ -6,29 +6,29 @@ use Rattle.std.specs.Hash.FoldHasher as folding
 use Rattle.std.specs.Int.Bits.{bit_and}
 use Rattle.std.specs.Ordering.{nat_cmp}
 use denote.Ref.{Bor}
-use Rattle.sourcemap_lists.specs.Interner.{AreDistinct}
+use Rattle.sourcemap_interning.specs.Interner.{AreDistinct}
 use Rattle.sourcemap_interning.specs.declared.slots.Slot.{Slot}
 use Rattle.sourcemap_interning.specs.declared.slots.Probe.{Probe}
 use Rattle.sourcemap_interning.specs.declared.slots.Probe.TheVariants.{Found, Free, Full}
 
--- the upper half of what the hasher gives for the bytes of a text
+-- the upper 32 bits of the hash of the bytes of a text
 unfoldable pub hash_of : List ℕ → ℕ
 hash_of text = folding.finish (folding.write folding.initial text) / 2 ^ 32
 
--- the first slot of a text with this hash
+-- the index of the first slot that a text with this hash can be in
 unfoldable pub start_of : (mask hash : ℕ) → ℕ
 start_of mask hash = bit_and hash mask
 
--- the number of a text in a tree
+-- the number of a text in the overflow tree
 abbrev pub number_in_tree : BTreeMap (Bor (List ℕ)) ℕ → List ℕ → Option ℕ
 number_in_tree tree text = get_by (λ key. slice_cmp nat_cmp text key.now) tree
 
--- a slot has a number, or has none
+-- the slot exists and has a number, or has none
 abbrev pub IsTaken : List Slot → ℕ → Type 0
-IsTaken slots place = (slot : Slot) × (slice_get slots place ≡ Some slot) × (slot.number ≢ 4294967295)
+IsTaken slots slot_index = (slot : Slot) × (slice_get slots slot_index ≡ Some slot) × (slot.number ≢ 4294967295)
 
 abbrev pub IsFree : List Slot → ℕ → Type 0
-IsFree slots place = (slot : Slot) × (slice_get slots place ≡ Some slot) × (slot.number ≡ 4294967295)
+IsFree slots slot_index = (slot : Slot) × (slice_get slots slot_index ≡ Some slot) × (slot.number ≡ 4294967295)
 
 -- a slot has the number and the hash of one of the texts
 abbrev pub IsRight : List (List ℕ) → Slot → Type 0
@@ -36,22 +36,22 @@ IsRight texts slot = (text : List ℕ) × (slice_get texts slot.number ≡ Some 
 
 abbrev pub AreRight : List (List ℕ) → List Slot → Type 0
 AreRight texts slots =
-    (place : ℕ) (slot : Slot) → slice_get slots place ≡ Some slot → slot.number ≢ 4294967295 → IsRight texts slot
+    (slot_index : ℕ) (slot : Slot) → slice_get slots slot_index ≡ Some slot → slot.number ≢ 4294967295 → IsRight texts slot
 
--- of the slots from one on so many are taken, and by other texts
+-- the `count` slots from `start` on are taken, each by another text
 abbrev pub ArePassed : List (List ℕ) → List Slot → ℕ → List ℕ → ℕ → Type 0
 ArePassed texts slots start text count =
     (k : ℕ) → k < count → (slot : Slot) × (slice_get slots (start + k) ≡ Some slot) × (slot.number ≢ 4294967295)
     × (slice_get texts slot.number ≢ Some text)
 
--- what the 32 slots from one on hold of a text
+-- the result of a search for a text in the 32 slots from `start` on
 abbrev pub IsProbed : List (List ℕ) → List Slot → ℕ → List ℕ → Probe → Type 0
 IsProbed texts slots start text (Found number) = slice_get texts number ≡ Some text
-IsProbed texts slots start text (Free place) =
-    (k : ℕ) × (k < 32) × (place ≡ start + k) × IsFree slots place × ArePassed texts slots start text k
+IsProbed texts slots start text (Free slot_index) =
+    (k : ℕ) × (k < 32) × (slot_index ≡ start + k) × IsFree slots slot_index × ArePassed texts slots start text k
 IsProbed texts slots start text Full = ArePassed texts slots start text 32
 
--- a number is in one of the 32 slots from one on, behind slots that are taken
+-- the number is in one of the 32 slots from `start` on, after slots that are all taken
 pub record IsReached (slots : List Slot) (start number : ℕ) : Type 0 where
   pub steps : ℕ
   pub few : steps < 32
@@ -60,11 +60,11 @@ pub record IsReached (slots : List Slot) (start number : ℕ) : Type 0 where
   pub is : slot.number ≡ number
   pub before : (k : ℕ) → k < steps → IsTaken slots (start + k)
 
--- all of the 32 slots from one on are taken
+-- the 32 slots from `start` on are all taken
 abbrev pub AreTaken : List Slot → ℕ → Type 0
 AreTaken slots start = (k : ℕ) → k < 32 → IsTaken slots (start + k)
 
--- slots, and numbers of texts that found none, lead to each of these texts
+-- each text has its number in a slot that a search reaches, or in `others` if its slots were full
 pub record IsIndex (texts : List (List ℕ)) (mask : ℕ) (slots : List Slot) (others : List ℕ → Option ℕ) : Type 0 where
   pub few : length texts ≤ 4294967295
   pub distinct : AreDistinct texts

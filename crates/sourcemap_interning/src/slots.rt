@@ -1,35 +1,35 @@
-//! Slots that lead from the hash of a text to its number.
+//! A hash table with open addressing from the hash of a text to its number.
 ghost use Rattle.std.specs.Prelude.{◌≡◌, ◌≤◌, ◌+◌, ℕ, List, map, length, slice_get, Some};
 ghost use Rattle.std.specs.Str.{bytes_eq};
 ghost use Rattle.sourcemap_interning.specs.Slots.{AreRight, IsProbed, IsRight, hash_of, start_of};
 
 use std::hash::{FoldHasher, Hasher};
 
-/// How many slots are looked at for a text.
+/// The number of slots that a search reads at most.
 pub(crate) const WINDOW: usize = 32;
 
-/// The number in a slot that has none.
+/// The number in a free slot.
 pub(crate) const NO_NUMBER: u32 = 4294967295;
 
-// The number of a text, and its hash.
 #[derive(Clone, Copy)]
 pub(crate) struct Slot {
     pub(crate) hash: u32,
     pub(crate) number: u32,
 }
 
-// What the slots of a text hold.
+// The result of a search for a text.
 #[derive(Clone, Copy)]
 pub(crate) enum Probe {
-    // its number
+    // the number of the text
     Found(u32),
-    // no number of it, and this one is the first that is free
+    // the text is in no slot; the index of the first free one
     Free(usize),
-    // no number of it, and none is free
+    // the text is in no slot, and none is free
     Full,
 }
 
-// The kit's hash, whose seed is fixed: texts that collide are easily made.
+// The seed of the kit's hash is fixed, so texts that collide are easy to make. `TextIndex` bounds
+// what they cost.
 pub(crate) fn hash_of(text: &str) -> u32
     ensures { result ≡ hash_of text.now }
 {
@@ -38,7 +38,6 @@ pub(crate) fn hash_of(text: &str) -> u32
     (hasher.finish() >> 32) as u32
 }
 
-// The first slot of a text with this hash.
 fn start_of(hash: u32, mask: usize) -> usize
     ensures start { result ≡ start_of mask hash }
     ensures within { result ≤ mask }
@@ -46,7 +45,6 @@ fn start_of(hash: u32, mask: usize) -> usize
     hash as usize & mask
 }
 
-// Whether this slot is that of a text with this hash.
 fn is_of(slot: Slot, texts: &[&str], text: &str, hash: u32) -> bool
     requires right { IsRight (map (λ t. t.now) texts.now) slot }
     requires hash { hash ≡ hash_of text.now }
@@ -57,7 +55,6 @@ fn is_of(slot: Slot, texts: &[&str], text: &str, hash: u32) -> bool
     slot.hash == hash && texts[slot.number as usize] == text
 }
 
-// Looks for a text with this hash.
 pub(crate) fn look_up(slots: &[Slot], mask: usize, texts: &[&str], text: &str, hash: u32) -> Probe
     requires long { length slots.now ≡ mask + 33 }
     requires right { AreRight (map (λ t. t.now) texts.now) slots.now }

@@ -1,8 +1,8 @@
-//! An index of texts by number.
+//! Numbers of texts, found by hash.
 ghost use Rattle.std.specs.Prelude.{◌≡◌, ◌<◌, ◌≤◌, ◌*◌, ◌++◌, ◌∷◌, ℕ, List, [], None, Some, cond, if◌then◌else◌, is_ok, length, map, vec_len, is_some, IfOk, OnOk, OnErr, IsOkUnless};
 ghost use Rattle.std.specs.Str.{bytes_eq};
 ghost use Rattle.sourcemap_interning.specs.Slots.{number_in_tree};
-ghost use Rattle.sourcemap_lists.specs.Interner.{id_of, with_text};
+ghost use Rattle.sourcemap_interning.specs.Interner.{id_of, with_text};
 ghost use Rattle.sourcemap_errors.specs.declared.errors.Error.TheVariants.{OutOfMemory};
 
 use crate::slots::{NO_NUMBER, Probe, Slot, WINDOW, hash_of, look_up};
@@ -11,20 +11,20 @@ use std::alloc::{AllocError, Global};
 use std::collections::BTreeMap;
 use std::marker::Model;
 
-// One less than how many slots a text of an index of none can begin at.
+// The mask of a new index. A mask is one less than the number of slots at which a search can start.
 const FIRST_MASK: usize = 31;
 
-/// Texts that are numbered in the order in which they first come. A text is looked for in a bounded
-/// number of slots from one that its hash gives. One that finds none of these free is kept in a
-/// tree, so no texts take more than some n log n of time, however they collide.
+/// Texts that are numbered in the order in which they first occur. A search starts at the slot that
+/// the hash of the text selects and reads at most 32 slots. If these are all taken by other texts,
+/// the text goes to a tree. So n texts take n log n time at worst, also if their hashes collide.
 #[derive(Drop)]
 pub struct TextIndex<'a> {
     // by number
     texts: Vec<&'a str>,
     slots: Vec<Slot>,
-    // one less than how many slots a text can begin at
+    // one less than the number of slots at which a search can start
     mask: usize,
-    // the numbers of the texts that found no slot
+    // the numbers of the texts that found no free slot
     others: BTreeMap<&'a str, u32>,
 }
 
@@ -41,7 +41,7 @@ impl<'a> Model for TextIndex<'a> {
 }
 
 impl<'a> TextIndex<'a> {
-    // An index of no texts, of which each begins at a slot up to this one.
+    // An empty index whose searches start at slots up to `mask`.
     fn with_mask(alloc: Global, mask: usize) -> Result<Self, AllocError>
         requires { mask ≤ 4294967296 * 64 }
         ensures { IfOk result (λ index. index ≡ []) }
@@ -58,7 +58,7 @@ impl<'a> TextIndex<'a> {
         })
     }
 
-    /// An index of no texts. Returns only `OutOfMemory`.
+    /// An empty index. The only error is `OutOfMemory`.
     pub fn new(alloc: Global) -> errors::Result<Self>
         ensures ok { IfOk result (λ index. index ≡ []) }
         ensures memory { IsOkUnless result OutOfMemory }
@@ -67,7 +67,7 @@ impl<'a> TextIndex<'a> {
         Ok(index)
     }
 
-    /// How many texts there are.
+    /// The number of texts.
     pub fn len(&self) -> usize
         ensures count { result ≡ length self.now }
         ensures few { result ≤ 4294967295 }
@@ -75,7 +75,7 @@ impl<'a> TextIndex<'a> {
         self.texts.len()
     }
 
-    /// Whether this is one of the texts.
+    /// Whether the text has a number.
     pub fn contains(&self, text: &str) -> bool
         ensures { result ≡ is_some (id_of text.now self.now) }
     {
@@ -87,8 +87,8 @@ impl<'a> TextIndex<'a> {
         }
     }
 
-    /// The number of a text, the next one where it has none. Of such a text there are fewer than
-    /// 4294967295 others. Returns only `OutOfMemory`, and then nothing changes.
+    /// The number of a text. A new text gets the next number; there must be fewer than 4294967295
+    /// others. The only error is `OutOfMemory`; it leaves the index unchanged.
     pub fn number_of(&mut self, text: &'a str) -> errors::Result<u32>
         requires few { id_of text.now self.old ≡ None → length self.old < 4294967295 }
         ensures number { IfOk result (λ number. id_of text.now self.new ≡ Some number) }
@@ -96,13 +96,13 @@ impl<'a> TextIndex<'a> {
         ensures unchanged { OnErr result (self.new ≡ self.old) }
         ensures memory { IsOkUnless result OutOfMemory }
     {
-        self.make_room()?;
+        self.grow()?;
         let number = self.enter(text)?;
         Ok(number)
     }
 
-    // Sees that no more than half of the slots at which a text can begin are taken.
-    fn make_room(&mut self) -> Result<(), AllocError>
+    // Grows the table once there are more texts than half of the start slots.
+    fn grow(&mut self) -> Result<(), AllocError>
         ensures { self.new ≡ self.old }
     {
         if self.texts.len() <= self.mask / 2 {
@@ -144,8 +144,7 @@ impl<'a> TextIndex<'a> {
     }
 }
 
-// Puts a text at the end of `texts`, and its number into `others`. Where memory runs out, neither
-// changes.
+// Appends a text to `texts` and enters its number in `others`. An error leaves both unchanged.
 fn put_other<'a>(
     texts: &mut Vec<&'a str>,
     others: &mut BTreeMap<&'a str, u32>,
@@ -163,7 +162,7 @@ fn put_other<'a>(
         else number_in_tree others.old other) }
 {
     let number = texts.len() as u32;
-    // makes sure that the last step succeeds
+    // so that the push after the insert cannot fail
     texts.reserve(1)?;
     others.insert(text, number)?;
     texts.push(text)?;

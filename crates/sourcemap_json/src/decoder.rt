@@ -1,4 +1,4 @@
-//! Junk headers, taken off.
+//! Skips junk headers.
 
 pub use sourcemap_headers::header::strip_junk_header;
 pub use sourcemap_headers::header_reader::StripHeaderReader;

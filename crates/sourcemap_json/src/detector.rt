@@ -1,4 +1,4 @@
-//! References to source maps in generated texts, and whether bytes hold a map.
+//! References to source maps in generated texts, and detection of source maps.
 
 pub use sourcemap_detection::detection::{is_sourcemap, is_sourcemap_slice};
 pub use sourcemap_references::detector::{

@@ -1,6 +1,5 @@
-//! A facade: records of source maps, what stands around their JSON text, whether bytes hold a map,
-//! and references to maps. It re-exports from the crates of headers, records, detection and
-//! references.
+//! Facade for records of source maps, junk headers, data URLs, detection and references. It re-exports
+//! from the crates of headers, records, detection and references.
 #![tactic(auto)]
 
 pub mod decoder;

@@ -1,13 +1,14 @@
-// Data URLs, read with each charset and refused with any other form.
-use crate::checks::{check, error_text};
+// Data URLs, decoded with each charset and refused with any other form.
+use crate::checks::check;
 use sourcemap_errors::errors::Result;
 use sourcemap_json::data_url::{data_url, data_url_bytes};
+use sourcemap_test_support::results::error_text;
 use std::alloc::Global;
 use std::str;
 
 const TEXT: &str = r#"{"mappings":"A"}"#;
 
-// What a row is about, a data URL, and the text that it holds or its fault.
+// A label, a data URL, and its text or its error.
 static READ: [(&str, &str, &str); 9] = [
     (
         "no charset",
@@ -35,7 +36,7 @@ static READ: [(&str, &str, &str); 9] = [
         "the provided data URL is invalid",
     ),
     (
-        "more behind the padding",
+        "more after the padding",
         "data:application/json;base64,eyJtYXBwaW5ncyI6IkEifQ==eyJt",
         "the provided data URL is invalid",
     ),

@@ -1,13 +1,13 @@
-// Which bytes hold a map, asked of slices and of readers that give a byte a read or fail.
+// Whether bytes hold a map: in slices, and in readers that give one byte a read or fail.
 use crate::checks::check;
 use crate::headers::OneByOne;
 use sourcemap_errors::errors::{Error, Result};
 use sourcemap_json::detector::{is_sourcemap, is_sourcemap_slice};
-use sourcemap_test_writers::HaltingReader;
+use sourcemap_test_support::readers::HaltingReader;
 use std::alloc::Global;
 use std::io::{ErrorKind, Read};
 
-// What a row is about, and a map.
+// A label, and a map.
 static MAPS: [(&str, &str); 11] = [
     ("sources", r#"{"version":3,"sources":[],"mappings":""}"#),
     ("sections alone", r#"{"sections":[]}"#),
@@ -35,12 +35,12 @@ static MAPS: [(&str, &str); 11] = [
         r#"{"version":3,"sources":["coolstuff.js"],"names":["x","alert"],"mappings":"AAAA,GAAIA,GAAI,EACR,IAAIA,GAAK,EAAG,CACVC,MAAM"}"#,
     ),
     (
-        "a whole map behind a longer header",
+        "a whole map after a longer header",
         ")]}garbage\n{\"version\":3,\"sources\":[\"coolstuff.js\"],\"names\":[\"x\",\"alert\"],\"mappings\":\"AAAA\"}",
     ),
 ];
 
-// What a row is about, and a text that is no map.
+// A label, and a text that is not a map.
 static OTHERS: [(&str, &str); 11] = [
     ("a null", r#"{"version":3,"sources":null,"mappings":""}"#),
     (
@@ -48,7 +48,7 @@ static OTHERS: [(&str, &str); 11] = [
         r#"{"version":"3","sources":[],"mappings":""}"#,
     ),
     (
-        "such a version beside sections",
+        "such a version with sections",
         r#"{"version":"3","sections":[]}"#,
     ),
     ("a list", "[]"),
@@ -67,7 +67,7 @@ static OTHERS: [(&str, &str); 11] = [
     ("a header with an error", ")]}'\r{\"sections\":[]}"),
 ];
 
-fn answers(alloc: Global, bytes: &[u8]) -> Result<String> {
+fn detect(alloc: Global, bytes: &[u8]) -> Result<String> {
     let is_map = is_sourcemap_slice(alloc, bytes)?;
     let is_read = is_sourcemap(alloc, OneByOne(bytes))?;
     let halting = HaltingReader::new(bytes, usize::MAX, ErrorKind::TimedOut);
@@ -81,7 +81,7 @@ fn maps_and_other_texts(rt: HostRuntime) {
         check(
             &rt,
             about,
-            answers(rt.alloc(), text.as_bytes()),
+            detect(rt.alloc(), text.as_bytes()),
             "true, true, true",
         );
     }
@@ -89,14 +89,14 @@ fn maps_and_other_texts(rt: HostRuntime) {
         check(
             &rt,
             about,
-            answers(rt.alloc(), text.as_bytes()),
+            detect(rt.alloc(), text.as_bytes()),
             "false, false, false",
         );
     }
 }
 
-// The answer for a reader that fails once so many bytes have been read.
-fn answer_of_failing(alloc: Global, bytes: &[u8], count: usize) -> Result<String> {
+// The result for a reader that fails after `count` bytes.
+fn detect_failing(alloc: Global, bytes: &[u8], count: usize) -> Result<String> {
     let read = &bytes[..count.min(bytes.len())];
     let is_map = is_sourcemap(alloc, OneByOne(read).chain(OneByOne(b"!")))?;
     Ok(format!(in alloc; "{is_map}")?)
@@ -109,14 +109,14 @@ fn a_failed_read_is_no_map(rt: HostRuntime) {
         check(
             &rt,
             "a reader that fails",
-            answer_of_failing(rt.alloc(), bytes, count),
+            detect_failing(rt.alloc(), bytes, count),
             "false",
         );
     }
 }
 
-// Whether a reader whose memory runs out after so many reads is refused for that.
-fn ran_out(alloc: Global, bytes: &[u8], reads: usize) -> bool {
+// Whether a reader that runs out of memory after `reads` reads returns `OutOfMemory`.
+fn runs_out_of_memory(alloc: Global, bytes: &[u8], reads: usize) -> bool {
     let reader = HaltingReader::new(bytes, reads, ErrorKind::OutOfMemory);
     matches!(is_sourcemap(alloc, reader), Err(Error::OutOfMemory))
 }
@@ -125,6 +125,9 @@ fn ran_out(alloc: Global, bytes: &[u8], reads: usize) -> bool {
 fn out_of_memory_alone_is_an_error(rt: HostRuntime) {
     let bytes = r#"{"sections":[]}"#.as_bytes();
     for reads in 0..=bytes.len() {
-        assert!(rt; ran_out(rt.alloc(), bytes, reads), "after {reads} reads");
+        assert!(rt;
+            runs_out_of_memory(rt.alloc(), bytes, reads),
+            "after {reads} reads"
+        );
     }
 }

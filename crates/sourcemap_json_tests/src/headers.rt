@@ -1,12 +1,13 @@
 // Junk headers, with bytes that come one by one and reads that fail.
-use crate::checks::{check, error_text};
+use crate::checks::check;
 use sourcemap_errors::errors::{Error, Result};
 use sourcemap_json::decoder::{StripHeaderReader, strip_junk_header};
+use sourcemap_test_support::results::error_text;
 use std::alloc::Global;
 use std::io::{ErrorKind, Read};
 use std::{io, str};
 
-// Gives one byte a read, and a fault in place of the read of each `!`.
+// Gives one byte a read, and an error at each `!`.
 #[derive(Drop)]
 pub struct OneByOne<'a>(pub &'a [u8]);
 
@@ -27,7 +28,7 @@ impl Read for OneByOne<'_> {
     }
 }
 
-// What a row is about, bytes, and what stands behind their header, or the fault.
+// A label, bytes, and what follows their header, or the error.
 static READ: [(&str, &[u8], &str); 6] = [
     (
         "a header up to the end of its line",
@@ -35,17 +36,17 @@ static READ: [(&str, &[u8], &str); 6] = [
         "[1, 2, 3]",
     ),
     ("a header without end", b")]}", ""),
-    ("a header and nothing behind it", b")]}'\n", ""),
+    ("a header and nothing after it", b")]}'\n", ""),
     ("only one line end goes with it", b"'\r\n\n{}", "\n{}"),
     ("no header", b"{}\r[", "{}\r["),
     (
-        "a return without a line end behind it",
+        "a return without a line end after it",
         b")]}'\r[1, 2, 3]",
         "invalid data",
     ),
 ];
 
-fn text_or_fault(alloc: Global, bytes: &[u8], outcome: io::Result<usize>) -> Result<String> {
+fn text_or_error(alloc: Global, bytes: &[u8], outcome: io::Result<usize>) -> Result<String> {
     match outcome {
         Ok(_) => Ok(String::from_str(alloc, str::from_utf8(bytes)?)?),
         Err(error) => error_text(alloc, &Error::from(error)),
@@ -55,7 +56,7 @@ fn text_or_fault(alloc: Global, bytes: &[u8], outcome: io::Result<usize>) -> Res
 fn read(alloc: Global, text: &[u8]) -> Result<String> {
     let mut bytes = Vec::new(alloc);
     let outcome = StripHeaderReader::new(OneByOne(text)).read_to_end(&mut bytes);
-    text_or_fault(alloc, bytes.as_slice(), outcome)
+    text_or_error(alloc, bytes.as_slice(), outcome)
 }
 
 #[test]
@@ -65,7 +66,7 @@ fn drops_the_header(rt: HostRuntime) {
     }
 }
 
-// What a row is about, bytes, and what a slice keeps of them, or the fault.
+// A label, bytes, and what a slice keeps of them, or the error.
 static STRIPPED: [(&str, &[u8], &str); 3] = [
     ("a header without end", b")]}", ""),
     (
@@ -74,13 +75,13 @@ static STRIPPED: [(&str, &[u8], &str); 3] = [
         "\n[1, 2, 3]",
     ),
     (
-        "a return without a line end behind it",
+        "a return without a line end after it",
         b")]}'\r[1, 2, 3]",
         "invalid data",
     ),
 ];
 
-fn stripped(alloc: Global, text: &[u8]) -> Result<String> {
+fn strip(alloc: Global, text: &[u8]) -> Result<String> {
     match strip_junk_header(text) {
         Ok(bytes) => Ok(String::from_str(alloc, str::from_utf8(bytes)?)?),
         Err(error) => error_text(alloc, &Error::from(error)),
@@ -90,33 +91,33 @@ fn stripped(alloc: Global, text: &[u8]) -> Result<String> {
 #[test]
 fn strips_the_header(rt: HostRuntime) {
     for (about, text, want) in STRIPPED.iter() {
-        check(&rt, about, stripped(rt.alloc(), text), want);
+        check(&rt, about, strip(rt.alloc(), text), want);
     }
 }
 
-// What a row is about, bytes, how much room each read has, and the byte that it gives: `.` for none,
-// `?` for invalid data, `~` for the fault of the inner reader.
-static FAULTY: [(&str, &[u8], [usize; 4], &str); 2] = [
+// A label, bytes, the buffer size of each read, and the byte that it gives: `.` for none, `?` for
+// invalid data, `~` for the error of the inner reader.
+static INVALID: [(&str, &[u8], [usize; 4], &str); 2] = [
     (
-        "no room, then the same fault at each read",
+        "an empty buffer, then the same error at each read",
         b")]}'\r[1, 2, 3]",
         [0, 4, 0, 4],
         ".???",
     ),
     (
-        "a fault inside of the header, which goes on behind it",
+        "an error within the header, which goes on after it",
         b")]}!x\nab",
         [4, 4, 4, 4],
         "~ab.",
     ),
 ];
 
-fn next(reader: &mut StripHeaderReader<OneByOne<'_>>, room: usize) -> char {
+fn next(reader: &mut StripHeaderReader<OneByOne<'_>>, size: usize) -> char {
     let mut buf = [0u8; 4];
-    match reader.read(&mut buf[..room.min(4)]) {
+    match reader.read(&mut buf[..size.min(4)]) {
         Ok(0) => '.',
         Ok(_) => buf[0] as char,
-        Err(fault) => match fault.kind() {
+        Err(cause) => match cause.kind() {
             ErrorKind::InvalidData => '?',
             ErrorKind::TimedOut => '~',
             _ => '!',
@@ -124,23 +125,23 @@ fn next(reader: &mut StripHeaderReader<OneByOne<'_>>, room: usize) -> char {
     }
 }
 
-fn reads(alloc: Global, text: &[u8], rooms: [usize; 4]) -> Result<String> {
+fn read_by_sizes(alloc: Global, text: &[u8], sizes: [usize; 4]) -> Result<String> {
     let mut reader = StripHeaderReader::new(OneByOne(text));
-    let mut told = String::new(alloc);
-    for room in rooms {
-        told.push(next(&mut reader, room))?;
+    let mut outcomes = String::new(alloc);
+    for size in sizes {
+        outcomes.push(next(&mut reader, size))?;
     }
-    Ok(told)
+    Ok(outcomes)
 }
 
 #[test]
-fn faults_come_where_they_stand(rt: HostRuntime) {
-    for (about, text, rooms, want) in FAULTY.iter() {
-        check(&rt, about, reads(rt.alloc(), text, *rooms), want);
+fn errors_come_at_their_reads(rt: HostRuntime) {
+    for (about, text, sizes, want) in INVALID.iter() {
+        check(&rt, about, read_by_sizes(rt.alloc(), text, *sizes), want);
     }
 }
 
-// Gives a byte a read, and fails once where so many bytes are left, with a text of its own.
+// Gives one byte a read, and fails once, with a message, where `left` bytes are left.
 #[derive(Drop)]
 struct FailsOnce<'a> {
     rest: &'a [u8],
@@ -165,8 +166,8 @@ impl Read for FailsOnce<'_> {
     }
 }
 
-// What a row is about, how many bytes are left where the inner reader fails, the kind of its error,
-// and what comes of reading `)]}x\nab`.
+// A label, how many bytes are left where the inner reader fails, the kind of its error, and the result
+// of reading `)]}x\nab`.
 static PASSED_ON: [(&str, usize, ErrorKind, &str); 6] = [
     (
         "at the first read, of the kind of an invalid header",
@@ -175,19 +176,19 @@ static PASSED_ON: [(&str, usize, ErrorKind, &str); 6] = [
         "(the disk is gone)ab",
     ),
     (
-        "inside of the header, of that kind",
+        "within the header, of that kind",
         5,
         ErrorKind::InvalidData,
         "(the disk is gone)ab",
     ),
     (
-        "inside of the header, of the kind of too many reads",
+        "within the header, of the kind of too many reads",
         4,
         ErrorKind::Other,
         "(the disk is gone)ab",
     ),
     (
-        "inside of the header, interrupted",
+        "within the header, interrupted",
         3,
         ErrorKind::Interrupted,
         "(the disk is gone)ab",
@@ -206,7 +207,7 @@ static PASSED_ON: [(&str, usize, ErrorKind, &str); 6] = [
     ),
 ];
 
-fn read_past_errors(alloc: Global, left: usize, kind: ErrorKind) -> Result<String> {
+fn read_through_errors(alloc: Global, left: usize, kind: ErrorKind) -> Result<String> {
     let mut reader = StripHeaderReader::new(FailsOnce {
         rest: b")]}x\nab",
         left: Some(left),
@@ -228,6 +229,11 @@ fn read_past_errors(alloc: Global, left: usize, kind: ErrorKind) -> Result<Strin
 #[test]
 fn errors_of_the_inner_reader_are_passed_on(rt: HostRuntime) {
     for (about, left, kind, want) in PASSED_ON.iter() {
-        check(&rt, about, read_past_errors(rt.alloc(), *left, *kind), want);
+        check(
+            &rt,
+            about,
+            read_through_errors(rt.alloc(), *left, *kind),
+            want,
+        );
     }
 }

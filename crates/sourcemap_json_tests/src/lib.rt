@@ -1,5 +1,5 @@
-//! Tests of headers, data URLs, records, references and of which bytes hold a map, by the names that
-//! users of their JSON know.
+//! Tests of headers, data URLs, records, references and detection, by the public names of
+//! `sourcemap_json`.
 #![tactic(auto)]
 
 #[cfg(test)]

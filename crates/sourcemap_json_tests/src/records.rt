@@ -1,4 +1,4 @@
-// Records read from JSON texts and written as JSON texts, against the texts that they stand for.
+// Records read from JSON texts and written as JSON texts.
 use crate::checks::check;
 use serde_json::Value;
 use sourcemap_errors::errors::{Error, JsonFault, Result};
@@ -9,8 +9,8 @@ fn read(alloc: Global, text: &str) -> Result<RawSourceMap> {
     RawSourceMap::from_owned(alloc, Value::from_str(alloc, text)?)
 }
 
-// Each has one value of the wrong type, or a number or a debug id that is none.
-static WRONG: [&str; 15] = [
+// Each has one value of the wrong type, or an invalid number or debug id.
+static WRONG_SHAPE: [&str; 15] = [
     r#"[]"#,
     r#"null"#,
     r#"{"version":4294967296}"#,
@@ -37,7 +37,7 @@ fn is_of_wrong_shape(alloc: Global, text: &str) -> Result<bool> {
 
 #[test]
 fn wrong_shapes(rt: HostRuntime) -> Result<()> {
-    for text in WRONG.iter() {
+    for text in WRONG_SHAPE.iter() {
         assert!(rt; is_of_wrong_shape(rt.alloc(), text)?, "{text}");
     }
     Ok(())
@@ -45,7 +45,7 @@ fn wrong_shapes(rt: HostRuntime) -> Result<()> {
 
 const NOTHING: &str = r#"{"sources":null,"version":null}"#;
 
-// What a row is about, a record, and what it is written as.
+// A label, a record, and what it is written as.
 static WRITTEN: [(&str, &str, &str); 5] = [
     ("no keys", "{}", NOTHING),
     (
@@ -70,7 +70,7 @@ static WRITTEN: [(&str, &str, &str); 5] = [
     ),
 ];
 
-fn told(alloc: Global, value: Result<Value>) -> Result<String> {
+fn value_text(alloc: Global, value: Result<Value>) -> Result<String> {
     Ok(value?.to_string(alloc)?)
 }
 
@@ -98,15 +98,20 @@ fn written_texts(rt: HostRuntime) -> Result<()> {
     let alloc = rt.alloc();
     for (about, text, want) in WRITTEN.iter() {
         for text in [*text, *want] {
-            check(&rt, about, told(alloc, by_reference(alloc, text)), want);
-            check(&rt, about, told(alloc, by_moving(alloc, text)), want);
+            check(
+                &rt,
+                about,
+                value_text(alloc, by_reference(alloc, text)),
+                want,
+            );
+            check(&rt, about, value_text(alloc, by_moving(alloc, text)), want);
             assert!(rt; are_equal(alloc, text, want)?, "{about}");
         }
     }
     Ok(())
 }
 
-// What a row is about, a text, and the debug id that it stands for.
+// A label, a text, and its debug id.
 static IDS: [(&str, &str, &str); 4] = [
     (
         "with hyphens",
@@ -130,7 +135,7 @@ static IDS: [(&str, &str, &str); 4] = [
     ),
 ];
 
-fn id_told(alloc: Global, id: Option<DebugId>) -> Result<String> {
+fn id_text(alloc: Global, id: Option<DebugId>) -> Result<String> {
     match id {
         None => Ok(String::from_str(alloc, "none")?),
         Some(id) => Ok(format!(in alloc; "{}", DebugId::from_uuid(id.uuid()))?),
@@ -138,15 +143,15 @@ fn id_told(alloc: Global, id: Option<DebugId>) -> Result<String> {
 }
 
 fn id_in(alloc: Global, text: &str) -> Result<String> {
-    id_told(alloc, read(alloc, text)?.debug_id)
+    id_text(alloc, read(alloc, text)?.debug_id)
 }
 
 #[test]
 fn debug_ids(rt: HostRuntime) {
     for (about, text, want) in IDS.iter() {
-        check(&rt, about, id_told(rt.alloc(), DebugId::parse(text)), want);
+        check(&rt, about, id_text(rt.alloc(), DebugId::parse(text)), want);
     }
-    // of the two keys the newer one wins
+    // `debugId` wins
     let text =
         r#"{"debug_id":"11111111-1111-1111-1111-111111111111","debugId":"00000000000000000000000000000000"}"#;
     check(
@@ -159,19 +164,19 @@ fn debug_ids(rt: HostRuntime) {
 
 const NAMES: &str = r#"{"names":[1.5,true,7,"a"],"mappings":null,"version":3}"#;
 
-// The names but the first, which no text tells.
-fn names_told(alloc: Global, names: &[Value]) -> Result<String> {
-    let mut told = format!(in alloc; "{}", names.len())?;
+// The number of names, and the names after the first, whose digits are the kit's.
+fn names_text(alloc: Global, names: &[Value]) -> Result<String> {
+    let mut text = format!(in alloc; "{}", names.len())?;
     for name in names.iter().skip(1) {
         let name = name.to_string(alloc)?;
-        write!(told, " {}", name.as_str())?;
+        write!(text, " {}", name.as_str())?;
     }
-    Ok(told)
+    Ok(text)
 }
 
 fn names_in(alloc: Global, text: &str) -> Result<String> {
     let names = read(alloc, text)?.names;
-    names_told(alloc, names.as_ref().map_or(&[], |names| names.as_slice()))
+    names_text(alloc, names.as_ref().map_or(&[], |names| names.as_slice()))
 }
 
 fn keys_in(alloc: Global, text: &str) -> Result<String> {
@@ -186,22 +191,22 @@ fn names_and_keys(rt: HostRuntime) {
     check(&rt, NAMES, keys_in(rt.alloc(), NAMES), "Some(3) true false");
 }
 
-fn is_equal_to_copy(alloc: Global) -> Result<bool> {
+fn new_scopes_equal_their_copy(alloc: Global) -> Result<bool> {
     let mappings = String::from_str(alloc, "AAA")?;
     let scopes = FacebookScopeMapping {
         mappings,
         names: Vec::new(alloc),
     };
-    is_equal_copied(&scopes)
+    equals_its_copy(&scopes)
 }
 
-fn is_equal_copied(scopes: &FacebookScopeMapping) -> Result<bool> {
+fn equals_its_copy(scopes: &FacebookScopeMapping) -> Result<bool> {
     let copy = scopes.clone()?;
     Ok(copy == *scopes)
 }
 
 #[test]
 fn scopes_are_copied(rt: HostRuntime) -> Result<()> {
-    assert!(rt; is_equal_to_copy(rt.alloc())?);
+    assert!(rt; new_scopes_equal_their_copy(rt.alloc())?);
     Ok(())
 }

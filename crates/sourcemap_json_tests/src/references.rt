@@ -1,44 +1,21 @@
-// References to source maps: where they stand in a text, and where they lead.
+// References to source maps: where they are in a text, and what they resolve to.
 ghost use Rattle.std.specs.Prelude.{◌≡◌};
 ghost use Rattle.std.specs.Bool.{Decides};
 ghost use Rattle.sourcemap_json.specs.References.{reference};
 
-use crate::checks::{check, error_text};
+use crate::checks::check;
 use sourcemap_errors::errors::{Error, Result};
 use sourcemap_json::detector::{
     SourceMapRef, is_sourcemap, locate_sourcemap_reference, locate_sourcemap_reference_slice,
 };
-use sourcemap_test_writers::HaltingReader;
-use sourcemap_views::sourceview::SourceView;
+use sourcemap_source_views::sourceview::SourceView;
+use sourcemap_test_support::readers::{HaltingReader, NarrowReader};
+use sourcemap_test_support::results::error_text;
 use std::alloc::Global;
-use std::io::{ErrorKind, Read};
-use std::{io, str};
+use std::io::ErrorKind;
+use std::str;
 
-// Gives a byte a read, and fails once so many reads were made.
-#[derive(Drop)]
-struct Narrow<'a> {
-    rest: &'a [u8],
-    reads: usize,
-}
-
-impl Read for Narrow<'_> {
-    fn read(&mut self, buf: &mut [u8]) -> io::Result<usize> {
-        if self.reads == 0 {
-            return Err(io::Error::from(ErrorKind::TimedOut));
-        }
-        self.reads -= 1;
-        match (self.rest, buf) {
-            ([byte, rest @ ..], [first, ..]) => {
-                self.rest = rest;
-                *first = *byte;
-                Ok(1)
-            }
-            _ => Ok(0),
-        }
-    }
-}
-
-// What a row is about, bytes, and their reference behind its mark, or the error.
+// A label, bytes, and their reference after its mark, or the error.
 static LOCATED: [(&str, &[u8], &str); 18] = [
     (
         "the first of two, without the white space around it",
@@ -104,7 +81,7 @@ static LOCATED: [(&str, &[u8], &str); 18] = [
         "invalid data",
     ),
     (
-        "a line behind it is not UTF-8",
+        "a line after it is not UTF-8",
         b"//# sourceMappingURL=a.map\n\xff",
         "#a.map",
     ),
@@ -120,7 +97,7 @@ static LOCATED: [(&str, &[u8], &str); 18] = [
     ),
 ];
 
-fn shown(alloc: Global, found: Result<Option<SourceMapRef>>) -> Result<String> {
+fn reference_text(alloc: Global, found: Result<Option<SourceMapRef>>) -> Result<String> {
     match found {
         Ok(Some(SourceMapRef::Ref(url))) => Ok(format!(in alloc; "#{url}")?),
         Ok(Some(SourceMapRef::LegacyRef(url))) => Ok(format!(in alloc; "@{url}")?),
@@ -134,13 +111,17 @@ fn locates_in_slices(rt: HostRuntime) {
     let alloc = rt.alloc();
     for (about, bytes, want) in LOCATED.iter() {
         let found = locate_sourcemap_reference_slice(alloc, bytes);
-        check(&rt, about, shown(alloc, found), want);
+        check(&rt, about, reference_text(alloc, found), want);
     }
 }
 
 fn read(alloc: Global, bytes: &[u8], reads: usize) -> Result<String> {
-    let reader = Narrow { rest: bytes, reads };
-    shown(alloc, locate_sourcemap_reference(alloc, reader))
+    let reader = NarrowReader {
+        rest: bytes,
+        left: Some(reads),
+        kind: ErrorKind::TimedOut,
+    };
+    reference_text(alloc, locate_sourcemap_reference(alloc, reader))
 }
 
 #[test]
@@ -169,21 +150,21 @@ fn a_failed_read_is_no_reference(rt: HostRuntime) {
     );
 }
 
-// The reference in a reader that is interrupted before each byte, and fails after so many reads.
-fn halted(alloc: Global, bytes: &[u8], reads: usize, kind: ErrorKind) -> Result<String> {
+// The reference in a reader that is interrupted before each byte, and fails after `reads` reads.
+fn read_halting(alloc: Global, bytes: &[u8], reads: usize, kind: ErrorKind) -> Result<String> {
     let reader = HaltingReader::new(bytes, reads, kind);
-    shown(alloc, locate_sourcemap_reference(alloc, reader))
+    reference_text(alloc, locate_sourcemap_reference(alloc, reader))
 }
 
 #[test]
 fn interrupted_reads_are_made_again(rt: HostRuntime) {
     for (about, bytes, want) in LOCATED.iter() {
-        let found = halted(rt.alloc(), bytes, usize::MAX, ErrorKind::TimedOut);
+        let found = read_halting(rt.alloc(), bytes, usize::MAX, ErrorKind::TimedOut);
         check(&rt, about, found, want);
     }
 }
 
-fn ran_out(alloc: Global, reads: usize) -> bool {
+fn runs_out_of_memory(alloc: Global, reads: usize) -> bool {
     let bytes = b"a\n//# sourceMappingURL=a.map";
     let reader = HaltingReader::new(bytes, reads, ErrorKind::OutOfMemory);
     matches!(
@@ -195,27 +176,30 @@ fn ran_out(alloc: Global, reads: usize) -> bool {
 #[test]
 fn a_read_that_runs_out_of_memory_is_out_of_memory(rt: HostRuntime) {
     for reads in 0..29 {
-        assert!(rt; ran_out(rt.alloc(), reads), "after {reads} reads");
+        assert!(rt;
+            runs_out_of_memory(rt.alloc(), reads),
+            "after {reads} reads"
+        );
     }
 }
 
-fn viewed(alloc: Global, bytes: &[u8]) -> Result<String> {
+fn read_view(alloc: Global, bytes: &[u8]) -> Result<String> {
     let view = SourceView::new(alloc, str::from_utf8(bytes)?)?;
-    shown(alloc, view.sourcemap_reference())
+    reference_text(alloc, view.sourcemap_reference())
 }
 
 #[test]
 fn views_have_the_same_reference(rt: HostRuntime) {
     for (about, bytes, want) in LOCATED[..13].iter() {
-        check(&rt, about, viewed(rt.alloc(), bytes), want);
+        check(&rt, about, read_view(rt.alloc(), bytes), want);
     }
 }
 
-// What a row is about, how a long text begins, what then stands in it 3,000 times, how it ends, and
-// its reference behind its mark, or the error.
+// A label, the start of a long text, what it then repeats 3,000 times, its end, and its reference
+// after its mark, or the error.
 static LONG: [(&str, &[u8], &[u8], &[u8], &str); 8] = [
     (
-        "behind many lines",
+        "after many lines",
         b"",
         b"let a;\n",
         b"//# sourceMappingURL=a.map\n\xff",
@@ -237,7 +221,7 @@ static LONG: [(&str, &[u8], &[u8], &[u8], &str); 8] = [
     ),
     ("one line", b"", b"let a; ", b"", "none"),
     (
-        "behind one line",
+        "after one line",
         b"",
         b"let a; ",
         b"\n//# sourceMappingURL=a.map",
@@ -276,13 +260,13 @@ fn long(alloc: Global, head: &[u8], piece: &[u8], tail: &[u8]) -> Result<Vec<u8>
     Ok(bytes)
 }
 
-// What a slice of a long text says, and a reader of it if that says something else.
-fn both_said(alloc: Global, head: &[u8], piece: &[u8], tail: &[u8]) -> Result<String> {
+// The reference of a slice of a long text, and that of a reader of it if it differs.
+fn slice_and_reader(alloc: Global, head: &[u8], piece: &[u8], tail: &[u8]) -> Result<String> {
     let bytes = long(alloc, head, piece, tail)?;
     let found = locate_sourcemap_reference_slice(alloc, bytes.as_slice());
-    let sliced = shown(alloc, found)?;
+    let sliced = reference_text(alloc, found)?;
     let found = locate_sourcemap_reference(alloc, bytes.as_slice());
-    let read = shown(alloc, found)?;
+    let read = reference_text(alloc, found)?;
     if sliced == read {
         return Ok(sliced);
     }
@@ -292,11 +276,16 @@ fn both_said(alloc: Global, head: &[u8], piece: &[u8], tail: &[u8]) -> Result<St
 #[test]
 fn locates_in_long_texts(rt: HostRuntime) {
     for (about, head, piece, tail, want) in LONG.iter() {
-        check(&rt, about, both_said(rt.alloc(), head, piece, tail), want);
+        check(
+            &rt,
+            about,
+            slice_and_reader(rt.alloc(), head, piece, tail),
+            want,
+        );
     }
 }
 
-// A reference, the URL of its text, and where it leads.
+// A reference, the URL of its text, and the resolved URL.
 static RESOLVED: [(&str, &str, &str); 7] = [
     ("a.js.map", "http://x.com/m/a.js", "http://x.com/m/a.js.map"),
     ("a.js.map", "a.js", "none"),
@@ -318,7 +307,7 @@ fn or_none(alloc: Global, text: Option<String>) -> Result<String> {
     }
 }
 
-fn resolved(alloc: Global, url: &str, base: &str) -> Result<String> {
+fn resolve(alloc: Global, url: &str, base: &str) -> Result<String> {
     let reference = SourceMapRef::Ref(String::from_str(alloc, url)?);
     or_none(alloc, reference.resolve(base)?)
 }
@@ -326,11 +315,11 @@ fn resolved(alloc: Global, url: &str, base: &str) -> Result<String> {
 #[test]
 fn leads_to_urls(rt: HostRuntime) {
     for (url, base, want) in RESOLVED.iter() {
-        check(&rt, url, resolved(rt.alloc(), url, base), want);
+        check(&rt, url, resolve(rt.alloc(), url, base), want);
     }
 }
 
-// A reference, the path of its text, and where it leads.
+// A reference, the path of its text, and the resolved path.
 static PATHS: [(&str, &str, &str); 6] = [
     ("../m/a.js.map", "/x/y/a.js", "/x/m/a.js.map"),
     ("a%20b.map", "/c d/a.js", "/c d/a b.map"),
@@ -340,7 +329,7 @@ static PATHS: [(&str, &str, &str); 6] = [
     ("data:application/json,{}", "/x/a.js", "none"),
 ];
 
-fn resolved_path(alloc: Global, url: &str, base: &str) -> Result<String> {
+fn resolve_path_of(alloc: Global, url: &str, base: &str) -> Result<String> {
     let reference = SourceMapRef::LegacyRef(String::from_str(alloc, url)?);
     or_none(alloc, reference.resolve_path(base)?)
 }
@@ -348,7 +337,7 @@ fn resolved_path(alloc: Global, url: &str, base: &str) -> Result<String> {
 #[test]
 fn leads_to_paths(rt: HostRuntime) {
     for (url, base, want) in PATHS.iter() {
-        check(&rt, url, resolved_path(rt.alloc(), url, base), want);
+        check(&rt, url, resolve_path_of(rt.alloc(), url, base), want);
     }
 }
 
@@ -358,7 +347,7 @@ fn are_equal(a: &SourceMapRef, b: &SourceMapRef) -> bool
     a == b
 }
 
-fn compared(alloc: Global, a: &str, b: &str) -> Result<String> {
+fn compare(alloc: Global, a: &str, b: &str) -> Result<String> {
     let usual = SourceMapRef::Ref(String::from_str(alloc, a)?);
     let legacy = SourceMapRef::LegacyRef(String::from_str(alloc, a)?);
     let other = SourceMapRef::Ref(String::from_str(alloc, b)?);
@@ -373,44 +362,41 @@ fn equal_by_mark_and_text(rt: HostRuntime) {
     check(
         &rt,
         "one text",
-        compared(rt.alloc(), "a", "a"),
+        compare(rt.alloc(), "a", "a"),
         "a true false",
     );
     check(
         &rt,
         "two texts",
-        compared(rt.alloc(), "a", "b"),
+        compare(rt.alloc(), "a", "b"),
         "a false false",
     );
 }
 
-// Fails at each read.
-#[derive(Drop)]
-struct Failing {
-    kind: ErrorKind,
-}
-
-impl Read for Failing {
-    fn read(&mut self, _buf: &mut [u8]) -> io::Result<usize> {
-        Err(io::Error::from(self.kind))
+// A reader that fails at its first read.
+fn failing(kind: ErrorKind) -> NarrowReader<'static> {
+    NarrowReader {
+        rest: &[],
+        left: Some(0),
+        kind,
     }
 }
 
-// The kind of a failed read, and what comes of it.
+// The kind of a failed read, and the results.
 static FAILED: [(ErrorKind, &str, &str); 2] = [
     (ErrorKind::OutOfMemory, "OutOfMemory", "OutOfMemory"),
     (ErrorKind::TimedOut, "Io(Kind(TimedOut))", "false"),
 ];
 
-fn located(alloc: Global, kind: ErrorKind) -> Result<String> {
-    match locate_sourcemap_reference(alloc, Failing { kind }) {
+fn locate_failing(alloc: Global, kind: ErrorKind) -> Result<String> {
+    match locate_sourcemap_reference(alloc, failing(kind)) {
         Ok(found) => Ok(format!(in alloc; "{found:?}")?),
         Err(error) => Ok(format!(in alloc; "{error:?}")?),
     }
 }
 
-fn detected(alloc: Global, kind: ErrorKind) -> Result<String> {
-    match is_sourcemap(alloc, Failing { kind }) {
+fn detect_failing(alloc: Global, kind: ErrorKind) -> Result<String> {
+    match is_sourcemap(alloc, failing(kind)) {
         Ok(found) => Ok(format!(in alloc; "{found}")?),
         Err(error) => Ok(format!(in alloc; "{error:?}")?),
     }
@@ -419,7 +405,7 @@ fn detected(alloc: Global, kind: ErrorKind) -> Result<String> {
 #[test]
 fn reads_that_fail_for_memory_are_out_of_memory(rt: HostRuntime) {
     for (kind, want, is_map) in FAILED.iter() {
-        check(&rt, want, located(rt.alloc(), *kind), want);
-        check(&rt, is_map, detected(rt.alloc(), *kind), is_map);
+        check(&rt, want, locate_failing(rt.alloc(), *kind), want);
+        check(&rt, is_map, detect_failing(rt.alloc(), *kind), is_map);
     }
 }

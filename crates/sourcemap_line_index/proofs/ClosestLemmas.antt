@@ -1,4 +1,4 @@
--- The closest token, from the place among the tokens of its line where a search ends.
+-- From the index where a search in a line ends to the closest token.
 use Rattle.std.proofs.Common.{◌≡◌, refl, sym, ap, subst, ◌∙◌, ℕ, zero, suc, ◌<◌, ◌≤◌, ◌+◌, ◌-◌, ◌*◌, ◌/◌, ◌^◌, arith, inl, inr, eq-eqb, min, Bool, not, ◌&&◌, nat_lt, true, false, List, length, get_or, Some, None, Option, option_map}
 use Rattle.std.proofs.Math.Nat.{pow-succ'}
 use Rattle.std.specs.Option.{IfSome, SomeIff}
@@ -8,10 +8,10 @@ use mir.Val.{bool_byte}
 use Rattle.std.proofs.lemmas.Bool.Decides.{nat_tests}
 use Rattle.std.proofs.lemmas.List.{get_or_default}
 use Rattle.std.proofs.lemmas.Option.{slice_get_cases}
-use Rattle.sourcemap_lists.specs.Tokens.{AreInOrder, closest_token, destination, position_cmp}
-use Rattle.sourcemap_lists.specs.declared.tokens.RawToken.{RawToken}
-use Rattle.sourcemap_lists.proofs.TokensLemmas.{position_cmp_total}
-use Rattle.sourcemap_lists.proofs.SearchLemmas.{IsApart, IsBracket, closest-hit, closest-miss, closest-none}
+use Rattle.sourcemap_tokens.specs.Tokens.{AreInOrder, closest_token, destination, position_cmp}
+use Rattle.sourcemap_tokens.specs.declared.tokens.RawToken.{RawToken}
+use Rattle.sourcemap_tokens.proofs.TokensLemmas.{position_cmp_total}
+use Rattle.sourcemap_tokens.proofs.SearchLemmas.{IsApart, IsBracket, closest-hit, closest-miss, closest-none}
 use Rattle.sourcemap_line_index.specs.LineIndex.{IsSpan, binary_digits, digits_within}
 
 less_by_line : (q p : ℕ × ℕ) → q.0 < p.0 → is_lt (position_cmp q p) ≡ true
@@ -35,91 +35,91 @@ apart_by_col (a, b) (c, d) e = grind (arith, nat_tests)
 same_by_both : (q p : ℕ × ℕ) → q.0 ≡ p.0 → is_eq (nat_cmp p.1 q.1) ≡ true → is_eq (position_cmp q p) ≡ true
 same_by_both (a, b) (c, d) e f = grind (arith, nat_tests)
 
-no_step : (place : ℕ) (a : Option ℕ) → SomeIff a (0 ≤ place) (place - 0) → a ≡ Some place
-no_step place None none = absurd (none (omega arith))
-no_step place (Some k) some = let is = some.1 in ap Some (omega arith)
+no_step : (index : ℕ) (a : Option ℕ) → SomeIff a (0 ≤ index) (index - 0) → a ≡ Some index
+no_step index None none = absurd (none (omega arith))
+no_step index (Some k) some = let is = some.1 in ap Some (omega arith)
 
--- none is closest in a list of none
+-- an empty list has no closest token
 pub closest-in-none : (tokens : List RawToken) (p : ℕ × ℕ) → AreInOrder tokens → length tokens ≡ 0 → None ≡ option_map (λ found. found.0) (closest_token tokens p)
 closest-in-none tokens p up none =
     let bracket : IsBracket destination position_cmp tokens p 0 0 = record { below = λ d some. absurd (omega arith); above = λ d some. absurd (omega (arith, none)) } in
     ap (option_map (λ found. found.0)) (closest-none position_cmp_total destination tokens p 0 up bracket refl (λ d some. absurd (omega (arith, none))))
 
--- the search among the tokens of the line of p, from low up to high, for the column of q, which is p, ended at a place
-module _ (tokens : List RawToken) (p : ℕ × ℕ) (low high place : ℕ) (up : AreInOrder tokens) (span : IsSpan tokens p.0 low high) (at_least : low ≤ place) (at_most : place ≤ high) (q : ℕ × ℕ) (kept : q ≡ p) (before : (d : RawToken) → low < place → (get_or tokens (place - 1) d).dst_col < q.1) (from : (d : RawToken) → place < high → q.1 ≤ (get_or tokens place d).dst_col) where
+-- a search in the tokens of the line of p, from low up to high, for the column of q, which is p, ended at index
+module _ (tokens : List RawToken) (p : ℕ × ℕ) (low high index : ℕ) (up : AreInOrder tokens) (span : IsSpan tokens p.0 low high) (at_least : low ≤ index) (at_most : index ≤ high) (q : ℕ × ℕ) (kept : q ≡ p) (before : (d : RawToken) → low < index → (get_or tokens (index - 1) d).dst_col < q.1) (from : (d : RawToken) → index < high → q.1 ≤ (get_or tokens index d).dst_col) where
   col : q.1 ≡ p.1
   col = ap (λ k. k.1) kept
 
-  bracket : IsBracket destination position_cmp tokens p place place
+  bracket : IsBracket destination position_cmp tokens p index index
   bracket = record {
-    below = λ d some. elim (cases_eq low place) [
+    below = λ d some. elim (cases_eq low index) [
       | inl first ↦
           let line = span.before d (omega arith) in
-          let same : low - 1 ≡ place - 1 = omega arith in
-          less_by_line (destination (get_or tokens (place - 1) d)) p (subst (λ k. (get_or tokens k d).dst_line < p.0) same line)
-      | inr other ↦ less_by_col (destination (get_or tokens (place - 1) d)) p (span.on_line (place - 1) d (omega arith) (omega arith)) (subst (λ n. (get_or tokens (place - 1) d).dst_col < n) col (before d (omega arith)))
+          let same : low - 1 ≡ index - 1 = omega arith in
+          less_by_line (destination (get_or tokens (index - 1) d)) p (subst (λ k. (get_or tokens k d).dst_line < p.0) same line)
+      | inr other ↦ less_by_col (destination (get_or tokens (index - 1) d)) p (span.on_line (index - 1) d (omega arith) (omega arith)) (subst (λ n. (get_or tokens (index - 1) d).dst_col < n) col (before d (omega arith)))
     ];
-    above = λ d l. elim (cases_eq place high) [
-      | inl last ↦ not_less_by_line (destination (get_or tokens place d)) p (subst (λ k. p.0 < (get_or tokens k d).dst_line) (sym last) (span.behind d (omega arith)))
-      | inr other ↦ not_less_by_col (destination (get_or tokens place d)) p (span.on_line place d at_least (omega arith)) (subst (λ n. n ≤ (get_or tokens place d).dst_col) col (from d (omega arith)))
+    above = λ d l. elim (cases_eq index high) [
+      | inl last ↦ not_less_by_line (destination (get_or tokens index d)) p (subst (λ k. p.0 < (get_or tokens k d).dst_line) (sym last) (span.after d (omega arith)))
+      | inr other ↦ not_less_by_col (destination (get_or tokens index d)) p (span.on_line index d at_least (omega arith)) (subst (λ n. n ≤ (get_or tokens index d).dst_col) col (from d (omega arith)))
     ];
   }
 
-  -- a token there stands at p
-  place-hit : (e : RawToken) (r : ℕ × ℕ) → r ≡ q → place < high → is_eq (nat_cmp r.1 (get_or tokens place e).dst_col) ≡ true → Some place ≡ option_map (λ found. found.0) (closest_token tokens p)
-  place-hit e r still l same =
+  -- a token at index is at p
+  index-hit : (e : RawToken) (r : ℕ × ℕ) → r ≡ q → index < high → is_eq (nat_cmp r.1 (get_or tokens index e).dst_col) ≡ true → Some index ≡ option_map (λ found. found.0) (closest_token tokens p)
+  index-hit e r still l same =
       let inside = span.inside in
-      let is = closest-hit position_cmp_total destination tokens p place up bracket (get_or tokens place e) (omega arith)
-      (get_or_default tokens place e (get_or tokens place e) (omega arith))
-      (same_by_both (destination (get_or tokens place e)) p (span.on_line place e at_least l) (subst (λ k. is_eq (nat_cmp k.1 (get_or tokens place e).dst_col) ≡ true) (still ∙ kept) same)) in
+      let is = closest-hit position_cmp_total destination tokens p index up bracket (get_or tokens index e) (omega arith)
+      (get_or_default tokens index e (get_or tokens index e) (omega arith))
+      (same_by_both (destination (get_or tokens index e)) p (span.on_line index e at_least l) (subst (λ k. is_eq (nat_cmp k.1 (get_or tokens index e).dst_col) ≡ true) (still ∙ kept) same)) in
       ap (option_map (λ found. found.0)) is
 
-  -- the token there, if any, does not
-  place-apart : (e : RawToken) (r : ℕ × ℕ) → r ≡ q → place < high → is_eq (nat_cmp r.1 (get_or tokens place e).dst_col) ≡ false → IsApart destination position_cmp tokens p place
-  place-apart e r still l other d inside = apart_by_col (destination (get_or tokens place d)) p (subst (λ k. is_eq (nat_cmp k.1 (get_or tokens place d).dst_col) ≡ false) (still ∙ kept) (subst (λ t. is_eq (nat_cmp r.1 t.dst_col) ≡ false) (get_or_default tokens place e d inside) other))
+  -- the token at index, if any, is not at p
+  index-apart : (e : RawToken) (r : ℕ × ℕ) → r ≡ q → index < high → is_eq (nat_cmp r.1 (get_or tokens index e).dst_col) ≡ false → IsApart destination position_cmp tokens p index
+  index-apart e r still l other d inside = apart_by_col (destination (get_or tokens index d)) p (subst (λ k. is_eq (nat_cmp k.1 (get_or tokens index d).dst_col) ≡ false) (still ∙ kept) (subst (λ t. is_eq (nat_cmp r.1 t.dst_col) ≡ false) (get_or_default tokens index e d inside) other))
 
-  place-past : high ≤ place → IsApart destination position_cmp tokens p place
-  place-past past d inside =
-      let last : high ≡ place = omega arith in
-      apart_by_line (destination (get_or tokens place d)) p (subst (λ k. p.0 < (get_or tokens k d).dst_line) last (span.behind d (omega arith)))
+  index-past : high ≤ index → IsApart destination position_cmp tokens p index
+  index-past past d inside =
+      let last : high ≡ index = omega arith in
+      apart_by_line (destination (get_or tokens index d)) p (subst (λ k. p.0 < (get_or tokens k d).dst_line) last (span.after d (omega arith)))
 
-  place-miss : IsApart destination position_cmp tokens p place → (r : Option ℕ) → SomeIff r (1 ≤ place) (place - 1) → r ≡ option_map (λ found. found.0) (closest_token tokens p)
-  place-miss apart None none =
-      let front : place ≡ 0 = elim (cases_eq place 0) [ inl e ↦ e | inr other ↦ absurd (none (omega arith)) ] in
-      ap (option_map (λ found. found.0)) (closest-none position_cmp_total destination tokens p place up bracket front apart)
-  place-miss apart (Some r) some =
+  index-miss : IsApart destination position_cmp tokens p index → (r : Option ℕ) → SomeIff r (1 ≤ index) (index - 1) → r ≡ option_map (λ found. found.0) (closest_token tokens p)
+  index-miss apart None none =
+      let front : index ≡ 0 = elim (cases_eq index 0) [ inl e ↦ e | inr other ↦ absurd (none (omega arith)) ] in
+      ap (option_map (λ found. found.0)) (closest-none position_cmp_total destination tokens p index up bracket front apart)
+  index-miss apart (Some r) some =
       let inside = span.inside in
-      let found = slice_get_cases tokens (place - 1) in
+      let found = slice_get_cases tokens (index - 1) in
       elim found.1 [
         | inl here ↦
-            let is = closest-miss position_cmp_total destination tokens p place up bracket here.0 some.0 (omega arith) (sym here.3) apart in
+            let is = closest-miss position_cmp_total destination tokens p index up bracket here.0 some.0 (omega arith) (sym here.3) apart in
             ap Some some.1 ∙ ap (option_map (λ found. found.0)) is
-        | inr gone ↦ let past = gone.0 in let least = some.0 in absurd (omega arith)
+        | inr outside ↦ let past = outside.0 in let least = some.0 in absurd (omega arith)
       ]
 
-  place-told-within : (e : RawToken) (r : ℕ × ℕ) → r ≡ q → place < high → (b : Bool) → b ≡ is_eq (nat_cmp r.1 (get_or tokens place e).dst_col) → (back : ℕ) → back ≡ bool_byte (not (true && b))
-      → (a : Option ℕ) → SomeIff a (back ≤ place) (place - back) → a ≡ option_map (λ found. found.0) (closest_token tokens p)
-  place-told-within e r still l true same back told a found = no_step place a (subst (λ k. SomeIff a (k ≤ place) (place - k)) told found) ∙ place-hit e r still l (sym same)
-  place-told-within e r still l false same back told a found = place-miss (place-apart e r still l (sym same)) a (subst (λ k. SomeIff a (k ≤ place) (place - k)) told found)
+  closest-at-index-inside : (e : RawToken) (r : ℕ × ℕ) → r ≡ q → index < high → (b : Bool) → b ≡ is_eq (nat_cmp r.1 (get_or tokens index e).dst_col) → (back : ℕ) → back ≡ bool_byte (not (true && b))
+      → (a : Option ℕ) → SomeIff a (back ≤ index) (index - back) → a ≡ option_map (λ found. found.0) (closest_token tokens p)
+  closest-at-index-inside e r still l true same back stepped a found = no_step index a (subst (λ k. SomeIff a (k ≤ index) (index - k)) stepped found) ∙ index-hit e r still l (sym same)
+  closest-at-index-inside e r still l false same back stepped a found = index-miss (index-apart e r still l (sym same)) a (subst (λ k. SomeIff a (k ≤ index) (index - k)) stepped found)
 
-  -- no step back where the token there stands at p, else one
-  pub place-told : (e : RawToken) (n : ℕ) (r : ℕ × ℕ) → r ≡ q → (place < high → n ≡ place) → (b : Bool) → b ≡ is_eq (nat_cmp r.1 (get_or tokens n e).dst_col) → (back : ℕ) → back ≡ bool_byte (not (nat_lt place high && b))
-      → (a : Option ℕ) → SomeIff a (back ≤ place) (place - back) → a ≡ option_map (λ found. found.0) (closest_token tokens p)
-  place-told e n r still here b same back told a found =
-      elim (cases_eq place high) [
+  -- the result is index if its token is at p, else index - 1
+  pub closest-at-index : (e : RawToken) (n : ℕ) (r : ℕ × ℕ) → r ≡ q → (index < high → n ≡ index) → (b : Bool) → b ≡ is_eq (nat_cmp r.1 (get_or tokens n e).dst_col) → (back : ℕ) → back ≡ bool_byte (not (nat_lt index high && b))
+      → (a : Option ℕ) → SomeIff a (back ≤ index) (index - back) → a ≡ option_map (λ found. found.0) (closest_token tokens p)
+  closest-at-index e n r still here b same back stepped a found =
+      elim (cases_eq index high) [
         | inl last ↦
-            let one : back ≡ 1 = told ∙ ap (λ t. bool_byte (not (t && b))) (le-ltb place high (omega arith)) in
-            place-miss (place-past (omega arith)) a (subst (λ k. SomeIff a (k ≤ place) (place - k)) one found)
+            let one : back ≡ 1 = stepped ∙ ap (λ t. bool_byte (not (t && b))) (le-ltb index high (omega arith)) in
+            index-miss (index-past (omega arith)) a (subst (λ k. SomeIff a (k ≤ index) (index - k)) one found)
         | inr other ↦
-            let l : place < high = omega arith in
-            let at : b ≡ is_eq (nat_cmp r.1 (get_or tokens place e).dst_col) = same ∙ ap (λ k. is_eq (nat_cmp r.1 (get_or tokens k e).dst_col)) (here l) in
-            place-told-within e r still l b at back (told ∙ ap (λ t. bool_byte (not (t && b))) (lt-ltb place high l)) a found
+            let l : index < high = omega arith in
+            let at : b ≡ is_eq (nat_cmp r.1 (get_or tokens index e).dst_col) = same ∙ ap (λ k. is_eq (nat_cmp r.1 (get_or tokens k e).dst_col)) (here l) in
+            closest-at-index-inside e r still l b at back (stepped ∙ ap (λ t. bool_byte (not (t && b))) (lt-ltb index high l)) a found
       ]
 
--- the place before a place of the list, if any, is inside of the list
-pub inside_before : (place count : ℕ) (r : Option ℕ) → SomeIff r (1 ≤ place) (place - 1) → place ≤ count → IfSome r (λ k. k < count)
-inside_before place count None none l = tt
-inside_before place count (Some k) some l = let least = some.0 in let is = some.1 in omega arith
+-- index - 1, if any, is inside of the list
+pub inside_before : (index count : ℕ) (r : Option ℕ) → SomeIff r (1 ≤ index) (index - 1) → index ≤ count → IfSome r (λ k. k < count)
+inside_before index count None none l = tt
+inside_before index count (Some k) some l = let least = some.0 in let is = some.1 in omega arith
 
 half_of : (n most : ℕ) → n ≤ suc most → n / 2 ≤ most
 half_of n most l = omega arith
@@ -158,14 +158,14 @@ fewest_within (suc most) n d l small =
       ])
     ]
 
--- and no fewer digits are
+-- no fewer digits suffice
 pub binary_digits_fewest : (n d : ℕ) → n < 2 ^ d → binary_digits n ≤ d
 binary_digits_fewest n d small = fewest_within n n d (omega arith) small
 
 thirty_two_times : (d : ℕ) → 2 ^ suc (suc (suc (suc (suc d)))) ≡ 2 * (2 * (2 * (2 * (2 * 2 ^ d))))
 thirty_two_times d = rw (pow-succ' 2 (suc (suc (suc (suc d)))), pow-succ' 2 (suc (suc (suc d))), pow-succ' 2 (suc (suc d)), pow-succ' 2 (suc d), pow-succ' 2 d) refl
 
--- by samples a search for a column makes five comparisons more, and one for a line as many fewer
+-- with samples, a search for a column makes at most five comparisons more, and one for a line as many fewer
 count_by_few_lines : (d count lines start found left : ℕ) → count < 2 ^ d → 0 < lines → 32 * lines ≤ count → ((e : ℕ) → lines < 2 ^ e → found ≤ start + (e + 1)) → left ≤ found + (d + 5) → left ≤ start + (2 * d + 1)
 count_by_few_lines zero count lines start found left small some few f l = absurd (omega arith)
 count_by_few_lines (suc zero) count lines start found left small some few f l = absurd (omega arith)
@@ -177,7 +177,7 @@ count_by_few_lines (suc (suc (suc (suc (suc d))))) count lines start found left 
     let line : found ≤ start + (d + 1) = f d (omega arith) in
     omega arith
 
--- the comparisons of a search for a line and one with it, and those for a column
+-- comparisons for the line, one of equality with it, and those for the column
 pub count_before_last : (count lines samples start found left d : ℕ) → count < 2 ^ d → lines ≤ count → (lines ≡ 0 → count ≡ 0) → (0 < samples → (0 < count) × (32 * lines ≤ count)) → ((e : ℕ) → lines < 2 ^ e → found ≤ start + (e + 1))
     → ((e : ℕ) → samples ≡ 0 → count < 2 ^ e → left ≤ found + e) → ((e : ℕ) → count < 2 ^ e → left ≤ found + (e + 5)) → left ≤ start + (2 * d + 1)
 count_before_last count lines samples start found left d small few filled sampled f none some =
@@ -191,6 +191,6 @@ count_before_last count lines samples start found left d small few filled sample
           ]
     ]
 
--- and at the end one with the column, if a token is left
+-- with the last comparison of the column, if a token is left
 pub count_in_all : (start left end d : ℕ) → left ≤ start + (2 * d + 1) → end ≡ min (left + 1) 4294967295 → end ≤ start + 2 * (d + 1)
 count_in_all start left end d l e = omega arith

@@ -1,4 +1,4 @@
--- What a table of lines says of tokens, and how halving bounds a count.
+-- Binary searches: their window, and a bound for their comparisons.
 use Rattle.std.proofs.Common.{◌≡◌, sym, subst, ◌∙◌, ℕ, suc, ◌<◌, ◌≤◌, ◌+◌, ◌-◌, ◌*◌, ◌/◌, ◌^◌, arith, inl, inr, min, true, false, nat_lt, if◌then◌else◌}
 use Rattle.std.specs.Ordering.{nat_cmp, is_eq}
 use Rattle.std.proofs.Math.Nat.{pow-succ'}
@@ -6,13 +6,13 @@ use Rattle.std.proofs.lemmas.Bool.{cases_eq, cases_lt}
 use Rattle.std.proofs.lemmas.Bool.Decides.{nat_tests}
 use Rattle.sourcemap_line_index.specs.LineIndex.{Rises}
 
--- a search in `size` places has made `made` comparisons, and will make at most `most` in all
+-- after `made` comparisons a search in `size` indices makes at most `most` in all
 pub record Remains (most made size : ℕ) : Type 0 where
   pub left : ℕ
   pub small : size < 2 ^ left
   pub enough : made + left ≤ most
 
--- a search begins
+-- at the start
 pub Remains-start : (made size d : ℕ) → size < 2 ^ d → Remains (made + d) made size
 Remains-start made size d l = record { left = d; small = l; enough = omega arith }
 
@@ -25,7 +25,7 @@ fewer_left most made next left l some n = omega arith
 saturated : (made next : ℕ) → next ≡ min (made + 1) 4294967295 → next ≤ made + 1
 saturated made next e = omega arith
 
--- it goes on with at most half of the places, one comparison later
+-- after one more comparison, in at most half of the indices
 pub Remains-half : (most made size next half : ℕ) → 0 < size → next ≡ min (made + 1) 4294967295 → half ≤ size / 2 → Remains most made size → Remains most next half
 Remains-half most made size next half some counted halved r =
     elim (cases_eq r.left 0) [
@@ -41,14 +41,14 @@ Remains-half most made size next half some counted halved r =
           }
     ]
 
--- and ends within the bound
+-- at the end
 pub Remains-end : (most made size : ℕ) → Remains most made size → made ≤ most
 Remains-end most made size r = let within = r.enough in omega arith
 
--- the numbers left of a place are below the key, and those from as many places on as are left are not
-pub record IsWindow (number : ℕ → ℕ) (key first place left end : ℕ) : Type 0 where
-  pub before : first < place → number (place - 1) < key
-  pub from : place + left < end → key ≤ number (place + left)
+-- the numbers before index are below the key, and those from `left` indices later on are not
+pub record IsWindow (number : ℕ → ℕ) (key first index left end : ℕ) : Type 0 where
+  pub before : first < index → number (index - 1) < key
+  pub from : index + left < end → key ≤ number (index + left)
 
 pub if_less : (a b n : ℕ) → a < b → (if nat_lt a b then n else 0) ≡ n
 if_less a b n l = grind (arith, nat_tests)
@@ -56,37 +56,37 @@ if_less a b n l = grind (arith, nat_tests)
 pub if_not_less : (a b n : ℕ) → b ≤ a → (if nat_lt a b then n else 0) ≡ 0
 if_not_less a b n ge = grind (arith, nat_tests)
 
--- the number at the last of the first half tells whether to skip that half
-pub window_halved : (number : ℕ → ℕ) (key first place left end half rest skipped : ℕ) → 0 < left → half ≡ left / 2 → rest ≡ left - half → first ≤ place → Rises number first end → IsWindow number key first place left end
-    → skipped ≡ (if nat_lt (number (place + rest - 1)) key then rest else 0) → IsWindow number key first (place + skipped) half end
-window_halved number key first place left end half rest skipped some halved others low rises w is =
-    elim (cases_lt (number (place + rest - 1)) key) [
+-- the last number of the first half decides whether that half is skipped
+pub window_halved : (number : ℕ → ℕ) (key first index left end half rest skipped : ℕ) → 0 < left → half ≡ left / 2 → rest ≡ left - half → first ≤ index → Rises number first end → IsWindow number key first index left end
+    → skipped ≡ (if nat_lt (number (index + rest - 1)) key then rest else 0) → IsWindow number key first (index + skipped) half end
+window_halved number key first index left end half rest skipped some halved others low rises w is =
+    elim (cases_lt (number (index + rest - 1)) key) [
       | inl l ↦
-          let all : skipped ≡ rest = is ∙ if_less (number (place + rest - 1)) key rest l in
-          let whole : place + rest + half ≡ place + left = omega arith in
+          let all : skipped ≡ rest = is ∙ if_less (number (index + rest - 1)) key rest l in
+          let whole : index + rest + half ≡ index + left = omega arith in
           rw all (record {
             before = λ m. l;
             from = λ m. rw whole (w.from (omega arith));
           })
       | inr ge ↦
-          let none : skipped ≡ 0 = is ∙ if_not_less (number (place + rest - 1)) key rest ge in
-          let same : place + skipped ≡ place = omega arith in
+          let none : skipped ≡ 0 = is ∙ if_not_less (number (index + rest - 1)) key rest ge in
+          let same : index + skipped ≡ index = omega arith in
           rw same (record {
             before = w.before;
             from = λ m. elim (cases_eq half rest) [
               | inl even ↦
-                  let next : place + rest - 1 + 1 ≡ place + half = omega arith in
-                  let up : number (place + rest - 1) ≤ number (place + rest - 1 + 1) = rises (place + rest - 1) (omega arith) (omega arith) in
-                  let up' : number (place + rest - 1) ≤ number (place + half) = subst (λ k. number (place + rest - 1) ≤ number k) next up in
+                  let next : index + rest - 1 + 1 ≡ index + half = omega arith in
+                  let up : number (index + rest - 1) ≤ number (index + rest - 1 + 1) = rises (index + rest - 1) (omega arith) (omega arith) in
+                  let up' : number (index + rest - 1) ≤ number (index + half) = subst (λ k. number (index + rest - 1) ≤ number k) next up in
                   omega arith
               | inr odd ↦
-                  let here : place + rest - 1 ≡ place + half = omega arith in
+                  let here : index + rest - 1 ≡ index + half = omega arith in
                   subst (λ k. key ≤ number k) here ge
             ];
           })
     ]
 
--- no more is skipped than the first half
+-- at most the first half is skipped
 pub skipped_at_most : (a b n skipped : ℕ) → skipped ≡ (if nat_lt a b then n else 0) → skipped ≤ n
 skipped_at_most a b n skipped is =
     elim (cases_lt a b) [
@@ -94,14 +94,14 @@ skipped_at_most a b n skipped is =
       | inr ge ↦ let none = is ∙ if_not_less a b n ge in omega arith
     ]
 
--- a count that is raised stays as high as it was, and one more
+-- a saturated count does not fall
 pub raised_on : (old now next : ℕ) → min old 4294967295 ≤ now → next ≡ min (now + 1) 4294967295 → min old 4294967295 ≤ next
 raised_on old now next l e = omega arith
 
 pub raised_once : (old now next : ℕ) → min old 4294967295 ≤ now → next ≡ min (now + 1) 4294967295 → min (old + 1) 4294967295 ≤ next
 raised_once old now next l e = omega arith
 
--- what the answers of a comparison say of its numbers
+-- the results of a comparison, as relations of its numbers
 pub eq_from_is_eq : (p x : ℕ) → is_eq (nat_cmp p x) ≡ true → p ≡ x
 eq_from_is_eq p x e = grind (arith, nat_tests)
 

@@ -1,4 +1,4 @@
--- A difference of numbers of 32 bits, made of 64 bits without sign, has its high half set where it is negative.
+-- The 64-bit wrapping difference of two 32-bit numbers has its high half set exactly if it is negative.
 use Rattle.std.proofs.Common.{◌≡◌, ◌∙◌, ℕ, ◌<◌, ◌≤◌, ◌+◌, ◌-◌, ◌/◌, ◌%◌, arith, inl, inr, bit_and, true, false, nat_lt, if◌then◌else◌}
 use Rattle.std.specs.Int.Bits.{and_zero_r}
 use Rattle.std.proofs.lemmas.Bool.{cases_lt}
@@ -11,8 +11,8 @@ high_set a b l small = omega arith
 high_clear : (a b : ℕ) → b ≤ a → a < 4294967296 → (a + (18446744073709551616 - b)) % 18446744073709551616 / 4294967296 ≡ 0
 high_clear a b l small = omega arith
 
-kept_by_mask : (places : ℕ) → places < 4294967296 → bit_and places 4294967295 ≡ places
-kept_by_mask places small = let kept : bit_and places 4294967295 ≡ places % 4294967296 = and_mask places 32 in kept ∙ (omega arith)
+kept_by_mask : (steps : ℕ) → steps < 4294967296 → bit_and steps 4294967295 ≡ steps
+kept_by_mask steps small = let kept : bit_and steps 4294967295 ≡ steps % 4294967296 = and_mask steps 32 in kept ∙ (omega arith)
 
 is_less : (a b : ℕ) → a < b → nat_lt a b ≡ true
 is_less a b l = grind (arith, nat_tests)
@@ -20,10 +20,10 @@ is_less a b l = grind (arith, nat_tests)
 is_not_less : (a b : ℕ) → b ≤ a → nat_lt a b ≡ false
 is_not_less a b l = grind (arith, nat_tests)
 
--- so it masks a number that is to stay where the one is less than the other
-pub masked : (a b places : ℕ) → a < 4294967296 → b < 4294967296 → places < 4294967296 → bit_and places ((a + (18446744073709551616 - b)) % 18446744073709551616 / 4294967296) ≡ (if nat_lt a b then places else 0)
-masked a b places fits fits' small =
+-- so it masks a number by whether a is less than b
+pub masked : (a b steps : ℕ) → a < 4294967296 → b < 4294967296 → steps < 4294967296 → bit_and steps ((a + (18446744073709551616 - b)) % 18446744073709551616 / 4294967296) ≡ (if nat_lt a b then steps else 0)
+masked a b steps fits fits' small =
     elim (cases_lt a b) [
-      | inl l ↦ rw (high_set a b l fits', is_less a b l) (kept_by_mask places small)
-      | inr past ↦ rw (high_clear a b past fits, is_not_less a b past) (and_zero_r places)
+      | inl l ↦ rw (high_set a b l fits', is_less a b l) (kept_by_mask steps small)
+      | inr past ↦ rw (high_clear a b past fits, is_not_less a b past) (and_zero_r steps)
     ]

@@ -1,21 +1,21 @@
--- How samples of columns rise and grow, and between which tokens they leave a search.
+-- Searches in samples of columns, and the range of tokens that is left after one.
 use Rattle.std.proofs.Common.{◌≡◌, refl, sym, subst, ◌∙◌, ℕ, zero, suc, ◌<◌, ◌≤◌, ◌+◌, ◌-◌, ◌*◌, ◌^◌, arith, inl, inr, List, [], ◌∷◌, length, false, max, min, nat_lt, slice_index, ◌==◌, if◌then◌else◌}
 use Rattle.std.proofs.Math.Nat.{pow-succ'}
 use Rattle.std.proofs.lemmas.Bool.{cases_eq, cases_lt}
 use Rattle.std.proofs.lemmas.Bool.Decides.{nat_tests}
-use Rattle.sourcemap_lists.specs.declared.tokens.RawToken.{RawToken}
+use Rattle.sourcemap_tokens.specs.declared.tokens.RawToken.{RawToken}
 use Rattle.sourcemap_line_index.specs.LineIndex.{Rises, col_at}
 use Rattle.sourcemap_line_index.specs.Samples.{AreColumns, AreSamples, HasRisingColumns}
 use Rattle.sourcemap_line_index.proofs.LineIndexLemmas.{if_less, if_not_less}
 
--- tokens of which there are samples are some, on few lines
+-- a list with samples is not empty, and has few lines
 pub sampled_some : (tokens : List RawToken) (lines : ℕ) (columns : List ℕ) → AreSamples tokens lines columns → 0 < length columns → (0 < length tokens) × (32 * lines ≤ length tokens)
 sampled_some tokens lines columns sampled some = let is = sampled some in (let first = is.0.inside 0 some in omega arith, is.1)
 
 pub some_from_test : (n : ℕ) → false ≡ (n == 0) → 0 < n
 some_from_test n e = grind (arith, nat_tests)
 
--- numbers that do not fall from one place to the next do not fall over many
+-- numbers that do not fall from one index to the next do not fall over many
 rises_far : (number : ℕ → ℕ) (low high i n : ℕ) → Rises number low high → low ≤ i → i + n < high → number i ≤ number (i + n)
 rises_far number low high i zero rises l h = let same : i + 0 ≡ i = omega arith in rw same (omega arith)
 rises_far number low high i (suc n) rises l h =
@@ -24,12 +24,11 @@ rises_far number low high i (suc n) rises l h =
     let near : number (i + n) ≤ number (i + n + 1) = rises (i + n) (omega arith) (omega arith) in
     rw next (omega arith)
 
--- some token of a list
 some_token : (tokens : List RawToken) → 0 < length tokens → RawToken
 some_token [] l = absurd (omega arith)
 some_token (t ∷ ts) l = t
 
--- samples between tokens of one line do not fall
+-- the samples of tokens on one line do not fall
 pub samples_rise : (tokens : List RawToken) (columns : List ℕ) (first end low high : ℕ) → AreColumns tokens columns → ((d : RawToken) → Rises (col_at tokens d) first end)
     → first ≤ 8 * low → 8 * high < end + 8 → high ≤ length columns → Rises (slice_index columns) low high
 samples_rise tokens columns first end low high are rises l h within k lk hk =
@@ -40,36 +39,36 @@ samples_rise tokens columns first end low high are rises l h within k lk hk =
     let far' : col_at tokens d (8 * k) ≤ col_at tokens d (8 * (k + 1)) = subst (λ n. col_at tokens d (8 * k) ≤ col_at tokens d n) (sym next) far in
     rw (are.own k d (omega arith), are.own (k + 1) d (omega arith)) far'
 
--- some of the tokens whose columns do not fall
+-- a part of the tokens whose columns do not fall
 pub narrowed : (tokens : List RawToken) (first end from to : ℕ) → HasRisingColumns tokens first end → first ≤ from → from ≤ to → to ≤ end → HasRisingColumns tokens from to
 narrowed tokens first end from to rising l m h =
     let within = rising.within in
     record {
       ordered = m;
       within = omega arith;
-      rises = λ d place least most. rising.rises d place (omega arith) (omega arith);
+      rises = λ d index least most. rising.rises d index (omega arith) (omega arith);
     }
 
--- a search among the samples between places of tokens ended at one, and another goes on from behind the sample before it
+-- a search in the samples ended at `sample`, and one in the tokens continues after the sample before it
 module _ (tokens : List RawToken) (columns : List ℕ) (first end low high sample key : ℕ) (are : AreColumns tokens columns) (start : 8 * low < first + 8) (past : end ≤ 8 * high) (within : high ≤ length columns) (at_least : low ≤ sample) (at_most : sample ≤ high) where
-  pub narrowed_before : (low < sample → slice_index columns (sample - 1) < key) → (from place : ℕ) → from ≡ max first (8 * sample - 7) → from ≤ place
-      → (d : RawToken) → (from < place → col_at tokens d (place - 1) < key) → first < place → col_at tokens d (place - 1) < key
-  narrowed_before before from place is l d later some =
-      elim (cases_eq from place) [
+  pub narrowed_before : (low < sample → slice_index columns (sample - 1) < key) → (from index : ℕ) → from ≡ max first (8 * sample - 7) → from ≤ index
+      → (d : RawToken) → (from < index → col_at tokens d (index - 1) < key) → first < index → col_at tokens d (index - 1) < key
+  narrowed_before before from index is l d later some =
+      elim (cases_eq from index) [
         | inl here ↦
             let own : slice_index columns (sample - 1) ≡ col_at tokens d (8 * (sample - 1)) = are.own (sample - 1) d (omega arith) in
-            let same : 8 * (sample - 1) ≡ place - 1 = omega arith in
+            let same : 8 * (sample - 1) ≡ index - 1 = omega arith in
             subst (λ k. col_at tokens d k < key) same (subst (λ n. n < key) own (before (omega arith)))
         | inr other ↦ later (omega arith)
       ]
 
-  pub narrowed_from : (sample < high → key ≤ slice_index columns sample) → (to place : ℕ) → to ≡ min end (8 * sample) → place ≤ to
-      → (d : RawToken) → (place < to → key ≤ col_at tokens d place) → place < end → key ≤ col_at tokens d place
-  narrowed_from from to place is l d later some =
-      elim (cases_eq place to) [
+  pub narrowed_from : (sample < high → key ≤ slice_index columns sample) → (to index : ℕ) → to ≡ min end (8 * sample) → index ≤ to
+      → (d : RawToken) → (index < to → key ≤ col_at tokens d index) → index < end → key ≤ col_at tokens d index
+  narrowed_from from to index is l d later some =
+      elim (cases_eq index to) [
         | inl here ↦
             let own : slice_index columns sample ≡ col_at tokens d (8 * sample) = are.own sample d (omega arith) in
-            let same : 8 * sample ≡ place = omega arith in
+            let same : 8 * sample ≡ index = omega arith in
             subst (λ k. key ≤ col_at tokens d k) same (subst (λ n. key ≤ n) own (from (omega arith)))
         | inr other ↦ later (omega arith)
       ]
@@ -77,7 +76,7 @@ module _ (tokens : List RawToken) (columns : List ℕ) (first end low high sampl
 eight_times : (d : ℕ) → 2 ^ suc (suc (suc d)) ≡ 2 * (2 * (2 * 2 ^ d))
 eight_times d = rw (pow-succ' 2 (suc (suc d)), pow-succ' 2 (suc d), pow-succ' 2 d) refl
 
--- the samples are so few that the search among them and then each token between two make five comparisons more at most than one among all tokens
+-- the search in the samples, then token by token between two samples, makes at most five comparisons more than a search in all tokens
 pub count_by_samples : (d count end low high from to start found left : ℕ) → count < 2 ^ d → 8 ≤ end → end ≤ count → 8 * high < end + 8 → to - from < 8
     → ((e : ℕ) → high - low < 2 ^ e → found ≤ start + e) → left ≤ found + (to - from) → left ≤ start + (d + 5)
 count_by_samples zero count end low high from to start found left small many inside near short f l = absurd (omega arith)
@@ -89,39 +88,39 @@ count_by_samples (suc (suc (suc d))) count end low high from to start found left
     let among : found ≤ start + suc d = f (suc d) (subst (λ n. high - low < n) (sym (pow-succ' 2 d)) few) in
     omega arith
 
--- the tokens from `first` on, up to `at`, were compared one by one with a key: those left of `place` are below it, and the others are not
-pub record IsPassed (number : ℕ → ℕ) (key first place at : ℕ) : Type 0 where
-  pub before : first < place → number (place - 1) < key
-  pub from : place < at → key ≤ number place
+-- the tokens from `first` to `at` were compared with a key: those before `index` are below it, the others are not
+pub record IsPassed (number : ℕ → ℕ) (key first index at : ℕ) : Type 0 where
+  pub before : first < index → number (index - 1) < key
+  pub from : index < at → key ≤ number index
 
--- one more
-pub passed_one : (number : ℕ → ℕ) (key first end place at skipped : ℕ) → Rises number first end → first ≤ place → place ≤ at → at < end
-    → skipped ≡ (if nat_lt (number at) key then 1 else 0) → IsPassed number key first place at → IsPassed number key first (place + skipped) (at + 1)
-passed_one number key first end place at skipped rises least l inside is p =
+-- one more token
+pub passed_one : (number : ℕ → ℕ) (key first end index at skipped : ℕ) → Rises number first end → first ≤ index → index ≤ at → at < end
+    → skipped ≡ (if nat_lt (number at) key then 1 else 0) → IsPassed number key first index at → IsPassed number key first (index + skipped) (at + 1)
+passed_one number key first end index at skipped rises least l inside is p =
     elim (cases_lt (number at) key) [
       | inl less ↦
           let one : skipped ≡ 1 = is ∙ if_less (number at) key 1 less in
-          elim (cases_eq place at) [
+          elim (cases_eq index at) [
             | inl here ↦
-                let back : place + 1 - 1 ≡ at = omega arith in
+                let back : index + 1 - 1 ≡ at = omega arith in
                 rw one (record {
                   before = λ m. rw back less;
                   from = λ m. absurd (omega arith);
                 })
-            | inr behind ↦
-                let from : key ≤ number place = p.from (omega arith) in
-                let there : place + (at - place) ≡ at = omega arith in
-                let up : number place ≤ number at = subst (λ k. number place ≤ number k) there (rises_far number first end place (at - place) rises least (omega arith)) in
+            | inr after ↦
+                let from : key ≤ number index = p.from (omega arith) in
+                let there : index + (at - index) ≡ at = omega arith in
+                let up : number index ≤ number at = subst (λ k. number index ≤ number k) there (rises_far number first end index (at - index) rises least (omega arith)) in
                 absurd (omega arith)
           ]
       | inr ge ↦
           let none : skipped ≡ 0 = is ∙ if_not_less (number at) key 1 ge in
-          let same : place + skipped ≡ place = omega arith in
+          let same : index + skipped ≡ index = omega arith in
           rw same (record {
             before = p.before;
-            from = λ m. elim (cases_eq place at) [
+            from = λ m. elim (cases_eq index at) [
               | inl here ↦ subst (λ k. key ≤ number k) (sym here) ge
-              | inr behind ↦ p.from (omega arith)
+              | inr after ↦ p.from (omega arith)
             ];
           })
     ]

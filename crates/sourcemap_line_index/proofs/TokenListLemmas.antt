@@ -1,13 +1,13 @@
--- Equality of tokens holds exactly for equal ones, and a place of a list has one token.
+-- Equality of tokens decides `≡`, and an index of a list has one token.
 use Rattle.std.proofs.Common.{◌≡◌, refl, ap, ℕ, List, Option, Some, None, option_map, slice_get}
 use Rattle.std.specs.Option.{IfSome}
 use Rattle.std.specs.Bool.{Decides}
 use Rattle.std.specs.Cmp.{unsigned_Decides, booleans_Decides}
 use Rattle.std.specs.Cmp.Lexicographic.{pointwise_decides}
-use Rattle.sourcemap_lists.specs.Tokens.{closest_token, destination, position_cmp}
-use Rattle.sourcemap_lists.proofs.SearchLemmas.{place-closest}
-use Rattle.sourcemap_lists.specs.declared.tokens.RawToken.{RawToken}
-use Rattle.sourcemap_lists.proofs.DecidesLemmas.{decides_both}
+use Rattle.sourcemap_tokens.specs.Tokens.{closest_token, destination, position_cmp}
+use Rattle.sourcemap_tokens.proofs.SearchLemmas.{index-closest}
+use Rattle.sourcemap_tokens.specs.declared.tokens.RawToken.{RawToken}
+use Rattle.sourcemap_tokens.proofs.DecidesLemmas.{decides_both}
 use Rattle.sourcemap_line_index.specs.TokenList.{same_raw, same_tokens}
 
 pub raw_decides : (a b : RawToken) → Decides (same_raw a b) (a ≡ b)
@@ -53,13 +53,13 @@ raw_decides a b =
 pub tokens_decide : (a b : List RawToken) → Decides (same_tokens a b) (a ≡ b)
 tokens_decide = pointwise_decides raw_decides
 
--- a place and its own token are what any other of the same place is
-one_at_place : (tokens : List RawToken) (r s : Option (ℕ × RawToken)) → option_map (λ found. found.0) r ≡ option_map (λ found. found.0) s → IfSome r (λ found. slice_get tokens found.0 ≡ Some found.1) → IfSome s (λ found. slice_get tokens found.0 ≡ Some found.1) → r ≡ s
-one_at_place tokens None None e own own' = refl
-one_at_place tokens None (Some s) e own own' = cc
-one_at_place tokens (Some r) None e own own' = cc
-one_at_place tokens (Some (i, t)) (Some (j, u)) e own own' = cc
+-- two indexed tokens of one list with equal indices are equal
+one_at_index : (tokens : List RawToken) (r s : Option (ℕ × RawToken)) → option_map (λ found. found.0) r ≡ option_map (λ found. found.0) s → IfSome r (λ found. slice_get tokens found.0 ≡ Some found.1) → IfSome s (λ found. slice_get tokens found.0 ≡ Some found.1) → r ≡ s
+one_at_index tokens None None e own own' = refl
+one_at_index tokens None (Some s) e own own' = cc
+one_at_index tokens (Some r) None e own own' = cc
+one_at_index tokens (Some (i, t)) (Some (j, u)) e own own' = cc
 
--- what stands at the place of the closest token is the closest token
-pub closest_from_place : (tokens : List RawToken) (p : ℕ × ℕ) (r : Option (ℕ × RawToken)) → option_map (λ found. found.0) r ≡ option_map (λ found. found.0) (closest_token tokens p) → IfSome r (λ found. slice_get tokens found.0 ≡ Some found.1) → r ≡ closest_token tokens p
-closest_from_place tokens p r e own = one_at_place tokens r (closest_token tokens p) e own (place-closest destination position_cmp tokens p)
+-- the token at the index of the closest token is the closest token
+pub closest_from_index : (tokens : List RawToken) (p : ℕ × ℕ) (r : Option (ℕ × RawToken)) → option_map (λ found. found.0) r ≡ option_map (λ found. found.0) (closest_token tokens p) → IfSome r (λ found. slice_get tokens found.0 ≡ Some found.1) → r ≡ closest_token tokens p
+closest_from_index tokens p r e own = one_at_index tokens r (closest_token tokens p) e own (index-closest destination position_cmp tokens p)

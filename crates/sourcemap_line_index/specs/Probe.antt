@@ -1,11 +1,11 @@
--- A probe of one line and one column, as contracts see it.
+-- A probe for one line and column, as contracts see it.
 use Rattle.std.specs.Prelude.{ℕ}
 use Rattle.sourcemap_line_index.specs.declared.probe.KeyProbe.{KeyProbe}
 
--- the line and the column that it looks for
+-- the line and the column of its position
 abbrev pub key_of : KeyProbe → ℕ × ℕ
 key_of probe = (probe.line, probe.col)
 
--- how many comparisons it has made
-abbrev pub made_by : KeyProbe → ℕ
-made_by probe = probe.count
+-- the number of comparisons that it has made
+abbrev pub comparisons_of : KeyProbe → ℕ
+comparisons_of probe = probe.count

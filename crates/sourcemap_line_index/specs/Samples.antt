@@ -1,9 +1,9 @@
--- Samples of the columns of tokens: those of every eighth.
+-- The columns of every eighth token.
 use Rattle.std.specs.Prelude.{◌≡◌, ℕ, ◌<◌, ◌≤◌, ◌-◌, ◌*◌, List, length, slice_index}
-use Rattle.sourcemap_lists.specs.declared.tokens.RawToken.{RawToken}
+use Rattle.sourcemap_tokens.specs.declared.tokens.RawToken.{RawToken}
 use Rattle.sourcemap_line_index.specs.LineIndex.{Rises, col_at}
 
--- the columns of the tokens at the places 0, 8, 16 and so on up to the end of the list
+-- the columns of the tokens at indices 0, 8, 16 and so on to the end of the list
 pub record AreColumns (tokens : List RawToken) (columns : List ℕ) : Type 0 where
   pub inside : (k : ℕ) → k < length columns → 8 * k < length tokens
   pub own : (k : ℕ) (d : RawToken) → k < length columns → slice_index columns k ≡ col_at tokens d (8 * k)
@@ -13,15 +13,15 @@ pub record AreColumns (tokens : List RawToken) (columns : List ℕ) : Type 0 whe
 abbrev pub AreSamples : (tokens : List RawToken) (lines : ℕ) (columns : List ℕ) → Type 0
 AreSamples tokens lines columns = 0 < length columns → AreColumns tokens columns × (32 * lines ≤ length tokens)
 
--- a list holds the tokens from first up to, not including, end, and their columns do not fall
+-- the columns of the tokens from first up to, not including, end do not fall
 pub record HasRisingColumns (tokens : List RawToken) (first end : ℕ) : Type 0 where
   pub ordered : first ≤ end
   pub within : end ≤ length tokens
   pub rises : (d : RawToken) → Rises (col_at tokens d) first end
 
--- the place of the first of these tokens that is not left of a column, end if there is none
-pub record IsFirstAtColumn (tokens : List RawToken) (first end col place : ℕ) : Type 0 where
-  pub at_least : first ≤ place
-  pub at_most : place ≤ end
-  pub before : (d : RawToken) → first < place → col_at tokens d (place - 1) < col
-  pub from : (d : RawToken) → place < end → col ≤ col_at tokens d place
+-- the index of the first of these tokens that is not left of a column, end if there is none
+pub record IsFirstAtColumn (tokens : List RawToken) (first end col index : ℕ) : Type 0 where
+  pub at_least : first ≤ index
+  pub at_most : index ≤ end
+  pub before : (d : RawToken) → first < index → col_at tokens d (index - 1) < col
+  pub from : (d : RawToken) → index < end → col ≤ col_at tokens d index

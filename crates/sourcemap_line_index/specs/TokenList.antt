@@ -1,4 +1,4 @@
--- Equality of lists of tokens: of all fields of all tokens.
+-- Equality of token lists compares all fields of all tokens.
 use Rattle.std.specs.Prelude.{List, Bool, nat_eq}
 use Rattle.std.specs.Bool.{beq}
 use Rattle.std.specs.Ordering.{on, eq_of_both}
@@ -6,9 +6,9 @@ use Rattle.std.specs.Cmp.{IsEquivalence}
 use Rattle.std.specs.Cmp.Rules.{comparing}
 use Rattle.std.specs.Cmp.Lexicographic.{pointwise}
 use Rattle.std.proofs.Common.{rules}
-use Rattle.sourcemap_lists.specs.declared.tokens.RawToken.{RawToken}
+use Rattle.sourcemap_tokens.specs.declared.tokens.RawToken.{RawToken}
 
--- tokens of the same numbers and flag
+-- tokens with equal fields
 abbrev pub same_raw : RawToken → RawToken → Bool
 same_raw =
     eq_of_both (on (λ t. t.dst_line) nat_eq)
@@ -19,7 +19,7 @@ same_raw =
     (eq_of_both (on (λ t. t.name_id) nat_eq)
     (on (λ t. t.is_range) beq))))))
 
--- lists of the same tokens
+-- lists of equal tokens
 abbrev pub same_tokens : List RawToken → List RawToken → Bool
 same_tokens = pointwise same_raw
 

@@ -1,4 +1,4 @@
-//! Lookup by a table of the lines that hold tokens, with its comparisons counted.
+//! Lookup of the closest token through a table of lines, with its comparisons counted.
 #![tactic(auto)]
 
 pub mod line_index;

@@ -1,26 +1,26 @@
-//! A table of the lines that hold tokens, and the lookup by it.
+//! A table of the lines that hold tokens, and the lookup that uses it.
 ghost use Rattle.std.specs.Prelude.{◌≡◌, ℕ, ◌<◌, ◌≤◌, ◌+◌, ◌-◌, ◌*◌, ◌^◌, Ok, IfErr, IfOk, IfSome, false, length, min, option_map, slice_index, true};
 ghost use Rattle.sourcemap_errors.specs.Answer.{Changes, Gives};
 ghost use Rattle.sourcemap_errors.specs.declared.errors.Error.TheVariants.{OutOfMemory};
-ghost use Rattle.sourcemap_lists.specs.Tokens.{AreInOrder, closest_token};
-ghost use Rattle.sourcemap_lists.specs.declared.tokens.RawToken.{RawToken};
-ghost use Rattle.sourcemap_line_index.specs.LineIndex.{BeginsLine, GoesOnLine, IsMadeFrom, IsSpan, Rises, binary_digits, no_rows, with_row};
+ghost use Rattle.sourcemap_tokens.specs.Tokens.{AreInOrder, closest_token};
+ghost use Rattle.sourcemap_tokens.specs.declared.tokens.RawToken.{RawToken};
+ghost use Rattle.sourcemap_line_index.specs.LineIndex.{BeginsLine, ContinuesLine, IsTableOf, IsSpan, Rises, binary_digits, no_rows, with_row};
 ghost use Rattle.sourcemap_line_index.specs.Samples.{AreSamples};
 
 use crate::probe::Probe;
 use crate::samples::first_by_samples;
 use sourcemap_errors::errors::Result;
-use sourcemap_lists::tokens::RawToken;
+use sourcemap_tokens::tokens::RawToken;
 use std::alloc::Global;
 use std::cmp::Ordering;
 use std::marker::Model;
 
-/// The lines that hold tokens, and where the tokens of each begin in the list.
+/// The generated lines that hold tokens, each with the index of its first token.
 #[derive(Debug, Drop)]
 pub struct LineIndex {
-    // a list of its own, so that a search for a line reads as little memory as can be
+    // apart from `firsts`, so that a search for a line reads little memory
     lines: Vec<u32>,
-    // the place of the first token of each line
+    // the index of the first token of each line
     firsts: Vec<usize>,
 }
 
@@ -29,32 +29,32 @@ impl Model for LineIndex {
 
     ghost Value = { LineTable };
 
-    ghost view = { λ index. record { lines = index.lines.items; firsts = index.firsts.items } };
+    ghost view = { λ table. record { lines = table.lines.items; firsts = table.firsts.items } };
 }
 
 impl LineIndex {
-    /// The table of these tokens, which are in order. Only want of memory refuses.
+    /// Builds the table of tokens in order. The only error is out of memory.
     pub fn new(alloc: Global, tokens: &[RawToken]) -> Result<LineIndex>
         requires { AreInOrder tokens.now }
-        ensures table { IfOk result (λ index. IsMadeFrom tokens.now index) }
+        ensures table { IfOk result (λ table. IsTableOf tokens.now table) }
         ensures memory { IfErr result (λ cause. cause ≡ OutOfMemory) }
     {
         let rows = rows_at_most(tokens);
         let mut lines = Vec::with_capacity(alloc, rows)?;
         let mut firsts = Vec::with_capacity(alloc, rows)?;
-        for place in 0..tokens.len() {
-            if begins_line(tokens, place) {
-                lines.push(tokens[place].dst_line)?;
-                firsts.push(place)?;
+        for index in 0..tokens.len() {
+            if begins_line(tokens, index) {
+                lines.push(tokens[index].dst_line)?;
+                firsts.push(index)?;
             }
         }
-        // tokens of few lines may stand far down
+        // the capacity is too high where lines between tokens are empty
         lines.shrink_to_fit();
         firsts.shrink_to_fit();
         Ok(LineIndex { lines, firsts })
     }
 
-    /// The table of no tokens. It takes no memory.
+    /// The table of an empty list. It allocates nothing.
     pub fn of_none(alloc: Global) -> LineIndex
         ensures { result ≡ no_rows }
     {
@@ -64,21 +64,21 @@ impl LineIndex {
         }
     }
 
-    /// Puts a line behind the others, with the place of its first token: for who knows the lines
-    /// while the tokens are made. Only want of memory refuses, and leaves the table as it was.
+    /// Appends a line with the index of its first token. For callers that build the table while
+    /// parsing. The only error is out of memory, which leaves the table unchanged.
     pub fn push(&mut self, line: u32, first: usize) -> Result<()>
         ensures { Changes result self.old self.new (with_row self.old line first) }
     {
-        // makes sure that the last step succeeds
+        // reserved first, so that nothing can fail after the first push
         self.firsts.reserve(1)?;
         self.lines.push(line)?;
         self.firsts.push(first)?;
         Ok(())
     }
 
-    // The same table, in lists of its own. Only want of memory refuses.
+    // A copy of the table. The only error is out of memory.
     pub(crate) fn duplicate(&self, alloc: Global) -> Result<LineIndex>
-        ensures { Gives (λ index. index) result (Ok self.now) }
+        ensures { Gives (λ table. table) result (Ok self.now) }
     {
         Ok(LineIndex {
             lines: Vec::from_slice(alloc, self.lines.as_slice())?,
@@ -86,25 +86,25 @@ impl LineIndex {
         })
     }
 
-    /// The place of the token closest to the probe's position, in the list that the table was made
-    /// from: of the tokens at that position the first, and if there are none, the last one that
-    /// stands before it. It takes no memory, and with d binary digits in the count of tokens it
-    /// makes at most 2 (d + 1) comparisons, however many tokens are equal.
+    /// Returns the index of the token closest to the probe's position, in the list that the table
+    /// was built from. If tokens are at that position, this is the first of them, else the last
+    /// token before it. Allocates nothing. With d binary digits in the count of tokens it makes at
+    /// most 2 (d + 1) comparisons, however many tokens are equal.
     pub fn closest<P: Probe>(&self, tokens: &[RawToken], probe: &mut P) -> Option<usize>
-        requires { IsMadeFrom tokens.now self.now }
+        requires { IsTableOf tokens.now self.now }
         ensures answer { result
             ≡ option_map (λ found. found.0) (closest_token tokens.now (P.position probe.old)) }
-        ensures inside { IfSome result (λ place. place < length tokens.now) }
+        ensures inside { IfSome result (λ index. index < length tokens.now) }
         ensures kept { P.position probe.new ≡ P.position probe.old }
         ensures counted { P.comparisons probe.new
             ≤ P.comparisons probe.old + 2 * (binary_digits (length tokens.now) + 1) }
-        ensures asked { 0 < length tokens.now
+        ensures at_least_one { 0 < length tokens.now
             → min (P.comparisons probe.old + 1) 4294967295 ≤ P.comparisons probe.new }
     {
         self.closest_by_samples(tokens, &[], probe)
     }
 
-    // The same, by columns of every eighth token if there are any.
+    // `closest` with the column samples of the list, or with an empty slice.
     #[inline(always)]
     pub(crate) fn closest_by_samples<P: Probe>(
         &self,
@@ -112,38 +112,38 @@ impl LineIndex {
         samples: &[u32],
         probe: &mut P,
     ) -> Option<usize>
-        requires made { IsMadeFrom tokens.now self.now }
+        requires made { IsTableOf tokens.now self.now }
         requires sampled { AreSamples tokens.now (length self.now.lines) samples.now }
         ensures answer { result
             ≡ option_map (λ found. found.0) (closest_token tokens.now (P.position probe.old)) }
-        ensures inside { IfSome result (λ place. place < length tokens.now) }
+        ensures inside { IfSome result (λ index. index < length tokens.now) }
         ensures kept { P.position probe.new ≡ P.position probe.old }
         ensures counted { P.comparisons probe.new
             ≤ P.comparisons probe.old + 2 * (binary_digits (length tokens.now) + 1) }
-        ensures asked { 0 < length tokens.now
+        ensures at_least_one { 0 < length tokens.now
             → min (P.comparisons probe.old + 1) 4294967295 ≤ P.comparisons probe.new }
     {
         if tokens.is_empty() {
             return None;
         }
         let (first, end) = self.span_of(tokens, probe);
-        let place = first_by_samples(tokens, samples, first, end, probe);
-        // a number and no branch, which would be foreseen wrongly at every third position
-        let nearest = place.min(tokens.len() - 1);
-        let is_hit = (place < end) & probe.column(tokens[nearest].dst_col).is_eq();
-        place.checked_sub(usize::from(!is_hit))
+        let index = first_by_samples(tokens, samples, first, end, probe);
+        // arithmetic instead of a branch, which is mispredicted for every third position
+        let nearest = index.min(tokens.len() - 1);
+        let is_hit = (index < end) & probe.column(tokens[nearest].dst_col).is_eq();
+        index.checked_sub(usize::from(!is_hit))
     }
 
-    // Where the tokens of the probe's line stand: from the first up to, not including, the second.
-    // Both are behind the tokens of earlier lines if it holds none.
+    // The range of the tokens on the probe's line, as first index and end. If the line holds no
+    // token, both are the index of the first token of a later line.
     #[inline(always)]
     fn span_of<P: Probe>(&self, tokens: &[RawToken], probe: &mut P) -> (usize, usize)
-        requires { IsMadeFrom tokens.now self.now }
+        requires { IsTableOf tokens.now self.now }
         ensures span { IsSpan tokens.now (P.position probe.old).0 result.0 result.1 }
         ensures kept { P.position probe.new ≡ P.position probe.old }
         ensures counted { (d : ℕ) → length self.now.lines < 2 ^ d
             → P.comparisons probe.new ≤ P.comparisons probe.old + (d + 1) }
-        ensures asked { 0 < length tokens.now
+        ensures at_least_one { 0 < length tokens.now
             → min (P.comparisons probe.old + 1) 4294967295 ≤ P.comparisons probe.new }
     {
         let lines = self.lines.as_slice();
@@ -158,14 +158,13 @@ impl LineIndex {
         (first, first)
     }
 
-    // How many lines hold tokens.
     pub(crate) fn rows(&self) -> usize
         ensures { result ≡ length self.now.lines }
     {
         self.lines.len()
     }
 
-    // The place of the first token of the line in this row, `end` behind the last row.
+    // The index of the first token of this row's line, `end` after the last row.
     #[inline(always)]
     fn first_of(&self, row: usize, end: usize) -> usize
         ensures within { row < length self.now.firsts → result ≡ slice_index self.now.firsts row }
@@ -179,13 +178,13 @@ impl LineIndex {
     }
 }
 
-// Where the tokens of the probe's line stand among so many that are all on this line, as most of
-// minified code are. No place is read, so the search among them need not wait for one.
+// `span_of` for tokens that are all on one line, as in most minified code. It reads no index, so
+// the search that follows need not wait for one.
 #[inline(always)]
 fn span_of_one<P: Probe>(line: u32, count: usize, probe: &mut P) -> (usize, usize)
     ensures same { (P.position probe.old).0 ≡ line → result ≡ (0, count) }
     ensures before { (P.position probe.old).0 < line → result ≡ (0, 0) }
-    ensures behind { line < (P.position probe.old).0 → result ≡ (count, count) }
+    ensures after { line < (P.position probe.old).0 → result ≡ (count, count) }
     ensures kept { P.position probe.new ≡ P.position probe.old }
     ensures counted { P.comparisons probe.new ≡ min (P.comparisons probe.old + 1) 4294967295 }
 {
@@ -196,7 +195,7 @@ fn span_of_one<P: Probe>(line: u32, count: usize, probe: &mut P) -> (usize, usiz
     }
 }
 
-// How many lines may hold these tokens, which are in order. So rows need no room asked for twice.
+// An upper bound for the number of lines, so that the lists of rows are allocated once.
 fn rows_at_most(tokens: &[RawToken]) -> usize {
     match tokens.last() {
         None => 0,
@@ -206,16 +205,15 @@ fn rows_at_most(tokens: &[RawToken]) -> usize {
     }
 }
 
-// Whether the token at this place is the first of its line.
-fn begins_line(tokens: &[RawToken], place: usize) -> bool
-    requires { place < length tokens.now }
-    ensures begins { result ≡ true → BeginsLine tokens.now place }
-    ensures goes_on { result ≡ false → GoesOnLine tokens.now place }
+fn begins_line(tokens: &[RawToken], index: usize) -> bool
+    requires { index < length tokens.now }
+    ensures begins { result ≡ true → BeginsLine tokens.now index }
+    ensures continues { result ≡ false → ContinuesLine tokens.now index }
 {
-    place == 0 || tokens[place].dst_line != tokens[place - 1].dst_line
+    index == 0 || tokens[index].dst_line != tokens[index - 1].dst_line
 }
 
-// The row of the first line that is not before the probe's, behind all rows if there is none.
+// The row of the first line that is not before the probe's line, or the number of rows.
 #[inline(always)]
 fn first_at_line<P: Probe>(lines: &[u32], probe: &mut P) -> usize
     requires { Rises (slice_index lines.now) 0 (length lines.now) }
@@ -226,7 +224,7 @@ fn first_at_line<P: Probe>(lines: &[u32], probe: &mut P) -> usize
     ensures kept { P.position probe.new ≡ P.position probe.old }
     ensures counted { (d : ℕ) → length lines.now < 2 ^ d
         → P.comparisons probe.new ≤ P.comparisons probe.old + d }
-    ensures asked { 0 < length lines.now
+    ensures at_least_one { 0 < length lines.now
         → min (P.comparisons probe.old + 1) 4294967295 ≤ P.comparisons probe.new }
 {
     let mut row = 0;
@@ -240,7 +238,7 @@ fn first_at_line<P: Probe>(lines: &[u32], probe: &mut P) -> usize
     row
 }
 
-/// A law: the binary digits of a count are enough to write it, and no fewer are.
+/// A law: a count is below the power of two of its binary digits, and no fewer digits suffice.
 pub fn binary_digits_are_fewest()
     ensures enough { (count : ℕ) → count < 2 ^ binary_digits count }
     ensures fewest { (count digits : ℕ) → count < 2 ^ digits → binary_digits count ≤ digits }

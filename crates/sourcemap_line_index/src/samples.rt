@@ -4,27 +4,28 @@ ghost use Rattle.sourcemap_line_index.specs.LineIndex.{Rises};
 ghost use Rattle.sourcemap_line_index.specs.Samples.{AreColumns, AreSamples, HasRisingColumns, IsFirstAtColumn};
 
 use crate::probe::Probe;
-use sourcemap_lists::tokens::RawToken;
+use sourcemap_tokens::tokens::RawToken;
 use std::alloc::{AllocError, Global};
 use std::marker::Model;
 
-// How many tokens lead from one sample to the next.
+// The distance between two samples, in tokens.
 const SPACING: usize = 8;
 
-// Fewer tokens than these stay in the cache that is nearest to the processor.
+// Fewer tokens fit in the first-level cache and need no samples.
 const MANY: usize = 1024;
 
-// As many tokens are more than the larger cache of a core holds, and their search may make more
-// comparisons than a line of few tokens takes in turn.
+// A list of this length does not fit in a core's second-level cache. Its bound on comparisons is
+// high enough for a linear search of a short line.
 const LARGE: usize = 1 << 16;
 
-// As few tokens of a line are looked at in turn.
+// The longest line that is searched linearly, in tokens.
 const FEW: usize = 16;
 
-// So many tokens a line make long lines. With fewer a search could make too many comparisons.
+// The least average length of a line for which samples are kept, in tokens. With shorter lines, a
+// search by samples could exceed its bound of comparisons.
 const LONG: usize = 32;
 
-/// The columns of every eighth token of a list with long lines, and none of another list.
+/// The columns of every eighth token of a list with long lines. Empty for any other list.
 #[derive(Debug, Drop)]
 pub(crate) struct ColumnSamples {
     columns: Vec<u32>,
@@ -39,8 +40,8 @@ impl Model for ColumnSamples {
 }
 
 impl ColumnSamples {
-    /// The samples of these tokens, which stand on so many lines. There are none if lines are
-    /// short. Only want of memory refuses.
+    /// Takes the samples of tokens on `lines` lines. There are none if lines are short. The only
+    /// error is out of memory.
     pub(crate) fn new(
         alloc: Global,
         tokens: &[RawToken],
@@ -65,7 +66,6 @@ impl ColumnSamples {
     }
 }
 
-// The column of every eighth token.
 fn columns_of(alloc: Global, tokens: &[RawToken]) -> Result<Vec<u32>, AllocError>
     ensures { IfOk result (λ columns. AreColumns tokens.now columns.items) }
 {
@@ -77,8 +77,8 @@ fn columns_of(alloc: Global, tokens: &[RawToken]) -> Result<Vec<u32>, AllocError
     Ok(columns)
 }
 
-// The place of the first of the tokens from `first` up to `end` that is not left of the probe's
-// column, `end` if there is none: first among the samples between them, if there are any.
+// The index of the first token between `first` and `end` whose column is not left of the probe's,
+// or `end`. Uses the samples in this range, if any, before the tokens.
 #[inline(always)]
 pub(crate) fn first_by_samples<P: Probe>(
     tokens: &[RawToken],
@@ -102,14 +102,14 @@ pub(crate) fn first_by_samples<P: Probe>(
     }
     let low = first.div_ceil(SPACING);
     let high = end.div_ceil(SPACING);
-    let place = SPACING * first_sample(samples, low, high, probe);
-    // the sample before this one is left of the column, so the token is behind that
-    let from = first.max(place.saturating_sub(SPACING - 1));
-    first_in_turn(tokens, from, end.min(place), probe)
+    let index = SPACING * first_sample(samples, low, high, probe);
+    // the sample before this one is left of the column, so the result is after it
+    let from = first.max(index.saturating_sub(SPACING - 1));
+    first_linear(tokens, from, end.min(index), probe)
 }
 
-// The first of the samples from `first` up to `end` that is not left of the probe's column, `end`
-// if there is none.
+// The index of the first sample between `first` and `end` that is not left of the probe's column,
+// or `end`.
 fn first_sample<P: Probe>(samples: &[u32], first: usize, end: usize, probe: &mut P) -> usize
     requires ordered { first ≤ end }
     requires within { end ≤ length samples.now }
@@ -135,8 +135,8 @@ fn first_sample<P: Probe>(samples: &[u32], first: usize, end: usize, probe: &mut
     sample
 }
 
-// The same without samples: token by token if there are few of them on the line and many in the
-// list, which are not in the processor's cache then.
+// `first_by_samples` without samples. It searches linearly where the line is short and the list so
+// long that it is not in the processor's cache.
 #[inline(always)]
 fn first_without_samples<P: Probe>(
     tokens: &[RawToken],
@@ -152,13 +152,13 @@ fn first_without_samples<P: Probe>(
     ensures raised { min (P.comparisons probe.old) 4294967295 ≤ P.comparisons probe.new }
 {
     if tokens.len() >= LARGE && end - first <= FEW {
-        return first_in_turn(tokens, first, end, probe);
+        return first_linear(tokens, first, end, probe);
     }
     first_at_column(tokens, first, end, probe)
 }
 
-// The place of the first of the tokens from `first` up to `end` that is not left of the probe's
-// column, `end` if there is none.
+// The index of the first token between `first` and `end` whose column is not left of the probe's,
+// or `end`. A binary search.
 #[inline(always)]
 fn first_at_column<P: Probe>(tokens: &[RawToken], first: usize, end: usize, probe: &mut P) -> usize
     requires { HasRisingColumns tokens.now first end }
@@ -168,29 +168,28 @@ fn first_at_column<P: Probe>(tokens: &[RawToken], first: usize, end: usize, prob
         → P.comparisons probe.new ≤ P.comparisons probe.old + d }
     ensures raised { min (P.comparisons probe.old) 4294967295 ≤ P.comparisons probe.new }
 {
-    let mut place = first;
+    let mut index = first;
     let mut left = end - first;
     while left > 0 {
         let half = left / 2;
         let rest = left - half;
-        place += probe.skip_by_column(tokens[place + rest - 1].dst_col, rest);
+        index += probe.skip_by_column(tokens[index + rest - 1].dst_col, rest);
         left = half;
     }
-    place
+    index
 }
 
-// The same, token by token: for few tokens, since the processor need not wait for one to read the
-// next.
-fn first_in_turn<P: Probe>(tokens: &[RawToken], first: usize, end: usize, probe: &mut P) -> usize
+// The same by a linear search: for few tokens it is faster, since the processor can fetch ahead.
+fn first_linear<P: Probe>(tokens: &[RawToken], first: usize, end: usize, probe: &mut P) -> usize
     requires { HasRisingColumns tokens.now first end }
     ensures found { IsFirstAtColumn tokens.now first end (P.position probe.old).1 result }
     ensures kept { P.position probe.new ≡ P.position probe.old }
     ensures counted { P.comparisons probe.new ≤ P.comparisons probe.old + (end - first) }
     ensures raised { min (P.comparisons probe.old) 4294967295 ≤ P.comparisons probe.new }
 {
-    let mut place = first;
+    let mut index = first;
     for at in first..end {
-        place += probe.skip_by_column(tokens[at].dst_col, 1);
+        index += probe.skip_by_column(tokens[at].dst_col, 1);
     }
-    place
+    index
 }

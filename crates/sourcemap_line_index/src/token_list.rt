@@ -1,22 +1,22 @@
-//! Tokens in order with the table of their lines, as a type of its own.
+//! A list of tokens in order, with the table of their lines.
 ghost use Rattle.std.specs.Prelude.{◌≡◌, ◌<◌, ◌≤◌, ◌+◌, ◌*◌, ◌^◌, Ok, Some, IfSome, length, option_map, slice_get};
 ghost use Rattle.std.specs.Bool.{Decides};
 ghost use Rattle.std.specs.Cmp.{partial_equiv_from_equiv};
 ghost use Rattle.sourcemap_errors.specs.Answer.{Gives};
-ghost use Rattle.sourcemap_lists.specs.Tokens.{AreInOrder, closest_token, in_order};
-ghost use Rattle.sourcemap_line_index.specs.LineIndex.{IsMadeFrom, binary_digits};
+ghost use Rattle.sourcemap_tokens.specs.Tokens.{AreInOrder, closest_token, in_order};
+ghost use Rattle.sourcemap_line_index.specs.LineIndex.{IsTableOf, binary_digits};
 ghost use Rattle.sourcemap_line_index.specs.TokenList.{same_tokens, same_tokens_equiv};
 
 use crate::line_index::LineIndex;
 use crate::probe::{KeyProbe, Probe};
 use crate::samples::ColumnSamples;
 use sourcemap_errors::errors::Result;
-use sourcemap_lists::tokens::{RawToken, closest_token, sort_tokens};
+use sourcemap_tokens::tokens::{RawToken, closest_token, sort_tokens};
 use std::alloc::Global;
 use std::marker::Model;
 
-/// Tokens in order of line and column of the generated text, beside the table of the lines that
-/// hold them, and samples of their columns if lines are long. No call parts them.
+/// Tokens sorted by generated position, with the table of their lines, and samples of their columns
+/// if lines are long. No method separates them.
 #[derive(Debug)]
 pub struct TokenList {
     tokens: Vec<RawToken>,
@@ -26,19 +26,19 @@ pub struct TokenList {
 
 impl Model for TokenList {
     ghost use Rattle.std.specs.Prelude.{List, length};
-    ghost use Rattle.sourcemap_line_index.specs.LineIndex.{IsMadeFrom};
+    ghost use Rattle.sourcemap_line_index.specs.LineIndex.{IsTableOf};
     ghost use Rattle.sourcemap_line_index.specs.Samples.{AreSamples};
-    ghost use Rattle.sourcemap_lists.specs.declared.tokens.RawToken.{RawToken};
+    ghost use Rattle.sourcemap_tokens.specs.declared.tokens.RawToken.{RawToken};
 
     ghost Value = { List RawToken };
 
     ghost view = { λ list. list.tokens.items };
 
-    ghost invariant = { λ list. IsMadeFrom list.tokens.items list.lines
+    ghost invariant = { λ list. IsTableOf list.tokens.items list.lines
         × AreSamples list.tokens.items (length list.lines.lines) list.samples };
 }
 
-// By hand, for the prover: letting it go is one step of a function that owns one, not one a field.
+// prover: one drop
 impl Drop for TokenList {
     fn drop(self) {
         let TokenList {
@@ -50,18 +50,17 @@ impl Drop for TokenList {
 }
 
 impl TokenList {
-    /// These tokens, sorted by their place in the generated text, those of one place as they stood.
-    /// Only want of memory refuses.
-    pub fn sorted(mut tokens: Vec<RawToken>) -> Result<TokenList>
+    /// Sorts tokens by generated position. The sort is stable. The only error is out of memory.
+    pub fn from_unsorted(mut tokens: Vec<RawToken>) -> Result<TokenList>
         ensures { Gives (λ list. list) result (Ok (in_order tokens.items)) }
     {
         sort_tokens(&mut tokens)?;
-        TokenList::of_ordered(tokens)
+        TokenList::of_sorted(tokens)
     }
 
-    /// These tokens, which are in order already. Only want of memory refuses, and the tokens are
-    /// let go then.
-    pub fn of_ordered(tokens: Vec<RawToken>) -> Result<TokenList>
+    /// Takes tokens that are in order. The only error is out of memory, and the tokens are dropped
+    /// then.
+    pub fn of_sorted(tokens: Vec<RawToken>) -> Result<TokenList>
         requires { AreInOrder tokens.items }
         ensures { Gives (λ list. list) result (Ok tokens.items) }
     {
@@ -69,10 +68,10 @@ impl TokenList {
         TokenList::with_table(tokens, lines)
     }
 
-    /// These tokens beside their table, which was made with them. Only want of memory refuses, and
-    /// both are let go then.
+    /// Takes tokens and their table, built together. The only error is out of memory, and both are
+    /// dropped then.
     pub fn with_table(tokens: Vec<RawToken>, lines: LineIndex) -> Result<TokenList>
-        requires { IsMadeFrom tokens.items lines }
+        requires { IsTableOf tokens.items lines }
         ensures { Gives (λ list. list) result (Ok tokens.items) }
     {
         let samples = ColumnSamples::new(*tokens.allocator(), tokens.as_slice(), lines.rows())?;
@@ -91,14 +90,14 @@ impl TokenList {
         self.tokens.as_slice()
     }
 
-    /// How many tokens there are.
+    /// The number of tokens.
     pub fn len(&self) -> usize
         ensures { result ≡ length self.now }
     {
         self.tokens.len()
     }
 
-    /// The token at this place of the list, none past its end.
+    /// The token at this index, `None` past the end.
     pub fn get(&self, index: usize) -> Option<RawToken>
         ensures value { result ≡ slice_get self.now index }
         ensures small { IfSome result (λ _. index + 1 < 2 ^ 64) }
@@ -106,40 +105,41 @@ impl TokenList {
         self.tokens.get(index).copied()
     }
 
-    /// The token closest to a line and a column of the generated text, both from 0, with its place
-    /// in the list: of the tokens at that place the first, and if there are none, the last one that
-    /// stands before it. Beside it, by how many comparisons of that line and that column with a
-    /// number it was found: with d binary digits in the count of tokens at most 2 (d + 1), however
-    /// many are equal. It takes no memory.
+    /// Returns the token closest to a generated position, 0-based, with its index in the list. If
+    /// tokens are at that position, this is the first of them, else the last token before it.
+    ///
+    /// The second value is the number of comparisons of this line and column with a number. With d
+    /// binary digits in the count of tokens it is at most 2 (d + 1), however many tokens are equal.
+    /// Allocates nothing.
     #[inline(always)]
     pub fn closest_steps(&self, line: u32, col: u32) -> (Option<(usize, RawToken)>, u32)
         ensures answer { result.0 ≡ closest_token self.now (line, col) }
-        // the place is the token's own
+        // the index is the token's own
         ensures own_index { IfSome result.0 (λ found. slice_get self.now found.0 ≡ Some found.1) }
         ensures small { IfSome result.0 (λ found. found.0 + 1 < 2 ^ 64) }
         ensures counted { result.1 ≤ 2 * (binary_digits (length self.now) + 1) }
-        ensures asked { 0 < length self.now → 0 < result.1 }
+        ensures at_least_one { 0 < length self.now → 0 < result.1 }
     {
         let mut probe = KeyProbe::new(line, col);
         let tokens = self.tokens.as_slice();
         let samples = self.samples.as_slice();
-        let place = self.lines.closest_by_samples(tokens, samples, &mut probe);
-        (with_token(tokens, place), probe.count())
+        let index = self.lines.closest_by_samples(tokens, samples, &mut probe);
+        (with_token(tokens, index), probe.count())
     }
 
-    /// The same token, by a search among all tokens. It serves where many lists are asked in turn,
-    /// so that none is in the processor's cache: there it is faster than the table, since the
-    /// branches of the search let the processor fetch ahead.
+    /// The same token, found by a binary search among all tokens. It is for callers that search
+    /// many lists in turn, so that none is in the processor's cache. There it is faster than the
+    /// table, since the branches of the search let the processor fetch ahead.
     pub fn closest_among_many(&self, line: u32, col: u32) -> Option<(usize, RawToken)>
         ensures answer { result ≡ closest_token self.now (line, col) }
-        // the place is the token's own
+        // the index is the token's own
         ensures own_index { IfSome result (λ found. slice_get self.now found.0 ≡ Some found.1) }
         ensures small { IfSome result (λ found. found.0 + 1 < 2 ^ 64) }
     {
         closest_token(self.tokens.as_slice(), line, col)
     }
 
-    /// The tokens, moved and not copied.
+    /// Returns the tokens, moved and not copied.
     pub fn into_vec(self) -> Vec<RawToken>
         ensures value { result.items ≡ self }
         ensures in_order { AreInOrder self }
@@ -152,7 +152,7 @@ impl TokenList {
         tokens
     }
 
-    /// The same tokens in a list of their own. Only want of memory refuses.
+    /// A copy of the list. The only error is out of memory.
     pub fn clone(&self) -> Result<Self>
         ensures { Gives (λ list. list) result (Ok self.now) }
     {
@@ -162,21 +162,21 @@ impl TokenList {
         TokenList::with_table(tokens, lines)
     }
 
-    /// What the list takes its memory from.
+    /// The allocator of the list.
     pub fn allocator(&self) -> Global {
         *self.tokens.allocator()
     }
 }
 
-// A place of a list, if there is one, with the token that stands there.
+// An optional index, with the token at that index.
 #[inline(always)]
-fn with_token(tokens: &[RawToken], place: Option<usize>) -> Option<(usize, RawToken)>
-    requires { IfSome place (λ at. at < length tokens.now) }
-    ensures kept { option_map (λ found. found.0) result ≡ place }
+fn with_token(tokens: &[RawToken], index: Option<usize>) -> Option<(usize, RawToken)>
+    requires { IfSome index (λ at. at < length tokens.now) }
+    ensures kept { option_map (λ found. found.0) result ≡ index }
     ensures own_index { IfSome result (λ found. slice_get tokens.now found.0 ≡ Some found.1) }
     ensures small { IfSome result (λ found. found.0 + 1 < 2 ^ 64) }
 {
-    match place {
+    match index {
         None => None,
         Some(at) => Some((at, tokens[at])),
     }

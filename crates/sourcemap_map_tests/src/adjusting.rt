@@ -1,12 +1,13 @@
-// Maps that are adjusted by others.
+// Adjusting of mappings.
 use crate::checks::check;
-use crate::lookups::{looked_up, token_told};
-use crate::samples::{Made, NONE, Row, boxed, made, written};
+use crate::lookups::{looked_up, token_text};
+use crate::samples::{Made, NONE, Row, made, written};
 use sourcemap::errors::{Error, Result};
 use sourcemap::types::{RawToken, SourceMap, Token};
+use sourcemap_test_support::results::boxed;
 use std::alloc::Global;
 
-// A token that starts before the place that is moved, and one that starts behind it.
+// A token that starts before the position that is moved, and one that starts after it.
 const CUT: [Row; 2] = [
     ((8, 28), (0, 102, 35), NONE, false),
     ((8, 40), (0, 102, 50), NONE, false),
@@ -14,7 +15,7 @@ const CUT: [Row; 2] = [
 
 const MOVED: [Row; 1] = [((17, 23), (0, 8, 30), NONE, false)];
 
-// One place that two tokens come from, and originals that start before it or at it.
+// One position that two tokens come from, and originals that start before it or at it.
 const TWICE: [Row; 2] = [
     ((3, 0), (0, 0, 5), NONE, false),
     ((4, 0), (0, 0, 5), NONE, false),
@@ -24,16 +25,16 @@ const BEFORE: [Row; 1] = [((0, 0), (0, 1, 1), NONE, false)];
 
 const THERE: [Row; 1] = [((0, 5), (0, 1, 1), NONE, false)];
 
-// Two originals at one place.
+// Two originals at one position.
 const EQUAL: [Row; 2] = [
     ((0, 5), (0, 1, 1), NONE, false),
     ((0, 5), (0, 2, 2), NONE, false),
 ];
 
-// A range token, and an adjustment of what is behind its start.
+// A range token, and an adjustment of what is after its start.
 const RANGE: [Row; 1] = [((0, 0), (0, 0, 7), NONE, true)];
 
-// One whose source ends a few columns behind its start, and one without a source.
+// One whose source ends a few columns after its start, and one without a source.
 const FAR_RANGE: [Row; 1] = [((0, 0), (0, 0, 4294967290), NONE, true)];
 
 const BARE_RANGE: [Row; 1] = [((0, 0), (NONE, NONE, NONE), NONE, true)];
@@ -48,7 +49,7 @@ static NEIGHBOURS: [Row; 2] = [
     ((0, 1), (0, 1, 2), NONE, false),
 ];
 
-// Two tokens, and adjustments that take both to one place.
+// Two tokens, and adjustments that take both to one position.
 const APART: [Row; 2] = [
     ((0, 0), (0, 1, 1), NONE, false),
     ((0, 5), (0, 2, 2), NONE, false),
@@ -69,14 +70,14 @@ const EDITED: [Row; 5] = [
     ((2, 0), (0, 2, 3), NONE, false),
 ];
 
-// Three lines behind a new one.
+// Three lines after a new one.
 const A_LINE_DOWN: [Row; 3] = [
     ((1, 0), (0, 0, 0), NONE, false),
     ((2, 0), (0, 1, 0), NONE, false),
     ((3, 0), (0, 2, 0), NONE, false),
 ];
 
-// The tokens of both maps, a place, and what is printed there.
+// The tokens of both maps, a position, and the text of the token there.
 static ADJUSTED: [(&[Row], &[Row], (u32, u32), &str); 13] = [
     (&APART, &TOGETHER, (0, 0), "o.js:1:1"),
     (&APART, &TOGETHER, (0, 3), "o.js:2:2"),
@@ -93,7 +94,7 @@ static ADJUSTED: [(&[Row], &[Row], (u32, u32), &str); 13] = [
     (&BEFORE, &LAST, (0, NONE), "o.js:1:1"),
 ];
 
-// A map of one source and two names, which those of the adjustment are not to take the place of.
+// A map of one source and two names, which those of the adjustment are not to replace.
 fn original(alloc: Global, rows: &[Row]) -> Made {
     made(alloc, rows, &["k", "m"], &["o.js"])
 }
@@ -121,9 +122,9 @@ fn adjusted_maps_are_looked_up(rt: HostRuntime) {
     }
 }
 
-// What a row is about, the tokens of both maps, and all those of the adjusted map, as in
-// `1:2=0:1:5#1+`: the place, the number of the source, the line and the column there, the number of
-// the name if there is one, and `+` for a range token.
+// Label, the tokens of both maps, and all those of the adjusted map, as in `1:2=0:1:5#1+`: the
+// position, the number of the source, the line and the column there, the number of the name if
+// there is one, and `+` for a range token.
 static LISTS: [(&str, &[Row], &[Row], &str); 23] = [
     (
         "a token that is cut and one that is not, but none of the next line",
@@ -136,13 +137,13 @@ static LISTS: [(&str, &[Row], &[Row], &str); 23] = [
         " 17:23=0:102:35 17:33=0:102:50",
     ),
     (
-        "two adjustments of one place, behind the start of an original",
+        "two adjustments of one position, behind the start of an original",
         &BEFORE,
         &TWICE,
         " 3:0=0:1:1 4:0=0:1:1",
     ),
     (
-        "two adjustments of one place, at the start of an original",
+        "two adjustments of one position, at the start of an original",
         &THERE,
         &TWICE,
         " 4:0=0:1:1",
@@ -160,25 +161,25 @@ static LISTS: [(&str, &[Row], &[Row], &str); 23] = [
         "",
     ),
     (
-        "two originals at one place, behind the start of an adjustment",
+        "two originals at one position, behind the start of an adjustment",
         &EQUAL,
         &[((0, 0), (0, 0, 0), NONE, false)],
         " 0:5=0:1:1 0:5=0:2:2",
     ),
     (
-        "two originals at one place, at the start of an adjustment",
+        "two originals at one position, at the start of an adjustment",
         &EQUAL,
         &[((0, 0), (0, 0, 5), NONE, false)],
         " 0:0=0:2:2",
     ),
     (
-        "two stretches that come to one place",
+        "two stretches that come to one position",
         &APART,
         &TOGETHER,
         " 0:0=0:1:1 0:0=0:2:2",
     ),
     (
-        "two stretches that come to one place, the later one given first",
+        "two stretches that come to one position, the later one given first",
         &APART,
         &[
             ((0, 0), (0, 0, 5), NONE, false),
@@ -187,7 +188,7 @@ static LISTS: [(&str, &[Row], &[Row], &str); 23] = [
         " 0:0=0:1:1 0:0=0:2:2",
     ),
     (
-        "two stretches that change places",
+        "two stretches that change positions",
         &APART,
         &[
             ((0, 0), (0, 0, 5), NONE, false),
@@ -197,7 +198,7 @@ static LISTS: [(&str, &[Row], &[Row], &str); 23] = [
     ),
     ("a range token that is cut", &RANGE, &BEHIND, " 5:0=0:0:17+"),
     (
-        "another token that is cut at the same place",
+        "another token that is cut at the same position",
         &[((0, 0), (0, 0, 7), NONE, false)],
         &BEHIND,
         " 5:0=0:0:7",
@@ -286,36 +287,36 @@ static LISTS: [(&str, &[Row], &[Row], &str); 23] = [
     ("all lines taken away", &EDITED, &[], ""),
 ];
 
-fn push_token(told: &mut String, token: &RawToken) -> Result<()> {
+fn push_token(out: &mut String, token: &RawToken) -> Result<()> {
     write!(
-        told,
+        out,
         " {}:{}={}:{}:{}",
         token.dst_line, token.dst_col, token.src_id, token.src_line, token.src_col
     )?;
     if token.name_id != NONE {
-        write!(told, "#{}", token.name_id)?;
+        write!(out, "#{}", token.name_id)?;
     }
     if token.is_range {
-        told.push('+')?;
+        out.push('+')?;
     }
     Ok(())
 }
 
-fn push_tokens(told: &mut String, map: &SourceMap) -> Result<()> {
+fn push_tokens(out: &mut String, map: &SourceMap) -> Result<()> {
     for token in map.tokens() {
-        push_token(told, &token.get_raw_token())?;
+        push_token(out, &token.get_raw_token())?;
     }
     Ok(())
 }
 
-fn tokens_told(alloc: Global, map: &SourceMap) -> Result<String> {
-    let mut told = String::new(alloc);
-    push_tokens(&mut told, map)?;
-    Ok(told)
+fn tokens_text(alloc: Global, map: &SourceMap) -> Result<String> {
+    let mut out = String::new(alloc);
+    push_tokens(&mut out, map)?;
+    Ok(out)
 }
 
 fn tokens_of(alloc: Global, map: Made) -> Result<String> {
-    tokens_told(alloc, &*map?)
+    tokens_text(alloc, &*map?)
 }
 
 #[test]
@@ -327,9 +328,9 @@ fn adjusted_maps_have_these_tokens_and_no_others(rt: HostRuntime) {
     }
 }
 
-// What a row is about, the tokens of both maps, a place of the later text, the one that is moved
-// there, and what the adjusted map says of the first and the map before it of the second, with `+`
-// where a range token says so.
+// Label, the tokens of both maps, a position of the later text, the one that is moved there, and
+// what the adjusted map says of the first and the map before it of the second, with `+` where a
+// range token says so.
 static ALIKE: [(&str, [&[Row]; 2], [(u32, u32); 2], &str); 9] = [
     (
         "where a token was cut",
@@ -387,35 +388,35 @@ static ALIKE: [(&str, [&[Row]; 2], [(u32, u32); 2], &str); 9] = [
     ),
 ];
 
-fn meaning_told(alloc: Global, token: Option<Token<'_>>) -> Result<String> {
+fn meaning_text(alloc: Global, token: Option<Token<'_>>) -> Result<String> {
     let mark = match &token {
         Some(token) if token.is_range() => "+",
         _ => "",
     };
-    let text = token_told(alloc, token)?;
+    let text = token_text(alloc, token)?;
     Ok(format!(in alloc; "{text}{mark}")?)
 }
 
 fn meaning(alloc: Global, map: Made, (line, col): (u32, u32)) -> Result<String> {
     let map = map?;
-    meaning_told(alloc, map.lookup_token(line, col))
+    meaning_text(alloc, map.lookup_token(line, col))
 }
 
 #[test]
-fn places_that_are_moved_mean_what_they_meant(rt: HostRuntime) {
+fn moved_positions_keep_their_meaning(rt: HostRuntime) {
     let alloc = rt.alloc();
-    for (about, tokens, places, want) in ALIKE.iter() {
-        // in steps for the prover, which does not follow an array's parts within a pattern
+    for (about, tokens, positions, want) in ALIKE.iter() {
+        // prover: array parts outside of a pattern
         let [originals, adjustments] = *tokens;
-        let [place, old_place] = *places;
+        let [position, old_place] = *positions;
         let old_meaning = meaning(alloc, original(alloc, originals), old_place);
         check(&rt, about, old_meaning, want);
         let map = adjusted(alloc, originals, adjustments);
-        check(&rt, about, meaning(alloc, map, place), want);
+        check(&rt, about, meaning(alloc, map, position), want);
     }
 }
 
-// Two tokens that are taken to one place, in the order in which they stood; then the tokens of
+// Two tokens that are taken to one position, in the order in which they stood; then the tokens of
 // `AAAA,KAAK`, and of `EAAA`; then those of `AAAO` with ranges `B`, and of `EAAU`.
 static WRITTEN: [(&[Row], &[Row], &str); 3] = [
     (
@@ -447,7 +448,7 @@ fn adjusted_maps_are_written(rt: HostRuntime) {
     }
 }
 
-// Whether a refused map is as it was. Where memory runs out, the call is made again.
+// Whether the map is unchanged after an error. If out of memory, the call is repeated.
 fn is_refused(map: &mut SourceMap, before: &SourceMap, by: &SourceMap) -> bool {
     let mut outcome = map.adjust_mappings(by);
     if matches!(outcome, Err(Error::OutOfMemory)) {
@@ -476,6 +477,6 @@ fn refused(alloc: Global) -> Result<String> {
 }
 
 #[test]
-fn a_refused_map_is_as_it_was(rt: HostRuntime) {
+fn an_error_leaves_the_map_unchanged(rt: HostRuntime) {
     check(&rt, "past the last column", refused(rt.alloc()), "true");
 }

@@ -1,4 +1,4 @@
-// Maps that are built step by step.
+// Building of maps, step by step.
 use crate::checks::check;
 use sourcemap::builder::SourceMapBuilder;
 use sourcemap::encoder::Encodable;
@@ -7,7 +7,7 @@ use sourcemap::jsontypes::DebugId;
 use sourcemap::types::{RawToken, SourceMap};
 use std::alloc::Global;
 
-// What a builder is asked to do, by the call's name where it is not told.
+// A call of a builder, named as the call where no comment says otherwise.
 #[derive(Clone, Copy)]
 enum Step<'a> {
     File(&'a str),
@@ -20,7 +20,7 @@ enum Step<'a> {
     Contents(u32, Option<&'a str>),
     Source(&'a str),
     Name(&'a str),
-    // `add`: place, line and column of the source, source, name
+    // `add`: position, line and column of the source, source, name
     Token((u32, u32), (u32, u32), &'a str, Option<&'a str>),
     // `add_raw`: the same with the number of a source and no name, and whether it is a range token
     Raw((u32, u32), (u32, u32), Option<u32>, bool),
@@ -29,7 +29,7 @@ enum Step<'a> {
     Found(&'a str, u32, bool),
 }
 
-// What a step answers.
+// The result of a step.
 #[derive(Clone, Copy)]
 enum Answer {
     Done,
@@ -113,24 +113,24 @@ fn found(
     }
 }
 
-fn push_source(told: &mut String, builder: &SourceMapBuilder, id: u32) -> Result<()> {
+fn push_source(out: &mut String, builder: &SourceMapBuilder, id: u32) -> Result<()> {
     if let Some(source) = builder.get_source(id) {
-        write!(told, " {source} {:?}", builder.get_source_contents(id))?;
+        write!(out, " {source} {:?}", builder.get_source_contents(id))?;
     }
     Ok(())
 }
 
-// What getters answer: the file and the root, then the first sources with their contents.
+// The results of getters: file and root, then the first sources with their contents.
 fn state(alloc: Global, builder: &SourceMapBuilder) -> Result<String> {
     let head = (builder.get_file(), builder.get_source_root());
-    let mut told = format!(in alloc; "{head:?}")?;
+    let mut out = format!(in alloc; "{head:?}")?;
     for id in 0..4 {
-        push_source(&mut told, builder, id)?;
+        push_source(&mut out, builder, id)?;
     }
-    Ok(told)
+    Ok(out)
 }
 
-// Whether a step that was refused left what it may: a token's source may stand last.
+// Whether a failed step left the builder unchanged; the source of a token may be added.
 fn is_as_before(step: &Step<'_>, before: &str, after: &str) -> bool {
     match step {
         Step::Token(_, _, _, _) => after.starts_with(before),
@@ -151,7 +151,7 @@ fn take_again(
     take(alloc, builder, step)
 }
 
-// Takes a step. Where memory runs out, the builder is to be as before, and the step is taken again.
+// Takes a step. If out of memory, the builder must be unchanged, and the step is repeated.
 fn take_twice(alloc: Global, builder: &mut SourceMapBuilder, step: &Step<'_>) -> Result<Answer> {
     let before = state(alloc, builder)?;
     match take(alloc, builder, step) {
@@ -167,33 +167,33 @@ fn take_all(alloc: Global, builder: &mut SourceMapBuilder, steps: &[Step<'_>]) -
     Ok(())
 }
 
-// The builder of the file f that took these steps.
+// A builder of the file `f` after these steps.
 fn built(alloc: Global, steps: &[Step<'_>]) -> Result<SourceMapBuilder> {
     let mut builder = SourceMapBuilder::new(alloc, Some("f"))?;
     take_all(alloc, &mut builder, steps)?;
     Ok(builder)
 }
 
-// An id as itself, a token as `0:5=1:1:4#0`: place, source, name, and `+` for a range token.
-fn push_answer(told: &mut String, answer: Answer) -> Result<()> {
+// An id as itself, a token as `0:5=1:1:4#0`: position, source, name, and `+` for a range token.
+fn push_answer(out: &mut String, answer: Answer) -> Result<()> {
     match answer {
-        Answer::Done => told.push('-')?,
-        Answer::Id(id) => write!(told, "{id}")?,
-        Answer::Token(token) => push_token(told, &token)?,
+        Answer::Done => out.push('-')?,
+        Answer::Id(id) => write!(out, "{id}")?,
+        Answer::Token(token) => push_token(out, &token)?,
     }
-    told.push(' ')?;
+    out.push(' ')?;
     Ok(())
 }
 
-fn push_token(told: &mut String, token: &RawToken) -> Result<()> {
-    write!(told, "{}:{}", token.dst_line, token.dst_col)?;
+fn push_token(out: &mut String, token: &RawToken) -> Result<()> {
+    write!(out, "{}:{}", token.dst_line, token.dst_col)?;
     write!(
-        told,
+        out,
         "={}:{}:{}",
         token.src_id, token.src_line, token.src_col
     )?;
     write!(
-        told,
+        out,
         "#{}{}",
         token.name_id,
         if token.is_range { "+" } else { "" }
@@ -202,22 +202,22 @@ fn push_token(told: &mut String, token: &RawToken) -> Result<()> {
 }
 
 fn push_answers(
-    told: &mut String,
+    out: &mut String,
     builder: &mut SourceMapBuilder,
     steps: &[Step<'_>],
 ) -> Result<()> {
-    let alloc = *told.allocator();
+    let alloc = *out.allocator();
     for step in steps {
-        push_answer(told, take_twice(alloc, builder, step)?)?;
+        push_answer(out, take_twice(alloc, builder, step)?)?;
     }
     Ok(())
 }
 
 fn answers(alloc: Global, steps: &[Step<'_>]) -> Result<String> {
     let mut builder = SourceMapBuilder::new(alloc, None)?;
-    let mut told = String::new(alloc);
-    push_answers(&mut told, &mut builder, steps)?;
-    Ok(told)
+    let mut out = String::new(alloc);
+    push_answers(&mut out, &mut builder, steps)?;
+    Ok(out)
 }
 
 fn written(alloc: Global, builder: Result<SourceMapBuilder>) -> Result<String> {
@@ -225,15 +225,15 @@ fn written(alloc: Global, builder: Result<SourceMapBuilder>) -> Result<String> {
     Ok(record.into_value(alloc)?.to_string(alloc)?)
 }
 
-// What is tried with a builder of the file f.
+// Steps of a builder of the file `f`.
 #[derive(Clone, Copy)]
 struct Row {
     about: &'static str,
     steps: &'static [Step<'static>],
-    // what the steps answer
+    // results of the steps
     answers: &'static str,
-    // what the builder then answers
-    told: &'static str,
+    // results of getters after the steps
+    getters: &'static str,
     written: &'static str,
 }
 
@@ -243,7 +243,7 @@ const RANGE: &str = r#"{"sources":["a.js"],"names":["n"],"mappings":"KACEA","ran
 
 static ROWS: [Row; 7] = [
     Row {
-        about: "a text that was first given keeps its id, whatever is shown",
+        about: "a text that was first given keeps its id, whatever is resolved",
         steps: &[
             Step::Source("/a/x.js"),
             Step::Show(0, "x.js"),
@@ -254,7 +254,7 @@ static ROWS: [Row; 7] = [
             Step::Root("r"),
         ],
         answers: "0 - 0 1 1:2=2:3:4#0 0:2=4294967295:3:4#4294967295+ - ",
-        told: r#"(Some("f"), Some("r")) (Some("x.js"), Some("y.js")) (false, None)"#,
+        getters: r#"(Some("f"), Some("r")) (Some("x.js"), Some("y.js")) (false, None)"#,
         written: r#"{"file":"f","mappings":"E;EEGIA","names":["n"],"rangeMappings":"B;","sourceRoot":"r","sources":["x.js","x.js","y.js"],"version":3}"#,
     },
     Row {
@@ -266,7 +266,7 @@ static ROWS: [Row; 7] = [
             Step::Source("x.js"),
         ],
         answers: "0 - 0 1 ",
-        told: r#"(Some("f"), None) (Some("x.js"), None) (false, None)"#,
+        getters: r#"(Some("f"), None) (Some("x.js"), None) (false, None)"#,
         written: r#"{"file":"f","mappings":"","names":[],"sources":["x.js","x.js"],"version":3}"#,
     },
     Row {
@@ -284,7 +284,7 @@ static ROWS: [Row; 7] = [
             Step::Ignore(1),
         ],
         answers: "- - - 0 0 1 1 0 0 - ",
-        told: r#"(Some("out.js"), Some("r")) (Some("a"), None) (false, None)"#,
+        getters: r#"(Some("out.js"), Some("r")) (Some("a"), None) (false, None)"#,
         written: r#"{"debugId":"00000000-0000-0000-0000-000000000000","file":"out.js","ignoreList":[1],"mappings":"","names":["a","b"],"sourceRoot":"r","sources":["a","b"],"version":3}"#,
     },
     Row {
@@ -305,7 +305,7 @@ static ROWS: [Row; 7] = [
             Step::Strip("/p"),
         ],
         answers: "- - - 0 0 - 0:0=0:0:12#1+ 0:0=0:0:7#4294967295+ 1:2=1:3:4#4294967295 1:5=1:3:4#4294967295 - - - ",
-        told: r#"(Some("out.js"), Some("r")) (Some("c.js"), None) (true, Some("text"))"#,
+        getters: r#"(Some("out.js"), Some("r")) (Some("c.js"), None) (true, Some("text"))"#,
         written: r#"{"debugId":"01234567-89ab-cdef-0123-456789abcdef","file":"out.js","ignoreList":[1],"mappings":"AAAYC,AAAL;ECGH,GAAA","names":["n","x"],"rangeMappings":"D;","sourceRoot":"r","sources":["c.js","b.js"],"sourcesContent":["text",null],"version":3}"#,
     },
     Row {
@@ -316,7 +316,7 @@ static ROWS: [Row; 7] = [
             Step::Found(RANGE, 7, true),
         ],
         answers: "0 0:5=1:1:4#4294967295+ 0:5=1:1:4#0+ ",
-        told: r#"(Some("f"), None) (Some("b.js"), None) (false, None)"#,
+        getters: r#"(Some("f"), None) (Some("b.js"), None) (false, None)"#,
         written: r#"{"file":"f","mappings":"KCCI,AAAAA","names":["n"],"rangeMappings":"D","sources":["b.js","a.js"],"version":3}"#,
     },
     Row {
@@ -327,20 +327,20 @@ static ROWS: [Row; 7] = [
             Step::Contents(0, None),
         ],
         answers: "0 - - ",
-        told: r#"(Some("f"), None) (Some("a"), None) (false, None)"#,
+        getters: r#"(Some("f"), None) (Some("a"), None) (false, None)"#,
         written: r#"{"file":"f","mappings":"","names":[],"sources":["a"],"version":3}"#,
     },
     Row {
         about: "no call",
         steps: &[],
         answers: "",
-        told: r#"(Some("f"), None) (None, None) (false, None)"#,
+        getters: r#"(Some("f"), None) (None, None) (false, None)"#,
         written: r#"{"file":"f","mappings":"","names":[],"sources":[],"version":3}"#,
     },
 ];
 
-// The file and the root, the sources 0 and 2, and the contents of source 0.
-fn told(alloc: Global, builder: Result<SourceMapBuilder>) -> Result<String> {
+// File and root, sources 0 and 2, contents of source 0.
+fn describe(alloc: Global, builder: Result<SourceMapBuilder>) -> Result<String> {
     let builder = builder?;
     let head = (builder.get_file(), builder.get_source_root());
     let sources = (builder.get_source(0), builder.get_source(2));
@@ -352,15 +352,15 @@ fn told(alloc: Global, builder: Result<SourceMapBuilder>) -> Result<String> {
 }
 
 #[test]
-fn builders_answer_and_are_written(rt: HostRuntime) {
+fn builders_return_and_are_written(rt: HostRuntime) {
     let alloc = rt.alloc();
     for row in ROWS.iter() {
         check(&rt, row.about, answers(alloc, row.steps), row.answers);
         check(
             &rt,
             row.about,
-            told(alloc, built(alloc, row.steps)),
-            row.told,
+            describe(alloc, built(alloc, row.steps)),
+            row.getters,
         );
         check(
             &rt,
@@ -371,24 +371,24 @@ fn builders_answer_and_are_written(rt: HostRuntime) {
     }
 }
 
-fn shown(alloc: Global, builder: Result<SourceMapBuilder>) -> Result<String> {
+fn displayed(alloc: Global, builder: Result<SourceMapBuilder>) -> Result<String> {
     let map = Box::new(alloc, builder?.into_sourcemap()?)?;
     let sources = (map.get_source(0), map.get_source(1), map.get_source(2));
     Ok(format!(in alloc; "{sources:?} {}", map.get_token_count())?)
 }
 
 #[test]
-fn sources_are_shown_behind_the_root(rt: HostRuntime) {
+fn sources_are_resolved_against_the_root(rt: HostRuntime) {
     let want = r#"(Some("r/x.js"), Some("r/x.js"), Some("r/y.js")) 2"#;
     check(
         &rt,
         want,
-        shown(rt.alloc(), built(rt.alloc(), ROWS[0].steps)),
+        displayed(rt.alloc(), built(rt.alloc(), ROWS[0].steps)),
         want,
     );
 }
 
-// What a row is about, prefixes, a source, and what is left of it.
+// Label, prefixes, a source, and what is left of it.
 static PREFIXES: [(&str, &[&str], &str, &str); 9] = [
     ("with its slash", &["/a/"], "/a/x.js", "x.js"),
     ("no whole part", &["/a"], "/ab/x.js", "/ab/x.js"),

@@ -1,11 +1,12 @@
-// Maps that are changed, step by step.
+// Changes of maps, step by step.
 use crate::checks::check;
-use crate::samples::{Made, boxed, mixed, written};
+use crate::samples::{Made, mixed, written};
 use sourcemap::errors::{Error, Result};
 use sourcemap::types::SourceMap;
+use sourcemap_test_support::results::boxed;
 use std::alloc::Global;
 
-// What is changed in a map.
+// A change of a map.
 #[derive(Clone, Copy)]
 enum Change<'a> {
     File(&'a str),
@@ -68,8 +69,8 @@ fn set_contents(map: &mut SourceMap, id: u32, text: &str) -> Result<()> {
     }
 }
 
-// Makes a change, and says whether it changed the map. Where memory runs out, the map is to be as
-// before, and the change is made again.
+// Makes a change, and says whether it changed the map. If out of memory, the map must be unchanged,
+// and the change is repeated.
 fn mark_beside(map: &mut SourceMap, before: &SourceMap, change: &Change<'_>) -> Result<char> {
     let mut outcome = make(map, change);
     if matches!(outcome, Err(Error::OutOfMemory)) {
@@ -114,7 +115,7 @@ fn make_all(map: &mut SourceMap, changes: &[Change<'_>]) -> Result<()> {
 }
 
 #[test]
-fn changes_are_made_whole(rt: HostRuntime) {
+fn changes_are_atomic(rt: HostRuntime) {
     let alloc = rt.alloc();
     check(&rt, "marks", marked(alloc, mixed(alloc)), MARKS);
     let want =
@@ -127,57 +128,57 @@ fn changes_are_made_whole(rt: HostRuntime) {
     );
 }
 
-fn push_sources(told: &mut String, map: &SourceMap) -> Result<()> {
+fn push_sources(out: &mut String, map: &SourceMap) -> Result<()> {
     for source in map.sources() {
-        write!(told, "{source} ")?;
+        write!(out, "{source} ")?;
     }
     Ok(())
 }
 
-fn push_contents(told: &mut String, map: &SourceMap) -> Result<()> {
+fn push_contents(out: &mut String, map: &SourceMap) -> Result<()> {
     for text in map.source_contents() {
-        write!(told, "{} ", text.unwrap_or("-"))?;
+        write!(out, "{} ", text.unwrap_or("-"))?;
     }
     Ok(())
 }
 
-fn push_ignored(told: &mut String, map: &SourceMap) -> Result<()> {
+fn push_ignored(out: &mut String, map: &SourceMap) -> Result<()> {
     for id in map.ignore_list() {
-        write!(told, "{id} ")?;
+        write!(out, "{id} ")?;
     }
     Ok(())
 }
 
-fn push_names(told: &mut String, map: &SourceMap) -> Result<()> {
+fn push_names(out: &mut String, map: &SourceMap) -> Result<()> {
     for name in map.names() {
-        write!(told, "{name} ")?;
+        write!(out, "{name} ")?;
     }
     Ok(())
 }
 
-// Sources as they are shown, contents, ignored ids, names.
-fn push_lists(told: &mut String, map: &SourceMap) -> Result<()> {
-    push_sources(told, map)?;
-    told.push_str("| ")?;
-    push_contents(told, map)?;
-    told.push_str("| ")?;
-    push_ignored(told, map)?;
-    told.push_str("| ")?;
-    push_names(told, map)
+// Sources with `sourceRoot`, contents, ignored ids, names.
+fn push_lists(out: &mut String, map: &SourceMap) -> Result<()> {
+    push_sources(out, map)?;
+    out.push_str("| ")?;
+    push_contents(out, map)?;
+    out.push_str("| ")?;
+    push_ignored(out, map)?;
+    out.push_str("| ")?;
+    push_names(out, map)
 }
 
-fn lists_told(alloc: Global, map: &SourceMap) -> Result<String> {
-    let mut told = String::new(alloc);
-    push_lists(&mut told, map)?;
-    Ok(told)
+fn lists_text(alloc: Global, map: &SourceMap) -> Result<String> {
+    let mut out = String::new(alloc);
+    push_lists(&mut out, map)?;
+    Ok(out)
 }
 
 fn lists_of(alloc: Global, map: Made) -> Result<String> {
-    lists_told(alloc, &*map?)
+    lists_text(alloc, &*map?)
 }
 
-// A root, and the lists of the map behind it.
-static SHOWN: [(&str, &str); 3] = [
+// A root, and the lists of the map after it.
+static ROOTS: [(&str, &str); 3] = [
     (
         "root",
         "root/a.js /a.js http:a https:a root/a.js | - - - - - | | n ",
@@ -190,16 +191,16 @@ static SHOWN: [(&str, &str); 3] = [
 ];
 
 #[test]
-fn sources_are_shown_behind_the_root(rt: HostRuntime) {
+fn sources_are_resolved_against_the_root(rt: HostRuntime) {
     let alloc = rt.alloc();
-    for (root, want) in SHOWN.iter() {
+    for (root, want) in ROOTS.iter() {
         let map = changed(mixed(alloc), &[Change::Root(root)]);
         check(&rt, want, lists_of(alloc, map), want);
     }
 }
 
 #[test]
-fn lists_hold_what_was_changed(rt: HostRuntime) {
+fn lists_have_the_changes(rt: HostRuntime) {
     let want = "root/a.js root/b.js http:a https:a root/a.js | - - text - - | 1 3 | ";
     let map = changed(mixed(rt.alloc()), &CHANGES);
     check(&rt, want, lists_of(rt.alloc(), map), want);

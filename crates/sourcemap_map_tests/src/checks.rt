@@ -1,28 +1,15 @@
-// How an answer is compared with the text that is wanted.
-use sourcemap::{Error, Result};
-use std::alloc::Global;
+// Ends the test and prints the row, unless the result is the wanted text. A library may not abort a
+// process, so this cannot be shared.
+use std::fmt::Debug;
 use std::process::Abort;
+use std::result;
 
-/// Ends the test, and says at which row, unless the answer is the wanted text.
-pub fn check(rt: &impl Abort, row: &str, answer: Result<String>, want: &str) {
-    let is_wanted = matches!(&answer, Ok(text) if text.as_str() == want);
-    assert!(rt; is_wanted, "{row}: {answer:?}");
-}
-
-/// What a call answers. Where memory runs out, it is called again.
-pub fn again<F: Fn() -> Result<String>>(call: F) -> Result<String>
-    requires { F.IsAlwaysCallable call }
-{
-    match call() {
-        Err(Error::OutOfMemory) => call(),
-        answer => answer,
-    }
-}
-
-/// A text that may be missing, in brackets, so that an empty one is told from none.
-pub fn shown(alloc: Global, text: Option<&str>) -> Result<String> {
-    match text {
-        None => Ok(String::from_str(alloc, "none")?),
-        Some(text) => Ok(format!(in alloc; "[{text}]")?),
-    }
+pub fn check<E: Debug + Drop>(
+    rt: &impl Abort,
+    row: &str,
+    got: result::Result<String, E>,
+    want: &str,
+) {
+    let is_wanted = matches!(&got, Ok(text) if text.as_str() == want);
+    assert!(rt; is_wanted, "{row}: {got:?}");
 }

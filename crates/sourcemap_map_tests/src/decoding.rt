@@ -1,16 +1,17 @@
-// Bytes and data URLs that are read as maps, and what is refused.
-use crate::answers::id_told;
-use crate::checks::{again, check};
-use crate::lookups::token_told;
+// Decoding of maps from bytes and data URLs, and its errors.
+use crate::answers::id_text;
+use crate::checks::check;
+use crate::lookups::token_text;
 use sourcemap::errors::Result;
 use sourcemap::{DecodedMap, Error, SourceMap, decode, decode_data_url, decode_slice};
+use sourcemap_test_support::results::{again, error_of};
 use std::alloc::Global;
 
 // The map of the crate's documentation.
 const README: &str =
     r#"{"version":3,"sources":["coolstuff.js"],"names":["x","alert"],"mappings":"AAAA,GAAIA,GAAI,EACR,IAAIA,GAAK,EAAG,CACVC,MAAM"}"#;
 
-// What a row is about, a text, and how many tokens its regular map has, or its fault.
+// Label, a text, and how many tokens its regular map has, or its error.
 static REGULAR: [(&str, &str, &str); 7] = [
     ("the map of the documentation", README, "9"),
     (
@@ -45,18 +46,10 @@ static REGULAR: [(&str, &str, &str); 7] = [
     ),
 ];
 
-fn fault_told<T: Drop>(alloc: Global, answer: Result<T>) -> Result<String> {
-    match answer {
-        Ok(_) => Ok(String::from_str(alloc, "no fault")?),
-        Err(Error::OutOfMemory) => Err(Error::OutOfMemory),
-        Err(fault) => Ok(format!(in alloc; "{fault}")?),
-    }
-}
-
 fn count(alloc: Global, answer: Result<SourceMap>) -> Result<String> {
     match answer {
         Ok(map) => Ok(format!(in alloc; "{}", map.get_token_count())?),
-        fault => fault_told(alloc, fault),
+        error => error_of(alloc, error),
     }
 }
 
@@ -91,7 +84,7 @@ fn regular_maps_are_read_alone(rt: HostRuntime) -> Result<()> {
     Ok(())
 }
 
-// What a row is about, a text, and what its map prints for the place 0:0, or its fault.
+// Label, a text, and what its map prints for position 0:0, or its error.
 static ANY_KIND: [(&str, &str, &str); 5] = [
     ("the map of the documentation", README, "coolstuff.js:0:0"),
     (
@@ -110,8 +103,8 @@ static ANY_KIND: [(&str, &str, &str); 5] = [
 
 fn looked_up(alloc: Global, answer: Result<DecodedMap>) -> Result<String> {
     match answer {
-        Ok(map) => token_told(alloc, map.lookup_token(0, 0)),
-        fault => fault_told(alloc, fault),
+        Ok(map) => token_text(alloc, map.lookup_token(0, 0)),
+        error => error_of(alloc, error),
     }
 }
 
@@ -126,7 +119,7 @@ fn maps_of_any_kind_are_read(rt: HostRuntime) {
     }
 }
 
-// So many bytes from the beginning of a text, read as a map.
+// The first `end` bytes of a text, decoded.
 fn beginning_read(alloc: Global, text: &str, end: usize) -> Result<String> {
     match text.as_bytes().get(..end) {
         None => Ok(String::from_str(alloc, "none")?),
@@ -142,7 +135,7 @@ fn proper_beginnings_of_a_text_are_no_json(rt: HostRuntime) {
     }
 }
 
-// Whether a map equals its copy, and whether it differs from it once its debug id is away.
+// Whether a map equals its copy, and whether it differs from it without its debug id.
 fn copied(map: &mut DecodedMap) -> Result<(bool, bool)> {
     let copy = map.clone()?;
     let is_same = copy == *map;
@@ -162,7 +155,7 @@ fn maps_of_any_kind_are_copied(rt: HostRuntime) -> Result<()> {
     Ok(())
 }
 
-// What a row is about, a text, and the debug id of its map.
+// Label, a text, and the debug id of its map.
 static DEBUG_IDS: [(&str, &str, &str); 3] = [
     ("no key", r#"{"mappings":""}"#, "none"),
     (
@@ -179,7 +172,7 @@ static DEBUG_IDS: [(&str, &str, &str); 3] = [
 
 fn debug_id(alloc: Global, text: &str) -> Result<String> {
     let map = decode_slice(alloc, text.as_bytes())?;
-    id_told(alloc, map.debug_id())
+    id_text(alloc, map.debug_id())
 }
 
 #[test]
@@ -191,7 +184,7 @@ fn of_two_debug_ids_the_newer_key_wins(rt: HostRuntime) {
 
 const WRITTEN: &str = r#"{"mappings":"A","names":[],"sources":[],"version":3}"#;
 
-// What a row is about, a data URL, and what its map is written as, or its fault.
+// Label, a data URL, and what its map is written as, or its error.
 static URLS: [(&str, &str, &str); 3] = [
     (
         "no charset",
@@ -213,7 +206,7 @@ static URLS: [(&str, &str, &str); 3] = [
 fn written(alloc: Global, answer: Result<DecodedMap>) -> Result<String> {
     match answer {
         Ok(map) => Ok(DecodedMap::into_value(map)?.to_string(alloc)?),
-        fault => fault_told(alloc, fault),
+        error => error_of(alloc, error),
     }
 }
 

@@ -1,4 +1,4 @@
-// The texts of faults that the library made, or that tell a place.
+// The texts of errors, with their positions.
 use crate::checks::check;
 use sourcemap::Error;
 use sourcemap::errors::{Base64Fault, RangeFault, Result};
@@ -17,30 +17,30 @@ static NOT_UTF8: [(&[u8], &str); 2] = [
     (b"\xc3", "incomplete utf-8 byte sequence from index 0"),
 ];
 
-fn told(alloc: Global, fault: Error) -> Result<String> {
-    Ok(format!(in alloc; "{fault}")?)
+fn describe(alloc: Global, error: Error) -> Result<String> {
+    Ok(format!(in alloc; "{error}")?)
 }
 
-fn utf8_told(alloc: Global, bytes: &[u8]) -> Result<String> {
+fn utf8_text(alloc: Global, bytes: &[u8]) -> Result<String> {
     match str::from_utf8(bytes) {
         Ok(text) => Ok(String::from_str(alloc, text)?),
-        Err(fault) => told(alloc, Error::from(fault)),
+        Err(error) => describe(alloc, Error::from(error)),
     }
 }
 
 #[test]
-fn faults_of_the_library_print_its_texts(rt: HostRuntime) {
+fn errors_of_the_library_print_its_texts(rt: HostRuntime) {
     for (kind, want) in KINDS.iter() {
-        let fault = Error::from(io::Error::from(*kind));
-        check(&rt, want, told(rt.alloc(), fault), want);
+        let error = Error::from(io::Error::from(*kind));
+        check(&rt, want, describe(rt.alloc(), error), want);
     }
     for (bytes, want) in NOT_UTF8.iter() {
-        check(&rt, want, utf8_told(rt.alloc(), bytes), want);
+        check(&rt, want, utf8_text(rt.alloc(), bytes), want);
     }
 }
 
 #[test]
-fn faults_of_places_print_their_numbers(rt: HostRuntime) {
+fn errors_of_positions_print_their_numbers(rt: HostRuntime) {
     let range = Error::from(RangeFault {
         start: 12,
         size: 3,
@@ -49,10 +49,10 @@ fn faults_of_places_print_their_numbers(rt: HostRuntime) {
     check(
         &rt,
         "range",
-        told(rt.alloc(), range),
+        describe(rt.alloc(), range),
         "parse error: 12+3 past 14",
     );
     let digit = Error::from(Base64Fault { at: 7 });
     let want = "invalid range mapping index: bad base64 at 7";
-    check(&rt, "digit", told(rt.alloc(), digit), want);
+    check(&rt, "digit", describe(rt.alloc(), digit), want);
 }

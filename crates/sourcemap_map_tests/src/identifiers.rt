@@ -1,7 +1,8 @@
 //! Which texts are identifiers, and with which one a text starts.
-use crate::checks::{check, shown};
+use crate::checks::check;
 use sourcemap::Result;
 use sourcemap::js_identifiers::{get_javascript_token, is_valid_javascript_identifier};
+use sourcemap_test_support::results::optional_text;
 use std::alloc::Global;
 
 // A text, whether it is an identifier, and the one with which its first word starts.
@@ -45,15 +46,15 @@ static TEXTS: [(&str, &str); 32] = [
     ("a👌", "false [a]"),
 ];
 
-fn told(alloc: Global, text: &str) -> Result<String> {
+fn describe(alloc: Global, text: &str) -> Result<String> {
     let is_valid = is_valid_javascript_identifier(text);
-    let token = shown(alloc, get_javascript_token(text))?;
+    let token = optional_text(alloc, get_javascript_token(text))?;
     Ok(format!(in alloc; "{is_valid} {token}")?)
 }
 
 #[test]
-fn identifiers_are_told_from_other_texts(rt: HostRuntime) {
+fn identifiers_are_recognized(rt: HostRuntime) {
     for (text, want) in TEXTS.iter() {
-        check(&rt, text, told(rt.alloc(), text), want);
+        check(&rt, text, describe(rt.alloc(), text), want);
     }
 }

@@ -1,7 +1,6 @@
-//! Tests of what stands over regular maps, by the names that users know: bytes, data URLs and
-//! records that are read, maps that are made of parts or built, asked, changed, rewritten and
-//! written, and views of texts. This crate holds nothing else, so that no proof and no must-fail
-//! edit waits for it.
+//! Tests of regular maps, by the names that users know: decoding of bytes, data URLs and records,
+//! construction from parts and by builders, lookups, changes, rewriting, encoding, and views of texts.
+//! A crate of its own, so that no proof and no must-fail edit waits for it.
 #![tactic(auto)]
 
 #[cfg(test)]

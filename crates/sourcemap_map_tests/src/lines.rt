@@ -1,11 +1,11 @@
-//! Tables of lines, and places by UTF-16 columns.
+//! Tables of lines, and positions by UTF-16 columns.
 use crate::checks::check;
 use sourcemap::Result;
-use sourcemap_core::lines::LineTable;
+use sourcemap_core::lines::{LineTable, utf16_offset};
 use std::alloc::Global;
 use std::process::Abort;
 
-// A text, how many lines it has, and where its first five lines stand.
+// A text, its number of lines, and the ranges of its first five lines.
 static TEXTS: [(&str, &str); 9] = [
     ("", "1: 0-0"),
     ("a", "1: 0-1"),
@@ -18,7 +18,7 @@ static TEXTS: [(&str, &str); 9] = [
     ("é\n👌\r\nz", "3: 0-2 3-7 9-10"),
 ];
 
-fn told(alloc: Global, text: &str) -> Result<String> {
+fn describe(alloc: Global, text: &str) -> Result<String> {
     let table = LineTable::new(alloc, text)?;
     let count = table.count();
     let mut answer = format!(in alloc; "{count}:")?;
@@ -39,12 +39,12 @@ fn push_range(answer: &mut String, range: Option<(usize, usize)>) -> Result<()> 
 #[test]
 fn tables_hold_where_lines_begin_and_end(rt: HostRuntime) {
     for (text, want) in TEXTS.iter() {
-        check(&rt, text, told(rt.alloc(), text), want);
+        check(&rt, text, describe(rt.alloc(), text), want);
     }
 }
 
-// Texts of `a` alone, but for these ends from these places on, and how long the text is: blocks of
-// bytes are looked at at once, and these stand around their edges.
+// Texts of `a` alone, but for these ends from these positions on, and how long the text is: blocks
+// of bytes are looked at at once, and these stand around their edges.
 static ENDS: [(&str, usize, usize); 27] = [
     ("\n", 30, 64),
     ("\n", 31, 64),
@@ -75,9 +75,9 @@ static ENDS: [(&str, usize, usize); 27] = [
     ("", 0, 64),
 ];
 
-fn with_ends(alloc: Global, ends: &str, place: usize, length: usize) -> Result<String> {
+fn with_ends(alloc: Global, ends: &str, position: usize, length: usize) -> Result<String> {
     let mut text = String::new(alloc);
-    for _ in 0..place {
+    for _ in 0..position {
         text.push_str("a")?;
     }
     text.push_str(ends)?;
@@ -91,20 +91,20 @@ fn with_ends(alloc: Global, ends: &str, place: usize, length: usize) -> Result<S
 fn counted(alloc: Global, text: &str) -> Result<String> {
     let mut answer = String::new(alloc);
     let mut start = 0usize;
-    let mut place = 0usize;
+    let mut position = 0usize;
     let mut is_behind_return = false;
     for character in text.chars() {
         let is_pair = is_behind_return && character == '\n';
         if is_pair {
-            start = place.saturating_add(1);
+            start = position.saturating_add(1);
         } else if character == '\n' || character == '\r' {
-            push_range(&mut answer, Some((start, place)))?;
-            start = place.saturating_add(1);
+            push_range(&mut answer, Some((start, position)))?;
+            start = position.saturating_add(1);
         }
         is_behind_return = character == '\r';
-        place = place.saturating_add(1);
+        position = position.saturating_add(1);
     }
-    push_range(&mut answer, Some((start, place)))?;
+    push_range(&mut answer, Some((start, position)))?;
     Ok(answer)
 }
 
@@ -126,14 +126,14 @@ fn check_ends(rt: &impl Abort, alloc: Global, text: &str) -> Result<()> {
 
 #[test]
 fn line_ends_at_the_edges_of_blocks_are_found(rt: HostRuntime) -> Result<()> {
-    for (ends, place, length) in ENDS.iter() {
-        let text = with_ends(rt.alloc(), ends, *place, *length)?;
+    for (ends, position, length) in ENDS.iter() {
+        let text = with_ends(rt.alloc(), ends, *position, *length)?;
         check_ends(&rt, rt.alloc(), text.as_str())?;
     }
     Ok(())
 }
 
-// A line, a column in UTF-16 units, and its place in bytes.
+// A line, a column in UTF-16 units, and its position in bytes.
 static COLUMNS: [(&str, u64, &str); 14] = [
     ("abc", 0, "Some(0)"),
     ("abc", 3, "Some(3)"),
@@ -152,8 +152,8 @@ static COLUMNS: [(&str, u64, &str); 14] = [
 ];
 
 fn placed(alloc: Global, line: &str, col: u64) -> Result<String> {
-    let place = LineTable::utf16_offset(line, col);
-    Ok(format!(in alloc; "{place:?}")?)
+    let position = utf16_offset(line, col);
+    Ok(format!(in alloc; "{position:?}")?)
 }
 
 #[test]

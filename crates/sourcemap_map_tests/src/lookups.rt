@@ -1,12 +1,13 @@
 // Maps of tokens that are looked up, written as records, and looked up as they are read back.
 use crate::checks::check;
-use crate::samples::{Made, bare, boxed, ranged, readme, record_of, written};
+use crate::samples::{Made, bare, ranged, readme, record_of, written};
 use sourcemap::decoder::decode_regular;
 use sourcemap::errors::Result;
 use sourcemap::types::Token;
+use sourcemap_test_support::results::boxed;
 use std::alloc::Global;
 
-// A place, and what is printed there.
+// A position, and the text of the token there.
 type Place = (u32, u32, &'static str);
 
 static README: [Place; 6] = [
@@ -26,17 +27,17 @@ static RANGED: [Place; 3] = [
 ];
 
 /// What a token prints.
-pub fn token_told(alloc: Global, token: Option<Token<'_>>) -> Result<String> {
+pub fn token_text(alloc: Global, token: Option<Token<'_>>) -> Result<String> {
     match token {
         None => Ok(String::from_str(alloc, "none")?),
         Some(token) => Ok(format!(in alloc; "{token}")?),
     }
 }
 
-/// What a map prints at a place.
+/// What a map prints at a position.
 pub fn looked_up(alloc: Global, map: Made, line: u32, col: u32) -> Result<String> {
     let map = map?;
-    token_told(alloc, map.lookup_token(line, col))
+    token_text(alloc, map.lookup_token(line, col))
 }
 
 fn read_back(alloc: Global, map: Made) -> Made {

@@ -9,7 +9,7 @@ const TEXT: &str = "function b(){}";
 
 const MAP: &str = r#"{"version":3,"sources":["a.js"],"names":["foo"],"mappings":"AAAA,SAASA"}"#;
 
-// The same map in an index, two lines and three columns behind its start.
+// The same map in an index, two lines and three columns after its start.
 const INDEX: &str =
     r#"{"sections":[{"offset":{"line":2,"column":3},"map":{"sources":["a.js"],"names":["foo"],"mappings":"AAAA,SAASA"}}]}"#;
 
@@ -57,13 +57,13 @@ fn regular_of(alloc: Global, text: &str) -> Result<Box<SourceMap>> {
     Ok(Box::new(alloc, map)?)
 }
 
-fn name_in(alloc: Global, map: &str, place: (u32, u32), minified: &str) -> Result<String> {
+fn name_in(alloc: Global, map: &str, position: (u32, u32), minified: &str) -> Result<String> {
     let view = SourceView::new(alloc, TEXT)?;
     let map = map_of(alloc, map)?;
-    told(alloc, &*map, place, Some(minified), Some(&view))
+    describe(alloc, &*map, position, Some(minified), Some(&view))
 }
 
-fn told(
+fn describe(
     alloc: Global,
     map: &DecodedMap,
     (line, col): (u32, u32),
@@ -76,11 +76,11 @@ fn told(
 
 #[test]
 fn names_of_functions_are_guessed_by_maps(rt: HostRuntime) {
-    for (map, place, minified, want) in NAMES.iter() {
+    for (map, position, minified, want) in NAMES.iter() {
         check(
             &rt,
             minified,
-            name_in(rt.alloc(), map, *place, minified),
+            name_in(rt.alloc(), map, *position, minified),
             want,
         );
     }
@@ -104,7 +104,7 @@ fn name_with(alloc: Global, map: &str, with_name: bool, with_view: bool) -> Resu
     let map = map_of(alloc, map)?;
     let minified = if with_name { Some("b") } else { None };
     let view = if with_view { Some(&view) } else { None };
-    told(alloc, &*map, (0, 9), minified, view)
+    describe(alloc, &*map, (0, 9), minified, view)
 }
 
 #[test]
@@ -188,7 +188,7 @@ static LINES: [(u32, u32, &str); 9] = [
     (4294967295, 0, "none"),
 ];
 
-fn line_told(alloc: Global, view: Option<&SourceView>, line: u32) -> Result<String> {
+fn line_text(alloc: Global, view: Option<&SourceView>, line: u32) -> Result<String> {
     let text = match view {
         None => None,
         Some(view) => view.get_line(line),
@@ -198,7 +198,7 @@ fn line_told(alloc: Global, view: Option<&SourceView>, line: u32) -> Result<Stri
 
 fn line_of_source(alloc: Global, id: u32, line: u32) -> Result<String> {
     let map = regular_of(alloc, WITH_CONTENTS)?;
-    line_told(alloc, map.get_source_view(id), line)
+    line_text(alloc, map.get_source_view(id), line)
 }
 
 // The same by the token that leads to the source; the fourth one leads to none.
@@ -208,7 +208,7 @@ fn line_of_token(alloc: Global, id: u32, line: u32) -> Result<String> {
         None => None,
         Some(token) => token.get_source_view(),
     };
-    line_told(alloc, view, line)
+    line_text(alloc, view, line)
 }
 
 #[test]
@@ -222,35 +222,35 @@ fn contents_are_views(rt: HostRuntime) {
 // A token at each of the columns 3, 4 and 5 of line 0.
 const COLUMNS: &str = r#"{"sources":["a.js"],"mappings":"GAAA,CAAA,CAAA"}"#;
 
-fn push_walked(told: &mut String, token: Token<'_>, identifier: Option<&str>) -> Result<()> {
-    write!(told, "{}:{} ", token.get_dst_line(), token.get_dst_col())?;
-    told.push_str(identifier.unwrap_or("none"))?;
-    told.push_str("; ")?;
+fn push_walked(out: &mut String, token: Token<'_>, identifier: Option<&str>) -> Result<()> {
+    write!(out, "{}:{} ", token.get_dst_line(), token.get_dst_col())?;
+    out.push_str(identifier.unwrap_or("none"))?;
+    out.push_str("; ")?;
     Ok(())
 }
 
-fn push_walk(told: &mut String, view: &SourceView, last: Token<'_>) -> Result<()> {
+fn push_walk(out: &mut String, view: &SourceView, last: Token<'_>) -> Result<()> {
     for (token, identifier) in view.rev_token_iter(last) {
-        push_walked(told, token, identifier)?;
+        push_walked(out, token, identifier)?;
     }
     Ok(())
 }
 
-fn walk_told(alloc: Global, view: &SourceView, last: Option<Token<'_>>) -> Result<String> {
-    let mut told = String::new(alloc);
+fn walk_text(alloc: Global, view: &SourceView, last: Option<Token<'_>>) -> Result<String> {
+    let mut out = String::new(alloc);
     if let Some(last) = last {
-        push_walk(&mut told, view, last)?;
+        push_walk(&mut out, view, last)?;
     }
-    Ok(told)
+    Ok(out)
 }
 
 fn walked(alloc: Global, text: &str, last: usize) -> Result<String> {
     let view = SourceView::new(alloc, text)?;
     let map = regular_of(alloc, COLUMNS)?;
-    walk_told(alloc, &view, map.get_token(last))
+    walk_text(alloc, &view, map.get_token(last))
 }
 
-// The index of a token, and the places and identifiers along the walk back from it.
+// The index of a token, and the positions and identifiers along the walk back from it.
 static WALKS: [(usize, &str); 4] = [
     (2, "0:5 def; 0:4 def; 0:3 none; "),
     (1, "0:4 def; 0:3 none; "),

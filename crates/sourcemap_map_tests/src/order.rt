@@ -14,12 +14,12 @@ fn compared(map: &SourceMap) -> Option<(bool, bool, bool)> {
     Some((first == second, is_same_raw, second < third))
 }
 
-fn compared_told(alloc: Global, map: &SourceMap) -> Result<String> {
+fn compared_text(alloc: Global, map: &SourceMap) -> Result<String> {
     Ok(format!(in alloc; "{:?}", compared(map))?)
 }
 
 fn mixed_compared(alloc: Global) -> Result<String> {
-    compared_told(alloc, &*mixed(alloc)?)
+    compared_text(alloc, &*mixed(alloc)?)
 }
 
 #[test]
@@ -28,8 +28,8 @@ fn tokens_are_ordered_by_their_answers(rt: HostRuntime) {
     check(&rt, "order", answer, "Some((true, false, true))");
 }
 
-// What a row is about, a place, whether seeking it finds a token, and the place and source of the
-// token behind that.
+// Label, a position, whether seeking it finds a token, and the position and source of the token
+// after that.
 static SOUGHT: [(&str, u32, u32, &str); 5] = [
     ("before all tokens", 0, 1, "false (0, 2) 0"),
     ("at the first of two tokens", 0, 2, "true (0, 2) 4"),
@@ -38,7 +38,7 @@ static SOUGHT: [(&str, u32, u32, &str); 5] = [
     ("behind all tokens", 9, 9, "true none"),
 ];
 
-fn next_told(alloc: Global, found: bool, mut left: TokenIter<'_>) -> Result<String> {
+fn next_text(alloc: Global, found: bool, mut left: TokenIter<'_>) -> Result<String> {
     match left.next() {
         None => Ok(format!(in alloc; "{found} none")?),
         Some(token) => Ok(format!(in alloc;
@@ -52,7 +52,7 @@ fn next_told(alloc: Global, found: bool, mut left: TokenIter<'_>) -> Result<Stri
 fn sought(alloc: Global, map: &SourceMap, line: u32, col: u32) -> Result<String> {
     let mut left = map.tokens();
     let found = left.seek(line, col);
-    next_told(alloc, found, left)
+    next_text(alloc, found, left)
 }
 
 fn sought_in(alloc: Global, map: Made, line: u32, col: u32) -> Result<String> {
@@ -60,7 +60,7 @@ fn sought_in(alloc: Global, map: Made, line: u32, col: u32) -> Result<String> {
 }
 
 #[test]
-fn seeking_goes_on_behind_the_closest_token(rt: HostRuntime) {
+fn seeking_goes_on_after_the_closest_token(rt: HostRuntime) {
     for (about, line, col, want) in SOUGHT.iter() {
         check(
             &rt,
@@ -71,7 +71,7 @@ fn seeking_goes_on_behind_the_closest_token(rt: HostRuntime) {
     }
 }
 
-// A place, and its token printed in short, in full and for whoever debugs.
+// A position, and its token printed in short, in full and for whoever debugs.
 static PRINTED: [(u32, u32, &str); 4] = [
     (0, 1, "none"),
     (0, 2, "a.js:0:0|a.js:0:0 (0:2)|<Token a.js:0:0 (0:2)>"),

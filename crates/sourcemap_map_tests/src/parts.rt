@@ -1,11 +1,11 @@
-// Maps that are written in parts: the bytes that `encode_to` writes, far lines, and writers that
-// take little, are interrupted or fail.
+// Encoding in parts: the bytes that `encode_to` writes, tokens on far lines, and writers that take
+// little, are interrupted or fail.
 use crate::checks::check;
 use crate::samples::{Made, NONE, made, mixed, ranged, readme};
-use crate::writing::{BARE, WRITTEN, cut, outcome_told, regular};
+use crate::writing::{BARE, WRITTEN, cut, outcome_text, regular};
 use sourcemap::encoder::{encode_in_parts, encode_to_vec};
 use sourcemap::{Result, SourceMap};
-use sourcemap_test_writers::{HaltingWriter, NarrowWriter};
+use sourcemap_test_support::writers::{HaltingWriter, NarrowWriter};
 use std::alloc::Global;
 use std::io::Write;
 use std::process::Abort;
@@ -14,7 +14,7 @@ use std::{io, str};
 // The line of the far token.
 const FAR: u32 = 300_000_000;
 
-// Counts the ends of lines, keeps the other bytes, and knows the longest write.
+// Counts line ends, keeps the other bytes, and records the longest write.
 #[derive(Drop)]
 struct LineCounter {
     line_ends: u64,
@@ -55,7 +55,7 @@ fn far(alloc: Global) -> Made {
 }
 
 // The other bytes, how many lines end, and that no write was long.
-fn far_told(alloc: Global) -> Result<String> {
+fn far_text(alloc: Global) -> Result<String> {
     let map = far(alloc)?;
     let mut writer = LineCounter {
         line_ends: 0,
@@ -73,42 +73,42 @@ fn far_lines_take_little_memory(rt: HostRuntime) {
     // by hand: the ends of 300,000,000 lines in each of the two texts
     let want =
         r#"{"file":"f","mappings":"A","names":[],"rangeMappings":"B","sources":[],"version":3} 600000000 true"#;
-    check(&rt, "a far line", far_told(rt.alloc()), want);
+    check(&rt, "a far line", far_text(rt.alloc()), want);
 }
 
-// What a writer holds that takes a byte a write and so many of them.
-fn held_told(alloc: Global, map: &SourceMap, left: Option<usize>) -> Result<String> {
+// What a writer holds that takes one byte a write and so many of them.
+fn held_text(alloc: Global, map: &SourceMap, left: Option<usize>) -> Result<String> {
     let mut writer = NarrowWriter {
         held: Vec::new(alloc),
         left,
     };
     let outcome = encode_in_parts(alloc, map, &mut writer);
-    outcome_told(alloc, writer.held.as_slice(), outcome)
+    outcome_text(alloc, writer.held.as_slice(), outcome)
 }
 
-fn decoded_told(alloc: Global, text: &str, left: Option<usize>) -> Result<String> {
-    held_told(alloc, &*regular(alloc, text)?, left)
+fn decoded_text(alloc: Global, text: &str, left: Option<usize>) -> Result<String> {
+    held_text(alloc, &*regular(alloc, text)?, left)
 }
 
 #[test]
 fn parts_are_the_text(rt: HostRuntime) {
     let alloc = rt.alloc();
     for (about, text, want) in WRITTEN.iter() {
-        check(&rt, about, decoded_told(alloc, text, None), want);
-        check(&rt, about, decoded_told(alloc, want, None), want);
+        check(&rt, about, decoded_text(alloc, text, None), want);
+        check(&rt, about, decoded_text(alloc, want, None), want);
     }
 }
 
 // The same bytes as `encode_to_vec` answers, for a map with tokens of all kinds.
 fn check_same(rt: &impl Abort, alloc: Global, about: &str, map: Made) {
     let outcome = match map {
-        Ok(map) => same_told(alloc, &*map),
+        Ok(map) => same_text(alloc, &*map),
         Err(error) => Err(error),
     };
     check(rt, about, outcome, "true");
 }
 
-fn same_told(alloc: Global, map: &SourceMap) -> Result<String> {
+fn same_text(alloc: Global, map: &SourceMap) -> Result<String> {
     let whole = encode_to_vec(alloc, map)?;
     let mut parts = Vec::new(alloc);
     encode_in_parts(alloc, map, &mut parts)?;
@@ -150,12 +150,12 @@ fn parts_end_where_a_write_fails(rt: HostRuntime) {
     let (about, text, want) = BARE;
     for taken in 0..want.len() {
         let due = cut(alloc, want, taken).expect(&rt, "memory");
-        let told = decoded_told(alloc, text, Some(taken));
-        check(&rt, about, told, due.as_str());
+        let out = decoded_text(alloc, text, Some(taken));
+        check(&rt, about, out, due.as_str());
     }
 }
 
-fn halted_told(alloc: Global, text: &str, left: Option<usize>) -> Result<String> {
+fn halted_text(alloc: Global, text: &str, left: Option<usize>) -> Result<String> {
     let map = regular(alloc, text)?;
     let mut writer = HaltingWriter {
         held: Vec::new(alloc),
@@ -163,13 +163,13 @@ fn halted_told(alloc: Global, text: &str, left: Option<usize>) -> Result<String>
         is_interrupted: false,
     };
     let outcome = encode_in_parts(alloc, &*map, &mut writer);
-    outcome_told(alloc, writer.held.as_slice(), outcome)
+    outcome_text(alloc, writer.held.as_slice(), outcome)
 }
 
 #[test]
 fn parts_are_written_past_interruptions(rt: HostRuntime) {
     let (about, text, want) = BARE;
-    check(&rt, about, halted_told(rt.alloc(), text, None), want);
+    check(&rt, about, halted_text(rt.alloc(), text, None), want);
     let due = "{\"m failed to write whole buffer";
-    check(&rt, about, halted_told(rt.alloc(), text, Some(3)), due);
+    check(&rt, about, halted_text(rt.alloc(), text, Some(3)), due);
 }

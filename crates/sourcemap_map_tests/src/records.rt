@@ -1,4 +1,4 @@
-// Records and sections that are compared field by field.
+// Equality of records and sections, field by field.
 use crate::checks::check;
 use serde_json::Value;
 use sourcemap::errors::Result;
@@ -27,7 +27,7 @@ fn record(alloc: Global, text: &str) -> Result<RawSourceMap> {
     RawSourceMap::from_owned(alloc, Value::from_str(alloc, text)?)
 }
 
-// What `==` and `!=` say together.
+// The results of `==` and `!=`.
 fn verdict(is_equal: bool, is_different: bool) -> char {
     match (is_equal, is_different) {
         (true, false) => '=',
@@ -71,15 +71,15 @@ fn sections_in(alloc: Global, text: &str) -> Result<Vec<RawSection>> {
     Ok(sections.unwrap_or(Vec::new(alloc)))
 }
 
-// What each section says of the first.
+// The comparison of each section with the first.
 fn compared_with_first(alloc: Global, sections: &[RawSection]) -> Result<String> {
-    let mut told = String::new(alloc);
+    let mut out = String::new(alloc);
     if let Some(first) = sections.first() {
         for section in sections {
-            told.push(verdict(*section == *first, *section != *first))?;
+            out.push(verdict(*section == *first, *section != *first))?;
         }
     }
-    Ok(told)
+    Ok(out)
 }
 
 fn sections_compared(alloc: Global, text: &str) -> Result<String> {

@@ -1,4 +1,4 @@
-// Maps that are rewritten.
+// Rewriting of maps.
 use crate::checks::check;
 use crate::samples::record_written;
 use sourcemap::errors::{Error, Result};
@@ -20,14 +20,14 @@ fn written(alloc: Global, map: Result<SourceMap>) -> Result<String> {
     match map {
         Ok(map) => record_written(alloc, map.into_raw_sourcemap()),
         Err(Error::OutOfMemory) => Err(Error::OutOfMemory),
-        Err(fault) => Ok(format!(in alloc; "{fault}")?),
+        Err(error) => Ok(format!(in alloc; "{error}")?),
     }
 }
 
 const TWO_SOURCES: &str =
     r#"{"mappings":"ACAA","sources":["a.js","b.js"],"sourcesContent":["x","y"]}"#;
 
-// What a row is about, a map, and what it is written as when it is rewritten by default.
+// Label, a map, and what it is written as when it is rewritten by default.
 static DEFAULT: [(&str, &str, &str); 4] = [
     (
         "a source that no token uses",
@@ -35,7 +35,7 @@ static DEFAULT: [(&str, &str, &str); 4] = [
         r#"{"mappings":"AAAA","names":[],"sources":["b.js"],"sourcesContent":["y"],"version":3}"#,
     ),
     (
-        "a root, behind which sources are shown then",
+        "a root, behind which sources are resolved then",
         r#"{"mappings":"AAAA,GAAIA,GAAI,EACR,IAAIA,GAAK,EAAG,CACVC,MAAM","names":["x","alert"],"sourceRoot":"r","sources":["coolstuff.js"]}"#,
         r#"{"mappings":"AAAA,GAAIA,GAAI,EACR,IAAIA,GAAK,EAAG,CACVC,MAAM","names":["x","alert"],"sources":["r/coolstuff.js"],"version":3}"#,
     ),
@@ -52,7 +52,7 @@ static DEFAULT: [(&str, &str, &str); 4] = [
 ];
 
 #[test]
-fn what_is_used_is_kept(rt: HostRuntime) {
+fn used_sources_and_names_are_kept(rt: HostRuntime) {
     let options = RewriteOptions::default();
     for (about, text, want) in DEFAULT.iter() {
         let answer = rewritten(&rt, rt.alloc(), text, &options);
@@ -64,7 +64,7 @@ const PATHS: &str = r#"{"mappings":"AAAA,CCAA","sources":["/a/b/x.js","/a/b/y.js
 
 const UNDER_ROOT: &str = r#"{"mappings":"AAAA","sourceRoot":"/r","sources":["x.js"]}"#;
 
-// What a row is about, a map, the prefixes to be cut, and what it is written as.
+// Label, a map, the prefixes to be cut, and what it is written as.
 static CUT: [(&str, &str, &[&str], &str); 6] = [
     (
         "what the paths have in common",
@@ -91,7 +91,7 @@ static CUT: [(&str, &str, &[&str], &str); 6] = [
         r#"{"mappings":"AAAA","names":[],"sources":["/r/x.js"],"version":3}"#,
     ),
     (
-        "prefixes are cut from sources as they are shown",
+        "prefixes are cut from sources as they are resolved",
         UNDER_ROOT,
         &["/r"],
         r#"{"mappings":"AAAA","names":[],"sources":["x.js"],"version":3}"#,
@@ -119,7 +119,7 @@ fn prefixes_are_cut(rt: HostRuntime) {
 const TWO_NAMES: &str =
     r#"{"debug_id":"11111111-1111-1111-1111-111111111111","mappings":"ACAAA,CDAAC","names":["m","n"],"sources":["a.js","b.js"],"sourcesContent":["x","y"]}"#;
 
-// What a row is about, a map, whether names and contents are kept, and what it is written as.
+// Label, a map, whether names and contents are kept, and what it is written as.
 static LESS: [(&str, &str, (bool, bool), &str); 4] = [
     (
         "names go, and the debug id stays",
@@ -181,7 +181,7 @@ fn contents_are_loaded_from_absolute_folders_alone(rt: HostRuntime) {
     }
 }
 
-// What a row is about, a map, and the ids that the sources of the map rewritten by default had in it.
+// Label, a map, and the ids that the sources of the map rewritten by default had in it.
 static OLD_IDS: [(&str, &str, &str); 4] = [
     ("the second source alone is used", TWO_SOURCES, "[1]"),
     ("the second source is used first", TWO_NAMES, "[1, 0]"),
@@ -197,7 +197,7 @@ static OLD_IDS: [(&str, &str, &str); 4] = [
     ),
 ];
 
-fn ids_told(alloc: Global, answer: Result<(SourceMap, Vec<u32>)>) -> Result<String> {
+fn ids_text(alloc: Global, answer: Result<(SourceMap, Vec<u32>)>) -> Result<String> {
     let (_, ids) = answer?;
     Ok(format!(in alloc; "{ids:?}")?)
 }
@@ -209,7 +209,7 @@ fn old_ids<F: Files>(
     options: &RewriteOptions<'_>,
 ) -> Result<String> {
     let map = SourceMap::from_slice(alloc, text.as_bytes())?;
-    ids_told(alloc, map.rewrite_with_ids(rt, options))
+    ids_text(alloc, map.rewrite_with_ids(rt, options))
 }
 
 #[test]

@@ -1,4 +1,4 @@
-// Maps that are made of parts, and what maps are written as.
+// Maps made of parts, and their encoded texts.
 ghost use Rattle.std.specs.Prelude.{◌≤◌, IfOk, vec_len};
 
 use serde_json::Value;
@@ -6,18 +6,19 @@ use sourcemap::encoder::Encodable;
 use sourcemap::errors::{Error, Result};
 use sourcemap::jsontypes::RawSourceMap;
 use sourcemap::types::{RawToken, SourceMap};
+use sourcemap_test_support::results::boxed;
 use std::alloc::Global;
 
-/// A map that was made, if it could be. It is in a box, as `boxed` says.
+/// A map in a box, as `boxed` makes it, or an error.
 pub type Made = Result<Box<SourceMap>>;
 
-/// The id that names nothing, and the line and column of no source.
+/// No id, and the line and column of no original position.
 pub const NONE: u32 = u32::MAX;
 
-/// A token: its line and column, then source, line and column there, then name and range flag.
+/// Generated line and column, then source with original line and column, then name, then range flag.
 pub type Row = ((u32, u32), (u32, u32, u32), u32, bool);
 
-// The tokens of the map of the crate's documentation, the last of them first.
+// The tokens of the map of the documentation of the crate `sourcemap`, the last of them first.
 static README: [Row; 9] = [
     ((0, 24), (0, 2, 8), NONE, false),
     ((0, 0), (0, 0, 0), NONE, false),
@@ -37,8 +38,8 @@ static RANGED: [Row; 3] = [
     ((0, 5), (0, 0, 5), NONE, true),
 ];
 
-// Two tokens that only the numbers of their sources tell apart, since these have one text; a range
-// token; a token without a source.
+// Two tokens that differ only in the ids of their sources, which have the same text; a range token; a
+// token without a source.
 static MIXED: [Row; 4] = [
     ((0, 2), (0, 0, 0), NONE, false),
     ((0, 2), (4, 0, 0), NONE, false),
@@ -51,12 +52,6 @@ static BARE: [Row; 2] = [
     ((1, 0), (NONE, NONE, NONE), NONE, true),
     ((0, 0), (NONE, NONE, NONE), NONE, false),
 ];
-
-/// What was made, in a box. The prover takes what lets a box go as one step, and what lets a map go as
-/// one for each of its parts, on each way out of a function.
-pub fn boxed<T: Drop>(alloc: Global, made: Result<T>) -> Result<Box<T>> {
-    Ok(Box::new(alloc, made?)?)
-}
 
 pub fn readme(alloc: Global) -> Made {
     made(alloc, &README, &["x", "alert"], &["coolstuff.js"])
@@ -87,7 +82,7 @@ fn map_of(alloc: Global, rows: &[Row], names: &[&str], sources: &[&str]) -> Resu
     SourceMap::new(alloc, Some("f"), tokens, names, sources, None)
 }
 
-// These texts, of which there may be nine.
+// At most nine texts.
 fn texts(alloc: Global, all: &[&str]) -> Result<Vec<String>>
     ensures { IfOk result (λ texts. vec_len texts ≤ 9) }
 {
@@ -132,12 +127,12 @@ pub fn record_of(map: Made) -> Result<RawSourceMap> {
     map?.as_raw_sourcemap()
 }
 
-/// The text of a map, by the record of one that is given away.
+/// The text of a map, by the record of one that is consumed.
 pub fn written(alloc: Global, map: Made) -> Result<String> {
     record_written(alloc, Box::into_inner(map?).into_raw_sourcemap())
 }
 
-/// The text of a record, which is given away.
+/// The text of a record, which is consumed.
 pub fn record_written(alloc: Global, record: Result<RawSourceMap>) -> Result<String> {
     value_written(alloc, record?.into_value(alloc))
 }

@@ -1,19 +1,20 @@
-// Lookups whose comparisons are counted.
+// The number of comparisons of lookups.
 use crate::checks::check;
-use crate::samples::{Made, NONE, boxed};
+use crate::samples::{Made, NONE};
 use sourcemap::errors::Result;
 use sourcemap::types::{RawToken, SourceMap};
+use sourcemap_test_support::results::boxed;
 use std::alloc::Global;
 
-// A place, how many comparisons a lookup of it takes at least and at most, and the column in the
+// A position, how many comparisons a lookup of it takes at least and at most, and the column in the
 // source that the closest token has.
 type Counted = ((u32, u32), u32, u32, &'static str);
 
-// A token at this place, known by its column in the source.
-fn token(place: (u32, u32), src_col: u32) -> RawToken {
+// A token at this position, identified by its original column.
+fn token(position: (u32, u32), src_col: u32) -> RawToken {
     RawToken {
-        dst_line: place.0,
-        dst_col: place.1,
+        dst_line: position.0,
+        dst_col: position.1,
         src_line: 0,
         src_col,
         src_id: NONE,
@@ -22,7 +23,7 @@ fn token(place: (u32, u32), src_col: u32) -> RawToken {
     }
 }
 
-// A map of as many tokens at line 0, column 0, known by their numbers from 0.
+// A map of as many tokens at line 0, column 0, identified by their index.
 fn equal_tokens(alloc: Global, count: u32) -> Made {
     let mut tokens = Vec::new(alloc);
     for src_col in 0..count {
@@ -31,20 +32,20 @@ fn equal_tokens(alloc: Global, count: u32) -> Made {
     map_of(alloc, tokens)
 }
 
-// Where two tokens stand.
-static PLACES: [(u32, u32); 2] = [(0, 3), (2, 5)];
+// The generated positions of two tokens.
+static POSITIONS: [(u32, u32); 2] = [(0, 3), (2, 5)];
 
-// A map of tokens at these places, known by their numbers from 0.
+// A map of tokens at these positions, identified by their index.
 fn two_lines(alloc: Global) -> Made {
     let mut tokens = Vec::new(alloc);
-    for (at, place) in PLACES.iter().enumerate() {
-        tokens.push(token(*place, at as u32))?;
+    for (at, position) in POSITIONS.iter().enumerate() {
+        tokens.push(token(*position, at as u32))?;
     }
     map_of(alloc, tokens)
 }
 
-// A map of five tokens at columns 0 to 4 of line 0, and of 3,000 at each third column of line 2, known
-// by their numbers from 0.
+// A map of five tokens at columns 0 to 4 of line 0, and of 3,000 at each third column of line 2,
+// identified by their index.
 fn long_line(alloc: Global) -> Made {
     let mut tokens = Vec::new(alloc);
     for number in 0..5 {
@@ -65,14 +66,14 @@ fn map_of(alloc: Global, tokens: Vec<RawToken>) -> Made {
 
 // The closest token, and whether it took as many comparisons as it may.
 fn counted(alloc: Global, map: &SourceMap, row: &Counted) -> Result<String> {
-    let (place, least, most, _) = *row;
-    let (found, steps) = map.lookup_token_steps(place.0, place.1);
+    let (position, least, most, _) = *row;
+    let (found, steps) = map.lookup_token_steps(position.0, position.1);
     let is_counted = least <= steps && steps <= most;
     let col = found.map(|token| token.get_src_col());
     Ok(format!(in alloc; "{col:?} {is_counted}")?)
 }
 
-fn told(alloc: Global, map: Made, row: &Counted) -> Result<String> {
+fn describe(alloc: Global, map: Made, row: &Counted) -> Result<String> {
     counted(alloc, &*map?, row)
 }
 
@@ -121,7 +122,7 @@ fn no_tokens_take_two_comparisons(rt: HostRuntime) {
         check(
             &rt,
             "none",
-            told(rt.alloc(), equal_tokens(rt.alloc(), 0), row),
+            describe(rt.alloc(), equal_tokens(rt.alloc(), 0), row),
             row.3,
         );
     }
@@ -133,7 +134,7 @@ fn a_thousand_equal_tokens_take_few_comparisons(rt: HostRuntime) {
         check(
             &rt,
             "thousand",
-            told(rt.alloc(), equal_tokens(rt.alloc(), 1000), row),
+            describe(rt.alloc(), equal_tokens(rt.alloc(), 1000), row),
             row.3,
         );
     }
@@ -145,7 +146,7 @@ fn a_million_equal_tokens_take_few_comparisons(rt: HostRuntime) {
         check(
             &rt,
             "million",
-            told(rt.alloc(), equal_tokens(rt.alloc(), 1000000), row),
+            describe(rt.alloc(), equal_tokens(rt.alloc(), 1000000), row),
             row.3,
         );
     }
@@ -157,7 +158,7 @@ fn lines_without_tokens_take_few_comparisons(rt: HostRuntime) {
         check(
             &rt,
             "two lines",
-            told(rt.alloc(), two_lines(rt.alloc()), row),
+            describe(rt.alloc(), two_lines(rt.alloc()), row),
             row.3,
         );
     }
@@ -169,7 +170,7 @@ fn tokens_of_a_long_line_take_few_comparisons(rt: HostRuntime) {
         check(
             &rt,
             "long line",
-            told(rt.alloc(), long_line(rt.alloc()), row),
+            describe(rt.alloc(), long_line(rt.alloc()), row),
             row.3,
         );
     }

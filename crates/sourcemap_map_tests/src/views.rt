@@ -1,7 +1,8 @@
-//! Views: their lines, slices of them, copies and what is shown of them.
-use crate::checks::{again, check, shown};
+//! Views: their lines, slices of them, copies, and how they are printed.
+use crate::checks::check;
 use sourcemap::Result;
 use sourcemap::sourceview::SourceView;
+use sourcemap_test_support::results::{again, optional_text};
 use std::alloc::Global;
 
 const SMILES: &str = "abc👌def\nblah";
@@ -18,17 +19,17 @@ static SLICES: [(&str, (u32, u32, u32), &str); 49] = [
     (SMILES, (0, 0, 4), "[abc👌]"),
     (SMILES, (0, 0, 5), "[abc👌]"),
     (SMILES, (0, 0, 6), "[abc👌d]"),
-    // From the middle of a pair on: from behind it.
+    // From the middle of a pair on: from after it.
     (SMILES, (0, 4, 0), "[]"),
     (SMILES, (0, 4, 1), "[]"),
     (SMILES, (0, 4, 2), "[d]"),
     (SMILES, (0, 5, 0), "[]"),
-    // At the end of the line, and behind it.
+    // At the end of the line, and after it.
     (SMILES, (0, 8, 0), "[]"),
     (SMILES, (0, 9, 0), "none"),
     (SMILES, (0, 5, 3), "[def]"),
     (SMILES, (0, 5, 4), "none"),
-    // The last line, and the one behind it.
+    // The last line, and the one after it.
     (SMILES, (1, 0, 4), "[blah]"),
     (SMILES, (1, 0, 5), "none"),
     (SMILES, (1, 0, 12), "none"),
@@ -71,15 +72,18 @@ static SLICES: [(&str, (u32, u32, u32), &str); 49] = [
     ("x\r", (1, 0, 0), "[]"),
 ];
 
-fn sliced(alloc: Global, text: &str, place: (u32, u32, u32)) -> Result<String> {
+fn sliced(alloc: Global, text: &str, position: (u32, u32, u32)) -> Result<String> {
     let view = SourceView::new(alloc, text)?;
-    shown(alloc, view.get_line_slice(place.0, place.1, place.2))
+    optional_text(
+        alloc,
+        view.get_line_slice(position.0, position.1, position.2),
+    )
 }
 
 #[test]
 fn lines_are_sliced_by_utf16_columns(rt: HostRuntime) {
-    for (text, place, want) in SLICES.iter() {
-        let slice = again(|| sliced(rt.alloc(), text, *place));
+    for (text, position, want) in SLICES.iter() {
+        let slice = again(|| sliced(rt.alloc(), text, *position));
         check(&rt, text, slice, want);
     }
 }
@@ -119,8 +123,8 @@ fn lines_in_turn(rt: HostRuntime) {
     }
 }
 
-// Lines of a view that are asked out of turn, and past its end.
-static ASKED: [(&str, u32, &str); 21] = [
+// Lines of a view by index, out of order and past the end.
+static LINES_BY_INDEX: [(&str, u32, &str); 21] = [
     ("a\nb\nc", 0, "[a]"),
     ("a\nb\nc", 0, "[a]"),
     ("a\nb\nc", 2, "[c]"),
@@ -145,15 +149,15 @@ static ASKED: [(&str, u32, &str); 21] = [
     ("a\nb\nc\n", 4, "none"),
 ];
 
-fn asked(alloc: Global, text: &str, line: u32) -> Result<String> {
+fn line_at(alloc: Global, text: &str, line: u32) -> Result<String> {
     let view = SourceView::from_string(alloc, String::from_str(alloc, text)?)?;
-    shown(alloc, view.get_line(line))
+    optional_text(alloc, view.get_line(line))
 }
 
 #[test]
 fn lines_out_of_turn(rt: HostRuntime) {
-    for (text, line, want) in ASKED.iter() {
-        check(&rt, want, asked(rt.alloc(), text, *line), want);
+    for (text, line, want) in LINES_BY_INDEX.iter() {
+        check(&rt, want, line_at(rt.alloc(), text, *line), want);
     }
 }
 
@@ -162,14 +166,14 @@ fn is_view_of(alloc: Global, view: &SourceView, text: &str) -> Result<bool> {
     Ok(other == *view)
 }
 
-fn copy_told(alloc: Global, copy: &SourceView, is_copy: bool, is_other: bool) -> Result<String> {
+fn copy_text(alloc: Global, copy: &SourceView, is_copy: bool, is_other: bool) -> Result<String> {
     let source = copy.source();
     Ok(format!(in alloc; "{is_copy} {is_other} {source} {copy:?}")?)
 }
 
 fn compared(alloc: Global, view: &SourceView, is_other: bool) -> Result<String> {
     let copy = view.clone()?;
-    copy_told(alloc, &copy, copy == *view, is_other)
+    copy_text(alloc, &copy, copy == *view, is_other)
 }
 
 fn copied(alloc: Global, text: &str, other: &str) -> Result<String> {

@@ -1,31 +1,32 @@
-//! Walks back along tokens, and the names that they guess.
-use crate::checks::{check, shown};
+//! Walks back along tokens, and the function names found by them.
+use crate::checks::check;
 use sourcemap::Result;
 use sourcemap::sourceview::{SourceView, WalkedToken};
+use sourcemap_test_support::results::{optional_text, push_optional};
 use std::alloc::Global;
 
 // A line, a column and a name.
 #[derive(Clone, Copy)]
-struct Spot {
+struct ChainToken {
     line: u32,
     col: u32,
     name: Option<&'static str>,
 }
 
-// A spot, and those that a walk comes to behind it.
+// A token, and the earlier ones in the order of the walk.
 #[derive(Clone, Copy)]
 struct Chain<'a> {
-    here: Spot,
-    behind: &'a [Spot],
+    here: ChainToken,
+    behind: &'a [ChainToken],
 }
 
 impl<'a> WalkedToken for Chain<'a> {
     type Name = &'static str;
 
     ghost use Rattle.std.specs.Option.{option_copied};
-    ghost use Rattle.sourcemap_map_tests.specs.declared.walks.Spot.{Spot};
+    ghost use Rattle.sourcemap_map_tests.specs.declared.walks.ChainToken.{ChainToken};
 
-    ghost Seen = { Spot };
+    ghost Seen = { ChainToken };
 
     ghost seen = { λ token. token.here };
 
@@ -54,7 +55,7 @@ impl<'a> WalkedToken for Chain<'a> {
     }
 }
 
-// Texts, places from the last one on, and the identifiers at them.
+// Texts, positions from the last one on, and the identifiers at them.
 static WALKS: [(&str, &[(u32, u32)], &str); 18] = [
     ("abc👌def", &[(0, 5), (0, 4), (0, 3)], " [def] [def] none"),
     ("abc👌def", &[(0, 3), (0, 4), (0, 5)], " none [def] [def]"),
@@ -129,51 +130,44 @@ static WALKS: [(&str, &[(u32, u32)], &str); 18] = [
 ];
 
 fn walked(alloc: Global, text: &str, places: &[(u32, u32)]) -> Result<String> {
-    let mut spots = Vec::new(alloc);
+    let mut chain_tokens = Vec::new(alloc);
     for (line, col) in places {
-        spots.push(Spot {
+        chain_tokens.push(ChainToken {
             line: *line,
             col: *col,
             name: None,
         })?;
     }
     let view = SourceView::new(alloc, text)?;
-    along(alloc, &view, spots.as_slice())
+    along(alloc, &view, chain_tokens.as_slice())
 }
 
-fn along(alloc: Global, view: &SourceView, spots: &[Spot]) -> Result<String> {
+fn along(alloc: Global, view: &SourceView, chain_tokens: &[ChainToken]) -> Result<String> {
     let mut answer = String::new(alloc);
-    if let Some((here, behind)) = spots.split_first() {
+    if let Some((here, behind)) = chain_tokens.split_first() {
         let last = Chain {
             here: *here,
             behind,
         };
         for (_, identifier) in view.rev_token_iter(last) {
-            push_shown(&mut answer, identifier)?;
+            push_optional(&mut answer, identifier)?;
         }
     }
     Ok(answer)
 }
 
-fn push_shown(answer: &mut String, identifier: Option<&str>) -> Result<()> {
-    let alloc = *answer.allocator();
-    let text = shown(alloc, identifier)?;
-    answer.push_str(format!(in alloc; " {text}")?.as_str())?;
-    Ok(())
-}
-
 #[test]
-fn walks_find_the_identifier_at_each_place(rt: HostRuntime) {
+fn walks_find_the_identifier_at_each_position(rt: HostRuntime) {
     for (text, places, want) in WALKS.iter() {
         check(&rt, text, walked(rt.alloc(), text, places), want);
     }
 }
 
-// A walk in the text `function b(){}`: how many tokens stand behind that text, and the columns and
+// A walk in the text `function b(){}`: how many tokens stand after that text, and the columns and
 // the names of those in it, from the last one on.
 type Walk = (u32, &'static [(u32, &'static str)]);
 
-// What a row is about, a name in that text, a walk, and the name that is guessed.
+// Label, a name in that text, a walk, and the name that is guessed.
 static NAMES: [(&str, &str, Walk, &str); 10] = [
     (
         "the name behind the word",
@@ -224,40 +218,40 @@ static NAMES: [(&str, &str, Walk, &str); 10] = [
 
 fn named(alloc: Global, name: &str, walk: Walk) -> Result<String> {
     let (count, columns) = walk;
-    let mut spots = Vec::new(alloc);
+    let mut chain_tokens = Vec::new(alloc);
     for behind in 0..count {
-        spots.push(Spot {
+        chain_tokens.push(ChainToken {
             line: 1,
             col: count - behind,
             name: None,
         })?;
     }
     for (col, name) in columns {
-        spots.push(Spot {
+        chain_tokens.push(ChainToken {
             line: 0,
             col: *col,
             name: Some(*name),
         })?;
     }
-    guessed(alloc, "function b(){}", spots.as_slice(), name)
+    guessed(alloc, "function b(){}", chain_tokens.as_slice(), name)
 }
 
-fn guessed(alloc: Global, text: &str, spots: &[Spot], name: &str) -> Result<String> {
+fn guessed(alloc: Global, text: &str, chain_tokens: &[ChainToken], name: &str) -> Result<String> {
     let view = SourceView::new(alloc, text)?;
-    match spots.split_first() {
-        None => shown(alloc, None),
+    match chain_tokens.split_first() {
+        None => optional_text(alloc, None),
         Some((here, behind)) => {
             let last = Chain {
                 here: *here,
                 behind,
             };
-            shown(alloc, view.get_original_function_name(last, name))
+            optional_text(alloc, view.get_original_function_name(last, name))
         }
     }
 }
 
 #[test]
-fn walks_guess_the_name_behind_the_word_function(rt: HostRuntime) {
+fn walks_guess_the_name_after_the_word_function(rt: HostRuntime) {
     for (about, name, walk, want) in NAMES.iter() {
         check(&rt, about, named(rt.alloc(), name, *walk), want);
     }
@@ -278,19 +272,19 @@ static COMPARED: [(&str, &str, &str); 9] = [
 ];
 
 fn compared(alloc: Global, text: &str, name: &str) -> Result<String> {
-    let spots = [
-        Spot {
+    let chain_tokens = [
+        ChainToken {
             line: 0,
             col: 9,
             name: Some("foo"),
         },
-        Spot {
+        ChainToken {
             line: 0,
             col: 0,
             name: None,
         },
     ];
-    guessed(alloc, text, &spots, name)
+    guessed(alloc, text, &chain_tokens, name)
 }
 
 #[test]

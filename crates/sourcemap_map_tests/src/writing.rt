@@ -1,17 +1,18 @@
-// What maps are written as, on each way that leads there, and writers that take little or fail.
-use crate::checks::{again, check};
-use crate::samples::{Made, boxed, record_of, record_written, value_written, written};
+// Encoding of maps, by each call, and writers that take little or fail.
+use crate::checks::check;
+use crate::samples::{Made, record_of, record_written, value_written, written};
 use serde_json::Value;
 use sourcemap::decoder::decode_regular;
 use sourcemap::encoder::{encode, encode_to};
 use sourcemap::jsontypes::RawSourceMap;
 use sourcemap::{DecodedMap, Error, Result, SourceMap, decode_slice};
-use sourcemap_test_writers::NarrowWriter;
+use sourcemap_test_support::results::{again, boxed};
+use sourcemap_test_support::writers::NarrowWriter;
 use std::alloc::Global;
 use std::process::Abort;
 use std::str;
 
-/// What a row is about, a map, and what it is written as.
+/// Label, a map, and what it is written as.
 pub type Row = (&'static str, &'static str, &'static str);
 
 pub const BARE: Row = (
@@ -89,7 +90,7 @@ fn decoded(alloc: Global, text: &str) -> Result<Box<DecodedMap>> {
     boxed(alloc, decode_slice(alloc, text.as_bytes()))
 }
 
-// By the record of a map that is lent, and of one that is given away.
+// By the record of a map that is borrowed, and of one that is consumed.
 
 fn by_record(alloc: Global, text: &str) -> Result<String> {
     record_written(alloc, record_of(regular(alloc, text)))
@@ -99,7 +100,7 @@ fn by_moved_record(alloc: Global, text: &str) -> Result<String> {
     written(alloc, regular(alloc, text))
 }
 
-// By the value of a map of any kind that is lent, and of one that is given away.
+// By the value of a map of any kind that is borrowed, and of one that is consumed.
 
 fn by_value(alloc: Global, text: &str) -> Result<String> {
     let map = decoded(alloc, text)?;
@@ -123,7 +124,7 @@ fn check_each_way(rt: &impl Abort, alloc: Global, about: &str, text: &str, want:
 }
 
 #[test]
-fn maps_are_written_as_told(rt: HostRuntime) {
+fn maps_are_written_as_expected(rt: HostRuntime) {
     let alloc = rt.alloc();
     for (about, text, want) in WRITTEN.iter() {
         check_each_way(&rt, alloc, about, text, want);
@@ -196,28 +197,28 @@ fn put(alloc: Global, text: &str, call: Call, writer: &mut NarrowWriter) -> Resu
     }
 }
 
-// What a writer holds that takes so many bytes, and the fault that the call answers, if any.
-fn held_told(alloc: Global, text: &str, call: Call, left: Option<usize>) -> Result<String> {
+// What a writer holds that takes so many bytes, and the error that the call answers, if any.
+fn held_text(alloc: Global, text: &str, call: Call, left: Option<usize>) -> Result<String> {
     let mut writer = NarrowWriter {
         held: Vec::new(alloc),
         left,
     };
     let outcome = put(alloc, text, call, &mut writer);
-    outcome_told(alloc, writer.held.as_slice(), outcome)
+    outcome_text(alloc, writer.held.as_slice(), outcome)
 }
 
 /// What a writer holds, or that and the error's text.
-pub fn outcome_told(alloc: Global, held: &[u8], outcome: Result<()>) -> Result<String> {
+pub fn outcome_text(alloc: Global, held: &[u8], outcome: Result<()>) -> Result<String> {
     match outcome {
         Ok(()) => Ok(String::from_str(alloc, str::from_utf8(held)?)?),
-        Err(fault) => fault_told(alloc, held, &fault),
+        Err(error) => error_with_bytes(alloc, held, &error),
     }
 }
 
-fn fault_told(alloc: Global, held: &[u8], fault: &Error) -> Result<String> {
-    match fault {
+fn error_with_bytes(alloc: Global, held: &[u8], error: &Error) -> Result<String> {
+    match error {
         Error::OutOfMemory => Err(Error::OutOfMemory),
-        fault => Ok(format!(in alloc; "{} {fault}", str::from_utf8(held)?)?),
+        error => Ok(format!(in alloc; "{} {error}", str::from_utf8(held)?)?),
     }
 }
 
@@ -228,7 +229,7 @@ fn check_each_call(
     left: Option<usize>,
 ) {
     for call in CALLS.iter() {
-        check(rt, about, held_told(alloc, text, *call, left), want);
+        check(rt, about, held_text(alloc, text, *call, left), want);
     }
 }
 
@@ -239,14 +240,14 @@ fn bytes_are_written_one_by_one(rt: HostRuntime) {
     }
 }
 
-/// What a writer holds that fails after some bytes of this text, and the fault.
+/// What a writer holds that fails after some bytes of this text, and the error.
 pub fn cut(alloc: Global, text: &str, most: usize) -> Result<String> {
-    let mut told = String::new(alloc);
+    let mut out = String::new(alloc);
     for letter in text.chars().take(most) {
-        told.push(letter)?;
+        out.push(letter)?;
     }
-    told.push_str(" broken pipe")?;
-    Ok(told)
+    out.push_str(" broken pipe")?;
+    Ok(out)
 }
 
 #[test]

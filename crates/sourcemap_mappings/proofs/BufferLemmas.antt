@@ -1,4 +1,4 @@
--- What the buffer of a text is filled with: digits of differences, all of them ASCII.
+-- The bytes in the buffer: digits of differences, all of them ASCII.
 use Rattle.std.proofs.Common.{◌≡◌, ℕ, ◌+◌, ◌-◌, ◌*◌, ◌^◌, ◌<◌, ◌≤◌, ◌==◌, Bool, true, false, nat_lt, Some, List, [], ◌∷◌, ◌++◌, length, slice_index, refl, sym, subst, ◌∙◌, arith, inl, inr, ℤ, pos, negsuc, unsigned_abs, ◌/◌, ◌%◌, take, set, ap}
 use Rattle.std.specs.List.{AllByRecursion}
 use Rattle.std.specs.Str.{IsAscii}
@@ -10,12 +10,12 @@ use Rattle.std.proofs.lemmas.List.{append_assoc, length-set, take-set-le}
 use Rattle.std.proofs.lemmas.List.Elements.{All-from_recursion}
 use Rattle.std.proofs.lemmas.Str.{IsAscii-append}
 use Rattle.std.proofs.lemmas.Str.Ascii.{IsAscii-nil, IsAscii-from_all}
-use Rattle.sourcemap_mappings.specs.declared.buffer.TheConstants.{NEAR}
-use Rattle.sourcemap_digits.specs.Vlq.{digit_value, glyph, raw_of, GoesOn, IsChain, Spells}
+use Rattle.sourcemap_mappings.specs.declared.buffer.TheConstants.{ONE_DIGIT}
+use Rattle.sourcemap_vlq.specs.Vlq.{digit_value, glyph, raw_of, HasContinuation, IsChain, Spells}
 use Rattle.sourcemap_mappings.specs.Write.{difference}
 use Rattle.sourcemap_mappings.specs.Buffer.{Adds, raw_difference}
-use Rattle.sourcemap_digits.proofs.DigitLemmas.{digit_value-below, glyph-digit_value, glyph-ascii}
-use Rattle.sourcemap_digits.proofs.VlqLemmas.{GoesOn-glyph, IsShortest-last, raw_of-split, total_of, weighs}
+use Rattle.sourcemap_vlq.proofs.DigitLemmas.{digit_value-below, glyph-digit_value, glyph-ascii}
+use Rattle.sourcemap_vlq.proofs.VlqLemmas.{HasContinuation-glyph, IsShortest-last, raw_of-split, total_of, weighs}
 use Rattle.sourcemap_mappings.proofs.WriteLemmas.{Spells-one}
 
 -- Differences.
@@ -47,8 +47,8 @@ difference_near a b ha hb = elim (cases_lt a b) [
       rw is (omega arith)
 ]
 
--- what is left below 32 is the last digit of a difference
-pub Adds-last : (a b : ℕ) (old part : List ℕ) (left : ℕ) → a < 2 ^ 32 → b < 2 ^ 32 → AllByRecursion GoesOn part → left < 32
+-- a rest below 32 is the last digit of a difference
+pub Adds-last : (a b : ℕ) (old part : List ℕ) (left : ℕ) → a < 2 ^ 32 → b < 2 ^ 32 → AllByRecursion HasContinuation part → left < 32
     → raw_difference a b ≡ raw_of part + 2 ^ (5 * length part) * left → (0 < length part → 0 < left)
     → Adds (difference a b ∷ []) old (old ++ (part ++ glyph left ∷ []))
 Adds-last a b old part left ha hb all low e some = record {
@@ -63,7 +63,7 @@ pub Adds-two : (a b : ℕ) (old : List ℕ) → a < 2 ^ 32 → b < 2 ^ 32 → 32
     → Adds (difference a b ∷ []) old (old ++ (glyph (raw_difference a b % 32 + 32) ∷ glyph (raw_difference a b / 32) ∷ []))
 Adds-two a b old ha hb more low =
     let raw = raw_difference a b in
-    Adds-last a b old (glyph (raw % 32 + 32) ∷ []) (raw / 32) ha hb (GoesOn-glyph (raw % 32) (omega arith), tt) (omega arith)
+    Adds-last a b old (glyph (raw % 32 + 32) ∷ []) (raw / 32) ha hb (HasContinuation-glyph (raw % 32) (omega arith), tt) (omega arith)
     (raw_of-split [] raw raw (omega arith)) (λ _. omega arith)
 
 pub Adds-three : (a b : ℕ) (old : List ℕ) → a < 2 ^ 32 → b < 2 ^ 32 → 1024 ≤ raw_difference a b → raw_difference a b < 32768
@@ -74,7 +74,7 @@ Adds-three a b old ha hb more low =
     let first : ℕ = glyph (raw % 32 + 32) in
     let second : ℕ = glyph (raw / 32 % 32 + 32) in
     Adds-last a b old (first ∷ second ∷ []) (raw / 32 / 32) ha hb
-    (GoesOn-glyph (raw % 32) (omega arith), (GoesOn-glyph (raw / 32 % 32) (omega arith), tt)) (omega arith)
+    (HasContinuation-glyph (raw % 32) (omega arith), (HasContinuation-glyph (raw / 32 % 32) (omega arith), tt)) (omega arith)
     (raw_of-split (first ∷ []) raw (raw / 32) (raw_of-split [] raw raw (omega arith))) (λ _. omega arith)
 
 -- two stores, of which one counts, or both
@@ -123,12 +123,12 @@ few_before raw k left total small e some =
 raw_near : ℕ → ℕ
 raw_near n = raw_difference n 15
 
-holds_near : ℕ → Bool
-holds_near n = slice_index NEAR n == glyph (raw_near n)
+holds_one_digit : ℕ → Bool
+holds_one_digit n = slice_index ONE_DIGIT n == glyph (raw_near n)
 
-pub near-at : (n : ℕ) → n < 31 → slice_index NEAR n ≡ glyph (raw_difference n 15)
-unfolding holds_near raw_near glyph
-near-at n h = eqb-true _ _ (agree_below_at holds_near (λ _. true) 31 n refl h)
+pub near-at : (n : ℕ) → n < 31 → slice_index ONE_DIGIT n ≡ glyph (raw_difference n 15)
+unfolding holds_one_digit raw_near glyph
+near-at n h = eqb-true _ _ (agree_below_at holds_one_digit (λ _. true) 31 n refl h)
 
 pub near-raw : (a b n : ℕ) → n + b ≡ a + 15 → raw_difference n 15 ≡ raw_difference a b
 near-raw a b n e = elim (cases_lt a b) [

@@ -1,21 +1,21 @@
--- What the steps of the reader of mappings come to.
+-- The steps of decoding together.
 use Rattle.std.proofs.Common.{◌≡◌, ◌≢◌, ℕ, ◌+◌, ◌^◌, ◌<◌, ◌==◌, true, false, List, [], ◌∷◌, ◌++◌, length, get_or, All, Some, None, sym, ap, ◌∙◌, refl, subst, inl, inr, append_assoc, append-nil, length-append, ℤ, arith, eqb-true}
 use Rattle.sourcemap_errors.specs.Answer.{UnlessMemory}
 use Rattle.sourcemap_errors.proofs.AnswerLemmas.{UnlessMemory-weaker}
 use Rattle.std.proofs.lemmas.List.Elements.{All-from_get_or}
 use Rattle.std.proofs.lemmas.Bool.Decides.{nat_tests}
 use Rattle.std.proofs.lemmas.List.Splits.{slice_split_none, slice_split_at}
-use Rattle.sourcemap_lists.specs.declared.tokens.RawToken.{RawToken}
+use Rattle.sourcemap_tokens.specs.declared.tokens.RawToken.{RawToken}
 use Rattle.sourcemap_mappings.specs.declared.segment.Sums.{Sums}
-use Rattle.sourcemap_mappings.specs.declared.segment.Spot.{Spot}
+use Rattle.sourcemap_mappings.specs.declared.segment.PartPosition.{PartPosition}
 use Rattle.sourcemap_errors.specs.declared.errors.Error.{Error}
-use Rattle.sourcemap_digits.specs.Bits.{first_foreign}
-use Rattle.sourcemap_mappings.specs.Segment.{Counts, Segment, token_of, segment_fault, semicolon, parts_of}
-use Rattle.sourcemap_mappings.specs.Read.{Line, LineText, line_tokens, page_tokens, PartsRead, PartsFault, LineFault, LinesRead, LinesFault, lines_of}
+use Rattle.sourcemap_vlq.specs.Bits.{first_non_digit}
+use Rattle.sourcemap_mappings.specs.Segment.{Counts, Segment, token_of, segment_error, semicolon, parts_of}
+use Rattle.sourcemap_mappings.specs.Read.{Line, LineText, line_tokens, page_tokens, PartsRead, PartsError, LineError, LinesRead, LinesError, lines_of}
 use Rattle.sourcemap_mappings.specs.SegmentSteps.{AreTextSums, AreSums}
 use Rattle.sourcemap_mappings.specs.ReadSteps.{AddsParts, AddsLine}
-use Rattle.sourcemap_digits.specs.Vlq.{Reads, HasFault}
-use Rattle.sourcemap_digits.proofs.VlqLemmas.{IsGroup-nonempty}
+use Rattle.sourcemap_vlq.specs.Vlq.{Reads, HasError}
+use Rattle.sourcemap_vlq.proofs.VlqLemmas.{IsGroup-nonempty}
 
 -- The lines of a text.
 
@@ -25,12 +25,12 @@ no_semicolon xs h = All-from_get_or (λ b. (b == semicolon) ≡ false) xs 0 (λ 
 pub lines_of-last : (text : List ℕ) → ((i : ℕ) → i < length text → get_or text i 0 ≢ semicolon) → lines_of text ≡ text ∷ []
 lines_of-last text h = slice_split_none (λ b. b == semicolon) text (no_semicolon text h)
 
-pub lines_of-first : (text line behind : List ℕ) → text ≡ line ++ semicolon ∷ behind → ((i : ℕ) → i < length line → get_or line i 0 ≢ semicolon) → lines_of text ≡ line ∷ lines_of behind
-lines_of-first text line behind e h = ap lines_of e ∙ slice_split_at (λ b. b == semicolon) line semicolon behind (no_semicolon line h) refl
+pub lines_of-first : (text line tail : List ℕ) → text ≡ line ++ semicolon ∷ tail → ((i : ℕ) → i < length line → get_or line i 0 ≢ semicolon) → lines_of text ≡ line ∷ lines_of tail
+lines_of-first text line tail e h = ap lines_of e ∙ slice_split_at (λ b. b == semicolon) line semicolon tail (no_semicolon line h) refl
 
 -- Parts of a line.
 
--- behind the segments `before` and `here`, and one more
+-- after the segments `before` and `here`, and one more
 regrouped : (P : List Segment → Type 0) (before here : List Segment) (s : Segment) → P (before ++ (here ++ s ∷ [])) → P ((before ++ here) ++ s ∷ [])
 regrouped P before here s h = subst P (sym (append_assoc before here (s ∷ []))) h
 
@@ -41,59 +41,59 @@ Reads-nil (n ∷ ns) some (group, rest, is, split, reads) =
     let digits : 0 < length group = IsGroup-nonempty group n is in
     omega arith
 
-pub PartsFault-segment : (counts : Counts) (before here : List Segment) (part : List ℕ) (s : Segment) (e : Error) → 0 < length s.numbers
-    → Reads part s.numbers → segment_fault counts (before ++ (here ++ s ∷ [])) s ≡ Some e → PartsFault counts s.place (before ++ here) (part ∷ []) e
-PartsFault-segment counts before here [] s e some reads fault = absurd (Reads-nil s.numbers some reads)
-PartsFault-segment counts before here (c ∷ cs) s e some reads fault =
-    inl (inr (s, refl, reads, regrouped (λ all. segment_fault counts all s ≡ Some e) before here s fault))
+pub PartsError-segment : (counts : Counts) (before here : List Segment) (part : List ℕ) (s : Segment) (e : Error) → 0 < length s.numbers
+    → Reads part s.numbers → segment_error counts (before ++ (here ++ s ∷ [])) s ≡ Some e → PartsError counts s.index (before ++ here) (part ∷ []) e
+PartsError-segment counts before here [] s e some reads error = absurd (Reads-nil s.numbers some reads)
+PartsError-segment counts before here (c ∷ cs) s e some reads error =
+    inl (inr (s, refl, reads, regrouped (λ all. segment_error counts all s ≡ Some e) before here s error))
 
-pub AddsParts-segment : (counts : Counts) (spot : Spot) (bits : List ℕ) (before here : List Segment) (part : List ℕ) (numbers : List ℤ) (token : RawToken) (old new : List RawToken) (sums : Sums)
+pub AddsParts-segment : (counts : Counts) (position : PartPosition) (bits : List ℕ) (before here : List Segment) (part : List ℕ) (numbers : List ℤ) (token : RawToken) (old new : List RawToken) (sums : Sums)
     → 0 < length numbers → Reads part numbers
-    → let s : Segment = record { place = spot.place; numbers = numbers } in
-    segment_fault counts (before ++ (here ++ s ∷ [])) s ≡ None
-    → token ≡ token_of spot.line bits (here ++ s ∷ []) (before ++ (here ++ s ∷ [])) s
+    → let s : Segment = record { index = position.index; numbers = numbers } in
+    segment_error counts (before ++ (here ++ s ∷ [])) s ≡ None
+    → token ≡ token_of position.line bits (here ++ s ∷ []) (before ++ (here ++ s ∷ [])) s
     → new ≡ old ++ token ∷ [] → AreSums before (here ++ s ∷ []) sums
-    → AddsParts counts spot bits before here (part ∷ []) old new sums
-AddsParts-segment counts spot bits before here [] numbers token old new sums some reads sound is items after = absurd (Reads-nil numbers some reads)
-AddsParts-segment counts spot bits before here (c ∷ cs) numbers token old new sums some reads sound is items after =
-    let s : Segment = record { place = spot.place; numbers = numbers } in
+    → AddsParts counts position bits before here (part ∷ []) old new sums
+AddsParts-segment counts position bits before here [] numbers token old new sums some reads sound is items after = absurd (Reads-nil numbers some reads)
+AddsParts-segment counts position bits before here (c ∷ cs) numbers token old new sums some reads sound is items after =
+    let s : Segment = record { index = position.index; numbers = numbers } in
     record {
       segments = s ∷ [];
-      read = ((refl, reads, regrouped (λ all. segment_fault counts all s ≡ None) before here s sound), refl);
+      read = ((refl, reads, regrouped (λ all. segment_error counts all s ≡ None) before here s sound), refl);
       tokens = items ∙ ap (λ t. old ++ t ∷ []) is;
       sums_after = after;
     }
 
--- one part, and the parts behind it
-PartsRead-cons : (counts : Counts) (place : ℕ) (before : List Segment) (part : List ℕ) (parts : List (List ℕ)) (ss later : List Segment)
-    → PartsRead counts place before (part ∷ []) ss → PartsRead counts (place + 1) (before ++ ss) parts later → PartsRead counts place before (part ∷ parts) (ss ++ later)
-PartsRead-cons counts place before [] parts ss later h rest =
+-- one part, and the parts after it
+PartsRead-cons : (counts : Counts) (index : ℕ) (before : List Segment) (part : List ℕ) (parts : List (List ℕ)) (ss later : List Segment)
+    → PartsRead counts index before (part ∷ []) ss → PartsRead counts (index + 1) (before ++ ss) parts later → PartsRead counts index before (part ∷ parts) (ss ++ later)
+PartsRead-cons counts index before [] parts ss later h rest =
     let none : ss ≡ [] = h in
-    subst (λ zs. PartsRead counts (place + 1) before parts (zs ++ later)) (sym none)
-    (subst (λ zs. PartsRead counts (place + 1) zs parts later) (ap (λ zs. before ++ zs) none ∙ append-nil before) rest)
-PartsRead-cons counts place before (c ∷ cs) parts [] later h rest = absurd h
-PartsRead-cons counts place before (c ∷ cs) parts (s ∷ ss) later h rest =
+    subst (λ zs. PartsRead counts (index + 1) before parts (zs ++ later)) (sym none)
+    (subst (λ zs. PartsRead counts (index + 1) zs parts later) (ap (λ zs. before ++ zs) none ∙ append-nil before) rest)
+PartsRead-cons counts index before (c ∷ cs) parts [] later h rest = absurd h
+PartsRead-cons counts index before (c ∷ cs) parts (s ∷ ss) later h rest =
     let none : ss ≡ [] = h.1 in (
       h.0,
-      subst (λ zs. PartsRead counts (place + 1) (before ++ s ∷ []) parts (zs ++ later)) (sym none)
-          (subst (λ zs. PartsRead counts (place + 1) (before ++ s ∷ zs) parts later) none rest),
+      subst (λ zs. PartsRead counts (index + 1) (before ++ s ∷ []) parts (zs ++ later)) (sym none)
+          (subst (λ zs. PartsRead counts (index + 1) (before ++ s ∷ zs) parts later) none rest),
     )
 
-pub PartsFault-here : (counts : Counts) (place : ℕ) (before : List Segment) (part : List ℕ) (parts : List (List ℕ)) (e : Error)
-    → PartsFault counts place before (part ∷ []) e → PartsFault counts place before (part ∷ parts) e
-PartsFault-here counts place before [] parts e h = absurd h
-PartsFault-here counts place before (c ∷ cs) parts e (inl h) = inl h
-PartsFault-here counts place before (c ∷ cs) parts e (inr h) = absurd h.2
+pub PartsError-here : (counts : Counts) (index : ℕ) (before : List Segment) (part : List ℕ) (parts : List (List ℕ)) (e : Error)
+    → PartsError counts index before (part ∷ []) e → PartsError counts index before (part ∷ parts) e
+PartsError-here counts index before [] parts e h = absurd h
+PartsError-here counts index before (c ∷ cs) parts e (inl h) = inl h
+PartsError-here counts index before (c ∷ cs) parts e (inr h) = absurd h.2
 
-PartsFault-later : (counts : Counts) (place : ℕ) (before : List Segment) (part : List ℕ) (parts : List (List ℕ)) (ss : List Segment) (e : Error)
-    → PartsRead counts place before (part ∷ []) ss → PartsFault counts (place + 1) (before ++ ss) parts e → PartsFault counts place before (part ∷ parts) e
-PartsFault-later counts place before [] parts ss e h rest =
+PartsError-later : (counts : Counts) (index : ℕ) (before : List Segment) (part : List ℕ) (parts : List (List ℕ)) (ss : List Segment) (e : Error)
+    → PartsRead counts index before (part ∷ []) ss → PartsError counts (index + 1) (before ++ ss) parts e → PartsError counts index before (part ∷ parts) e
+PartsError-later counts index before [] parts ss e h rest =
     let none : ss ≡ [] = h in
-    subst (λ zs. PartsFault counts (place + 1) zs parts e) (ap (λ zs. before ++ zs) none ∙ append-nil before) rest
-PartsFault-later counts place before (c ∷ cs) parts [] e h rest = absurd h
-PartsFault-later counts place before (c ∷ cs) parts (s ∷ ss) e h rest =
+    subst (λ zs. PartsError counts (index + 1) zs parts e) (ap (λ zs. before ++ zs) none ∙ append-nil before) rest
+PartsError-later counts index before (c ∷ cs) parts [] e h rest = absurd h
+PartsError-later counts index before (c ∷ cs) parts (s ∷ ss) e h rest =
     let none : ss ≡ [] = h.1 in
-    inr (s, h.0, subst (λ zs. PartsFault counts (place + 1) (before ++ s ∷ zs) parts e) none rest)
+    inr (s, h.0, subst (λ zs. PartsError counts (index + 1) (before ++ s ∷ zs) parts e) none rest)
 
 pub line_tokens-append : (n : ℕ) (bits : List ℕ) (before here xs ys : List Segment) → line_tokens n bits before here (xs ++ ys) ≡ line_tokens n bits before here xs ++ line_tokens n bits before (here ++ xs) ys
 line_tokens-append n bits before here [] ys = ap (λ zs. line_tokens n bits before zs ys) (sym (append-nil here))
@@ -102,11 +102,11 @@ line_tokens-append n bits before here (x ∷ xs) ys =
     (line_tokens-append n bits before (here ++ x ∷ []) xs ys
     ∙ ap (λ zs. line_tokens n bits before (here ++ x ∷ []) xs ++ line_tokens n bits before zs ys) (append_assoc here (x ∷ []) xs))
 
--- what is read of the parts `all` of line n, behind the segments `before`: its first `place` parts
-pub record PartsSoFar (counts : Counts) (n : ℕ) (bits : List ℕ) (before : List Segment) (all : List (List ℕ)) (place : ℕ) (left : List (List ℕ)) (old new : List RawToken) (sums : Sums) : Type 0 where
+-- the first `index` of the parts `all` of line n are decoded, after the segments `before`
+pub record PartsSoFar (counts : Counts) (n : ℕ) (bits : List ℕ) (before : List Segment) (all : List (List ℕ)) (index : ℕ) (left : List (List ℕ)) (old new : List RawToken) (sums : Sums) : Type 0 where
   pub here : List Segment
-  pub read : (later : List Segment) → PartsRead counts place (before ++ here) left later → PartsRead counts 0 before all (here ++ later)
-  pub fault : (e : Error) → PartsFault counts place (before ++ here) left e → PartsFault counts 0 before all e
+  pub read : (later : List Segment) → PartsRead counts index (before ++ here) left later → PartsRead counts 0 before all (here ++ later)
+  pub error : (e : Error) → PartsError counts index (before ++ here) left e → PartsError counts 0 before all e
   pub tokens : new ≡ old ++ line_tokens n bits before [] here
   pub sums_after : AreSums before here sums
 
@@ -115,16 +115,16 @@ pub PartsSoFar-none : (counts : Counts) (n : ℕ) (bits : List ℕ) (before : Li
 PartsSoFar-none counts n bits before all old sums h = record {
   here = [];
   read = λ later r. subst (λ zs. PartsRead counts 0 zs all later) (append-nil before) r;
-  fault = λ e f. subst (λ zs. PartsFault counts 0 zs all e) (append-nil before) f;
+  error = λ e f. subst (λ zs. PartsError counts 0 zs all e) (append-nil before) f;
   tokens = sym (append-nil old);
   sums_after = h;
 }
 
-module _ (counts : Counts) (spot : Spot) (bits : List ℕ) (before : List Segment) (all : List (List ℕ)) (part : List ℕ) (parts : List (List ℕ)) (old middle : List RawToken) (sums : Sums) where
-  -- one more part is read
-  pub PartsSoFar-more : (new : List RawToken) (after : Sums) (so_far : PartsSoFar counts spot.line bits before all spot.place (part ∷ parts) old middle sums)
-      → AddsParts counts spot bits before so_far.here (part ∷ []) middle new after
-      → PartsSoFar counts spot.line bits before all (spot.place + 1) parts old new after
+module _ (counts : Counts) (position : PartPosition) (bits : List ℕ) (before : List Segment) (all : List (List ℕ)) (part : List ℕ) (parts : List (List ℕ)) (old middle : List RawToken) (sums : Sums) where
+  -- one more part is decoded
+  pub PartsSoFar-more : (new : List RawToken) (after : Sums) (so_far : PartsSoFar counts position.line bits before all position.index (part ∷ parts) old middle sums)
+      → AddsParts counts position bits before so_far.here (part ∷ []) middle new after
+      → PartsSoFar counts position.line bits before all (position.index + 1) parts old new after
   PartsSoFar-more new after so_far adds =
       let here : List Segment = so_far.here in
       let ss : List Segment = adds.segments in
@@ -133,35 +133,35 @@ module _ (counts : Counts) (spot : Spot) (bits : List ℕ) (before : List Segmen
         read = λ later r.
             subst (λ zs. PartsRead counts 0 before all zs) (sym (append_assoc here ss later))
             (so_far.read (ss ++ later)
-            (PartsRead-cons counts spot.place (before ++ here) part parts ss later adds.read
-            (subst (λ zs. PartsRead counts (spot.place + 1) zs parts later) (sym (append_assoc before here ss)) r)));
-        fault = λ e f.
-            so_far.fault e
-            (PartsFault-later counts spot.place (before ++ here) part parts ss e adds.read
-            (subst (λ zs. PartsFault counts (spot.place + 1) zs parts e) (sym (append_assoc before here ss)) f));
+            (PartsRead-cons counts position.index (before ++ here) part parts ss later adds.read
+            (subst (λ zs. PartsRead counts (position.index + 1) zs parts later) (sym (append_assoc before here ss)) r)));
+        error = λ e f.
+            so_far.error e
+            (PartsError-later counts position.index (before ++ here) part parts ss e adds.read
+            (subst (λ zs. PartsError counts (position.index + 1) zs parts e) (sym (append_assoc before here ss)) f));
         tokens =
-            adds.tokens ∙ ap (λ zs. zs ++ line_tokens spot.line bits before here ss) so_far.tokens
-            ∙ append_assoc old (line_tokens spot.line bits before [] here) (line_tokens spot.line bits before here ss)
-            ∙ ap (λ zs. old ++ zs) (sym (line_tokens-append spot.line bits before [] here ss));
+            adds.tokens ∙ ap (λ zs. zs ++ line_tokens position.line bits before here ss) so_far.tokens
+            ∙ append_assoc old (line_tokens position.line bits before [] here) (line_tokens position.line bits before here ss)
+            ∙ ap (λ zs. old ++ zs) (sym (line_tokens-append position.line bits before [] here ss));
         sums_after = adds.sums_after;
       }
 
-  -- the next part has a fault
-  pub PartsSoFar-fault : (e : Error) (so_far : PartsSoFar counts spot.line bits before all spot.place (part ∷ parts) old middle sums)
-      → UnlessMemory e (PartsFault counts spot.place (before ++ so_far.here) (part ∷ []) e) → UnlessMemory e (PartsFault counts 0 before all e)
-  PartsSoFar-fault e so_far f =
-      UnlessMemory-weaker e (λ h. so_far.fault e (PartsFault-here counts spot.place (before ++ so_far.here) part parts e h)) f
+  -- the next part has an error
+  pub PartsSoFar-error : (e : Error) (so_far : PartsSoFar counts position.line bits before all position.index (part ∷ parts) old middle sums)
+      → UnlessMemory e (PartsError counts position.index (before ++ so_far.here) (part ∷ []) e) → UnlessMemory e (PartsError counts 0 before all e)
+  PartsSoFar-error e so_far f =
+      UnlessMemory-weaker e (λ h. so_far.error e (PartsError-here counts position.index (before ++ so_far.here) part parts e h)) f
 
--- the next part has a fault in its digits
-pub PartsSoFar-digits : (counts : Counts) (n : ℕ) (bits : List ℕ) (before : List Segment) (all : List (List ℕ)) (place : ℕ) (part : List ℕ) (parts : List (List ℕ)) (old new : List RawToken) (sums : Sums) (e : Error)
-    → PartsSoFar counts n bits before all place (part ∷ parts) old new sums → part ≢ [] → HasFault part e → PartsFault counts 0 before all e
-PartsSoFar-digits counts n bits before all place [] parts old new sums e so_far some fault = absurd (some refl)
-PartsSoFar-digits counts n bits before all place (c ∷ cs) parts old new sums e so_far some fault = so_far.fault e (inl (inl fault))
+-- the next part has an error in its digits
+pub PartsSoFar-digits : (counts : Counts) (n : ℕ) (bits : List ℕ) (before : List Segment) (all : List (List ℕ)) (index : ℕ) (part : List ℕ) (parts : List (List ℕ)) (old new : List RawToken) (sums : Sums) (e : Error)
+    → PartsSoFar counts n bits before all index (part ∷ parts) old new sums → part ≢ [] → HasError part e → PartsError counts 0 before all e
+PartsSoFar-digits counts n bits before all index [] parts old new sums e so_far some error = absurd (some refl)
+PartsSoFar-digits counts n bits before all index (c ∷ cs) parts old new sums e so_far some error = so_far.error e (inl (inl error))
 
--- all parts are read
-pub AddsParts-all : (counts : Counts) (n place : ℕ) (bits : List ℕ) (before : List Segment) (all : List (List ℕ)) (old new : List RawToken) (sums : Sums)
-    → PartsSoFar counts n bits before all place [] old new sums → AddsParts counts (record { line = n; place = 0 }) bits before [] all old new sums
-AddsParts-all counts n place bits before all old new sums so_far = record {
+-- all parts are decoded
+pub AddsParts-all : (counts : Counts) (n index : ℕ) (bits : List ℕ) (before : List Segment) (all : List (List ℕ)) (old new : List RawToken) (sums : Sums)
+    → PartsSoFar counts n bits before all index [] old new sums → AddsParts counts (record { line = n; index = 0 }) bits before [] all old new sums
+AddsParts-all counts n index bits before all old new sums so_far = record {
   segments = so_far.here;
   read =
       subst (λ zs. PartsRead counts 0 zs all so_far.here) (sym (append-nil before))
@@ -172,17 +172,17 @@ AddsParts-all counts n place bits before all old new sums so_far = record {
 
 -- Lines of a page.
 
--- what is read of the lines `all`: the first n
+-- the first n of the lines `all` are decoded
 pub record PageSoFar (counts : Counts) (all : List LineText) (n : ℕ) (left : List LineText) (tokens : List RawToken) (sums : Sums) : Type 0 where
   pub before : List Segment
   pub page : List Line
   pub read : (later : List Line) → LinesRead counts n before left later → LinesRead counts 0 [] all (page ++ later)
-  pub fault : (e : Error) → LinesFault counts n before left e → LinesFault counts 0 [] all e
+  pub error : (e : Error) → LinesError counts n before left e → LinesError counts 0 [] all e
   pub tokens_read : (later : List Line) → page_tokens 0 [] (page ++ later) ≡ tokens ++ page_tokens n before later
   pub sums_after : AreTextSums before sums
 
 module _ (counts : Counts) (all : List LineText) (n : ℕ) (text : LineText) (left : List LineText) (old new : List RawToken) (sums after : Sums) where
-  -- one more line is read
+  -- one more line is decoded
   pub PageSoFar-more : (so_far : PageSoFar counts all n (text ∷ left) old sums) → AddsLine counts n so_far.before text old new after
       → PageSoFar counts all (n + 1) left new after
   PageSoFar-more so_far adds =
@@ -195,7 +195,7 @@ module _ (counts : Counts) (all : List LineText) (n : ℕ) (text : LineText) (le
         page = page ++ line ∷ [];
         read = λ later r.
             subst (λ zs. LinesRead counts 0 [] all zs) (sym (append_assoc page (line ∷ []) later)) (so_far.read (line ∷ later) (adds.read, r));
-        fault = λ e f. so_far.fault e (inr (line, adds.read, f));
+        error = λ e f. so_far.error e (inr (line, adds.read, f));
         tokens_read = λ later.
             ap (page_tokens 0 []) (append_assoc page (line ∷ []) later) ∙ so_far.tokens_read (line ∷ later)
             ∙ sym (append_assoc old ts (page_tokens (n + 1) (before ++ line.segments) later))
@@ -203,10 +203,10 @@ module _ (counts : Counts) (all : List LineText) (n : ℕ) (text : LineText) (le
         sums_after = adds.sums_after;
       }
 
-  -- the next line has a fault
-  pub PageSoFar-fault : (e : Error) (so_far : PageSoFar counts all n (text ∷ left) old sums) → UnlessMemory e (LineFault counts n so_far.before text e)
-      → UnlessMemory e (LinesFault counts 0 [] all e)
-  PageSoFar-fault e so_far f = UnlessMemory-weaker e (λ h. so_far.fault e (inl h)) f
+  -- the next line has an error
+  pub PageSoFar-error : (e : Error) (so_far : PageSoFar counts all n (text ∷ left) old sums) → UnlessMemory e (LineError counts n so_far.before text e)
+      → UnlessMemory e (LinesError counts 0 [] all e)
+  PageSoFar-error e so_far f = UnlessMemory-weaker e (λ h. so_far.error e (inl h)) f
 
 -- before the first line
 pub PageSoFar-none : (counts : Counts) (all : List LineText) → PageSoFar counts all 0 all [] (record { rises = true; column = 0; source = 0; line = 0; source_column = 0; name = 0 })
@@ -214,12 +214,12 @@ PageSoFar-none counts all = record {
   before = [];
   page = [];
   read = λ later r. r;
-  fault = λ e f. f;
+  error = λ e f. f;
   tokens_read = λ later. refl;
   sums_after = record { source = refl; line = refl; source_column = refl; name = refl };
 }
 
--- all lines are read
+-- all lines are decoded
 pub PageSoFar-all : (counts : Counts) (all : List LineText) (n : ℕ) (tokens : List RawToken) (sums : Sums) → PageSoFar counts all n [] tokens sums
     → (page : List Line) × LinesRead counts 0 [] all page × (tokens ≡ page_tokens 0 [] page)
 PageSoFar-all counts all n tokens sums so_far = (
@@ -242,8 +242,8 @@ AddsLine-none counts n before (c ∷ cs) bits old sums is h =
 
 -- a line that is not
 pub AddsLine-parts : (counts : Counts) (n : ℕ) (before : List Segment) (text bits : List ℕ) (old new : List RawToken) (sums : Sums) → (length text == 0) ≡ false
-    → n < 2 ^ 32 → first_foreign bits ≡ None
-    → AddsParts counts (record { line = n; place = 0 }) bits before [] (parts_of text) old new sums
+    → n < 2 ^ 32 → first_non_digit bits ≡ None
+    → AddsParts counts (record { line = n; index = 0 }) bits before [] (parts_of text) old new sums
     → AddsLine counts n before (text, bits) old new sums
 AddsLine-parts counts n before [] bits old new sums ne small digits adds = absurd cc
 AddsLine-parts counts n before (c ∷ cs) bits old new sums ne small digits adds = record {

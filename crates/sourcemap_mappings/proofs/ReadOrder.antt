@@ -1,28 +1,28 @@
--- Tokens that are read one behind the other stay in order as long as no column falls.
+-- Tokens that are decoded one after the other are sorted as long as no column decreases.
 use Rattle.std.proofs.Common.{◌≡◌, ℕ, ◌+◌, ◌≤◌, List, [], ◌∷◌, ◌++◌, Bool, false, arith, subst, sym}
 use Rattle.std.specs.List.{AllByRecursion}
 use Rattle.std.specs.Ordering.{is_lt}
 use Rattle.std.proofs.lemmas.Bool.Decides.{nat_tests}
 use Rattle.std.proofs.lemmas.List.Sorted.{ranks_by}
-use Rattle.sourcemap_lists.specs.declared.tokens.RawToken.{RawToken}
-use Rattle.sourcemap_lists.specs.Tokens.{AreInOrder, position_cmp, destination}
-use Rattle.sourcemap_lists.proofs.SortLemmas.{Rises, Rises-from_sorted, sorted_from_Rises}
-use Rattle.sourcemap_lists.proofs.TokensLemmas.{position_cmp_total}
+use Rattle.sourcemap_tokens.specs.declared.tokens.RawToken.{RawToken}
+use Rattle.sourcemap_tokens.specs.Tokens.{AreInOrder, position_cmp, destination}
+use Rattle.sourcemap_tokens.proofs.SortLemmas.{Rises, Rises-from_sorted, sorted_from_Rises}
+use Rattle.sourcemap_tokens.proofs.TokensLemmas.{position_cmp_total}
 use Rattle.sourcemap_mappings.proofs.WriteTokens.{all_push}
 
--- none of the tokens stands past a place
+-- none of the tokens is after a position
 abbrev pub NonePast : ℕ × ℕ → List RawToken → Type 0
-NonePast place tokens = AllByRecursion (λ t. is_lt (position_cmp place (destination t)) ≡ false) tokens
+NonePast index tokens = AllByRecursion (λ t. is_lt (position_cmp index (destination t)) ≡ false) tokens
 
--- a later place of the same line, and the next line
+-- a later position on the same line, and the next line
 later_column : (l c d m n : ℕ) → c ≤ d → is_lt (position_cmp (l, c) (m, n)) ≡ false → is_lt (position_cmp (l, d) (m, n)) ≡ false
 later_column l c d m n le h = grind (arith, nat_tests)
 
 later_line : (l c m n : ℕ) → is_lt (position_cmp (l, c) (m, n)) ≡ false → is_lt (position_cmp (l + 1, 0) (m, n)) ≡ false
 later_line l c m n h = grind (arith, nat_tests)
 
-at_place : (l c : ℕ) → is_lt (position_cmp (l, c) (l, c)) ≡ false
-at_place l c = grind (arith, nat_tests)
+at_position : (l c : ℕ) → is_lt (position_cmp (l, c) (l, c)) ≡ false
+at_position l c = grind (arith, nat_tests)
 
 NonePast-column : (l c d : ℕ) (tokens : List RawToken) → c ≤ d → NonePast (l, c) tokens → NonePast (l, d) tokens
 NonePast-column l c d [] le h = tt
@@ -32,7 +32,7 @@ NonePast-line : (l c : ℕ) (tokens : List RawToken) → NonePast (l, c) tokens 
 NonePast-line l c [] h = tt
 NonePast-line l c (t ∷ ts) h = (later_line l c t.dst_line t.dst_col h.0, NonePast-line l c ts h.1)
 
--- one more token, past which none stands
+-- one more token, after which there is none
 Rises-push : (lt : RawToken → RawToken → Bool) (xs : List RawToken) (t : RawToken) → Rises lt xs → AllByRecursion (λ x. lt t x ≡ false) xs → Rises lt (xs ++ t ∷ [])
 Rises-push lt [] t r h = (tt, tt)
 Rises-push lt (x ∷ xs) t r h = (all_push (λ y. lt y x ≡ false) xs t r.0 h.0, Rises-push lt xs t r.1 h.1)
@@ -42,14 +42,14 @@ AreInOrder-push xs t up h =
     let lt : RawToken → RawToken → Bool = λ a b. is_lt (position_cmp (destination a) (destination b)) in
     sorted_from_Rises lt (xs ++ t ∷ []) (Rises-push lt xs t (Rises-from_sorted lt (ranks_by position_cmp_total destination) xs up) h)
 
--- a token at or behind the column of the tokens before it
+-- a token at or after the column of the tokens before it
 pub order_push : (l c d : ℕ) (tokens : List RawToken) (t : RawToken) → destination t ≡ (l, d) → c ≤ d → AreInOrder tokens × NonePast (l, c) tokens
     → AreInOrder (tokens ++ t ∷ []) × NonePast (l, d) (tokens ++ t ∷ [])
 order_push l c d tokens t at le h =
     let past : NonePast (l, d) tokens = NonePast-column l c d tokens le h.1 in (
       AreInOrder-push tokens t h.0 (subst (λ p. NonePast p tokens) (sym at) past),
       all_push (λ x. is_lt (position_cmp (l, d) (destination x)) ≡ false) tokens t past
-          (subst (λ p. is_lt (position_cmp (l, d) p) ≡ false) (sym at) (at_place l d)),
+          (subst (λ p. is_lt (position_cmp (l, d) p) ≡ false) (sym at) (at_position l d)),
     )
 
 -- the end of a line
@@ -57,5 +57,5 @@ pub order_line : (l c : ℕ) (tokens : List RawToken) → AreInOrder tokens × N
 order_line l c tokens h = (h.0, NonePast-line l c tokens h.1)
 
 -- no tokens
-pub order_none : (place : ℕ × ℕ) → AreInOrder [] × NonePast place []
-order_none place = (λ k d low high. absurd (omega arith), tt)
+pub order_none : (index : ℕ × ℕ) → AreInOrder [] × NonePast index []
+order_none index = (λ k d low high. absurd (omega arith), tt)

@@ -1,9 +1,9 @@
--- The table of lines, line by line.
+-- The line table, line by line.
 use Rattle.std.proofs.Common.{◌≡◌, sym, ap, subst, ◌∙◌, ℕ, ◌<◌, ◌≤◌, ◌+◌, List, [], ◌∷◌, ◌++◌, length, get_or, Some, arith}
 use Rattle.std.specs.List.{AllByRecursion}
 use Rattle.std.proofs.lemmas.List.{append_assoc, append-nil, length-append}
-use Rattle.sourcemap_lists.proofs.AllLemmas.{All-append, All-weaker}
-use Rattle.sourcemap_lists.specs.declared.tokens.RawToken.{RawToken}
+use Rattle.sourcemap_tokens.proofs.AllLemmas.{All-append, All-weaker}
+use Rattle.sourcemap_tokens.specs.declared.tokens.RawToken.{RawToken}
 use Rattle.sourcemap_line_index.specs.LineIndex.{IsLineTable, LineTable, line_at, with_row}
 use Rattle.sourcemap_line_index.proofs.TableLemmas.{line_at_more, table_of_line, token_line}
 use Rattle.sourcemap_mappings.specs.ReadSteps.{AddsOnLine}
@@ -12,14 +12,14 @@ with_none : {X : Type 0} (xs ys : List X) → length ys ≡ 0 → xs ++ ys ≡ x
 with_none xs [] e = append-nil xs
 with_none xs (y ∷ ys) e = absurd (omega arith)
 
--- a line that brought no tokens needs no row
+-- a line without tokens has no row
 pub no_row : (tokens before more : List RawToken) (table : LineTable) → tokens ≡ before ++ more → length tokens ≤ length before
     → IsLineTable before (length before) table → IsLineTable tokens (length tokens) table
 no_row tokens before more table is none t =
     let many = ap length is ∙ length-append before more in
     subst (λ ts. IsLineTable ts (length ts) table) (sym (is ∙ with_none before more (omega arith))) t
 
--- one that did has the row of its first one
+-- a line with tokens has the row of its first one
 pub row_added : (tokens before more : List RawToken) (line first : ℕ) (d : RawToken) (old new : LineTable) → tokens ≡ before ++ more → first ≡ length before
     → AllByRecursion (λ t. t.dst_line < line) before → AllByRecursion (λ t. t.dst_line ≡ line) more
     → IsLineTable before (length before) old → first < length tokens → new ≡ with_row old (get_or tokens first d).dst_line first
@@ -35,7 +35,7 @@ row_added tokens before more line first d old new is at below all t some row =
     let made = table_of_line before more line all old below more_than_none t in
     subst (λ ts. IsLineTable ts (length ts) new) (sym is) (subst (IsLineTable (before ++ more) (length (before ++ more))) (sym same) made)
 
--- a line that is read puts its tokens behind the others
+-- a decoded line appends its tokens
 
 pub adds_none : (line : ℕ) (old : List RawToken) → AddsOnLine line old old
 adds_none line old = ([], sym (append-nil old), tt)
@@ -47,7 +47,7 @@ pub adds_both : (line : ℕ) (old now new : List RawToken) → AddsOnLine line o
 adds_both line old now new a b =
     (a.0 ++ b.0, b.1 ∙ ap (λ ts. ts ++ b.0) a.1 ∙ append_assoc old a.0 b.0, All-append (λ t. t.dst_line ≡ line) a.0 b.0 a.2 b.2)
 
--- and then all stand before the next line
+-- all tokens are before the next line
 pub below_next : (line : ℕ) (old new : List RawToken) → AllByRecursion (λ t. t.dst_line < line) old → AddsOnLine line old new → AllByRecursion (λ t. t.dst_line < line + 1) new
 below_next line old new below a =
     subst (AllByRecursion (λ t. t.dst_line < line + 1)) (sym a.1)

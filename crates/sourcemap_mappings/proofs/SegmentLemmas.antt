@@ -1,4 +1,4 @@
--- What the steps of the reader of segments come to.
+-- The steps of decoding a segment together.
 use Rattle.std.proofs.Common.{◌≡◌, ◌≢◌, ℕ, zero, suc, slice_index, ◌^◌, ◌==◌, true, false, List, [], ◌∷◌, ◌++◌, length, Option, Some, None, sym, ap, ◌∙◌, refl, subst, inl, inr, append_assoc, append-nil, length-append, ℤ, arith, eqb-true}
 use Rattle.std.specs.List.{onto_first, AllByRecursion}
 use Rattle.std.proofs.lemmas.Bool.{cases_Bool, cond-true, cond-false}
@@ -10,9 +10,9 @@ use Rattle.sourcemap_errors.specs.declared.errors.Error.TheVariants.{InvalidBase
 use Rattle.std.specs.Int.{int_rem_euclid}
 use Rattle.std.specs.Prelude.{unsigned_abs, pos}
 use Rattle.sourcemap_mappings.specs.Segment.{step, comma, parts_of}
-use Rattle.sourcemap_mappings.specs.SegmentSteps.{AreSteps, HasFirstPart, HasPartFault, fault_in_part, EndsPart, BeginsWithStep}
-use Rattle.sourcemap_digits.specs.Vlq.{digit_value, GoesOn, IsChain, IsUnfinished, GoesTo, NumberFault, BeginsWith, Reads, IsSound}
-use Rattle.sourcemap_digits.proofs.VlqLemmas.{HasFault-later, IsSound-more}
+use Rattle.sourcemap_mappings.specs.SegmentSteps.{AreSteps, HasFirstPart, HasPartError, error_in_part, EndsPart, BeginsWithStep}
+use Rattle.sourcemap_vlq.specs.Vlq.{digit_value, HasContinuation, IsChain, IsUnfinished, GoesTo, NumberError, BeginsWith, Reads, IsSound}
+use Rattle.sourcemap_vlq.proofs.VlqLemmas.{HasError-later, IsSound-more}
 
 -- Numbers.
 
@@ -61,12 +61,12 @@ Lacks-chain [] h = absurd h
 Lacks-chain (c ∷ []) (v, e, last) = (no_comma c v e, tt)
 Lacks-chain (c ∷ d ∷ cs) ((v, e, on), h) = (no_comma c v e, Lacks-chain (d ∷ cs) h)
 
-Lacks-goes_on : (part : List ℕ) → AllByRecursion GoesOn part → Lacks part
+Lacks-continues : (part : List ℕ) → AllByRecursion HasContinuation part → Lacks part
 unfolding Lacks
-Lacks-goes_on [] h = tt
-Lacks-goes_on (c ∷ cs) ((v, e, on), h) = (no_comma c v e, Lacks-goes_on cs h)
+Lacks-continues [] h = tt
+Lacks-continues (c ∷ cs) ((v, e, on), h) = (no_comma c v e, Lacks-continues cs h)
 
--- what stands before the first `,` of a text lengthens its first part
+-- bytes before the first `,` of a text extend its first part
 parts_of-onto : (xs ys m : List ℕ) (ms : List (List ℕ)) → Lacks xs → parts_of ys ≡ m ∷ ms → parts_of (xs ++ ys) ≡ (xs ++ m) ∷ ms
 unfolding Lacks
 parts_of-onto [] ys m ms h e = e
@@ -84,75 +84,75 @@ append_some : (xs ys : List ℕ) → ys ≢ [] → xs ++ ys ≢ []
 append_some [] ys some none = some none
 append_some (x ∷ xs) ys some none = absurd cc
 
--- a fault at the byte c of an unfinished number, or of the number that ends there
-HasPartFault-at : (line front rest part : List ℕ) (numbers : List ℤ) (c : ℕ) (e : Error) → line ≡ front ++ rest → Reads front numbers → Lacks front → (c == comma) ≡ false
-    → (goes : GoesTo rest part c) → ((m : List ℕ) → GoesTo (part ++ c ∷ m) part c → NumberFault (part ++ c ∷ m) e) → HasPartFault line e
-HasPartFault-at line front rest part numbers c e whole reads lacks differs goes fault =
-    let behind = parts_of-some goes.more in
-    let own : List ℕ = part ++ c ∷ behind.0 in
+-- an error at the byte c of an unfinished number, or of the number that ends there
+HasPartError-at : (line front rest part : List ℕ) (numbers : List ℤ) (c : ℕ) (e : Error) → line ≡ front ++ rest → Reads front numbers → Lacks front → (c == comma) ≡ false
+    → (goes : GoesTo rest part c) → ((m : List ℕ) → GoesTo (part ++ c ∷ m) part c → NumberError (part ++ c ∷ m) e) → HasPartError line e
+HasPartError-at line front rest part numbers c e whole reads lacks differs goes error =
+    let tail = parts_of-some goes.more in
+    let own : List ℕ = part ++ c ∷ tail.0 in
     let one : Lacks (c ∷ []) = unfold Lacks in (differs, tt) in
-    let lacks_all : Lacks (front ++ (part ++ c ∷ [])) = Lacks-append front (part ++ c ∷ []) lacks (Lacks-append part (c ∷ []) (Lacks-goes_on part goes.unfinished.goes_on) one) in
+    let lacks_all : Lacks (front ++ (part ++ c ∷ [])) = Lacks-append front (part ++ c ∷ []) lacks (Lacks-append part (c ∷ []) (Lacks-continues part goes.unfinished.continues) one) in
     let text : line ≡ (front ++ (part ++ c ∷ [])) ++ goes.more =
     whole ∙ ap (λ zs. front ++ zs) (goes.split ∙ sym (append_assoc part (c ∷ []) goes.more)) ∙ sym (append_assoc front (part ++ c ∷ []) goes.more) in
-    let cut : (front ++ (part ++ c ∷ [])) ++ behind.0 ≡ front ++ own =
-    append_assoc front (part ++ c ∷ []) behind.0 ∙ ap (λ zs. front ++ zs) (append_assoc part (c ∷ []) behind.0) in
-    let some : own ≢ [] = append_some part (c ∷ behind.0) (λ none. cc) in
+    let cut : (front ++ (part ++ c ∷ [])) ++ tail.0 ≡ front ++ own =
+    append_assoc front (part ++ c ∷ []) tail.0 ∙ ap (λ zs. front ++ zs) (append_assoc part (c ∷ []) tail.0) in
+    let some : own ≢ [] = append_some part (c ∷ tail.0) (λ none. cc) in
     record {
       part = front ++ own;
-      parts = behind.1;
-      split = ap parts_of text ∙ parts_of-onto (front ++ (part ++ c ∷ [])) goes.more behind.0 behind.1 lacks_all behind.2 ∙ ap (λ p. p ∷ behind.1) cut;
+      parts = tail.1;
+      split = ap parts_of text ∙ parts_of-onto (front ++ (part ++ c ∷ [])) goes.more tail.0 tail.1 lacks_all tail.2 ∙ ap (λ p. p ∷ tail.1) cut;
       some = append_some front own some;
-      fault = HasFault-later (front ++ own) own (record { front = front; numbers = numbers; reads = reads; split = refl }) some e
-          (fault behind.0 (record { more = behind.0; split = refl; unfinished = goes.unfinished }));
+      error = HasError-later (front ++ own) own (record { front = front; numbers = numbers; reads = reads; split = refl }) some e
+          (error tail.0 (record { more = tail.0; split = refl; unfinished = goes.unfinished }));
     }
 
--- a number that the end of the part cuts off
-HasPartFault-cut : (line front rest part : List ℕ) (numbers : List ℤ) (parts : List (List ℕ)) → parts_of line ≡ (front ++ part) ∷ parts → Reads front numbers
-    → part ≢ [] → IsUnfinished part → HasPartFault line VlqLeftover
-HasPartFault-cut line front rest part numbers parts split reads some unfinished = record {
+-- a number that is not finished at the end of the part
+HasPartError-cut : (line front rest part : List ℕ) (numbers : List ℤ) (parts : List (List ℕ)) → parts_of line ≡ (front ++ part) ∷ parts → Reads front numbers
+    → part ≢ [] → IsUnfinished part → HasPartError line VlqLeftover
+HasPartError-cut line front rest part numbers parts split reads some unfinished = record {
   part = front ++ part;
   parts = parts;
   split = split;
   some = append_some front part some;
-  fault = HasFault-later (front ++ part) part (record { front = front; numbers = numbers; reads = reads; split = refl }) some VlqLeftover unfinished;
+  error = HasError-later (front ++ part) part (record { front = front; numbers = numbers; reads = reads; split = refl }) some VlqLeftover unfinished;
 }
 
-HasPartFault-comma : (line rest : List ℕ) (c : ℕ) (cs : List ℕ) (sound : IsSound line rest) (d : ℕ) (part : List ℕ) → GoesTo rest part d → Lacks sound.front → rest ≡ c ∷ cs
-    → (c == comma) ≡ false → (d == comma) ≡ true → HasPartFault line VlqLeftover
-HasPartFault-comma line rest c cs sound d [] goes lacks first ne is =
+HasPartError-comma : (line rest : List ℕ) (c : ℕ) (cs : List ℕ) (sound : IsSound line rest) (d : ℕ) (part : List ℕ) → GoesTo rest part d → Lacks sound.front → rest ≡ c ∷ cs
+    → (c == comma) ≡ false → (d == comma) ≡ true → HasPartError line VlqLeftover
+HasPartError-comma line rest c cs sound d [] goes lacks first ne is =
     absurd (let same : d ∷ goes.more ≡ c ∷ cs = sym goes.split ∙ first in cc)
-HasPartFault-comma line rest c cs sound d (x ∷ xs) goes lacks first ne is =
+HasPartError-comma line rest c cs sound d (x ∷ xs) goes lacks first ne is =
     let part : List ℕ = x ∷ xs in
     let parts : List (List ℕ) = parts_of goes.more in
     let front : List ℕ = sound.front in
-    let lacks_all : Lacks (front ++ part) = Lacks-append front part lacks (Lacks-goes_on part goes.unfinished.goes_on) in
+    let lacks_all : Lacks (front ++ part) = Lacks-append front part lacks (Lacks-continues part goes.unfinished.continues) in
     let text : line ≡ (front ++ part) ++ d ∷ goes.more = sound.split ∙ ap (λ zs. front ++ zs) goes.split ∙ sym (append_assoc front part (d ∷ goes.more)) in
-    HasPartFault-cut line front rest part sound.numbers parts
+    HasPartError-cut line front rest part sound.numbers parts
     (ap parts_of text ∙ parts_of-onto (front ++ part) (d ∷ goes.more) [] parts lacks_all (slice_split-cons_yes (λ b. b == comma) d goes.more is)
     ∙ ap (λ p. p ∷ parts) (append-nil (front ++ part)))
     sound.reads (λ none. cc) goes.unfinished
 
--- the first fault of a line behind some numbers, where no `,` comes next
-pub HasPartFault-from : (line rest : List ℕ) (c : ℕ) (cs : List ℕ) (sound : IsSound line rest) (e : Error) → Lacks sound.front → rest ≡ c ∷ cs → (c == comma) ≡ false
-    → NumberFault rest e → HasPartFault line (fault_in_part e)
-HasPartFault-from line rest c cs sound (InvalidBase64 d) lacks first ne (part, goes, none) = elim (cases_Bool (d == comma)) [
+-- the first error of a line after some numbers, where no `,` comes next
+pub HasPartError-from : (line rest : List ℕ) (c : ℕ) (cs : List ℕ) (sound : IsSound line rest) (e : Error) → Lacks sound.front → rest ≡ c ∷ cs → (c == comma) ≡ false
+    → NumberError rest e → HasPartError line (error_in_part e)
+HasPartError-from line rest c cs sound (InvalidBase64 d) lacks first ne (part, goes, none) = elim (cases_Bool (d == comma)) [
   | inl is ↦
-      subst (HasPartFault line) (sym (cond-true (d == comma) VlqLeftover (InvalidBase64 d) is))
-      (HasPartFault-comma line rest c cs sound d part goes lacks first ne is)
+      subst (HasPartError line) (sym (cond-true (d == comma) VlqLeftover (InvalidBase64 d) is))
+      (HasPartError-comma line rest c cs sound d part goes lacks first ne is)
   | inr differs ↦
-      subst (HasPartFault line) (sym (cond-false (d == comma) VlqLeftover (InvalidBase64 d) differs))
-      (HasPartFault-at line sound.front rest part sound.numbers d (InvalidBase64 d) sound.split sound.reads lacks differs goes (λ m at. (part, at, none)))
+      subst (HasPartError line) (sym (cond-false (d == comma) VlqLeftover (InvalidBase64 d) differs))
+      (HasPartError-at line sound.front rest part sound.numbers d (InvalidBase64 d) sound.split sound.reads lacks differs goes (λ m at. (part, at, none)))
 ]
-HasPartFault-from line rest c cs sound VlqOverflow lacks first ne (part, d, goes, digit, great) =
-    HasPartFault-at line sound.front rest part sound.numbers d VlqOverflow sound.split sound.reads lacks (digit_no_comma d digit) goes (λ m at. (part, d, at, digit, great))
-HasPartFault-from line rest c cs sound VlqLeftover lacks first ne unfinished =
+HasPartError-from line rest c cs sound VlqOverflow lacks first ne (part, d, goes, digit, great) =
+    HasPartError-at line sound.front rest part sound.numbers d VlqOverflow sound.split sound.reads lacks (digit_no_comma d digit) goes (λ m at. (part, d, at, digit, great))
+HasPartError-from line rest c cs sound VlqLeftover lacks first ne unfinished =
     let front : List ℕ = sound.front in
-    let lacks_all : Lacks (front ++ rest) = Lacks-append front rest lacks (Lacks-goes_on rest unfinished.goes_on) in
-    HasPartFault-cut line front rest rest sound.numbers []
+    let lacks_all : Lacks (front ++ rest) = Lacks-append front rest lacks (Lacks-continues rest unfinished.continues) in
+    HasPartError-cut line front rest rest sound.numbers []
     (ap parts_of (sound.split ∙ sym (append-nil (front ++ rest))) ∙ parts_of-onto (front ++ rest) [] [] [] lacks_all refl
     ∙ ap (λ p. p ∷ []) (append-nil (front ++ rest)))
     sound.reads (λ none. let same : c ∷ cs ≡ [] = sym first ∙ none in cc) unfinished
-HasPartFault-from line rest c cs sound _ lacks first ne fault = absurd fault
+HasPartError-from line rest c cs sound _ lacks first ne error = absurd error
 
 -- before the first number of a line
 pub read_none : (line : List ℕ) → (sound : IsSound line line) × Lacks sound.front × AreSteps sound.numbers (record { count = 0; steps = 0 ∷ 0 ∷ 0 ∷ 0 ∷ 0 ∷ [] })
@@ -161,20 +161,20 @@ read_none line =
     (record { front = []; numbers = []; reads = refl; split = refl }, tt, record { count = refl; five = refl; each = λ k _. zero_steps k })
 
 -- one more number
-pub read_more : (line rest behind : List ℕ) (n : ℤ) (read : Numbers) (sound : IsSound line rest) → Lacks sound.front → BeginsWith rest n behind → AreSteps (sound.numbers ++ n ∷ []) read
-    → (t : IsSound line behind) × Lacks t.front × AreSteps t.numbers read
-read_more line rest behind n read sound lacks begins steps =
-    let more = IsSound-more line rest behind sound.front sound.numbers n sound.reads sound.split begins in (
+pub read_more : (line rest tail : List ℕ) (n : ℤ) (read : Numbers) (sound : IsSound line rest) → Lacks sound.front → BeginsWith rest n tail → AreSteps (sound.numbers ++ n ∷ []) read
+    → (t : IsSound line tail) × Lacks t.front × AreSteps t.numbers read
+read_more line rest tail n read sound lacks begins steps =
+    let more = IsSound-more line rest tail sound.front sound.numbers n sound.reads sound.split begins in (
       record { front = sound.front ++ begins.group; numbers = sound.numbers ++ n ∷ []; reads = more.0; split = more.1 },
       Lacks-append sound.front begins.group lacks (Lacks-chain begins.group begins.is_group.chain),
       steps,
     )
 
 -- one more number, whatever its step
-sound_more : (line rest behind : List ℕ) (n : ℤ) (sound : IsSound line rest) → Lacks sound.front → BeginsWith rest n behind
-    → (t : IsSound line behind) × Lacks t.front × (t.numbers ≡ sound.numbers ++ n ∷ [])
-sound_more line rest behind n sound lacks begins =
-    let more = IsSound-more line rest behind sound.front sound.numbers n sound.reads sound.split begins in (
+sound_more : (line rest tail : List ℕ) (n : ℤ) (sound : IsSound line rest) → Lacks sound.front → BeginsWith rest n tail
+    → (t : IsSound line tail) × Lacks t.front × (t.numbers ≡ sound.numbers ++ n ∷ [])
+sound_more line rest tail n sound lacks begins =
+    let more = IsSound-more line rest tail sound.front sound.numbers n sound.reads sound.split begins in (
       record { front = sound.front ++ begins.group; numbers = sound.numbers ++ n ∷ []; reads = more.0; split = more.1 },
       Lacks-append sound.front begins.group lacks (Lacks-chain begins.group begins.is_group.chain),
       refl,
@@ -195,37 +195,37 @@ HasFirstPart-last line rest read sound lacks steps none =
     }
 
 -- the end of the part
-pub HasFirstPart-comma : (line rest : List ℕ) (c : ℕ) (behind : Bor (List ℕ)) (read : Numbers) (sound : IsSound line rest) → Lacks sound.front → AreSteps sound.numbers read
-    → rest ≡ c ∷ behind.now → (c == comma) ≡ true → HasFirstPart line read (Some behind)
-HasFirstPart-comma line rest c behind read sound lacks steps first is =
+pub HasFirstPart-comma : (line rest : List ℕ) (c : ℕ) (tail : Bor (List ℕ)) (read : Numbers) (sound : IsSound line rest) → Lacks sound.front → AreSteps sound.numbers read
+    → rest ≡ c ∷ tail.now → (c == comma) ≡ true → HasFirstPart line read (Some tail)
+HasFirstPart-comma line rest c tail read sound lacks steps first is =
     let front : List ℕ = sound.front in
-    let text : line ≡ front ++ c ∷ behind.now = sound.split ∙ ap (λ zs. front ++ zs) first in
+    let text : line ≡ front ++ c ∷ tail.now = sound.split ∙ ap (λ zs. front ++ zs) first in
     record {
       part = front;
       numbers = sound.numbers;
       split =
           ap parts_of text
-          ∙ parts_of-onto front (c ∷ behind.now) [] (parts_of behind.now) lacks (slice_split-cons_yes (λ b. b == comma) c behind.now is)
-          ∙ ap (λ p. p ∷ parts_of behind.now) (append-nil front);
-      shorter = let size = ap length text ∙ length-append front (c ∷ behind.now) in omega arith;
+          ∙ parts_of-onto front (c ∷ tail.now) [] (parts_of tail.now) lacks (slice_split-cons_yes (λ b. b == comma) c tail.now is)
+          ∙ ap (λ p. p ∷ parts_of tail.now) (append-nil front);
+      shorter = let size = ap length text ∙ length-append front (c ∷ tail.now) in omega arith;
       reads = sound.reads;
       steps = steps;
     }
 
 -- A part of one, four or five numbers.
 
-ended : (line rest : List ℕ) (behind : Option (Bor (List ℕ))) (read : Numbers) (numbers : List ℤ) (sound : IsSound line rest) → Lacks sound.front
-    → sound.numbers ≡ numbers → AreSteps numbers read → EndsPart rest behind → HasFirstPart line read behind
+ended : (line rest : List ℕ) (tail : Option (Bor (List ℕ))) (read : Numbers) (numbers : List ℤ) (sound : IsSound line rest) → Lacks sound.front
+    → sound.numbers ≡ numbers → AreSteps numbers read → EndsPart rest tail → HasFirstPart line read tail
 ended line rest None read numbers sound lacks are steps ends =
     HasFirstPart-last line rest read sound lacks (subst (λ (ns : List ℤ). AreSteps ns read) (sym are) steps) ends
-ended line rest (Some behind) read numbers sound lacks are steps ends =
-    HasFirstPart-comma line rest comma behind read sound lacks (subst (λ (ns : List ℤ). AreSteps ns read) (sym are) steps) ends refl
+ended line rest (Some tail) read numbers sound lacks are steps ends =
+    HasFirstPart-comma line rest comma tail read sound lacks (subst (λ (ns : List ℤ). AreSteps ns read) (sym are) steps) ends refl
 
 abbrev IsStep : ℤ → ℕ → Type 0
 IsStep n s = s ≡ unsigned_abs (int_rem_euclid n (pos (2 ^ 32)))
 
 each_of_one : (a : ℤ) (v : ℕ) → IsStep a v → (k : ℕ)
-    → slice_index (v ∷ 0 ∷ 0 ∷ 0 ∷ 0 ∷ []) k ≡ step k (record { place = 0; numbers = a ∷ [] })
+    → slice_index (v ∷ 0 ∷ 0 ∷ 0 ∷ 0 ∷ []) k ≡ step k (record { index = 0; numbers = a ∷ [] })
 each_of_one a v p zero = p
 each_of_one a v p (suc zero) = refl
 each_of_one a v p (suc (suc zero)) = refl
@@ -234,7 +234,7 @@ each_of_one a v p (suc (suc (suc (suc zero)))) = refl
 each_of_one a v p (suc (suc (suc (suc (suc k))))) = refl
 
 each_of_four : (a b c d : ℤ) (v w x y : ℕ) → IsStep a v → IsStep b w → IsStep c x → IsStep d y → (k : ℕ)
-    → slice_index (v ∷ w ∷ x ∷ y ∷ 0 ∷ []) k ≡ step k (record { place = 0; numbers = a ∷ b ∷ c ∷ d ∷ [] })
+    → slice_index (v ∷ w ∷ x ∷ y ∷ 0 ∷ []) k ≡ step k (record { index = 0; numbers = a ∷ b ∷ c ∷ d ∷ [] })
 each_of_four a b c d v w x y p q r s zero = p
 each_of_four a b c d v w x y p q r s (suc zero) = q
 each_of_four a b c d v w x y p q r s (suc (suc zero)) = r
@@ -243,7 +243,7 @@ each_of_four a b c d v w x y p q r s (suc (suc (suc (suc zero)))) = refl
 each_of_four a b c d v w x y p q r s (suc (suc (suc (suc (suc k))))) = refl
 
 each_of_five : (a b c d e : ℤ) (v w x y z : ℕ) → IsStep a v → IsStep b w → IsStep c x → IsStep d y → IsStep e z → (k : ℕ)
-    → slice_index (v ∷ w ∷ x ∷ y ∷ z ∷ []) k ≡ step k (record { place = 0; numbers = a ∷ b ∷ c ∷ d ∷ e ∷ [] })
+    → slice_index (v ∷ w ∷ x ∷ y ∷ z ∷ []) k ≡ step k (record { index = 0; numbers = a ∷ b ∷ c ∷ d ∷ e ∷ [] })
 each_of_five a b c d e v w x y z p q r s t zero = p
 each_of_five a b c d e v w x y z p q r s t (suc zero) = q
 each_of_five a b c d e v w x y z p q r s t (suc (suc zero)) = r
@@ -251,37 +251,37 @@ each_of_five a b c d e v w x y z p q r s t (suc (suc (suc zero))) = s
 each_of_five a b c d e v w x y z p q r s t (suc (suc (suc (suc zero)))) = t
 each_of_five a b c d e v w x y z p q r s t (suc (suc (suc (suc (suc k))))) = refl
 
-pub part_of_one : (line r₁ : List ℕ) (v : ℕ) (behind : Option (Bor (List ℕ))) → BeginsWithStep line v r₁ → EndsPart r₁ behind
-    → HasFirstPart line (record { count = 1; steps = v ∷ 0 ∷ 0 ∷ 0 ∷ 0 ∷ [] }) behind
+pub part_of_one : (line r₁ : List ℕ) (v : ℕ) (tail : Option (Bor (List ℕ))) → BeginsWithStep line v r₁ → EndsPart r₁ tail
+    → HasFirstPart line (record { count = 1; steps = v ∷ 0 ∷ 0 ∷ 0 ∷ 0 ∷ [] }) tail
 unfolding sound_more read_none
-part_of_one line r₁ v behind (a, in_line, p) ends =
+part_of_one line r₁ v tail (a, in_line, p) ends =
     let s₀ = read_none line in
     let s₁ = sound_more line line r₁ a s₀.0 s₀.1 in_line in
-    ended line r₁ behind _ (a ∷ []) s₁.0 s₁.1 s₁.2 (record { count = refl; five = refl; each = λ k _. each_of_one a v p k }) ends
+    ended line r₁ tail _ (a ∷ []) s₁.0 s₁.1 s₁.2 (record { count = refl; five = refl; each = λ k _. each_of_one a v p k }) ends
 
-pub part_of_four : (line r₁ r₂ r₃ r₄ : List ℕ) (v w x y : ℕ) (behind : Option (Bor (List ℕ)))
-    → BeginsWithStep line v r₁ → BeginsWithStep r₁ w r₂ → BeginsWithStep r₂ x r₃ → BeginsWithStep r₃ y r₄ → EndsPart r₄ behind
-    → HasFirstPart line (record { count = 4; steps = v ∷ w ∷ x ∷ y ∷ 0 ∷ [] }) behind
+pub part_of_four : (line r₁ r₂ r₃ r₄ : List ℕ) (v w x y : ℕ) (tail : Option (Bor (List ℕ)))
+    → BeginsWithStep line v r₁ → BeginsWithStep r₁ w r₂ → BeginsWithStep r₂ x r₃ → BeginsWithStep r₃ y r₄ → EndsPart r₄ tail
+    → HasFirstPart line (record { count = 4; steps = v ∷ w ∷ x ∷ y ∷ 0 ∷ [] }) tail
 unfolding sound_more read_none
-part_of_four line r₁ r₂ r₃ r₄ v w x y behind (a, in_line, p) (b, in_1, q) (c, in_2, r) (d, in_3, s) ends =
+part_of_four line r₁ r₂ r₃ r₄ v w x y tail (a, in_line, p) (b, in_1, q) (c, in_2, r) (d, in_3, s) ends =
     let s₀ = read_none line in
     let s₁ = sound_more line line r₁ a s₀.0 s₀.1 in_line in
     let s₂ = sound_more line r₁ r₂ b s₁.0 s₁.1 in_1 in
     let s₃ = sound_more line r₂ r₃ c s₂.0 s₂.1 in_2 in
     let s₄ = sound_more line r₃ r₄ d s₃.0 s₃.1 in_3 in
-    ended line r₄ behind _ (a ∷ b ∷ c ∷ d ∷ []) s₄.0 s₄.1 s₄.2
+    ended line r₄ tail _ (a ∷ b ∷ c ∷ d ∷ []) s₄.0 s₄.1 s₄.2
     (record { count = refl; five = refl; each = λ k _. each_of_four a b c d v w x y p q r s k }) ends
 
-pub part_of_five : (line r₁ r₂ r₃ r₄ r₅ : List ℕ) (v w x y z : ℕ) (behind : Option (Bor (List ℕ)))
-    → BeginsWithStep line v r₁ → BeginsWithStep r₁ w r₂ → BeginsWithStep r₂ x r₃ → BeginsWithStep r₃ y r₄ → BeginsWithStep r₄ z r₅ → EndsPart r₅ behind
-    → HasFirstPart line (record { count = 5; steps = v ∷ w ∷ x ∷ y ∷ z ∷ [] }) behind
+pub part_of_five : (line r₁ r₂ r₃ r₄ r₅ : List ℕ) (v w x y z : ℕ) (tail : Option (Bor (List ℕ)))
+    → BeginsWithStep line v r₁ → BeginsWithStep r₁ w r₂ → BeginsWithStep r₂ x r₃ → BeginsWithStep r₃ y r₄ → BeginsWithStep r₄ z r₅ → EndsPart r₅ tail
+    → HasFirstPart line (record { count = 5; steps = v ∷ w ∷ x ∷ y ∷ z ∷ [] }) tail
 unfolding sound_more read_none
-part_of_five line r₁ r₂ r₃ r₄ r₅ v w x y z behind (a, in_line, p) (b, in_1, q) (c, in_2, r) (d, in_3, s) (e, in_4, t) ends =
+part_of_five line r₁ r₂ r₃ r₄ r₅ v w x y z tail (a, in_line, p) (b, in_1, q) (c, in_2, r) (d, in_3, s) (e, in_4, t) ends =
     let s₀ = read_none line in
     let s₁ = sound_more line line r₁ a s₀.0 s₀.1 in_line in
     let s₂ = sound_more line r₁ r₂ b s₁.0 s₁.1 in_1 in
     let s₃ = sound_more line r₂ r₃ c s₂.0 s₂.1 in_2 in
     let s₄ = sound_more line r₃ r₄ d s₃.0 s₃.1 in_3 in
     let s₅ = sound_more line r₄ r₅ e s₄.0 s₄.1 in_4 in
-    ended line r₅ behind _ (a ∷ b ∷ c ∷ d ∷ e ∷ []) s₅.0 s₅.1 s₅.2
+    ended line r₅ tail _ (a ∷ b ∷ c ∷ d ∷ e ∷ []) s₅.0 s₅.1 s₅.2
     (record { count = refl; five = refl; each = λ k _. each_of_five a b c d e v w x y z p q r s t k }) ends

@@ -1,16 +1,16 @@
--- The bytes of written texts: digits hold no `,` and no `;`, and joined parts split again.
+-- The bytes of encoded texts: digits contain no `,` and no `;`, and joined parts split again.
 use Rattle.std.proofs.Common.{◌≡◌, ◌≢◌, ℕ, ◌==◌, true, false, cond, is_none, List, [], ◌∷◌, ◌++◌, Option, Some, None, ℤ, refl, sym, ap, subst, ◌∙◌, ◌⊎◌, ⊎_elim, arith}
 use Rattle.std.specs.List.{join_with_byte, slice_split, AllByRecursion}
 use Rattle.std.proofs.lemmas.Bool.{cases_eq}
 use Rattle.std.proofs.lemmas.Bool.Decides.{nat_tests}
 use Rattle.std.proofs.lemmas.List.Elements.{All-from_recursion}
 use Rattle.std.proofs.lemmas.List.Splits.{slice_split_none, slice_split_at}
-use Rattle.sourcemap_digits.specs.Vlq.{digit_value, IsChain, Spells}
-use Rattle.sourcemap_digits.specs.Bits.{first_foreign}
-use Rattle.sourcemap_digits.proofs.VlqLemmas.{IsGroup-nonempty}
+use Rattle.sourcemap_vlq.specs.Vlq.{digit_value, IsChain, Spells}
+use Rattle.sourcemap_vlq.specs.Bits.{first_non_digit}
+use Rattle.sourcemap_vlq.proofs.VlqLemmas.{IsGroup-nonempty}
 use Rattle.sourcemap_mappings.specs.Segment.{comma, semicolon}
 
--- the byte does not stand in the text
+-- the byte is not in the text
 abbrev pub IsFree : ℕ → List ℕ → Type 0
 IsFree c text = AllByRecursion (λ x. (x == c) ≡ false) text
 
@@ -18,7 +18,7 @@ pub IsFree-append : (c : ℕ) (xs ys : List ℕ) → IsFree c xs → IsFree c ys
 IsFree-append c [] ys fx fy = fy
 IsFree-append c (x ∷ xs) ys fx fy = (fx.0, IsFree-append c xs ys fx.1 fy)
 
--- a byte between the parts, `,` or `;`
+-- a separator, `,` or `;`
 abbrev pub IsMark : ℕ → Type 0
 IsMark c = (c ≡ comma) ⊎ (c ≡ semicolon)
 
@@ -54,15 +54,15 @@ pub Spells-nonempty : (n : ℤ) (ns : List ℤ) → Spells (n ∷ ns) [] → ⊥
 Spells-nonempty n ns ([], rest, short, is, more) = (let h = IsGroup-nonempty [] n short.is_group in omega arith)
 Spells-nonempty n ns (c ∷ cs, rest, short, is, more) = cc
 
-foreign_free : (c x : ℕ) (xs : List ℕ) (o : Option ℕ) → IsMark c → digit_value x ≡ o → cond (is_none o) (Some x) (first_foreign xs) ≡ None
-    → ((x == c) ≡ false) × (first_foreign xs ≡ None)
-foreign_free c x xs None mark digit h = absurd cc
-foreign_free c x xs (Some v) mark digit h = (no_mark c x v mark digit, h)
+non_digit_free : (c x : ℕ) (xs : List ℕ) (o : Option ℕ) → IsMark c → digit_value x ≡ o → cond (is_none o) (Some x) (first_non_digit xs) ≡ None
+    → ((x == c) ≡ false) × (first_non_digit xs ≡ None)
+non_digit_free c x xs None mark digit h = absurd cc
+non_digit_free c x xs (Some v) mark digit h = (no_mark c x v mark digit, h)
 
-pub digits_free : (c : ℕ) (text : List ℕ) → IsMark c → first_foreign text ≡ None → IsFree c text
+pub digits_free : (c : ℕ) (text : List ℕ) → IsMark c → first_non_digit text ≡ None → IsFree c text
 digits_free c [] mark h = tt
 digits_free c (x ∷ xs) mark h =
-    let both = foreign_free c x xs (digit_value x) mark refl h in
+    let both = non_digit_free c x xs (digit_value x) mark refl h in
     (both.0, digits_free c xs mark both.1)
 
 -- Joined parts.

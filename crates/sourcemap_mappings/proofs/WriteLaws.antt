@@ -1,12 +1,12 @@
--- Tokens have one text of mappings and one of range bits.
+-- Tokens have exactly one encoding as `mappings` and as `rangeMappings`.
 use Rattle.std.proofs.Common.{◌≡◌, ℕ, ◌+◌, List, [], ◌∷◌, ◌++◌, length, filter, map, Option, Some, None, refl, sym, ap, ◌∙◌, arith}
 use Rattle.std.specs.List.{join_with_byte}
-use Rattle.sourcemap_lists.specs.declared.tokens.RawToken.{RawToken}
-use Rattle.sourcemap_lists.specs.Tokens.{without_repeats}
+use Rattle.sourcemap_tokens.specs.declared.tokens.RawToken.{RawToken}
+use Rattle.sourcemap_tokens.specs.Tokens.{without_repeats}
 use Rattle.sourcemap_mappings.specs.Segment.{comma, semicolon}
 use Rattle.sourcemap_mappings.specs.Write.{is_on, is_above, base, numbers, AreSegments, IsLine, IsRangeLine, EachLine, LineByLine, IsWritten, IsRangeText}
-use Rattle.sourcemap_digits.proofs.VlqLemmas.{Spells-same}
-use Rattle.sourcemap_digits.proofs.BitLemmas.{IsBitText-same}
+use Rattle.sourcemap_vlq.proofs.VlqLemmas.{Spells-same}
+use Rattle.sourcemap_vlq.proofs.BitLemmas.{IsBitText-same}
 
 EachLine-same : (P : ℕ → List ℕ → Type 0) → ((m : ℕ) (a b : List ℕ) → P m a → P m b → a ≡ b)
     → (n : ℕ) (xs ys : List (List ℕ)) → length xs ≡ length ys → EachLine P n xs → EachLine P n ys → xs ≡ ys

@@ -1,7 +1,7 @@
--- What the writers of mappings keep.
+-- The steps of encoding together.
 use Rattle.std.proofs.Common.{◌≡◌, ℕ, List, [], ◌∷◌, ◌++◌, ℤ, Bool, true, false, cond, refl, sym, ap, subst, ◌∙◌, append_assoc, append-nil}
-use Rattle.sourcemap_digits.specs.Vlq.{Spells, IsShortest}
-use Rattle.sourcemap_lists.specs.declared.tokens.RawToken.{RawToken}
+use Rattle.sourcemap_vlq.specs.Vlq.{Spells, IsShortest}
+use Rattle.sourcemap_tokens.specs.declared.tokens.RawToken.{RawToken}
 use Rattle.sourcemap_mappings.specs.Write.{has_source, has_name, difference, numbers}
 use Rattle.sourcemap_mappings.specs.Buffer.{Adds}
 
@@ -20,7 +20,7 @@ Adds-join ms ns s t u x y = record {
 pub Spells-one : (n : ℤ) (digits : List ℕ) → IsShortest digits n → Spells (n ∷ []) digits
 Spells-one n digits short = (digits, [], short, sym (append-nil digits), refl)
 
--- the numbers of a token with a source, but its name's
+-- the numbers of a token with a source, except that of its name
 source_numbers : RawToken → RawToken → List ℤ
 source_numbers against t =
     difference t.dst_col against.dst_col

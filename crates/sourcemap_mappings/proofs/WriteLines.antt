@@ -1,9 +1,9 @@
--- A text of lines as it grows at the end.
+-- A text of lines that is extended at the end.
 use Rattle.std.proofs.Common.{◌≡◌, ℕ, ◌+◌, ◌-◌, ◌<◌, ◌≤◌, suc, zero, List, [], ◌∷◌, ◌++◌, length, replicate, refl, sym, ap, subst, ◌∙◌, ⊎_elim, append_assoc, append-nil, length-append, arith}
 use Rattle.std.specs.List.{join_with_byte}
 use Rattle.std.proofs.lemmas.Bool.{cases_lt}
 use Rattle.std.proofs.lemmas.List.{nil_from_length}
-use Rattle.sourcemap_lists.specs.declared.tokens.RawToken.{RawToken}
+use Rattle.sourcemap_tokens.specs.declared.tokens.RawToken.{RawToken}
 use Rattle.sourcemap_mappings.specs.Segment.{semicolon}
 use Rattle.sourcemap_mappings.specs.Write.{EachLine, LineByLine, line_count}
 
@@ -76,7 +76,7 @@ Ended-blank P line (suc k) text blank e =
     subst (λ (t : List ℕ). Ended P (line + suc k) t) (append_assoc text (semicolon ∷ []) (replicate k semicolon))
     (subst (λ (m : ℕ). Ended P m ((text ++ semicolon ∷ []) ++ replicate k semicolon)) (omega arith) rest)
 
--- past the part of this line, and then k blank lines
+-- the part of this line ended, and k blank lines
 Ended-turn_by : (P : ℕ → List ℕ → Type 0) (line k : ℕ) (text part : List ℕ) → ((m : ℕ) → line < m → P m [])
     → Ended P line text → P line part → Ended P (line + 1 + k) ((text ++ part) ++ replicate (suc k) semicolon)
 Ended-turn_by P line k text part blank e p =
@@ -85,7 +85,7 @@ Ended-turn_by P line k text part blank e p =
     (ap (λ t. t ++ replicate k semicolon) (sym (append_assoc text part (semicolon ∷ []))) ∙ append_assoc (text ++ part) (semicolon ∷ []) (replicate k semicolon))
     rest
 
--- past the part of this line to a later line
+-- from the part of this line to a later line
 pub Ended-turn : (P : ℕ → List ℕ → Type 0) (line n : ℕ) (text part : List ℕ) → line < n → ((m : ℕ) → line < m → P m [])
     → Ended P line text → P line part → Ended P n ((text ++ part) ++ replicate (n - line) semicolon)
 Ended-turn P line n text part h blank e p =
@@ -95,7 +95,7 @@ Ended-turn P line n text part h blank e p =
     (subst (λ (m : ℕ). Ended P m ((text ++ part) ++ replicate (suc (n - line - 1)) semicolon)) at
     (Ended-turn_by P line (n - line - 1) text part blank e p))
 
--- with the part of the last line the text is whole
+-- with the part of the last line the text is complete
 pub Ended-last : (P : ℕ → List ℕ → Type 0) (line : ℕ) (text part : List ℕ) (tokens : List RawToken)
     → line + 1 ≡ line_count tokens → Ended P line text → P line part → LineByLine P tokens (text ++ part)
 Ended-last P line text part tokens at e p =
@@ -106,7 +106,7 @@ Ended-last P line text part tokens at e p =
       ap (λ t. t ++ part) e.is ∙ sym (join_ended e.parts part),
     )
 
--- A text that has come to a line.
+-- A text that has reached a line.
 
 pub record Reached (P : ℕ → List ℕ → Type 0) (line : ℕ) (text : List ℕ) : Type 0 where
   pub above : List ℕ

@@ -1,15 +1,15 @@
--- The text of range bits as it grows by one token.
+-- The encoded range flags after one more token.
 use Rattle.std.proofs.Common.{◌≡◌, ℕ, ◌+◌, ◌-◌, ◌%◌, ◌<◌, ◌==◌, Bool, true, false, List, [], ◌∷◌, ◌++◌, map, filter, replicate, Option, Some, None, refl, sym, ap, subst, ◌∙◌, arith}
 use Rattle.std.specs.Option.{option_map_or}
 use Rattle.std.proofs.lemmas.List.{map-append}
 use Rattle.std.proofs.lemmas.Nat.Bits.{bit_at-zero}
-use Rattle.sourcemap_lists.specs.declared.tokens.RawToken.{RawToken}
-use Rattle.sourcemap_digits.specs.Bits.{bit_of, IsBitText}
-use Rattle.sourcemap_lists.specs.Tokens.{without_repeats}
+use Rattle.sourcemap_tokens.specs.declared.tokens.RawToken.{RawToken}
+use Rattle.sourcemap_vlq.specs.Bits.{bit_of, IsBitText}
+use Rattle.sourcemap_tokens.specs.Tokens.{without_repeats}
 use Rattle.sourcemap_mappings.specs.Segment.{semicolon}
 use Rattle.sourcemap_mappings.specs.Write.{is_on, IsRangeLine, LineByLine}
 use Rattle.sourcemap_mappings.specs.WriteSteps.{repeats}
-use Rattle.sourcemap_digits.proofs.BitLemmas.{IsBitText-same}
+use Rattle.sourcemap_vlq.proofs.BitLemmas.{IsBitText-same}
 use Rattle.sourcemap_mappings.proofs.WriteTokens.{UpTo, none_on, filter_push_no, filter_push_yes, on_yes, on_no}
 use Rattle.sourcemap_mappings.proofs.WriteWalk.{Walked, same_list, more_list, count_is}
 use Rattle.sourcemap_mappings.proofs.WriteLines.{Ended, Ended-none, Ended-map, Ended-turn, Ended-last, Ended-zero}
@@ -69,12 +69,12 @@ pub Ranging-end : (line : ℕ) (tokens : List RawToken) (previous : Option RawTo
     → IsBitText flags bits → Walked line tokens previous → Ranging line (without_repeats tokens) text flags
     → LineByLine (IsRangeLine (without_repeats tokens)) tokens (text ++ bits)
 Ranging-end line tokens None text bits flags is w r =
-    let no_flags : flags ≡ [] = r.flags_are ∙ ap (λ ts. map (λ t. t.is_range) (filter (is_on line) ts)) w.stands.1 in
+    let no_flags : flags ≡ [] = r.flags_are ∙ ap (λ ts. map (λ t. t.is_range) (filter (is_on line) ts)) w.is_at_line.1 in
     let no_bits : bits ≡ [] = IsBitText-same [] bits [] (subst (λ (fs : List Bool). IsBitText fs bits) no_flags is) IsBitText-nil in (
       [],
       sym (ap (λ o. option_map_or (λ t. t.dst_line + 1) o 0) (sym w.last)),
       tt,
-      ap (λ t. t ++ bits) (Ended-zero (IsRangeLine (without_repeats tokens)) line text w.stands.0 r.ended) ∙ no_bits,
+      ap (λ t. t ++ bits) (Ended-zero (IsRangeLine (without_repeats tokens)) line text w.is_at_line.0 r.ended) ∙ no_bits,
     )
 Ranging-end line tokens (Some p) text bits flags is w r =
     Ended-last (IsRangeLine (without_repeats tokens)) line text bits tokens (count_is line tokens p w) r.ended

@@ -1,17 +1,17 @@
--- What was written reads back.
+-- Decoding the encoded texts gives the tokens back.
 use Rattle.std.proofs.Common.{◌≡◌, ℕ, ◌+◌, ◌^◌, ◌||◌, ◌<◌, ◌≤◌, suc, zero, Bool, true, false, cond, List, [], ◌∷◌, ◌++◌, length, map, filter, Option, Some, None, Ok, refl, sym, ap, subst, ◌∙◌, inl, inr, append_assoc, append-nil, arith, add-zero, zero-add}
 use Rattle.std.specs.List.{join_with_byte, AllByRecursion, slice_index_or, last_or, list_any}
 use Rattle.std.specs.Option.{option_map_or}
 use Rattle.std.proofs.lemmas.List.{map-append, nil_from_length}
 use Rattle.std.proofs.lemmas.Bool.Decides.{nat_tests}
-use Rattle.sourcemap_lists.specs.declared.tokens.RawToken.{RawToken}
-use Rattle.sourcemap_lists.specs.Tokens.{AreInOrder, AllWithin, IsWithin, with_sound_name, without_repeats, reduced, in_order}
-use Rattle.sourcemap_digits.specs.Bits.{bit_of, first_foreign}
+use Rattle.sourcemap_tokens.specs.declared.tokens.RawToken.{RawToken}
+use Rattle.sourcemap_tokens.specs.Tokens.{AreInOrder, AllWithin, IsWithin, with_valid_name, without_repeats, reduced, in_order}
+use Rattle.sourcemap_vlq.specs.Bits.{bit_of, first_non_digit}
 use Rattle.sourcemap_mappings.specs.Segment.{Segment, sum_at, comma, semicolon, parts_of}
 use Rattle.sourcemap_mappings.specs.Read.{Line, LineText, line_tokens, page_tokens, PartsRead, LineRead, LinesRead, beside, line_texts, MappingsAnswer, lines_of}
 use Rattle.sourcemap_mappings.specs.Write.{is_on, is_above, last_field, base, numbers, AreSegments, IsLine, IsRangeLine, EachLine, LineByLine, line_count, IsWritten, IsRangeText}
-use Rattle.sourcemap_lists.proofs.TokensLemmas.{All-without_repeats, in_order-ordered, AreInOrder-reduced}
-use Rattle.sourcemap_digits.proofs.VlqLemmas.{Spells-Reads}
+use Rattle.sourcemap_tokens.proofs.TokensLemmas.{All-without_repeats, in_order-ordered, AreInOrder-reduced}
+use Rattle.sourcemap_vlq.proofs.VlqLemmas.{Spells-Reads}
 use Rattle.sourcemap_mappings.proofs.WriteTokens.{Rises, above_more, last_field-push_yes, on_yes}
 use Rattle.sourcemap_mappings.proofs.WriteSums.{IsSound, IsSmall, all_sound_from, segment_of, Carries, Carries-none, Carries-more, column_more, segment_sound, token_back}
 use Rattle.sourcemap_mappings.proofs.WriteRanges.{no_bit}
@@ -19,7 +19,7 @@ use Rattle.sourcemap_mappings.proofs.WriteBytes.{IsFree, IsMark, Spells-free, Sp
 
 -- Segments of a line.
 
--- the segments of some tokens of a line, behind the tokens `before`, of which the first has this place
+-- the segments of some tokens of a line, after the tokens `before`, of which the first has this index
 segments_of : ℕ → ℕ → List RawToken → List RawToken → List Segment
 segments_of names at before [] = []
 segments_of names at before (t ∷ ts) = segment_of names at before t ∷ segments_of names (at + 1) (before ++ t ∷ []) ts
@@ -53,14 +53,14 @@ carries_line sources names at before (t ∷ ts) all few few_names sound c =
     subst (λ (us : List RawToken). Carries names us (all ++ s ∷ later)) (append_assoc before (t ∷ []) ts)
     (subst (λ (ss : List Segment). Carries names ((before ++ t ∷ []) ++ ts) ss) (append_assoc all (s ∷ []) later) rest)
 
--- the bits of a text from this place on are the range flags
+-- the bits of a text from this index on are the range flags
 Flags : List ℕ → ℕ → List RawToken → Type 0
 Flags bits at ts = (k : ℕ) → k < length ts → bit_of bits (at + k) ≡ slice_index_or (map (λ t. t.is_range) ts) k false
 
 line_back : (sources names n at : ℕ) (bits : List ℕ) (before ts : List RawToken) (above here : List Segment)
     → sources < 2 ^ 32 → names < 2 ^ 32 → AllByRecursion (IsSound sources names) ts → AllByRecursion (λ t. n ≡ t.dst_line) ts
     → Flags bits at ts → sum_at 0 here ≡ last_field (is_on n) (λ t. t.dst_col) before → Carries names before (above ++ here)
-    → line_tokens n bits above here (segments_of names at before ts) ≡ map (with_sound_name names) ts
+    → line_tokens n bits above here (segments_of names at before ts) ≡ map (with_valid_name names) ts
 unfolding segments_of Flags
 line_back sources names n at bits before [] above here few few_names sound on flags column c = refl
 line_back sources names n at bits before (t ∷ ts) above here few few_names sound on flags column c =
@@ -78,7 +78,7 @@ line_back sources names n at bits before (t ∷ ts) above here few few_names sou
     col ∙ sym (last_field-push_yes (is_on n) (λ u. u.dst_col) before t (on_yes t.dst_line n (sym line))) in
     let rest = line_back sources names n (at + 1) bits (before ++ t ∷ []) ts above here' few few_names sound.1 on.1
     (λ k h. ap (bit_of bits) (omega arith) ∙ flags (suc k) (omega arith)) next more in
-    ap (λ u. u ∷ line_tokens n bits above here' (segments_of names (at + 1) (before ++ t ∷ []) ts)) first ∙ ap (λ us. with_sound_name names t ∷ us) rest
+    ap (λ u. u ∷ line_tokens n bits above here' (segments_of names (at + 1) (before ++ t ∷ []) ts)) first ∙ ap (λ us. with_valid_name names t ∷ us) rest
 
 -- Lists of tokens.
 
@@ -143,9 +143,9 @@ some_on names before (t ∷ ts) (p ∷ ps) c cs are e =
 
 -- the text of a line's range bits fits its tokens
 FitBits : List RawToken → ℕ → List ℕ → Type 0
-FitBits ts n bits = (first_foreign bits ≡ None) × Flags bits 0 (filter (is_on n) ts)
+FitBits ts n bits = (first_non_digit bits ≡ None) × Flags bits 0 (filter (is_on n) ts)
 
--- of an empty line the bits are not read
+-- the bits of an empty line are ignored
 bits_of : List ℕ → List ℕ → List ℕ
 bits_of [] bits = []
 bits_of (c ∷ cs) bits = bits
@@ -181,7 +181,7 @@ line_read sources names n ts all (x ∷ xs) bits few few_names sound c line fit 
 line_tokens_back : (sources names n : ℕ) (ts : List RawToken) (all : List Segment) (part bits : List ℕ)
     → sources < 2 ^ 32 → names < 2 ^ 32 → AllByRecursion (IsSound sources names) ts → Carries names (filter (is_above n) ts) all
     → IsLine names ts n part → FitBits ts n bits
-    → line_tokens n (bits_of part bits) all [] (segments_of names 0 (filter (is_above n) ts) (filter (is_on n) ts)) ≡ map (with_sound_name names) (filter (is_on n) ts)
+    → line_tokens n (bits_of part bits) all [] (segments_of names 0 (filter (is_above n) ts) (filter (is_on n) ts)) ≡ map (with_valid_name names) (filter (is_on n) ts)
 unfolding FitBits bits_of Flags
 line_tokens_back sources names n ts all part bits few few_names sound c line fit =
     line_back sources names n 0 (bits_of part bits) (filter (is_above n) ts) (filter (is_on n) ts) all [] few few_names
@@ -224,24 +224,24 @@ page_read sources names n ts all ((part, bits) ∷ texts) few few_names sound ri
 page_back : (sources names n : ℕ) (ts : List RawToken) (all : List Segment) (texts : List LineText)
     → sources < 2 ^ 32 → names < 2 ^ 32 → AllByRecursion (IsSound sources names) ts → Rises ts → Carries names (filter (is_above n) ts) all
     → EachText (IsLine names ts) (FitBits ts) n texts
-    → map (with_sound_name names) (filter (is_above n) ts) ++ page_tokens n all (page_of names ts n texts)
-    ≡ map (with_sound_name names) (filter (is_above (n + length texts)) ts)
+    → map (with_valid_name names) (filter (is_above n) ts) ++ page_tokens n all (page_of names ts n texts)
+    ≡ map (with_valid_name names) (filter (is_above (n + length texts)) ts)
 unfolding EachText page_of line_of
 page_back sources names n ts all [] few few_names sound rises c each =
-    append-nil (map (with_sound_name names) (filter (is_above n) ts)) ∙ ap (λ m. map (with_sound_name names) (filter (is_above m) ts)) (sym (add-zero n))
+    append-nil (map (with_valid_name names) (filter (is_above n) ts)) ∙ ap (λ m. map (with_valid_name names) (filter (is_above m) ts)) (sym (add-zero n))
 page_back sources names n ts all ((part, bits) ∷ texts) few few_names sound rises c each =
-    let sounded = map (with_sound_name names) in
+    let sounded = map (with_valid_name names) in
     let above = filter (is_above n) ts in
     let on = filter (is_on n) ts in
     let segments = segments_of names 0 above on in
     let later = page_tokens (n + 1) (all ++ segments) (page_of names ts (n + 1) texts) in
     let line = line_tokens_back sources names n ts all part bits few few_names sound c each.0 each.1 in
     let count : n + 1 + length texts ≡ n + suc (length texts) = omega arith in
-    ap (λ us. map (with_sound_name names) above ++ (us ++ later)) line
-    ∙ sym (append_assoc (map (with_sound_name names) above) (map (with_sound_name names) on) later)
-    ∙ ap (λ us. us ++ later) (sym (map-append (with_sound_name names) above on) ∙ ap (map (with_sound_name names)) (sym (above_more n ts rises)))
+    ap (λ us. map (with_valid_name names) above ++ (us ++ later)) line
+    ∙ sym (append_assoc (map (with_valid_name names) above) (map (with_valid_name names) on) later)
+    ∙ ap (λ us. us ++ later) (sym (map-append (with_valid_name names) above on) ∙ ap (map (with_valid_name names)) (sym (above_more n ts rises)))
     ∙ page_back sources names (n + 1) ts (all ++ segments) texts few few_names sound rises (next_carries sources names n ts all few few_names sound rises c) each.2
-    ∙ ap (λ m. map (with_sound_name names) (filter (is_above m) ts)) count
+    ∙ ap (λ m. map (with_valid_name names) (filter (is_above m) ts)) count
 
 -- Whole texts.
 
@@ -332,7 +332,7 @@ texts_fit names tokens text (Some bits) some written is =
     each_beside (IsLine names ts) (FitBits ts) 0 (lines_of text) (lines_of bits) lines.0 fit
     (λ m h k. absurd (omega (arith, lines.1, ranges.1)))
 
--- the texts of tokens in order stand for what is left of them
+-- the texts of sorted tokens decode to the reduced list
 pub reads_back : (sources names : ℕ) (tokens : List RawToken) (text : List ℕ) (ranges : Option (List ℕ))
     → sources < 2 ^ 32 → names < 2 ^ 32 → AreInOrder tokens → AllWithin sources names tokens → AllByRecursion IsSmall (without_repeats tokens)
     → Rises (without_repeats tokens) → filter (is_above (line_count tokens)) (without_repeats tokens) ≡ without_repeats tokens
@@ -355,8 +355,8 @@ reads_back sources names (t ∷ rest) text ranges few few_names order within sma
     let lines = lines_split (IsLine names ts) tokens text some (IsLine-free names ts) written in
     let count : 0 + length texts ≡ line_count tokens = zero-add (length texts) ∙ length_beside (lines_of text) (lines_of (range_text ranges)) ∙ lines.1 in
     let all_back : page_tokens 0 [] (page_of names ts 0 texts) ≡ reduced names tokens =
-    ap (λ us. map (with_sound_name names) us ++ page_tokens 0 [] (page_of names ts 0 texts)) (sym (none_above_first ts))
-    ∙ back ∙ ap (λ m. map (with_sound_name names) (filter (is_above m) ts)) count ∙ ap (map (with_sound_name names)) upto in (
+    ap (λ us. map (with_valid_name names) us ++ page_tokens 0 [] (page_of names ts 0 texts)) (sym (none_above_first ts))
+    ∙ back ∙ ap (λ m. map (with_valid_name names) (filter (is_above m) ts)) count ∙ ap (map (with_valid_name names)) upto in (
       page_of names ts 0 texts,
       page_read sources names 0 ts [] texts few few_names all_sound rises begun each,
       sym (in_order-ordered (reduced names tokens) (AreInOrder-reduced names tokens order)) ∙ ap in_order (sym all_back),

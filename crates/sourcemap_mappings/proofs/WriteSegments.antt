@@ -1,21 +1,21 @@
--- The text of mappings as it grows by one token.
+-- The encoded text after one more token.
 use Rattle.std.proofs.Common.{◌≡◌, ◌≢◌, ℕ, ◌+◌, ◌-◌, ◌<◌, ◌≤◌, Bool, true, false, cond, List, [], ◌∷◌, ◌++◌, replicate, filter, Option, Some, None, refl, sym, ap, subst, ◌∙◌, ⊎_elim, append_assoc, append-nil, arith}
 use Rattle.std.specs.List.{join_with_byte, last_or, AllByRecursion}
 use Rattle.std.specs.Option.{option_map_or}
 use Rattle.std.proofs.lemmas.Bool.{cases_lt, cases_eq}
-use Rattle.sourcemap_lists.specs.declared.tokens.RawToken.{RawToken}
-use Rattle.sourcemap_lists.specs.Tokens.{without_repeats}
-use Rattle.sourcemap_digits.specs.Vlq.{Spells}
+use Rattle.sourcemap_tokens.specs.declared.tokens.RawToken.{RawToken}
+use Rattle.sourcemap_tokens.specs.Tokens.{without_repeats}
+use Rattle.sourcemap_vlq.specs.Vlq.{Spells}
 use Rattle.sourcemap_mappings.specs.Segment.{comma, semicolon}
 use Rattle.sourcemap_mappings.specs.Write.{is_on, is_above, has_source, has_name, last_field, base, numbers, AreSegments, IsLine, IsWritten}
 use Rattle.sourcemap_mappings.specs.Buffer.{Adds}
 use Rattle.sourcemap_mappings.specs.WriteSteps.{repeats, gap, at_line, next_base}
 use Rattle.sourcemap_mappings.proofs.WriteSums.{IsSmall}
 use Rattle.sourcemap_mappings.proofs.WriteTokens.{UpTo, Rises, all_push, cut_at, none_on, filter_push_no, filter_push_yes, last_field-push_no, last_field-push_yes, on_yes, on_no, below_no}
-use Rattle.sourcemap_mappings.proofs.WriteWalk.{Stands, Walked, Walked-none, Walked-repeat, Walked-more, same_list, more_list, upto_next, count_is}
+use Rattle.sourcemap_mappings.proofs.WriteWalk.{IsAtLine, Walked, Walked-none, Walked-repeat, Walked-more, same_list, more_list, upto_next, count_is}
 use Rattle.sourcemap_mappings.proofs.WriteLines.{Reached, Reached-turn, Reached-more, Reached-last, Ended-none, Ended-zero}
 
--- What segments are taken against.
+-- What segments are relative to.
 
 field_by : (p : RawToken → Bool) (f : RawToken → ℕ) (ts : List RawToken) (t : RawToken)
     → cond (p t) (f t) (last_field p f ts) ≡ last_field p f (ts ++ t ∷ [])
@@ -31,7 +31,7 @@ moved_base names ts t =
     sym (last_field-push_yes (is_on t.dst_line) (λ u. u.dst_col) ts t (on_yes t.dst_line t.dst_line refl)) in
     let id = field_by has_source (λ u. u.src_id) ts t in
     let line = field_by has_source (λ u. u.src_line) ts t in
-    let place = field_by has_source (λ u. u.src_col) ts t in
+    let index = field_by has_source (λ u. u.src_col) ts t in
     let name = field_by (has_name names) (λ u. u.name_id) ts t in
     cc
 
@@ -84,14 +84,14 @@ join_push : (segments : List (List ℕ)) (s segment : List ℕ)
 join_push [] s segment = refl
 join_push (u ∷ us) s segment = ap (λ t. s ++ comma ∷ t) (join_push us u segment) ∙ sym (append_assoc s (comma ∷ join_with_byte comma (u ∷ us)) (comma ∷ segment))
 
--- a comma where the line has tokens
-pub comma_behind : List RawToken → List ℕ
-comma_behind [] = []
-comma_behind (t ∷ ts) = comma ∷ []
+-- a comma if the line has tokens
+pub comma_tail : List RawToken → List ℕ
+comma_tail [] = []
+comma_tail (t ∷ ts) = comma ∷ []
 
 joined_more : (names : ℕ) (before ts : List RawToken) (segments : List (List ℕ)) (segment : List ℕ) → AreSegments names before ts segments
-    → join_with_byte comma (segments ++ segment ∷ []) ≡ join_with_byte comma segments ++ (comma_behind ts ++ segment)
-unfolding comma_behind
+    → join_with_byte comma (segments ++ segment ∷ []) ≡ join_with_byte comma segments ++ (comma_tail ts ++ segment)
+unfolding comma_tail
 joined_more names before [] [] segment are = refl
 joined_more names before [] (s ∷ segments) segment are = absurd cc
 joined_more names before (t ∷ ts) [] segment are = absurd are
@@ -99,7 +99,7 @@ joined_more names before (t ∷ ts) (s ∷ segments) segment are = join_push seg
 
 pub IsLine-more : (names : ℕ) (ts : List RawToken) (t : RawToken) (part segment : List ℕ) → Rises ts → UpTo t.dst_line ts
     → Spells (numbers names (base names t.dst_line ts) t) segment → IsLine names ts t.dst_line part
-    → IsLine names (ts ++ t ∷ []) t.dst_line (part ++ (comma_behind (filter (is_on t.dst_line) ts) ++ segment))
+    → IsLine names (ts ++ t ∷ []) t.dst_line (part ++ (comma_tail (filter (is_on t.dst_line) ts) ++ segment))
 IsLine-more names ts t part segment rises upto spelled line =
     let n = t.dst_line in
     let above = filter_push_no (is_above n) ts t (below_no n n (omega arith)) in
@@ -109,12 +109,12 @@ IsLine-more names ts t part segment rises upto spelled line =
       line.0 ++ segment ∷ [],
       subst (λ (us : List RawToken). AreSegments names us (filter (is_on n) (ts ++ t ∷ [])) (line.0 ++ segment ∷ [])) (sym above)
           (subst (λ (us : List RawToken). AreSegments names (filter (is_above n) ts) us (line.0 ++ segment ∷ [])) (sym on) are),
-      ap (λ x. x ++ (comma_behind (filter (is_on n) ts) ++ segment)) line.2 ∙ sym (joined_more names _ _ line.0 segment line.1),
+      ap (λ x. x ++ (comma_tail (filter (is_on n) ts) ++ segment)) line.2 ∙ sym (joined_more names _ _ line.0 segment line.1),
     )
 
--- What the writer of mappings knows.
+-- The invariant of encoding.
 
--- the text, and what the next segment is taken against, where `done` are the tokens so far and `previous` came last
+-- the text, and what the next segment is relative to, where `done` are the tokens so far and `previous` is the last
 pub record Writing (names : ℕ) (done : List RawToken) (previous : Option RawToken) (against : RawToken) (text : List ℕ) : Type 0 where
   pub walked : Walked against.dst_line done previous
   pub small : AllByRecursion IsSmall (without_repeats done)
@@ -140,37 +140,37 @@ Writing-repeat names done previous against text t e w =
       reached = subst (λ (ts : List RawToken). Reached (IsLine names ts) against.dst_line text) same w.reached;
     }
 
--- the ends of the lines up to a token's own, and a comma where that line has tokens
-gap_is : (line : ℕ) (ts : List RawToken) (previous : Option RawToken) (t : RawToken) → line ≤ t.dst_line → UpTo line ts → Stands line ts previous
-    → gap previous line t ≡ replicate (t.dst_line - line) semicolon ++ comma_behind (filter (is_on t.dst_line) ts)
-unfolding comma_behind
+-- the line ends up to a token's own line, and a comma if that line has tokens
+gap_is : (line : ℕ) (ts : List RawToken) (previous : Option RawToken) (t : RawToken) → line ≤ t.dst_line → UpTo line ts → IsAtLine line ts previous
+    → gap previous line t ≡ replicate (t.dst_line - line) semicolon ++ comma_tail (filter (is_on t.dst_line) ts)
+unfolding comma_tail
 gap_is line ts None t h u s =
     sym (append-nil (replicate (t.dst_line - line) semicolon))
-    ∙ ap (λ (us : List RawToken). replicate (t.dst_line - line) semicolon ++ comma_behind (filter (is_on t.dst_line) us)) (sym s.1)
+    ∙ ap (λ (us : List RawToken). replicate (t.dst_line - line) semicolon ++ comma_tail (filter (is_on t.dst_line) us)) (sym s.1)
 gap_is line ts (Some p) t h u s = ⊎_elim
     (λ (same : p.dst_line ≡ t.dst_line).
     let no_line : t.dst_line - line ≡ 0 = (let on : p.dst_line ≡ line = s.0 in omega arith) in
     let is_line : line ≡ t.dst_line = sym s.0 ∙ same in
     let full : filter (is_on t.dst_line) ts ≡ s.1.0 ∷ s.1.1 = subst (λ (n : ℕ). filter (is_on n) ts ≡ s.1.0 ∷ s.1.1) is_line s.1.2 in
     ap (λ b. cond b (comma ∷ []) (replicate (t.dst_line - line) semicolon)) (on_yes p.dst_line t.dst_line same)
-    ∙ ap (λ us. comma_behind us) (sym full)
-    ∙ ap (λ (k : ℕ). replicate k semicolon ++ comma_behind (filter (is_on t.dst_line) ts)) (sym no_line))
+    ∙ ap (λ us. comma_tail us) (sym full)
+    ∙ ap (λ (k : ℕ). replicate k semicolon ++ comma_tail (filter (is_on t.dst_line) ts)) (sym no_line))
     (λ (off : p.dst_line ≢ t.dst_line).
     let past : line < t.dst_line = (let on : p.dst_line ≡ line = s.0 in omega arith) in
     ap (λ b. cond b (comma ∷ []) (replicate (t.dst_line - line) semicolon)) (on_no p.dst_line t.dst_line off)
     ∙ sym (append-nil (replicate (t.dst_line - line) semicolon))
-    ∙ ap (λ us. replicate (t.dst_line - line) semicolon ++ comma_behind us) (sym (none_on line t.dst_line ts u past)))
+    ∙ ap (λ us. replicate (t.dst_line - line) semicolon ++ comma_tail us) (sym (none_on line t.dst_line ts u past)))
     (cases_eq p.dst_line t.dst_line)
 
 -- a gap and the segment of a token added
 grown : (names line : ℕ) (ts : List RawToken) (previous : Option RawToken) (t : RawToken) (text digits : List ℕ)
-    → line ≤ t.dst_line → Rises ts → UpTo line ts → Stands line ts previous
+    → line ≤ t.dst_line → Rises ts → UpTo line ts → IsAtLine line ts previous
     → Spells (numbers names (base names t.dst_line ts) t) digits → Reached (IsLine names ts) line text
     → Reached (IsLine names (ts ++ t ∷ [])) t.dst_line ((text ++ gap previous line t) ++ digits)
 grown names line ts previous t text digits h rises u s spelled r =
     let n = t.dst_line in
     let ends : List ℕ = replicate (n - line) semicolon in
-    let some_comma = comma_behind (filter (is_on n) ts) in
+    let some_comma = comma_tail (filter (is_on n) ts) in
     let upto = upto_next line n ts h u in
     let turned = Reached-turn (IsLine names ts) line n text h (λ m k. IsLine-blank names line m ts u k) r in
     let more = Reached-more (IsLine names ts) (IsLine names (ts ++ t ∷ [])) n (text ++ ends) (some_comma ++ digits)
@@ -197,7 +197,7 @@ Writing-more names done previous against text new t e h adds small w =
     let taken : at_line against n ≡ base names n ts = ap (λ (b : RawToken). at_line b n) w.against_is ∙ turned_base names line n ts h w.walked.upto in
     let spelled = subst (λ (b : RawToken). Spells (numbers names b t) adds.digits) taken adds.spelled in
     let reached = subst (λ (x : List ℕ). Reached (IsLine names (ts ++ t ∷ [])) n x) (sym adds.added)
-    (grown names line ts previous t text adds.digits h w.walked.rises w.walked.upto w.walked.stands spelled w.reached) in
+    (grown names line ts previous t text adds.digits h w.walked.rises w.walked.upto w.walked.is_at_line spelled w.reached) in
     let last_is = ap (λ (b : RawToken). next_base names b t) taken ∙ moved_base names ts t in
     record {
       walked = Walked-more line done previous t e h w.walked;
@@ -221,7 +221,7 @@ Writing-end names tokens None against text w = (
   [],
   sym (ap (λ o. option_map_or (λ t. t.dst_line + 1) o 0) (sym w.walked.last)),
   tt,
-  nothing_yet names against.dst_line (without_repeats tokens) text w.walked.stands.0 w.walked.stands.1 w.reached,
+  nothing_yet names against.dst_line (without_repeats tokens) text w.walked.is_at_line.0 w.walked.is_at_line.1 w.reached,
 )
 Writing-end names tokens (Some p) against text w =
     Reached-last (IsLine names (without_repeats tokens)) against.dst_line text tokens (count_is against.dst_line tokens p w.walked) w.reached

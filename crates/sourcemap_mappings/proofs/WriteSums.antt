@@ -1,4 +1,4 @@
--- The sums of what was written give the tokens back.
+-- The sums of the written numbers give the tokens back.
 use Rattle.std.proofs.Common.{◌≡◌, ℕ, ◌+◌, ◌-◌, ◌%◌, ◌^◌, ◌<◌, ◌≤◌, ◌==◌, ◌&&◌, nat_lt, nat_le, Bool, true, false, cond, List, [], ◌∷◌, ◌++◌, length, sum_by, Option, Some, None, ℤ, pos, unsigned_abs, refl, sym, ap, ◌∙◌, ⊎_elim, add-zero, arith, slice_get}
 use Rattle.std.specs.Option.{option_map_or}
 use Rattle.std.specs.List.{AllByRecursion}
@@ -7,14 +7,14 @@ use Rattle.std.proofs.lemmas.Bool.{cases_lt}
 use Rattle.std.proofs.lemmas.Bool.Decides.{nat_tests}
 use Rattle.std.proofs.lemmas.Int.{ints, int_rem_euclid_is}
 use Rattle.std.proofs.lemmas.List.Sums.{sum_by_push}
-use Rattle.sourcemap_lists.specs.declared.tokens.RawToken.{RawToken}
+use Rattle.sourcemap_tokens.specs.declared.tokens.RawToken.{RawToken}
 use Rattle.sourcemap_errors.specs.declared.errors.Error.{Error}
 use Rattle.sourcemap_errors.specs.declared.errors.Error.TheVariants.{BadSourceReference, BadNameReference}
-use Rattle.sourcemap_digits.specs.Bits.{bit_of}
-use Rattle.sourcemap_lists.specs.Tokens.{IsWithin, with_sound_name}
-use Rattle.sourcemap_mappings.specs.Segment.{Counts, Segment, step, sum_at, field, token_of, segment_fault}
+use Rattle.sourcemap_vlq.specs.Bits.{bit_of}
+use Rattle.sourcemap_tokens.specs.Tokens.{IsWithin, with_valid_name}
+use Rattle.sourcemap_mappings.specs.Segment.{Counts, Segment, step, sum_at, field, token_of, segment_error}
 use Rattle.sourcemap_mappings.specs.Write.{is_on, has_source, has_name, last_field, base, difference, numbers}
-use Rattle.sourcemap_mappings.specs.WriteSteps.{HasSmallPlaces}
+use Rattle.sourcemap_mappings.specs.WriteSteps.{HasSmallPositions}
 use Rattle.sourcemap_mappings.proofs.WriteLemmas.{numbers_by, numbers_are}
 use Rattle.sourcemap_mappings.proofs.WriteTokens.{last_field-push_no, last_field-push_yes}
 
@@ -30,7 +30,7 @@ delta_is a b ha hb = ap unsigned_abs (int_rem_euclid_is (difference a b) (pos (2
 undone : (a b total : ℕ) → a < 2 ^ 32 → total % 2 ^ 32 ≡ b → (total + (a + 2 ^ 32 - b) % 2 ^ 32) % 2 ^ 32 ≡ a
 undone a b total ha hb = omega arith
 
--- the step that a list of numbers has at k
+-- number k of a list as a step
 abbrev pub step_of : ℕ → List ℤ → ℕ
 step_of k ns = option_map_or delta (slice_get ns k) 0
 
@@ -47,7 +47,7 @@ sum_same k b all s was is =
 
 -- Tokens.
 
--- a token of a map of so many sources and names, in fields of 32 bits
+-- a token within the numbers of sources and names, with fields of 32 bits
 pub record IsSound (sources names : ℕ) (t : RawToken) : Type 0 where
   pub dst_line : t.dst_line < 2 ^ 32
   pub dst_col : t.dst_col < 2 ^ 32
@@ -57,7 +57,7 @@ pub record IsSound (sources names : ℕ) (t : RawToken) : Type 0 where
 
 -- the segment of a token
 abbrev pub segment_of : ℕ → ℕ → List RawToken → RawToken → Segment
-segment_of names place before t = record { place = place; numbers = numbers names (base names t.dst_line before) t }
+segment_of names index before t = record { index = index; numbers = numbers names (base names t.dst_line before) t }
 
 -- a token has no source, a source and no name, or both
 data Kind (names : ℕ) (t : RawToken) : Type 0 where
@@ -92,7 +92,7 @@ no_name names t s e = grind (arith, nat_tests)
 
 -- the fields of a token that are written have 32 bits
 abbrev pub IsSmall : RawToken → Type 0
-IsSmall t = (t.dst_line < 2 ^ 32) × HasSmallPlaces t
+IsSmall t = (t.dst_line < 2 ^ 32) × HasSmallPositions t
 
 sound_by : (sources names : ℕ) (t : RawToken) (b : Bool) → has_source t ≡ b → sources < 2 ^ 32 → IsWithin sources names t → IsSmall t → IsSound sources names t
 sound_by sources names t true source few within small = record {
@@ -106,7 +106,7 @@ sound_by sources names t false source few within small =
     let nothing : t.src_id ≡ 4294967295 = bare_is names t source in
     let fields = within (omega arith) in
     let no_line : t.src_line ≡ 4294967295 = fields.1 in
-    let no_place : t.src_col ≡ 4294967295 = fields.2 in
+    let no_column : t.src_col ≡ 4294967295 = fields.2 in
     record {
       dst_line = small.0;
       dst_col = small.1.0;
@@ -125,11 +125,11 @@ all_sound_from sources names (t ∷ ts) few within small =
 pub record Carries (names : ℕ) (before : List RawToken) (all : List Segment) : Type 0 where
   pub id : sum_at 1 all ≡ last_field has_source (λ t. t.src_id) before
   pub line : sum_at 2 all ≡ last_field has_source (λ t. t.src_line) before
-  pub place : sum_at 3 all ≡ last_field has_source (λ t. t.src_col) before
+  pub src_column : sum_at 3 all ≡ last_field has_source (λ t. t.src_col) before
   pub name : sum_at 4 all ≡ last_field (has_name names) (λ t. t.name_id) before
 
 pub Carries-none : (names : ℕ) → Carries names [] []
-Carries-none names = record { id = refl; line = refl; place = refl; name = refl }
+Carries-none names = record { id = refl; line = refl; src_column = refl; name = refl }
 
 pub Carries-more : (sources names at : ℕ) (before : List RawToken) (all : List Segment) (t : RawToken)
     → sources < 2 ^ 32 → names < 2 ^ 32 → IsSound sources names t → Carries names before all
@@ -149,7 +149,7 @@ Carries-more sources names at before all t few few_names sound c =
           record {
             id = sum_same 1 _ all s c.id (ap (step_of 1) ns) ∙ sym (last_field-push_no has_source (λ u. u.src_id) before t source);
             line = sum_same 2 _ all s c.line (ap (step_of 2) ns) ∙ sym (last_field-push_no has_source (λ u. u.src_line) before t source);
-            place = sum_same 3 _ all s c.place (ap (step_of 3) ns) ∙ sym (last_field-push_no has_source (λ u. u.src_col) before t source);
+            src_column = sum_same 3 _ all s c.src_column (ap (step_of 3) ns) ∙ sym (last_field-push_no has_source (λ u. u.src_col) before t source);
             name = sum_same 4 _ all s c.name (ap (step_of 4) ns) ∙ sym (last_field-push_no (has_name names) (λ u. u.name_id) before t name);
           }
       go (unnamed source name) =
@@ -158,7 +158,7 @@ Carries-more sources names at before all t few few_names sound c =
           record {
             id = sum_more 1 t.src_id _ all s (omega arith) c.id (ap (step_of 1) ns) ∙ sym (last_field-push_yes has_source (λ u. u.src_id) before t source);
             line = sum_more 2 t.src_line _ all s sound.src_line c.line (ap (step_of 2) ns) ∙ sym (last_field-push_yes has_source (λ u. u.src_line) before t source);
-            place = sum_more 3 t.src_col _ all s sound.src_col c.place (ap (step_of 3) ns) ∙ sym (last_field-push_yes has_source (λ u. u.src_col) before t source);
+            src_column = sum_more 3 t.src_col _ all s sound.src_col c.src_column (ap (step_of 3) ns) ∙ sym (last_field-push_yes has_source (λ u. u.src_col) before t source);
             name = sum_same 4 _ all s c.name (ap (step_of 4) ns) ∙ sym (last_field-push_no (has_name names) (λ u. u.name_id) before t name);
           }
       go (named source name) =
@@ -168,7 +168,7 @@ Carries-more sources names at before all t few few_names sound c =
           record {
             id = sum_more 1 t.src_id _ all s (omega arith) c.id (ap (step_of 1) ns) ∙ sym (last_field-push_yes has_source (λ u. u.src_id) before t source);
             line = sum_more 2 t.src_line _ all s sound.src_line c.line (ap (step_of 2) ns) ∙ sym (last_field-push_yes has_source (λ u. u.src_line) before t source);
-            place = sum_more 3 t.src_col _ all s sound.src_col c.place (ap (step_of 3) ns) ∙ sym (last_field-push_yes has_source (λ u. u.src_col) before t source);
+            src_column = sum_more 3 t.src_col _ all s sound.src_col c.src_column (ap (step_of 3) ns) ∙ sym (last_field-push_yes has_source (λ u. u.src_col) before t source);
             name = sum_more 4 t.name_id _ all s (omega arith) c.name (ap (step_of 4) ns) ∙ sym (last_field-push_yes (has_name names) (λ u. u.name_id) before t name);
           }
 
@@ -187,10 +187,10 @@ below_is m n h = grind (arith, nat_tests)
 below_not : (m n : ℕ) → n ≤ m → nat_lt m n ≡ false
 below_not m n h = grind (arith, nat_tests)
 
--- the segment of a token has no fault
+-- the segment of a token has no error
 pub segment_sound : (sources names at : ℕ) (before : List RawToken) (all : List Segment) (t : RawToken)
     → sources < 2 ^ 32 → IsSound sources names t → Carries names (before ++ t ∷ []) all
-    → segment_fault (record { sources = sources; names = names }) all (segment_of names at before t) ≡ None
+    → segment_error (record { sources = sources; names = names }) all (segment_of names at before t) ≡ None
 unfolding numbers_by
 segment_sound sources names at before all t few sound c =
     go (kind_of names t) where
@@ -200,34 +200,34 @@ segment_sound sources names at before all t few sound c =
       against : RawToken
       against = base names t.dst_line before
 
-      fault_of : List ℤ → Option Error
-      fault_of ns = segment_fault (record { sources = sources; names = names }) all (record { place = at; numbers = ns })
+      error_of : List ℤ → Option Error
+      error_of ns = segment_error (record { sources = sources; names = names }) all (record { index = at; numbers = ns })
 
-      known_source : has_source t ≡ true → nat_le sources (sum_at 1 all) ≡ false
-      known_source source =
+      valid_source : has_source t ≡ true → nat_le sources (sum_at 1 all) ≡ false
+      valid_source source =
           ap (nat_le sources) (c.id ∙ last_field-push_yes has_source (λ u. u.src_id) before t source)
           ∙ above_not sources t.src_id (source_is sources names t few sound source)
 
-      known_name : has_name names t ≡ true → nat_le names (sum_at 4 all) ≡ false
-      known_name name =
+      valid_name : has_name names t ≡ true → nat_le names (sum_at 4 all) ≡ false
+      valid_name name =
           ap (nat_le names) (c.name ∙ last_field-push_yes (has_name names) (λ u. u.name_id) before t name)
           ∙ above_not names t.name_id (name_is names t name)
 
-      go : Kind names t → segment_fault (record { sources = sources; names = names }) all (segment_of names at before t) ≡ None
-      go (bare source name) = ap (λ ns. fault_of ns) (numbers_are names against t false false source name)
+      go : Kind names t → segment_error (record { sources = sources; names = names }) all (segment_of names at before t) ≡ None
+      go (bare source name) = ap (λ ns. error_of ns) (numbers_are names against t false false source name)
       go (unnamed source name) =
-          ap (λ ns. fault_of ns) (numbers_are names against t true false source name)
-          ∙ ap (λ b. cond b (Some (BadSourceReference (sum_at 1 all))) None) (known_source source)
+          ap (λ ns. error_of ns) (numbers_are names against t true false source name)
+          ∙ ap (λ b. cond b (Some (BadSourceReference (sum_at 1 all))) None) (valid_source source)
       go (named source name) =
-          ap (λ ns. fault_of ns) (numbers_are names against t true true source name)
-          ∙ ap (λ b. cond b (Some (BadSourceReference (sum_at 1 all))) (cond (nat_le names (sum_at 4 all)) (Some (BadNameReference (sum_at 4 all))) None)) (known_source source)
-          ∙ ap (λ b. cond b (Some (BadNameReference (sum_at 4 all))) None) (known_name name)
+          ap (λ ns. error_of ns) (numbers_are names against t true true source name)
+          ∙ ap (λ b. cond b (Some (BadSourceReference (sum_at 1 all))) (cond (nat_le names (sum_at 4 all)) (Some (BadNameReference (sum_at 4 all))) None)) (valid_source source)
+          ∙ ap (λ b. cond b (Some (BadNameReference (sum_at 4 all))) None) (valid_name name)
 
--- the token that a token's segment stands for
+-- the token that a token's segment decodes to
 pub token_back : (sources names n at : ℕ) (bits : List ℕ) (before : List RawToken) (here all : List Segment) (t : RawToken)
     → sources < 2 ^ 32 → IsSound sources names t → n ≡ t.dst_line → bit_of bits at ≡ t.is_range
     → sum_at 0 here ≡ t.dst_col → Carries names (before ++ t ∷ []) all
-    → token_of n bits here all (segment_of names at before t) ≡ with_sound_name names t
+    → token_of n bits here all (segment_of names at before t) ≡ with_valid_name names t
 unfolding numbers_by
 token_back sources names n at bits before here all t few sound on bit column c =
     go (kind_of names t) where
@@ -246,17 +246,17 @@ token_back sources names n at bits before here all t few sound on bit column c =
       line_is : has_source t ≡ true → sum_at 2 all ≡ t.src_line
       line_is source = c.line ∙ last_field-push_yes has_source (λ u. u.src_line) before t source
 
-      place_is : has_source t ≡ true → sum_at 3 all ≡ t.src_col
-      place_is source = c.place ∙ last_field-push_yes has_source (λ u. u.src_col) before t source
+      src_column_is : has_source t ≡ true → sum_at 3 all ≡ t.src_col
+      src_column_is source = c.src_column ∙ last_field-push_yes has_source (λ u. u.src_col) before t source
 
-      go : Kind names t → token_of n bits here all (segment_of names at before t) ≡ with_sound_name names t
+      go : Kind names t → token_of n bits here all (segment_of names at before t) ≡ with_valid_name names t
       go (bare source name) =
           let ns = numbers_are names against t false false source name in
           let nothing : t.src_id ≡ 4294967295 = bare_is names t source in
           let within = sound.within (omega arith) in
           let id : field 1 all s ≡ t.src_id = ap (λ ns. field_of 1 ns) ns ∙ sym within.0 in
           let line : field 2 all s ≡ t.src_line = ap (λ ns. field_of 2 ns) ns ∙ sym within.1 in
-          let place : field 3 all s ≡ t.src_col = ap (λ ns. field_of 3 ns) ns ∙ sym within.2 in
+          let src_column : field 3 all s ≡ t.src_col = ap (λ ns. field_of 3 ns) ns ∙ sym within.2 in
           let no_such : nat_lt t.name_id names ≡ false = below_not t.name_id names within.3 in
           let id' : field 4 all s ≡ cond (nat_lt t.name_id names) t.name_id 4294967295 =
           ap (λ ns. field_of 4 ns) ns ∙ sym (ap (λ b. cond b t.name_id 4294967295) no_such) in
@@ -265,7 +265,7 @@ token_back sources names n at bits before here all t few sound on bit column c =
           let ns = numbers_are names against t true false source name in
           let id : field 1 all s ≡ t.src_id = ap (λ ns. field_of 1 ns) ns ∙ id_is source in
           let line : field 2 all s ≡ t.src_line = ap (λ ns. field_of 2 ns) ns ∙ line_is source in
-          let place : field 3 all s ≡ t.src_col = ap (λ ns. field_of 3 ns) ns ∙ place_is source in
+          let src_column : field 3 all s ≡ t.src_col = ap (λ ns. field_of 3 ns) ns ∙ src_column_is source in
           let no_such : nat_lt t.name_id names ≡ false = below_not t.name_id names (no_name names t source name) in
           let id' : field 4 all s ≡ cond (nat_lt t.name_id names) t.name_id 4294967295 =
           ap (λ ns. field_of 4 ns) ns ∙ sym (ap (λ b. cond b t.name_id 4294967295) no_such) in
@@ -274,7 +274,7 @@ token_back sources names n at bits before here all t few sound on bit column c =
           let ns = numbers_are names against t true true source name in
           let id : field 1 all s ≡ t.src_id = ap (λ ns. field_of 1 ns) ns ∙ id_is source in
           let line : field 2 all s ≡ t.src_line = ap (λ ns. field_of 2 ns) ns ∙ line_is source in
-          let place : field 3 all s ≡ t.src_col = ap (λ ns. field_of 3 ns) ns ∙ place_is source in
+          let src_column : field 3 all s ≡ t.src_col = ap (λ ns. field_of 3 ns) ns ∙ src_column_is source in
           let such : nat_lt t.name_id names ≡ true = below_is t.name_id names (name_is names t name) in
           let name_back : sum_at 4 all ≡ t.name_id = c.name ∙ last_field-push_yes (has_name names) (λ u. u.name_id) before t name in
           let id' : field 4 all s ≡ cond (nat_lt t.name_id names) t.name_id 4294967295 =

@@ -1,12 +1,12 @@
--- Tokens by lines, and lists of tokens without repeats, as they grow at the end.
+-- Tokens by lines, and lists of tokens without repeats, after one more token.
 use Rattle.std.proofs.Common.{◌≡◌, ◌≢◌, ℕ, ◌+◌, ◌<◌, ◌≤◌, ◌==◌, nat_lt, Bool, true, false, cond, List, [], ◌∷◌, ◌++◌, filter, Option, Some, None, refl, sym, ap, subst, ◌∙◌, ⊎_elim, append-nil, arith}
 use Rattle.std.specs.List.{last_or, AllByRecursion}
 use Rattle.std.specs.Option.{option_map_or}
 use Rattle.std.proofs.lemmas.List.Elements.{filter-append}
 use Rattle.std.proofs.lemmas.Bool.{cases_lt, cases_eq}
 use Rattle.std.proofs.lemmas.Bool.Decides.{nat_tests}
-use Rattle.sourcemap_lists.specs.declared.tokens.RawToken.{RawToken}
-use Rattle.sourcemap_lists.specs.Tokens.{are_same, changes_after, without_repeats}
+use Rattle.sourcemap_tokens.specs.declared.tokens.RawToken.{RawToken}
+use Rattle.sourcemap_tokens.specs.Tokens.{are_same, changes_after, without_repeats}
 use Rattle.sourcemap_mappings.specs.Write.{is_on, is_above, last_field}
 use Rattle.sourcemap_mappings.specs.WriteSteps.{repeats}
 
@@ -79,15 +79,15 @@ same_line t p e = grind (arith, nat_tests)
 
 -- Lines.
 
--- no token stands past line n
+-- no token is after line n
 abbrev pub UpTo : ℕ → List RawToken → Type 0
 UpTo n ts = AllByRecursion (λ t. t.dst_line ≤ n) ts
 
--- no token stands above line n
+-- no token is above line n
 abbrev pub From : ℕ → List RawToken → Type 0
 From n ts = AllByRecursion (λ t. n ≤ t.dst_line) ts
 
--- lines never fall
+-- lines never decrease
 abbrev pub Rises : List RawToken → Type 0
 Rises [] = Unit {0}
 Rises (t ∷ ts) = From t.dst_line ts × Rises ts
@@ -170,6 +170,6 @@ pub above_more : (n : ℕ) (ts : List RawToken) → Rises ts → filter (is_abov
 above_more n [] r = refl
 above_more n (t ∷ ts) r = above_more_at n t ts r.0 (above_more n ts r.1)
 
--- where no token stands past line n, those above it and those on it are all
+-- if no token is after line n, the tokens above it and on it are all tokens
 pub cut_at : (n : ℕ) (ts : List RawToken) → Rises ts → UpTo n ts → filter (is_above n) ts ++ filter (is_on n) ts ≡ ts
 cut_at n ts r u = sym (above_more n ts r) ∙ all_above n ts u

@@ -1,30 +1,30 @@
--- A walk over tokens in order that leaves out repeats.
+-- A loop over sorted tokens that skips repeats.
 use Rattle.std.proofs.Common.{◌≡◌, ℕ, ◌+◌, ◌<◌, ◌≤◌, suc, zero, true, false, List, [], ◌∷◌, ◌++◌, length, take, get_or, filter, Option, Some, None, refl, sym, ap, subst, ◌∙◌, add-one, arith}
 use Rattle.std.specs.List.{last_or}
 use Rattle.std.specs.Option.{option_map_or}
 use Rattle.std.specs.Ordering.{is_lt}
 use Rattle.std.proofs.lemmas.List.{take_more}
 use Rattle.std.proofs.lemmas.Bool.Decides.{nat_tests}
-use Rattle.sourcemap_lists.specs.declared.tokens.RawToken.{RawToken}
-use Rattle.sourcemap_lists.specs.Tokens.{AreInOrder, position_cmp, destination, without_repeats}
+use Rattle.sourcemap_tokens.specs.declared.tokens.RawToken.{RawToken}
+use Rattle.sourcemap_tokens.specs.Tokens.{AreInOrder, position_cmp, destination, without_repeats}
 use Rattle.sourcemap_mappings.specs.Write.{is_on, is_above, line_count}
 use Rattle.sourcemap_mappings.specs.WriteSteps.{repeats}
 use Rattle.sourcemap_mappings.proofs.WriteTokens.{UpTo, Rises, Rises-push, all_push, all_weaker, all_above, filter_push_yes, last_or-push, without_repeats-repeat, without_repeats-more, same_line, on_yes}
 
--- the token before is on this line, and so is what was written last; without one nothing was written
-abbrev pub Stands : ℕ → List RawToken → Option RawToken → Type 0
-Stands line ts None = (line ≡ 0) × (ts ≡ [])
-Stands line ts (Some p) = (p.dst_line ≡ line) × ((u : RawToken) × (us : List RawToken) × (filter (is_on line) ts ≡ u ∷ us))
+-- the previous token and the last written one are on this line; without a previous token nothing was written
+abbrev pub IsAtLine : ℕ → List RawToken → Option RawToken → Type 0
+IsAtLine line ts None = (line ≡ 0) × (ts ≡ [])
+IsAtLine line ts (Some p) = (p.dst_line ≡ line) × ((u : RawToken) × (us : List RawToken) × (filter (is_on line) ts ≡ u ∷ us))
 
--- the walk has come to this line, and the token `previous` came last; `done` are the tokens so far
+-- the loop has reached this line; `done` are the tokens so far, `previous` is the last
 pub record Walked (line : ℕ) (done : List RawToken) (previous : Option RawToken) : Type 0 where
   pub rises : Rises (without_repeats done)
   pub upto : UpTo line (without_repeats done)
-  pub stands : Stands line (without_repeats done) previous
+  pub is_at_line : IsAtLine line (without_repeats done) previous
   pub last : previous ≡ last_or None done
 
 pub Walked-none : Walked 0 [] None
-Walked-none = record { rises = tt; upto = tt; stands = (refl, refl); last = refl }
+Walked-none = record { rises = tt; upto = tt; is_at_line = (refl, refl); last = refl }
 
 -- the list without repeats, at a repeat and at another token
 pub same_list : (line : ℕ) (done : List RawToken) (previous : Option RawToken) (t : RawToken) → repeats previous t ≡ true → Walked line done previous
@@ -35,10 +35,10 @@ pub more_list : (line : ℕ) (done : List RawToken) (previous : Option RawToken)
     → without_repeats done ++ t ∷ [] ≡ without_repeats (done ++ t ∷ [])
 more_list line done previous t e w = sym (without_repeats-more done t (subst (λ (o : Option RawToken). repeats o t ≡ false) w.last e))
 
-stands_repeat : (line : ℕ) (ts : List RawToken) (previous : Option RawToken) (t : RawToken) → repeats previous t ≡ true
-    → Stands line ts previous → Stands line ts (Some t)
-stands_repeat line ts None t e s = absurd cc
-stands_repeat line ts (Some p) t e s = (same_line t p e ∙ s.0, s.1)
+is_at_line_repeat : (line : ℕ) (ts : List RawToken) (previous : Option RawToken) (t : RawToken) → repeats previous t ≡ true
+    → IsAtLine line ts previous → IsAtLine line ts (Some t)
+is_at_line_repeat line ts None t e s = absurd cc
+is_at_line_repeat line ts (Some p) t e s = (same_line t p e ∙ s.0, s.1)
 
 pub Walked-repeat : (line : ℕ) (done : List RawToken) (previous : Option RawToken) (t : RawToken) → repeats previous t ≡ true
     → Walked line done previous → Walked line (done ++ t ∷ []) (Some t)
@@ -47,7 +47,7 @@ Walked-repeat line done previous t e w =
     record {
       rises = subst (λ (ts : List RawToken). Rises ts) same w.rises;
       upto = subst (λ (ts : List RawToken). UpTo line ts) same w.upto;
-      stands = subst (λ (ts : List RawToken). Stands line ts (Some t)) same (stands_repeat line (without_repeats done) previous t e w.stands);
+      is_at_line = subst (λ (ts : List RawToken). IsAtLine line ts (Some t)) same (is_at_line_repeat line (without_repeats done) previous t e w.is_at_line);
       last = sym (last_or-push None done t);
     }
 
@@ -69,7 +69,7 @@ Walked-more line done previous t e h w =
     record {
       rises = subst (λ (us : List RawToken). Rises us) more (Rises-push ts t w.rises upto);
       upto = subst (λ (us : List RawToken). UpTo n us) more (all_push (λ v. v.dst_line ≤ n) ts t upto (omega arith));
-      stands = (
+      is_at_line = (
         refl,
         subst (λ (us : List RawToken). (u : RawToken) × (vs : List RawToken) × (filter (is_on n) us ≡ u ∷ vs)) more
             (full.0, full.1, filter_push_yes (is_on n) ts t (on_yes n n refl) ∙ full.2),
@@ -83,11 +83,11 @@ line_from_order p q e = grind (arith, nat_tests)
 some_inj : (p q : RawToken) → Some p ≡ Some q → p ≡ q
 some_inj p q e = cc
 
--- the next token stands on the line of what the text has come to, or below it
+-- the next token is on the line that the text has reached, or below it
 pub next_line : (i line : ℕ) (tokens : List RawToken) (previous : Option RawToken) (t d : RawToken)
     → AreInOrder tokens → i < length tokens → t ≡ get_or tokens i d → Walked line (take i tokens) previous
     → line ≤ t.dst_line
-next_line i line tokens None t d order h at w = (let zero_line = w.stands.0 in omega arith)
+next_line i line tokens None t d order h at w = (let zero_line = w.is_at_line.0 in omega arith)
 next_line zero line tokens (Some p) t d order h at w = absurd (let last = w.last in cc)
 next_line (suc k) line tokens (Some p) t d order h at w =
     let before = get_or tokens k d in
@@ -97,18 +97,18 @@ next_line (suc k) line tokens (Some p) t d order h at w =
     let is : p ≡ before = some_inj p before (w.last ∙ last) in
     let sorted = line_from_order (destination before) (destination (get_or tokens (k + 1) d)) (order k d (omega arith) (omega arith)) in
     let here : get_or tokens (k + 1) d ≡ t = ap (λ (n : ℕ). get_or tokens n d) (add-one k) ∙ sym at in
-    let on : p.dst_line ≡ line = w.stands.0 in
-    let its_place : p.dst_line ≡ before.dst_line = ap (λ (u : RawToken). u.dst_line) is in
+    let on : p.dst_line ≡ line = w.is_at_line.0 in
+    let its_row : p.dst_line ≡ before.dst_line = ap (λ (u : RawToken). u.dst_line) is in
     let its_line : (get_or tokens (k + 1) d).dst_line ≡ t.dst_line = ap (λ (u : RawToken). u.dst_line) here in
     omega arith
 
--- the lines of what was written are those of the tokens
+-- the written lines are those of the tokens
 pub count_is : (line : ℕ) (tokens : List RawToken) (p : RawToken) → Walked line tokens (Some p) → line + 1 ≡ line_count tokens
-count_is line tokens p w = ap (λ n. n + 1) (sym w.stands.0) ∙ ap (λ o. option_map_or (λ t. t.dst_line + 1) o 0) w.last
+count_is line tokens p w = ap (λ n. n + 1) (sym w.is_at_line.0) ∙ ap (λ o. option_map_or (λ t. t.dst_line + 1) o 0) w.last
 
 pub all_lines : (line : ℕ) (tokens : List RawToken) (previous : Option RawToken) → Walked line tokens previous
     → filter (is_above (line_count tokens)) (without_repeats tokens) ≡ without_repeats tokens
-all_lines line tokens None w = ap (filter (is_above (line_count tokens))) w.stands.1 ∙ sym w.stands.1
+all_lines line tokens None w = ap (filter (is_above (line_count tokens))) w.is_at_line.1 ∙ sym w.is_at_line.1
 all_lines line tokens (Some p) w =
     ap (λ n. filter (is_above n) (without_repeats tokens)) (sym (count_is line tokens p w)) ∙ all_above line (without_repeats tokens) w.upto
 
@@ -116,4 +116,4 @@ pub Walked-repeat_here : (line : ℕ) (done : List RawToken) (previous : Option 
     → Walked line done previous → Walked t.dst_line (done ++ t ∷ []) (Some t)
 Walked-repeat_here line done previous t e w =
     let walked = Walked-repeat line done previous t e w in
-    subst (λ (n : ℕ). Walked n (done ++ t ∷ []) (Some t)) (sym walked.stands.0) walked
+    subst (λ (n : ℕ). Walked n (done ++ t ∷ []) (Some t)) (sym walked.is_at_line.0) walked

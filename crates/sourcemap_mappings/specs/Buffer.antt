@@ -1,13 +1,13 @@
--- What a buffer of digits is filled with.
+-- The digits in the buffer.
 use Rattle.std.specs.Prelude.{◌≡◌, ℕ, ◌+◌, ℤ, List, ◌++◌, nat_lt, if◌then◌else◌, ◌-◌, ◌*◌}
-use Rattle.sourcemap_digits.specs.Vlq.{Spells}
+use Rattle.sourcemap_vlq.specs.Vlq.{Spells}
 
--- the shortest digits of some numbers were added to a text
+-- the shortest digits of some numbers were appended to a text
 pub record Adds (numbers : List ℤ) (old new : List ℕ) : Type 0 where
   pub digits : List ℕ
   pub spelled : Spells numbers digits
   pub added : new ≡ old ++ digits
 
--- the raw value of the digits of a difference of numbers
+-- the raw value of the difference of two numbers
 abbrev pub raw_difference : ℕ → ℕ → ℕ
 raw_difference number against = if nat_lt number against then 2 * (against - number) + 1 else 2 * (number - against)

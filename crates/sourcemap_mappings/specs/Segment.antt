@@ -1,20 +1,20 @@
--- One part of a line of mappings as a segment: its numbers, the token that it stands for, and its
--- first fault. A part that is not empty is a segment and stands for one token.
+-- Segments: their numbers, the token of a segment, and its first error. Each part of a line that is
+-- not empty is a segment, which has one token.
 use Rattle.std.specs.Prelude.{ℕ, ◌%◌, ◌^◌, ℤ, pos, unsigned_abs, List, length, slice_get, sum_by, Option, Some, None, Bool, not, ◌&&◌, ◌||◌, ◌==◌, nat_lt, nat_le, min, if◌then◌else◌}
 use Rattle.std.specs.Option.{option_map_or}
 use Rattle.std.specs.List.{slice_split}
 use Rattle.std.specs.Int.{int_rem_euclid}
-use Rattle.sourcemap_lists.specs.declared.tokens.RawToken.{RawToken}
+use Rattle.sourcemap_tokens.specs.declared.tokens.RawToken.{RawToken}
 use Rattle.sourcemap_errors.specs.declared.errors.Error.{Error}
 use Rattle.sourcemap_errors.specs.declared.errors.Error.TheVariants.{BadSegmentSize, BadSourceReference, BadNameReference}
-use Rattle.sourcemap_digits.specs.Bits.{bit_of}
-use Rattle.sourcemap_lists.specs.Tokens.{no_id}
+use Rattle.sourcemap_vlq.specs.Bits.{bit_of}
+use Rattle.sourcemap_tokens.specs.Tokens.{no_id}
 
--- the byte that stands between the parts of a line
+-- the separator of the parts of a line
 abbrev pub comma : ℕ
 comma = 44
 
--- the byte that stands between lines
+-- the separator of lines
 abbrev pub semicolon : ℕ
 semicolon = 59
 
@@ -22,17 +22,17 @@ semicolon = 59
 abbrev pub parts_of : List ℕ → List (List ℕ)
 parts_of line = slice_split (λ b. b == comma) line
 
--- how many sources and names a map has
+-- the numbers of sources and names of a map
 pub record Counts : Type 0 where
   pub sources : ℕ
   pub names : ℕ
 
--- a segment: how many parts of its line stand before it, empty ones too, and its numbers
+-- a segment: its index among the parts of its line, of which empty ones count too, and its numbers
 pub record Segment : Type 0 where
-  pub place : ℕ
+  pub index : ℕ
   pub numbers : List ℤ
 
--- number k of a segment as a step modulo 2^32, no step where it is missing
+-- number k of a segment modulo 2^32, 0 if it is missing
 abbrev pub step : ℕ → Segment → ℕ
 step k s = option_map_or (λ z. unsigned_abs (int_rem_euclid z (pos (2 ^ 32)))) (slice_get s.numbers k) 0
 
@@ -43,11 +43,11 @@ sum_at k segments = sum_by (step k) segments % 2 ^ 32
 abbrev pub has_number : ℕ → Segment → Bool
 has_number k s = nat_lt k (length s.numbers)
 
--- a field of a token: a sum over the text, or the id that names nothing
+-- a field of a token: a sum over all segments so far, or `no_id`
 abbrev pub field : ℕ → List Segment → Segment → ℕ
 field k all s = if has_number k s then sum_at k all else no_id
 
--- the token of segment s of line n: `here` are the segments of its line up to it, `all` those of the text up to it
+-- the token of segment s of line n: `here` are the segments of its line up to s, `all` those of the text up to s
 abbrev pub token_of : ℕ → List ℕ → List Segment → List Segment → Segment → RawToken
 token_of n bits here all s = record {
   dst_line = n;
@@ -56,17 +56,17 @@ token_of n bits here all s = record {
   src_col = field 3 all s;
   src_id = field 1 all s;
   name_id = field 4 all s;
-  is_range = bit_of bits s.place;
+  is_range = bit_of bits s.index;
 }
 
--- Faults of one segment.
+-- Errors of one segment.
 
 abbrev pub is_size : ℕ → Bool
 is_size size = (size == 1) || (size == 4) || (size == 5)
 
--- the first fault of a segment's numbers, where `all` are the segments of the text up to it
-abbrev pub segment_fault : Counts → List Segment → Segment → Option Error
-segment_fault counts all s =
+-- the first error of a segment's numbers, where `all` are the segments of the text up to it
+abbrev pub segment_error : Counts → List Segment → Segment → Option Error
+segment_error counts all s =
     if not (is_size (length s.numbers)) then Some (BadSegmentSize (min (length s.numbers) 4294967295))
     else if has_number 1 s && nat_le counts.sources (sum_at 1 all) then Some (BadSourceReference (sum_at 1 all))
     else if has_number 4 s && nat_le counts.names (sum_at 4 all) then Some (BadNameReference (sum_at 4 all))

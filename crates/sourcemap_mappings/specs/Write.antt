@@ -1,12 +1,12 @@
--- The texts that a list of tokens is written as. Lines are joined by `;`, the segments of a line by
--- `,`. A token equal in all fields to the one before it is not written.
+-- The encoding of tokens as `mappings` and `rangeMappings`. Lines are joined by `;`, the segments of
+-- a line by `,`. A token equal in all fields to the one before it is not written.
 use Rattle.std.specs.Prelude.{◌≡◌, ℕ, ◌+◌, ℤ, pos, List, [], ◌∷◌, ◌++◌, length, Option, Some, None, Bool, not, ◌&&◌, ◌==◌, nat_lt, if◌then◌else◌, false, true, ◌-ℤ◌, filter, map}
 use Rattle.std.specs.Option.{option_map_or}
 use Rattle.std.specs.List.{join_with_byte, last_or, list_any}
-use Rattle.sourcemap_lists.specs.declared.tokens.RawToken.{RawToken}
-use Rattle.sourcemap_digits.specs.Vlq.{Spells}
-use Rattle.sourcemap_digits.specs.Bits.{IsBitText}
-use Rattle.sourcemap_lists.specs.Tokens.{without_repeats, no_id}
+use Rattle.sourcemap_tokens.specs.declared.tokens.RawToken.{RawToken}
+use Rattle.sourcemap_vlq.specs.Vlq.{Spells}
+use Rattle.sourcemap_vlq.specs.Bits.{IsBitText}
+use Rattle.sourcemap_tokens.specs.Tokens.{without_repeats, no_id}
 use Rattle.sourcemap_mappings.specs.Segment.{comma, semicolon}
 
 -- Lines.
@@ -17,16 +17,16 @@ is_on n t = t.dst_line == n
 abbrev pub is_above : ℕ → RawToken → Bool
 is_above n t = nat_lt t.dst_line n
 
--- how many lines the tokens take: those from 0 to the last token's
+-- the number of lines: those from 0 to that of the last token
 abbrev pub line_count : List RawToken → ℕ
 line_count tokens = option_map_or (λ t. t.dst_line + 1) (last_or None tokens) 0
 
--- the parts from line n on are each that of their line
+-- each part satisfies `IsPart` for its line, from line n on
 abbrev pub EachLine : (ℕ → List ℕ → Type 0) → ℕ → List (List ℕ) → Type 0
 EachLine IsPart n [] = Unit {0}
 EachLine IsPart n (part ∷ parts) = IsPart n part × EachLine IsPart (n + 1) parts
 
--- a text is a part for each line of the tokens
+-- a text consists of one part for each line of the tokens
 abbrev pub LineByLine : (ℕ → List ℕ → Type 0) → List RawToken → List ℕ → Type 0
 LineByLine IsPart tokens text =
     (parts : List (List ℕ)) × (length parts ≡ line_count tokens) × EachLine IsPart 0 parts × (text ≡ join_with_byte semicolon parts)
@@ -40,12 +40,12 @@ has_source t = not (t.src_id == no_id)
 abbrev pub has_name : ℕ → RawToken → Bool
 has_name names t = has_source t && nat_lt t.name_id names
 
--- a field of the last of some tokens that passes a test, 0 if none does
+-- a field of the last token that satisfies a test, 0 if none does
 abbrev pub last_field : (RawToken → Bool) → (RawToken → ℕ) → List RawToken → ℕ
 last_field passes field tokens = option_map_or field (last_or None (filter passes tokens)) 0
 
--- what the next token on line n is written against, behind the tokens `before`: the column of the last one on its
--- line, the source of the last one with a source, the name of the last one with a name
+-- what the next token on line n is relative to, after the tokens `before`: the column of the last one on its line,
+-- the original position of the last one with a source, the name of the last one with a name
 abbrev pub base : ℕ → ℕ → List RawToken → RawToken
 base names n before = record {
   dst_line = n;
@@ -57,11 +57,11 @@ base names n before = record {
   is_range = false;
 }
 
--- a plain difference of whole numbers
+-- the difference of two numbers
 abbrev pub difference : ℕ → ℕ → ℤ
 difference a b = pos a -ℤ pos b
 
--- the numbers of a token's segment: the differences of its column, then, if it has one, of its source, then of its name
+-- the numbers of a token's segment: the differences of its column, of its original position if it has a source, and of its name if it has one
 abbrev pub numbers : ℕ → RawToken → RawToken → List ℤ
 numbers names against t =
     difference t.dst_col against.dst_col
@@ -72,31 +72,31 @@ numbers names against t =
     ∷ (if has_name names t then difference t.name_id against.name_id ∷ [] else [])
     else [])
 
--- the texts of some tokens' segments, behind the tokens `before`
+-- the encoded segments of some tokens, after the tokens `before`
 abbrev pub AreSegments : ℕ → List RawToken → List RawToken → List (List ℕ) → Type 0
 AreSegments names before [] segments = segments ≡ []
 AreSegments names before (t ∷ ts) [] = ⊥
 AreSegments names before (t ∷ ts) (segment ∷ segments) =
     Spells (numbers names (base names t.dst_line before) t) segment × AreSegments names (before ++ t ∷ []) ts segments
 
--- the text of line n of the tokens
+-- the encoding of line n of the tokens
 abbrev pub IsLine : ℕ → List RawToken → ℕ → List ℕ → Type 0
 IsLine names tokens n line =
     (segments : List (List ℕ))
     × AreSegments names (filter (is_above n) tokens) (filter (is_on n) tokens) segments
     × (line ≡ join_with_byte comma segments)
 
--- the text of mappings of some tokens in order
+-- the encoding of sorted tokens as `mappings`
 abbrev pub IsWritten : ℕ → List RawToken → List ℕ → Type 0
 IsWritten names tokens text = LineByLine (IsLine names (without_repeats tokens)) tokens text
 
 -- Range bits.
 
--- the text of the range flags of the tokens on line n
+-- the encoding of the range flags of the tokens on line n
 abbrev pub IsRangeLine : List RawToken → ℕ → List ℕ → Type 0
 IsRangeLine tokens n bits = IsBitText (map (λ t. t.is_range) (filter (is_on n) tokens)) bits
 
--- the text of range bits of some tokens in order, none without a range token
+-- the encoding of the range flags of sorted tokens as `rangeMappings`, None if no token is a range mapping
 abbrev pub IsRangeText : List RawToken → Option (List ℕ) → Type 0
 IsRangeText tokens None = list_any (λ t. t.is_range) tokens ≡ false
 IsRangeText tokens (Some text) =

@@ -1,14 +1,14 @@
--- What the parts of the writers of mappings do.
+-- The steps of encoding.
 use Rattle.std.specs.Prelude.{◌≡◌, ℕ, ◌^◌, ◌<◌, List, [], ◌∷◌, Option, Bool, ◌==◌, if◌then◌else◌, false, true, ◌-◌, replicate}
 use Rattle.std.specs.Option.{option_map_or}
-use Rattle.sourcemap_lists.specs.declared.tokens.RawToken.{RawToken}
-use Rattle.sourcemap_lists.specs.Tokens.{are_same}
+use Rattle.sourcemap_tokens.specs.declared.tokens.RawToken.{RawToken}
+use Rattle.sourcemap_tokens.specs.Tokens.{are_same}
 use Rattle.sourcemap_mappings.specs.Segment.{comma, semicolon}
 use Rattle.sourcemap_mappings.specs.Write.{has_source, has_name}
 
--- the places of a token that are written have 32 bits
-abbrev pub HasSmallPlaces : RawToken → Type 0
-HasSmallPlaces t = (t.dst_col < 2 ^ 32) × (has_source t ≡ true → (t.src_line < 2 ^ 32) × (t.src_col < 2 ^ 32))
+-- the columns and lines of a token that are written have 32 bits
+abbrev pub HasSmallPositions : RawToken → Type 0
+HasSmallPositions t = (t.dst_col < 2 ^ 32) × (has_source t ≡ true → (t.src_line < 2 ^ 32) × (t.src_col < 2 ^ 32))
 
 -- the token is equal to the one before it
 abbrev pub repeats : Option RawToken → RawToken → Bool
@@ -18,15 +18,15 @@ repeats previous t = option_map_or (λ p. are_same t p) previous false
 abbrev pub follows : Option RawToken → RawToken → Bool
 follows previous t = option_map_or (λ p. p.dst_line == t.dst_line) previous false
 
--- what stands between the segment of the token before and that of t: a comma, or the ends of the lines from `line` up to its own
+-- what is written before the segment of t: a comma, or the line ends from `line` up to its own line
 abbrev pub gap : Option RawToken → ℕ → RawToken → List ℕ
 gap previous line t = if follows previous t then comma ∷ [] else replicate (t.dst_line - line) semicolon
 
--- what the first segment of line n is taken against
+-- what the first segment of line n is relative to
 abbrev pub at_line : RawToken → ℕ → RawToken
 at_line against n = if against.dst_line == n then against else record against { dst_line = n; dst_col = 0 }
 
--- what the segment behind that of t is taken against
+-- what the segment after that of t is relative to
 abbrev pub next_base : ℕ → RawToken → RawToken → RawToken
 next_base names against t = record against {
   dst_line = t.dst_line;

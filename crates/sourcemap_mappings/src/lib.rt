@@ -1,4 +1,4 @@
-//! The text of mappings, read and written.
+//! Decodes and encodes `mappings` and `rangeMappings`.
 #![tactic(auto)]
 
 pub mod buffer;

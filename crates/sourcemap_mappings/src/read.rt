@@ -1,35 +1,36 @@
-//! The text of mappings, read: lines between `;`, the parts of a line between `,`.
+//! Decodes `mappings` and `rangeMappings`. `;` separates lines, `,` separates segments.
 ghost use Rattle.std.specs.Prelude.{◌≡◌, ℕ, ◌+◌, ◌<◌, ◌≤◌, ◌==◌, ℤ, List, [], ◌∷◌, ◌++◌, length, min, Result, if◌then◌else◌, IsTrue, IfOk, IfErr, OnOk};
 ghost use Rattle.std.specs.Option.{option_map_or};
 ghost use Rattle.sourcemap_errors.specs.Answer.{IsAnswer, Gives, UnlessMemory};
 ghost use Rattle.sourcemap_errors.specs.declared.errors.Error.{Error};
 ghost use Rattle.sourcemap_errors.specs.declared.errors.Error.TheVariants.{OutOfMemory};
-ghost use Rattle.sourcemap_lists.specs.declared.tokens.RawToken.{RawToken};
-ghost use Rattle.sourcemap_lists.specs.Tokens.{AreInOrder, AllWithin, in_order};
-ghost use Rattle.sourcemap_line_index.specs.LineIndex.{IsMadeFrom};
+ghost use Rattle.sourcemap_tokens.specs.declared.tokens.RawToken.{RawToken};
+ghost use Rattle.sourcemap_tokens.specs.Tokens.{AreInOrder, AllWithin, in_order};
+ghost use Rattle.sourcemap_line_index.specs.LineIndex.{IsTableOf};
 ghost use Rattle.sourcemap_mappings.specs.Segment.{Counts, Segment, parts_of};
 ghost use Rattle.sourcemap_mappings.specs.SegmentSteps.{AreTextSums, AreSums, IsSegmentRead, counts_of};
-ghost use Rattle.sourcemap_mappings.specs.Read.{Line, page_tokens, PartsFault, LineFault, LinesRead, LinesFault, beside, line_texts, MappingsAnswer, lines_of};
+ghost use Rattle.sourcemap_mappings.specs.Read.{Line, page_tokens, PartsError, LineError, LinesRead, LinesError, beside, line_texts, MappingsAnswer, lines_of};
 ghost use Rattle.sourcemap_mappings.specs.ReadSteps.{AddsLine, AddsOnLine, AddsParts, AddsRow, AreInOrderTo, RiseFrom, TakesPart, lines_left};
 
-use crate::segment::{Limits, Spot, Sums, advanced, any_part, check, token_at, usual_part};
-use sourcemap_digits::bits::test_digits;
+use crate::segment::{
+    Limits, PartPosition, Sums, add_steps, any_part, check_segment, token_at, usual_part,
+};
 use sourcemap_errors::errors::{Error, Result};
 use sourcemap_line_index::line_index::LineIndex;
 use sourcemap_line_index::token_list::TokenList;
-use sourcemap_lists::tokens::RawToken;
+use sourcemap_tokens::tokens::RawToken;
+use sourcemap_vlq::bits::test_digits;
 use std::alloc::Global;
 
-// For how many tokens room is made at most before the first is read. A list that grows past what
-// the allocator keeps at hand is moved, and its pages are touched twice.
+// The maximum initial capacity in tokens. A list that grows beyond a size that the allocator keeps
+// available is moved, and its pages are touched twice.
 const FIRST_TOKENS: usize = 1 << 23;
 
-// Lists of so many tokens lie among other small things, and give back the room that they do not
-// need. The end of a longer one's room is pages that were never touched, and an allocator that
-// gets less back than it gave asks the system for such room anew each time.
+// Lists up to this length are shrunk. The unused end of a longer list is pages that were never
+// touched, and after a shrink the allocator would request them from the system again each time.
 const SMALL_LIST: usize = 4096;
 
-// What the numbers of the first segment are added to.
+// The sums before the first segment.
 const START: Sums = Sums {
     rises: true,
     column: 0,
@@ -39,74 +40,74 @@ const START: Sums = Sums {
     name: 0,
 };
 
-/// The first line of a text, up to its `;` or its end, and the text behind that `;` if there is
-/// one.
+/// Splits off the first line of a text. Returns it without its `;`, and the text after the `;` if
+/// there is one.
 #[inline]
 pub fn cut(text: &str) -> (&str, Option<&str>)
     ensures split { lines_of text.now ≡ result.0.now ∷ lines_left result.1 }
     ensures shorter { option_map_or (λ rest. length rest.now + 1) result.1 0 ≤ length text.now }
 {
     match text.split_once(';') {
-        Some((line, behind)) => (line, Some(behind)),
+        Some((line, tail)) => (line, Some(tail)),
         None => (text, None),
     }
 }
 
-// Adds the token of a part with so many numbers, of which there are some, with the sums up to it.
+// Adds the token of a segment with `count` numbers, where `sums` include it.
 #[inline(always)]
 fn add_token(
     tokens: &mut Vec<RawToken>,
     bits: &[u8],
-    spot: Spot,
+    position: PartPosition,
     count: u32,
     sums: Sums,
     limits: Limits,
 ) -> Result<()>
     ensures added { (before here : List Segment) (part : List ℕ) (numbers : List ℤ)
-        → IsSegmentRead spot.place before here part numbers count sums
-        → OnOk result (AddsParts (counts_of limits) spot bits.now before here (part ∷ [])
+        → IsSegmentRead position.index before here part numbers count sums
+        → OnOk result (AddsParts (counts_of limits) position bits.now before here (part ∷ [])
         tokens.old.items tokens.new.items sums) }
-    ensures fault { (before here : List Segment) (part : List ℕ) (numbers : List ℤ)
-        → IsSegmentRead spot.place before here part numbers count sums
+    ensures error { (before here : List Segment) (part : List ℕ) (numbers : List ℤ)
+        → IsSegmentRead position.index before here part numbers count sums
         → IfErr result (λ e. UnlessMemory e
-        (PartsFault (counts_of limits) spot.place (before ++ here) (part ∷ []) e)) }
-    ensures order { (earlier : Sums) → AreInOrderTo spot.line earlier tokens.old.items
-        → RiseFrom earlier sums → OnOk result (AreInOrderTo spot.line sums tokens.new.items) }
-    ensures on_line { OnOk result (AddsOnLine spot.line tokens.old.items tokens.new.items) }
+        (PartsError (counts_of limits) position.index (before ++ here) (part ∷ []) e)) }
+    ensures order { (earlier : Sums) → AreInOrderTo position.line earlier tokens.old.items
+        → RiseFrom earlier sums → OnOk result (AreInOrderTo position.line sums tokens.new.items) }
+    ensures on_line { OnOk result (AddsOnLine position.line tokens.old.items tokens.new.items) }
 {
-    check(count, sums, limits)?;
-    tokens.push(token_at(spot, bits, count, sums))?;
+    check_segment(count, sums, limits)?;
+    tokens.push(token_at(position, bits, count, sums))?;
     Ok(())
 }
 
-// Adds the token of a line's first part, if it has any numbers; the answer is the sums behind it,
-// and the line behind its `,` if there is one.
+// Adds the token of the first part of a line unless it is empty. Returns the sums after it, and the
+// line after its `,` if there is one.
 #[cold]
 #[inline(never)]
 fn add_any_part<'a>(
     tokens: &mut Vec<RawToken>,
     text: &'a [u8],
     bits: &[u8],
-    spot: Spot,
+    position: PartPosition,
     sums: Sums,
     limits: Limits,
 ) -> Result<(Sums, Option<&'a [u8]>)>
-    ensures taken { IfOk result (λ taken. TakesPart (counts_of limits) spot bits.now text.now
+    ensures taken { IfOk result (λ taken. TakesPart (counts_of limits) position bits.now text.now
         sums taken.0 tokens.old.items tokens.new.items taken.1) }
-    ensures fault { (before here : List Segment) → AreSums before here sums
+    ensures error { (before here : List Segment) → AreSums before here sums
         → IfErr result (λ e. UnlessMemory e
-        (PartsFault (counts_of limits) spot.place (before ++ here) (parts_of text.now) e)) }
+        (PartsError (counts_of limits) position.index (before ++ here) (parts_of text.now) e)) }
 {
     let (read, later) = any_part(text)?;
     if read.count == 0 {
         return Ok((sums, later));
     }
-    let after = advanced(sums, &read);
-    add_token(tokens, bits, spot, read.count, after, limits)?;
+    let after = add_steps(sums, &read);
+    add_token(tokens, bits, position, read.count, after, limits)?;
     Ok((after, later))
 }
 
-// Adds the tokens of a line's parts; the answer is the sums behind them.
+// Adds the tokens of a line that is not empty. Returns the sums after it.
 fn add_parts(
     tokens: &mut Vec<RawToken>,
     text: &[u8],
@@ -116,45 +117,45 @@ fn add_parts(
     limits: Limits,
 ) -> Result<Sums>
     ensures added { (before : List Segment) → AreTextSums before sums
-        → IfOk result (AddsParts (counts_of limits) (record { line = line; place = 0 }) bits.now
+        → IfOk result (AddsParts (counts_of limits) (record { line = line; index = 0 }) bits.now
         before [] (parts_of text.now) tokens.old.items tokens.new.items) }
-    ensures fault { (before : List Segment) → AreTextSums before sums
+    ensures error { (before : List Segment) → AreTextSums before sums
         → IfErr result (λ e. UnlessMemory e
-        (PartsFault (counts_of limits) 0 before (parts_of text.now) e)) }
+        (PartsError (counts_of limits) 0 before (parts_of text.now) e)) }
     ensures order { AreInOrderTo line (record sums { column = 0 }) tokens.old.items
         → IfOk result (λ after. AreInOrderTo line after tokens.new.items) }
     ensures on_line { OnOk result (AddsOnLine line tokens.old.items tokens.new.items) }
 {
     let mut sums = Sums { column: 0, ..sums };
     let mut rest = text;
-    let mut place = 0;
+    let mut index = 0;
     loop {
-        let spot = Spot { line, place };
-        // two ways: where one call answers the sums or a fault, the compiler takes the sums apart
-        // at each token
+        let position = PartPosition { line, index };
+        // separate branches: if one call returned either the sums or an error, the compiler would
+        // unpack the sums at each token
         let taken = match usual_part(rest) {
             Some((read, later)) => {
-                let after = advanced(sums, &read);
-                add_token(tokens, bits, spot, read.count, after, limits)?;
+                let after = add_steps(sums, &read);
+                add_token(tokens, bits, position, read.count, after, limits)?;
                 (after, later)
             }
             None => {
-                // a copy for the call: sums that are lent to it would stay in memory
+                // a copy for the call: borrowed sums could not stay in registers
                 let earlier = Sums { ..sums };
-                add_any_part(tokens, rest, bits, spot, earlier, limits)?
+                add_any_part(tokens, rest, bits, position, earlier, limits)?
             }
         };
-        // field by field, without the bytes between the fields
+        // copied field by field, without the padding
         sums = Sums { ..taken.0 };
         let Some(later) = taken.1 else {
             return Ok(sums);
         };
         rest = later;
-        place += 1;
+        index += 1;
     }
 }
 
-// Adds the tokens of a line; the answer is the sums behind it.
+// Adds the tokens of a line. Returns the sums after it.
 fn add_line(
     tokens: &mut Vec<RawToken>,
     text: &[u8],
@@ -166,9 +167,9 @@ fn add_line(
     ensures added { (before : List Segment) → AreTextSums before sums
         → IfOk result (AddsLine (counts_of limits) number before (text.now, bits.now)
         tokens.old.items tokens.new.items) }
-    ensures fault { (before : List Segment) → AreTextSums before sums
+    ensures error { (before : List Segment) → AreTextSums before sums
         → IfErr result (λ e. UnlessMemory e
-        (LineFault (counts_of limits) number before (text.now, bits.now) e)) }
+        (LineError (counts_of limits) number before (text.now, bits.now) e)) }
     ensures order { AreInOrderTo number (record sums { column = 0 }) tokens.old.items
         → IfOk result (λ after. AreInOrderTo (number + 1)
         (record after { column = 0 }) tokens.new.items) }
@@ -184,7 +185,7 @@ fn add_line(
     add_parts(tokens, text, bits, line, sums, limits)
 }
 
-// The next line of a text of range bits, empty where the text is at its end, and what is behind it.
+// The next line of range bits, empty after the end of the text, and the text after it.
 #[inline]
 fn next_bits(ranges: Option<&str>) -> (&str, Option<&str>)
     ensures { (line : List ℕ) (lines : List (List ℕ))
@@ -197,8 +198,7 @@ fn next_bits(ranges: Option<&str>) -> (&str, Option<&str>)
     }
 }
 
-// The tokens of the lines in order of the text, and the table of these lines, which is theirs if
-// they rise: if they are in order of destination too.
+// The tokens in the order of the text. If they are sorted (`rises`), `table` is their line table.
 #[derive(Drop)]
 struct ReadLines {
     tokens: Vec<RawToken>,
@@ -206,8 +206,7 @@ struct ReadLines {
     rises: bool,
 }
 
-// Puts a row into the table for a line that brought tokens, of which this is the place of the
-// first.
+// Adds a row to the table if the line had tokens, of which `first` is the index of the first.
 fn add_row(table: &mut LineIndex, tokens: &[RawToken], first: usize) -> Result<()>
     ensures row { OnOk result (AddsRow table.old table.new tokens.now first) }
     ensures memory { IfErr result (λ e. e ≡ OutOfMemory) }
@@ -222,10 +221,10 @@ fn read_lines(alloc: Global, mappings: &str, ranges: &str, limits: Limits) -> Re
     ensures read { IfOk result (λ read. (page : List Line)
         × LinesRead (counts_of limits) 0 [] (line_texts mappings.now ranges.now) page
         × (read.tokens.items ≡ page_tokens 0 [] page)) }
-    ensures fault { IfErr result (λ e. UnlessMemory e
-        (LinesFault (counts_of limits) 0 [] (line_texts mappings.now ranges.now) e)) }
+    ensures error { IfErr result (λ e. UnlessMemory e
+        (LinesError (counts_of limits) 0 [] (line_texts mappings.now ranges.now) e)) }
     ensures table { IfOk result (λ read. IsTrue read.rises
-        → IsMadeFrom read.tokens.items read.table) }
+        → IsTableOf read.tokens.items read.table) }
 {
     let mut tokens = Vec::with_capacity(alloc, (mappings.len() / 5 + 1).min(FIRST_TOKENS))?;
     let mut table = LineIndex::of_none(alloc);
@@ -257,8 +256,8 @@ fn read_lines(alloc: Global, mappings: &str, ranges: &str, limits: Limits) -> Re
     })
 }
 
-// Gives back room that was made for more tokens than texts mostly hold.
-fn give_back(tokens: &mut Vec<RawToken>)
+// The initial capacity is an estimate from above.
+fn shrink_small(tokens: &mut Vec<RawToken>)
     ensures { tokens.new.items ≡ tokens.old.items }
 {
     if tokens.len() <= SMALL_LIST {
@@ -266,25 +265,25 @@ fn give_back(tokens: &mut Vec<RawToken>)
     }
 }
 
-// The list of the tokens, which have their table already if they are in order.
-fn listed(mut read: ReadLines) -> Result<TokenList>
-    requires { IsTrue read.rises → IsMadeFrom read.tokens.items read.table }
+fn token_list_of(mut read: ReadLines) -> Result<TokenList>
+    requires { IsTrue read.rises → IsTableOf read.tokens.items read.table }
     ensures sorted { IfOk result (λ list. list ≡ in_order read.tokens.items) }
     ensures memory { IfErr result (λ e. e ≡ OutOfMemory) }
 {
-    give_back(&mut read.tokens);
+    shrink_small(&mut read.tokens);
     if read.rises {
         return TokenList::with_table(read.tokens, read.table);
     }
-    TokenList::sorted(read.tokens)
+    TokenList::from_unsorted(read.tokens)
 }
 
-/// The tokens that the texts of mappings and of range bits stand for, in order of destination, for
-/// a map of so many sources and names; else the first fault from the left. Of a line that is not
-/// empty that is `IncompatibleSourceMap` past line 4294967295, then `InvalidBase64` in its range
-/// bits, then that of its first faulty segment: a fault of its digits, `BadSegmentSize`,
-/// `BadSourceReference` or `BadNameReference`, tested in this order. Else only want of memory
-/// refuses. The table of their lines is made as they are read.
+/// Decodes `mappings` and `rangeMappings` of a map with these numbers of sources and names. Returns
+/// the tokens sorted by generated position, with their line table, which is built while decoding.
+///
+/// Returns the first error from the left. For a line that is not empty the order is:
+/// `IncompatibleSourceMap` after line 4294967295, `InvalidBase64` in its range bits, then the error
+/// of its first invalid segment: of its digits, `BadSegmentSize`, `BadSourceReference`,
+/// `BadNameReference`. Otherwise it returns only `OutOfMemory`.
 pub fn parse_token_list(
     alloc: Global,
     mappings: &str,
@@ -302,10 +301,10 @@ pub fn parse_token_list(
 {
     let limits = Limits { sources, names };
     let read = read_lines(alloc, mappings, ranges, limits)?;
-    listed(read)
+    token_list_of(read)
 }
 
-/// The same tokens alone.
+/// The same tokens, without a line table.
 pub fn parse_mappings(
     alloc: Global,
     mappings: &str,
@@ -326,7 +325,7 @@ pub fn parse_mappings(
     Ok(list.into_vec())
 }
 
-/// A law: two texts, of mappings and of range bits, stand for one list of tokens or for one fault.
+/// A law: `mappings` and `rangeMappings` decode to exactly one list of tokens or one error.
 pub fn mappings_determine_one_answer()
     ensures { (mappings ranges : List ℕ) (counts : Counts) (a b : Result (List RawToken) Error)
         → MappingsAnswer mappings ranges counts a → MappingsAnswer mappings ranges counts b

@@ -1,24 +1,24 @@
-//! The texts that a list of tokens is written as.
+//! Encodes tokens as `mappings` and `rangeMappings`.
 ghost use Rattle.std.specs.Prelude.{◌≡◌, ℕ, ◌+◌, ◌-◌, ◌<◌, ◌≤◌, ◌^◌, take, List, [], ◌∷◌, ◌++◌, replicate, OnOk, IfOk, IfErr, string_bytes, option_map, option_copied, Option, false};
 ghost use Rattle.std.specs.List.{list_any};
 ghost use Rattle.std.specs.Option.{option_map_or};
 ghost use Rattle.std.specs.Str.{IsAscii};
-ghost use Rattle.sourcemap_lists.specs.Tokens.{AreInOrder, AllWithin, without_repeats, reduced};
+ghost use Rattle.sourcemap_tokens.specs.Tokens.{AreInOrder, AllWithin, without_repeats, reduced};
 ghost use Rattle.sourcemap_mappings.specs.Read.{MappingsAnswer};
 ghost use Rattle.sourcemap_mappings.specs.Write.{has_source, has_name, numbers, LineByLine, IsRangeLine, IsWritten, IsRangeText};
 ghost use Rattle.sourcemap_mappings.specs.Buffer.{Adds};
-ghost use Rattle.sourcemap_mappings.specs.WriteSteps.{HasSmallPlaces, repeats, follows, gap, at_line, next_base};
+ghost use Rattle.sourcemap_mappings.specs.WriteSteps.{HasSmallPositions, repeats, follows, gap, at_line, next_base};
 ghost use Rattle.sourcemap_mappings.specs.Segment.{semicolon};
-ghost use Rattle.sourcemap_lists.specs.declared.tokens.RawToken.{RawToken};
+ghost use Rattle.sourcemap_tokens.specs.declared.tokens.RawToken.{RawToken};
 ghost use Rattle.sourcemap_errors.specs.declared.errors.Error.TheVariants.{OutOfMemory};
 
-use crate::buffer::{BUFFER_SIZE, flush, put_near, put_three, put_two};
-use sourcemap_digits::bits::push_bits;
+use crate::buffer::{BUFFER_SIZE, flush, put_one, put_three, put_two};
 use sourcemap_errors::errors::Result;
-use sourcemap_lists::tokens::{NO_ID, RawToken};
+use sourcemap_tokens::tokens::{NO_ID, RawToken};
+use sourcemap_vlq::bits::push_bits;
 use std::alloc::{AllocError, Global};
 
-// What the first segment is taken against.
+// What the first segment is relative to.
 const START: RawToken = RawToken {
     dst_line: 0,
     dst_col: 0,
@@ -29,10 +29,10 @@ const START: RawToken = RawToken {
     is_range: false,
 };
 
-// For how many tokens room is made at first, six bytes each.
+// The maximum initial capacity in tokens, of six bytes each.
 const FIRST_TOKENS: usize = 1 << 28;
 
-// The most bytes of a token: a comma and five numbers of seven digits.
+// The maximum size of a token in bytes: a comma and five numbers of seven digits.
 const TOKEN_SIZE: usize = 36;
 
 #[inline]
@@ -49,7 +49,7 @@ fn has_name(token: RawToken, names: u32) -> bool
     token.src_id != NO_ID && token.name_id < names
 }
 
-// The column alone tells most tokens apart.
+// The column is compared first: most tokens differ in it.
 #[inline]
 fn is_repeat(previous: Option<&RawToken>, token: &RawToken) -> bool
     ensures { result ≡ repeats (option_copied previous.entry) token.now }
@@ -70,7 +70,6 @@ fn follows_on(previous: Option<&RawToken>, token: &RawToken) -> bool
     }
 }
 
-// Ends the lines from `from` up to `to`.
 fn push_line_ends(text: &mut String, from: u32, to: u32) -> std::result::Result<(), AllocError>
     ensures text { OnOk result (string_bytes text.new
         ≡ string_bytes text.old ++ replicate (to - from) semicolon) }
@@ -81,8 +80,8 @@ fn push_line_ends(text: &mut String, from: u32, to: u32) -> std::result::Result<
     Ok(())
 }
 
-// Puts what stands between two segments, where the text and the buffer have come to this line. The
-// end of one line, or a comma, goes into the buffer.
+// Writes the comma or the line ends before the segment of a token, where text and buffer together
+// have reached `line`. A comma and a single line end go into the buffer.
 #[inline(always)]
 fn put_gap(
     text: &mut String,
@@ -113,8 +112,8 @@ fn put_gap(
     Ok(0)
 }
 
-// Puts the segment of a token on the line of `against`, which moves on to what the segment behind
-// it is taken against.
+// Writes the segment of a token relative to `against`, and updates `against` to what the next
+// segment is relative to.
 #[inline(always)]
 fn put_segment(
     buffer: &mut [u8; BUFFER_SIZE],
@@ -127,7 +126,7 @@ fn put_segment(
     ensures text { Adds (numbers names against.old token.now) (take start buffer.old)
         (take result buffer.new) }
     ensures end { result ≤ start + 35 }
-    ensures small { HasSmallPlaces token.now }
+    ensures small { HasSmallPositions token.now }
     ensures next { against.new ≡ next_base names against.old token.now }
 {
     let mut at = put_two(buffer, start, token.dst_col, against.dst_col);
@@ -136,9 +135,9 @@ fn put_segment(
     if !has_source(*token) {
         return at;
     }
-    at = put_near(buffer, at, token.src_id, against.src_id);
+    at = put_one(buffer, at, token.src_id, against.src_id);
     against.src_id = token.src_id;
-    at = put_near(buffer, at, token.src_line, against.src_line);
+    at = put_one(buffer, at, token.src_line, against.src_line);
     against.src_line = token.src_line;
     at = put_two(buffer, at, token.src_col, against.src_col);
     against.src_col = token.src_col;
@@ -149,9 +148,9 @@ fn put_segment(
     at
 }
 
-// Turns what a segment is taken against to a line.
+// Generated columns start anew on each line.
 #[inline(always)]
-fn turn_to(against: &mut RawToken, line: u32)
+fn move_to_line(against: &mut RawToken, line: u32)
     ensures value { against.new ≡ at_line against.old line }
     ensures small { line < 2 ^ 32 }
 {
@@ -161,7 +160,7 @@ fn turn_to(against: &mut RawToken, line: u32)
     }
 }
 
-// Empties a buffer that a token may not fit into.
+// Flushes the buffer if a token may not fit into it.
 #[inline(always)]
 fn make_space(
     text: &mut String,
@@ -182,8 +181,8 @@ fn make_space(
     Ok(0)
 }
 
-// Adds the segment of a token to a text that has come to the line of `against`, which is then what
-// the segment behind it is taken against.
+// Adds the segment of a token, with what separates it from the one before, to a text that has
+// reached the line of `against`. Updates `against`.
 #[inline(always)]
 fn put_token(
     text: &mut String,
@@ -203,25 +202,29 @@ fn put_token(
         (string_bytes text.new ++ take end buffer.new)) }
     ensures end { IfOk result (λ end. end ≤ 1024) }
     ensures ascii { IfOk result (λ end. IsAscii (take end buffer.new)) }
-    ensures small { OnOk result ((token.now.dst_line < 2 ^ 32) × HasSmallPlaces token.now) }
+    ensures small { OnOk result ((token.now.dst_line < 2 ^ 32) × HasSmallPositions token.now) }
     ensures next { OnOk result (against.new
         ≡ next_base names (at_line against.old token.now.dst_line) token.now) }
 {
     let free = make_space(text, buffer, at)?;
     let start = put_gap(text, buffer, free, previous, against.dst_line, token)?;
-    turn_to(against, token.dst_line);
+    move_to_line(against, token.dst_line);
     Ok(put_segment(buffer, start, against, token, names))
 }
 
-/// The text of mappings of some tokens in order, for a map of so many names: the lines from 0 to
-/// the last token's, with `;` between them, and on each line its tokens' segments, with `,` between
-/// them. A segment has one number, the column in the generated text, for a token without a source;
-/// four, that column, source id, line and column in the source, for one with a source; and a fifth,
-/// the name id, if it is below `names`. Each number is the plain difference to the one of its kind
-/// that was written last, 0 before the first, in its shortest digits; generated columns start anew
-/// on each line. A token that repeats the one before it in every field is passed over. No tokens
-/// give the empty text. Range flags stand in the text of `write_range_mappings`; with both, a
-/// reader that knows as many sources and names gets the tokens back. Only want of memory refuses.
+/// Encodes sorted tokens as `mappings`, for a map with this number of names. Returns only
+/// `OutOfMemory`.
+///
+/// The lines from 0 to that of the last token are separated by `;`, the segments of a line by `,`.
+/// A token without a source has one number, its generated column. A token with a source has four:
+/// generated column, source id, original line and original column; and a fifth, the name id, if
+/// that is below `names`. Each number is the difference to the last written one of its kind, or to
+/// 0, in its shortest digits; generated columns start anew on each line. A token equal to the one
+/// before it is not written. No tokens give the empty text.
+///
+/// Range flags are in the text of `write_range_mappings`. With the same numbers of sources and
+/// names both texts decode to the same tokens without repeats, where a name id that is not below
+/// `names` is [`NO_ID`].
 pub fn write_mappings(alloc: Global, tokens: &[RawToken], names: u32) -> Result<String>
     requires { AreInOrder tokens.now }
     ensures text { IfOk result (λ s. IsWritten names tokens.now (string_bytes s)) }
@@ -256,9 +259,8 @@ pub fn write_mappings(alloc: Global, tokens: &[RawToken], names: u32) -> Result<
     Ok(text)
 }
 
-/// The text of range bits of some tokens in order, none if no token is a range: for each line from
-/// 0 to the last token's the range flags of its segments, as `write_mappings` writes them. Only
-/// want of memory refuses.
+/// Encodes the range flags of sorted tokens as `rangeMappings`, line by line for the segments that
+/// `write_mappings` writes. `None` if no token is a range mapping. Returns only `OutOfMemory`.
 pub fn write_range_mappings(alloc: Global, tokens: &[RawToken]) -> Result<Option<String>>
     requires { AreInOrder tokens.now }
     ensures text { IfOk result (λ o. IsRangeText tokens.now (option_map string_bytes o)) }
@@ -276,7 +278,6 @@ fn has_range(tokens: &[RawToken]) -> bool
     tokens.iter().any(|token| token.is_range)
 }
 
-// The text of range bits of some tokens.
 fn range_text(alloc: Global, tokens: &[RawToken]) -> Result<String>
     requires { AreInOrder tokens.now }
     ensures text { IfOk result
@@ -303,7 +304,8 @@ fn range_text(alloc: Global, tokens: &[RawToken]) -> Result<String>
     Ok(text)
 }
 
-/// A law: tokens have one text of mappings for so many names, and one text of range bits.
+/// A law: tokens have exactly one encoding as `mappings`, for a number of names, and exactly one as
+/// `rangeMappings`.
 pub fn written_texts_are_determined()
     ensures one_text { (names : ℕ) (tokens : List RawToken) (a b : List ℕ)
         → IsWritten names tokens a → IsWritten names tokens b → a ≡ b }

@@ -1,3 +1,3 @@
-//! Maps that are built token by token.
+//! Builds maps token by token.
 
 pub use sourcemap_builder::builder::SourceMapBuilder;

@@ -1,3 +1,3 @@
-//! Regular maps read from records.
+//! Decodes regular maps from records.
 
-pub use sourcemap_regular::decode::decode_regular;
+pub use sourcemap_map_regular::decode::decode_regular;

@@ -1,5 +1,4 @@
-//! A door: regular maps, read, asked, changed, built and written, under the module names that users
-//! know. Behind it are the crates of regular maps and of their builder.
+//! Facade of regular maps: re-exports types, decoding, encoding, source views and the builder.
 #![tactic(auto)]
 
 pub mod builder;

@@ -1,4 +1,4 @@
-//! Views of source texts: their lines and slices, and the walk back along a map's tokens.
+//! Views of source texts: lines, slices and function names.
 
-pub use sourcemap_views::sourceview::{Lines, SourceView};
-pub use sourcemap_views::walk::{RevTokenIter, WalkedToken};
+pub use sourcemap_source_views::sourceview::{Lines, SourceView};
+pub use sourcemap_source_views::walk::{RevTokenIter, WalkedToken};

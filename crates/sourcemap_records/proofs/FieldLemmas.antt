@@ -1,4 +1,4 @@
--- A value taken out of an object, and what it means that a value was made.
+-- A value removed from an object, and lists of values.
 use Rattle.std.proofs.Common.{◌≡◌, ℕ, List, [], ◌∷◌, Option, Some, Result, Ok, Ordering, Less, Equal, Greater, string_bytes, map, nat_cmp, is_eq, cond, Bool, true, false, true≢false, refl, sym, ap, ◌∙◌, ◌||◌}
 use Rattle.std.proofs.lemmas.Map.Text.{is_eq-slice_cmp}
 use Rattle.std.proofs.lemmas.Slice.Eq.{bytes_eq-Decides}
@@ -17,11 +17,10 @@ use Rattle.sourcemap_records.specs.Field.{with, any, items_read}
 use Rattle.sourcemap_records.specs.Keys.{KeepsBut}
 use Rattle.sourcemap_errors.specs.declared.errors.Error.{Error}
 
--- what was made is what was due
-pub made : {X : Type 0} {a b : X} → ◌≡◌ {A = Result X Error} (Ok a) (Ok b) → a ≡ b
-made e = cc e
+pub ok_injective : {X : Type 0} {a b : X} → ◌≡◌ {A = Result X Error} (Ok a) (Ok b) → a ≡ b
+ok_injective e = cc e
 
--- items that may be anything are read as they are
+-- items of any type are read unchanged
 pub any_items : (vs : List Value) → items_read any (items_view vs) ≡ Some (map view vs)
 any_items [] = refl
 any_items (v ∷ vs) = ap (λ o. with o (λ ds. Some (view v ∷ ds))) (any_items vs)
@@ -49,14 +48,14 @@ pub remove_other : (key other : List ℕ) (es : List Entry) → bytes_eq other k
 remove_other key other [] apart = refl
 remove_other key other (e ∷ es) apart = removed_at _ key other e es _ refl apart (remove_other key other es apart)
 
-neither : (a b : Bool) → (a || b) ≡ false → (a ≡ false) × (b ≡ false)
-neither true b h = absurd (true≢false h)
-neither false b h = (refl, h)
+both_false : (a b : Bool) → (a || b) ≡ false → (a ≡ false) × (b ≡ false)
+both_false true b h = absurd (true≢false h)
+both_false false b h = (refl, h)
 
--- what keeps all but two keys, said of the list of the two
+-- keeping all but two keys, as `KeepsBut` of a list
 pub kept_but_two : (k l : List ℕ) (a b : Members)
     → ((other : List ℕ) → bytes_eq other k ≡ false → bytes_eq other l ≡ false → get_member other b ≡ get_member other a)
     → KeepsBut (k ∷ l ∷ []) a b
 kept_but_two k l a b step = λ other apart.
-    let both = neither (bytes_eq other k) (list_any (bytes_eq other) (l ∷ [])) apart in
-    step other both.0 (neither (bytes_eq other l) false both.1).0
+    let both = both_false (bytes_eq other k) (list_any (bytes_eq other) (l ∷ [])) apart in
+    step other both.0 (both_false (bytes_eq other l) false both.1).0

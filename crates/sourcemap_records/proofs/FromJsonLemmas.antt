@@ -1,4 +1,4 @@
--- Keys that stay while another is taken out, and the two keys whose values are records.
+-- Keys that are kept while another is removed, and the two keys whose values are records.
 use Rattle.std.proofs.Common.{◌≡◌, ℕ, ◌<◌, arith, String, Global, BTreeMap, option_map, List, [], ◌∷◌, ◌++◌, Option, Some, None, Ordering, Less, Equal, Greater, nat_cmp, codes, refl, sym, ap, ◌∙◌}
 use Rattle.std.specs.Cmp.Lexicographic.{slice_cmp}
 use Rattle.std.specs.Ordering.{match_ordering}
@@ -9,7 +9,7 @@ use Rattle.sourcemap_records.proofs.DepthLemmas.{depth_in, depth_of_taken}
 use Rattle.serde_json.specs.Data.{Data, depth, Items, item, Members, no_members, member}
 use Rattle.serde_json.specs.Find.{get_member}
 use Rattle.sourcemap_records.specs.Field.{KeepsOthers, with, found, at, or_null}
-use Rattle.sourcemap_records.specs.Jsontypes.{tree_with, section_at, Section, Sections, no_more, section_with, sections_from, sections_in, sections_of, sections_read, section_of, map_in, record_of, fields_in, place_in}
+use Rattle.sourcemap_records.specs.Jsontypes.{tree_with, section_at, Section, Sections, no_more, section_with, sections_from, sections_in, sections_of, sections_read, section_of, map_in, record_of, fields_in, section_head_in}
 
 abbrev Map : Type 0
 Map = BTreeMap (String Global) Value
@@ -20,14 +20,14 @@ found_either read Less r d = refl
 found_either read Equal r d = refl
 found_either read Greater r d = refl
 
--- the sections are found as any other key is
+-- `sections_in` is `at` of the key `sections`
 pub sections_in-at : (ms : Members) → sections_in ms ≡ at (codes "sections") sections_of ms
 sections_in-at no_members = refl
 sections_in-at (member key d ms) =
     let o = slice_cmp nat_cmp (codes "sections") key in
     ap (λ r. match_ordering o r (or_null sections_of d) r) (sections_in-at ms) ∙ sym (found_either sections_of o (get_member (codes "sections") ms) d)
 
--- and so is a section's map
+-- `map_in` is `at` of the key `map`
 pub map_in-at : (ms : Members) → map_in ms ≡ at (codes "map") record_of ms
 map_in-at no_members = refl
 map_in-at (member key d ms) =
@@ -53,35 +53,35 @@ fields_kept a b kept =
       kept (codes "x_facebook_sources") refl,
     )
 
-pub place_kept : (a b : Members) → KeepsOthers (codes "map") a b → place_in b ≡ place_in a
-place_kept a b kept = rw (kept (codes "offset") refl, kept (codes "url") refl)
+pub section_head_kept : (a b : Members) → KeepsOthers (codes "map") a b → section_head_in b ≡ section_head_in a
+section_head_kept a b kept = rw (kept (codes "offset") refl, kept (codes "url") refl)
 
 -- sections in front of others
 abbrev pub before : List Section → Sections → Sections
 before [] more = more
-before (s ∷ ss) more = section_with s.place s.map (before ss more)
+before (s ∷ ss) more = section_with s.head s.map (before ss more)
 
-pub before-append : (ss : List Section) (s : Section) (more : Sections) → before (ss ++ s ∷ []) more ≡ before ss (section_with s.place s.map more)
+pub before-append : (ss : List Section) (s : Section) (more : Sections) → before (ss ++ s ∷ []) more ≡ before ss (section_with s.head s.map more)
 before-append [] s more = refl
-before-append (x ∷ ss) s more = ap (section_with x.place x.map) (before-append ss s more)
+before-append (x ∷ ss) s more = ap (section_with x.head x.map) (before-append ss s more)
 
 pub before-none : (ss : List Section) → before ss no_more ≡ sections_from ss
 before-none [] = refl
-before-none (s ∷ ss) = ap (section_with s.place s.map) (before-none ss)
+before-none (s ∷ ss) = ap (section_with s.head s.map) (before-none ss)
 
 -- one more section is read
 pub one_more : (done : List Section) (s : Section) (d : Data) (rest : Items) → section_of d ≡ Some s
     → with (sections_read (item d rest)) (λ more. Some (before done more)) ≡ with (sections_read rest) (λ more. Some (before (done ++ s ∷ []) more))
 one_more done s d rest is = rw is (of_rest (sections_read rest))
   where
-    of_rest : (r : Option Sections) → with (with r (λ more. Some (section_with s.place s.map more))) (λ more. Some (before done more)) ≡ with r (λ more. Some (before (done ++ s ∷ []) more))
+    of_rest : (r : Option Sections) → with (with r (λ more. Some (section_with s.head s.map more))) (λ more. Some (before done more)) ≡ with r (λ more. Some (before (done ++ s ∷ []) more))
     of_rest None = refl
     of_rest (Some more) = ap Some (sym (before-append done s more))
 
 pub none_read : (done : List Section) (d : Data) (rest : Items) → section_of d ≡ None → with (sections_read (item d rest)) (λ more. Some (before done more)) ≡ None
 none_read done d rest is = rw is refl
 
--- an object as a record: the sections, taken out, and the fields of what is left
+-- an object as a record: its sections, and the fields of what is left after their removal
 pub map_split : (value : Value) (m : Map) (left : Members) (v : Option Data) → value ≡ Object m → v ≡ get_member (codes "sections") (members_view m.entries)
     → KeepsOthers (codes "sections") (members_view m.entries) left
     → record_of (view value) ≡ with (found sections_of v) (λ sections. with (fields_in left) (λ fields. Some (tree_with fields sections)))
@@ -91,15 +91,15 @@ map_split value m left v is taken kept =
     ∙ ap (λ s. with s (λ sections. with (fields_in ms) (λ fields. Some (tree_with fields sections)))) (sections_in-at ms ∙ ap (found sections_of) (sym taken))
     ∙ ap (λ f. with (found sections_of v) (λ sections. with f (λ fields. Some (tree_with fields sections)))) (sym (fields_kept ms left kept))
 
--- an object as a section: the map, taken out, and the place in what is left
+-- an object as a section: its map, and the head in what is left after its removal
 pub section_split : (value : Value) (m : Map) (left : Members) (v : Option Data) → value ≡ Object m → v ≡ get_member (codes "map") (members_view m.entries)
     → KeepsOthers (codes "map") (members_view m.entries) left
-    → section_of (view value) ≡ with (found record_of v) (λ t. with (place_in left) (λ place. Some (section_at place t)))
+    → section_of (view value) ≡ with (found record_of v) (λ t. with (section_head_in left) (λ head. Some (section_at head t)))
 section_split value m left v is taken kept =
     let ms = members_view m.entries in
     ap (λ v. section_of (view v)) is ∙ ap section_of (view-Object m)
-    ∙ ap (λ t. with t (λ t. with (place_in ms) (λ place. Some (section_at place t)))) (map_in-at ms ∙ ap (found record_of) (sym taken))
-    ∙ ap (λ p. with (found record_of v) (λ t. with p (λ place. Some (section_at place t)))) (sym (place_kept ms left kept))
+    ∙ ap (λ t. with t (λ t. with (section_head_in ms) (λ head. Some (section_at head t)))) (map_in-at ms ∙ ap (found record_of) (sym taken))
+    ∙ ap (λ p. with (found record_of v) (λ t. with p (λ head. Some (section_at head t)))) (sym (section_head_kept ms left kept))
 
 pub depth_split : (value : Value) (m : Map) (key : List ℕ) (v : Option Value) → value ≡ Object m → option_map view v ≡ get_member key (members_view m.entries)
     → depth_in (option_map view v) < depth (view value)

@@ -4,7 +4,7 @@ use Rattle.std.specs.List.{AllByRecursion}
 use Rattle.serde_json.specs.Data.{object, array, item}
 use Rattle.serde_json.specs.View.{items_of}
 use Rattle.sourcemap_records.specs.Field.{put_if, written_or_null}
-use Rattle.sourcemap_records.specs.Jsontypes.{AreInRange, IsInRange, IsSectionInRange, AreSectionsInRange, section_at, Fields, Section, Sections, Tree, flat, tree, tree_with, tree_step, section, section_step, sections_from, fields_view, written, written_sections, written_section, written_one, section_with, Place, written_fields}
+use Rattle.sourcemap_records.specs.Jsontypes.{AreInRange, IsInRange, IsSectionInRange, AreSectionsInRange, section_at, Fields, Section, Sections, Tree, flat, tree, tree_with, tree_step, section, section_step, sections_from, fields_view, written, written_sections, written_section, written_one, section_with, SectionHead, written_fields}
 use Rattle.sourcemap_records.specs.declared.jsontypes.RawSection.{RawSection}
 use Rattle.sourcemap_records.specs.declared.jsontypes.RawSourceMap.{RawSourceMap, RawSourceMap-F, out-RawSourceMap, roll-RawSourceMap, fold_out-RawSourceMap, fold-roll-RawSourceMap, map-RawSourceMap}
 
@@ -12,7 +12,7 @@ flat-tree_with : (fields : Fields) (sections : Option Sections) → flat (tree_w
 flat-tree_with fields None = refl
 flat-tree_with fields (Some _) = refl
 
--- the keys of a record but for its sections are read off its fields
+-- the keys of a record except its sections are its fields
 pub flat-tree : (r : RawSourceMap) → flat (tree r) ≡ fields_view (out-RawSourceMap r)
 flat-tree r = ap flat (fold_out-RawSourceMap Section Tree section_step tree_step r) ∙ flat-tree_with _ _
 
@@ -42,11 +42,11 @@ tree-out r = fold_out-RawSourceMap Section Tree section_step tree_step r ∙ of_
 -- sections are written one by one
 written-from : (ss : List Section) → written_sections (sections_from ss) ≡ items_of (map written_one ss)
 written-from [] = refl
-written-from (s ∷ ss) = written-with s.place s.map (sections_from ss) ∙ ap (item (written_one s)) (written-from ss)
+written-from (s ∷ ss) = written-with s.head s.map (sections_from ss) ∙ ap (item (written_one s)) (written-from ss)
   where
-    written-with : (place : Place) (t : Option Tree) (rest : Sections) → written_sections (section_with place t rest) ≡ item (written_section place (written_or_null written t)) (written_sections rest)
-    written-with place None rest = refl
-    written-with place (Some t) rest = refl
+    written-with : (head : SectionHead) (t : Option Tree) (rest : Sections) → written_sections (section_with head t rest) ≡ item (written_section head (written_or_null written t)) (written_sections rest)
+    written-with head None rest = refl
+    written-with head (Some t) rest = refl
 
 written-with_sections : (fields : Fields) (v : Option (List Section))
     → written (tree_with fields (option_map sections_from v)) ≡ object (put_if (codes "sections") (option_map (λ ss. array (items_of (map written_one ss))) v) (written_fields fields))
@@ -71,11 +71,11 @@ written-tree r =
 
 in_range-from : (ss : List Section) → AllByRecursion IsSectionInRange ss → AreSectionsInRange (sections_from ss)
 in_range-from [] h = tt
-in_range-from (s ∷ ss) h = in_range-with s.place s.map (sections_from ss) h.0 (in_range-from ss h.1)
+in_range-from (s ∷ ss) h = in_range-with s.head s.map (sections_from ss) h.0 (in_range-from ss h.1)
   where
-    in_range-with : (place : Place) (t : Option Tree) (rest : Sections) → IsSectionInRange (section_at place t) → AreSectionsInRange rest → AreSectionsInRange (section_with place t rest)
-    in_range-with place None rest h more = (h.0, more)
-    in_range-with place (Some t) rest h more = (h.0, h.1, more)
+    in_range-with : (head : SectionHead) (t : Option Tree) (rest : Sections) → IsSectionInRange (section_at head t) → AreSectionsInRange rest → AreSectionsInRange (section_with head t rest)
+    in_range-with head None rest h more = (h.0, more)
+    in_range-with head (Some t) rest h more = (h.0, h.1, more)
 
 in_range-with_sections : (fields : Fields) (v : Option (Vec RawSection Global)) → AreInRange fields → IfSome v (λ v. AllByRecursion IsSectionInRange (map section v.items))
     → IsInRange (tree_with fields (option_map (λ v. sections_from (map section v.items)) v))

@@ -1,6 +1,6 @@
 -- What was written is read back.
 use Rattle.std.proofs.Common.{◌≡◌, ◌≢◌, ℕ, zero, suc, Result, Ok, Err, IfOk, OnOk, ◌<◌, ◌^◌, ◌||◌, ◌==◌, List, [], ◌∷◌, Option, Some, None, option_map, map, length, Bool, true, false, if◌then◌else◌, nat_lt, IfSome, All, codes, inl, true≢false, refl, sym, ap, ◌∙◌, arith}
-use Rattle.sourcemap_records.proofs.FieldLemmas.{made}
+use Rattle.sourcemap_records.proofs.FieldLemmas.{ok_injective}
 use Rattle.std.proofs.lemmas.Bool.Decides.{nat_tests}
 use Rattle.std.specs.List.{AllByRecursion}
 use Rattle.std.specs.Option.{option_or}
@@ -198,5 +198,5 @@ mutual
 
 pub read_back : (r : Result Value Error) (t : Tree) → Makes view r (written t) → OnOk r (IsInRange t)
     → IfOk r (λ v. HasNoNullFile t → record_of (view v) ≡ Some t)
-read_back (Ok v) t is fine = λ no_null. ap record_of (sym (made is)) ∙ record-back t fine no_null
+read_back (Ok v) t is fine = λ no_null. ap record_of (sym (ok_injective is)) ∙ record-back t fine no_null
 read_back (Err e) t is fine = tt

@@ -1,5 +1,5 @@
--- How one key of a record is read from JSON and written as JSON. A reader answers none of a value
--- that is not of its kind.
+-- How one key of a record is read from JSON and written as JSON. Reading gives `None` for a value of
+-- another type.
 use Rattle.std.specs.Prelude.{◌≡◌, ℕ, ◌^◌, option_and_then, List, [], ◌∷◌, map, Option, Some, None, option_map, nat_lt, if◌then◌else◌, false, Result, Ok, Err}
 use Rattle.std.specs.Str.{bytes_eq}
 use Rattle.serde_json.specs.Data.{Data, null, number, array, unsigned, Items, no_items, item, Members, put}
@@ -10,7 +10,7 @@ use Rattle.sourcemap_errors.specs.declared.errors.Error.TheVariants.{BadJson}
 use Rattle.sourcemap_errors.specs.declared.errors.JsonFault.TheVariants.{Shape}
 use Rattle.sourcemap_errors.specs.Answer.{UnlessMemory, Gives}
 
--- what is due of a reading: a value that has none is a fault
+-- the result of a reading: `BadJson(Shape)` where it gives `None`
 abbrev pub due : {X : Type 0} → Option X → Result X Error
 due (Some x) = Ok x
 due None = Err (BadJson Shape)
@@ -22,12 +22,12 @@ with x next = option_and_then next x
 abbrev pub KeepsOthers : List ℕ → Members → Members → Type 0
 KeepsOthers key before after = (other : List ℕ) → bytes_eq other key ≡ false → get_member other after ≡ get_member other before
 
--- what a reader returned, seen by `see`, is the reading; a value without one is of the wrong shape
+-- the result of a reader, as `see` gives it, is the reading; the error is `BadJson(Shape)` where that is `None`, or out of memory
 abbrev pub GivesReading : {X Y : Type 0} → (X → Y) → Result X Error → Option Y → Type 0
 GivesReading see (Ok x) reading = reading ≡ Some (see x)
 GivesReading see (Err e) reading = UnlessMemory e ((e ≡ BadJson Shape) × (reading ≡ None))
 
--- what was made, seen by `see`, is this; only memory may be wanting
+-- the result, as `see` gives it, is this value, or out of memory
 abbrev pub Makes : {X Y : Type 0} → (X → Y) → Result X Error → Y → Type 0
 Makes see result seen = Gives see result (Ok seen)
 
@@ -50,7 +50,7 @@ small n = if nat_lt n (2 ^ 32) then Some n else None
 abbrev pub small_number : Data → Option ℕ
 small_number d = with (as_number d) (λ n. with (as_u64 n) small)
 
--- null, or what was read of it
+-- `Some None` for null, else what was read
 abbrev pub or_null_of : {X : Type 0} → Data → Option X → Option (Option X)
 or_null_of null _ = Some None
 or_null_of _ x = option_map Some x
@@ -73,9 +73,9 @@ found read (Some d) = or_null read d
 abbrev pub at : {X : Type 0} → List ℕ → (Data → Option X) → Members → Option (Option X)
 at key read ms = found read (get_member key ms)
 
--- a key that must be there
-abbrev pub needed : {X : Type 0} → List ℕ → (Data → Option X) → Members → Option X
-needed key read ms = with (get_member key ms) read
+-- a required key
+abbrev pub required : {X : Type 0} → List ℕ → (Data → Option X) → Members → Option X
+required key read ms = with (get_member key ms) read
 
 -- ---- writing
 
@@ -89,12 +89,12 @@ written_or_null write None = null
 abbrev pub written_list : {X : Type 0} → (X → Data) → List X → Data
 written_list write xs = array (items_of (map write xs))
 
--- the members, with the value at the key if there is one
+-- the members, after the value is put at the key, if there is one
 abbrev pub put_if : List ℕ → Option Data → Members → Members
 put_if key (Some d) ms = put key d ms
 put_if key None ms = ms
 
--- the members with all these entries put in one after the other
+-- the members, after these entries are put one after another
 abbrev pub put_all : List (List ℕ × Option Data) → Members → Members
 put_all [] ms = ms
 put_all (e ∷ es) ms = put_all es (put_if e.0 e.1 ms)

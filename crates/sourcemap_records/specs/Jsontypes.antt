@@ -1,4 +1,4 @@
--- Which JSON values stand for which record of a source map, and the value that a record is written as.
+-- The record of a JSON value, and the JSON value of a record.
 use Rattle.std.specs.Prelude.{Bool, true, false, ◌≢◌, ℕ, ◌<◌, ◌^◌, List, [], ◌∷◌, map, codes, Option, Some, None, option_map, string_bytes, String, Vec, IfSome}
 use Rattle.std.specs.List.{AllByRecursion}
 use Rattle.std.specs.Option.{option_or}
@@ -9,16 +9,16 @@ use Rattle.serde_json.specs.Data.{Data, null, string, array, object, Items, no_i
 use Rattle.serde_json.specs.Find.{as_object, get}
 use Rattle.serde_json.specs.View.{view}
 use Rattle.sourcemap_headers.specs.DebugId.{IsId, debug_id_of, debug_id_text}
-use Rattle.sourcemap_records.specs.Field.{with, found, any, text, small_number, or_null, or_null_of, list, at, needed, written_number, written_or_null, written_list, put_all, put_if}
+use Rattle.sourcemap_records.specs.Field.{with, found, any, text, small_number, or_null, or_null_of, list, at, required, written_number, written_or_null, written_list, put_all, put_if}
 use Rattle.sourcemap_records.specs.declared.jsontypes.FacebookScopeMapping.{FacebookScopeMapping}
 use Rattle.sourcemap_records.specs.declared.jsontypes.MinimalRawSourceMap.{MinimalRawSourceMap}
 use Rattle.sourcemap_records.specs.declared.jsontypes.RawSectionOffset.{RawSectionOffset}
 use Rattle.sourcemap_records.specs.declared.jsontypes.RawSection.{RawSection, RawSection-F, fold-RawSection}
 use Rattle.sourcemap_records.specs.declared.jsontypes.RawSourceMap.{RawSourceMap, RawSourceMap-F, fold-RawSourceMap}
 
--- ---- what a record says
+-- ---- the model of a record
 
--- the scopes of a source: names of functions, and digits
+-- the function scopes of a source
 pub record Scopes : Type 0 where
   pub names : List (List ℕ)
   pub mappings : List ℕ
@@ -39,8 +39,8 @@ pub record Fields : Type 0 where
   pub x_facebook_sources : Option (List (Option (List Scopes)))
   pub debug_id : Option (List ℕ)
 
--- a section but for its map
-pub record Place : Type 0 where
+-- the head of a section: all but its map
+pub record SectionHead : Type 0 where
   pub line : ℕ
   pub column : ℕ
   pub url : Option (List ℕ)
@@ -53,24 +53,24 @@ mutual
 
   pub data Sections : Type 0 where
     no_more : Sections
-    bare : Place → Sections → Sections
-    mapped : Place → Tree → Sections → Sections
+    bare : SectionHead → Sections → Sections
+    mapped : SectionHead → Tree → Sections → Sections
 
 -- one section alone
 pub record Section : Type 0 where
-  pub place : Place
+  pub head : SectionHead
   pub map : Option Tree
 
-abbrev pub section_at : Place → Option Tree → Section
-section_at place t = record { place = place; map = t }
+abbrev pub section_at : SectionHead → Option Tree → Section
+section_at head t = record { head = head; map = t }
 
 abbrev pub tree_with : Fields → Option Sections → Tree
 tree_with fields None = plain fields
 tree_with fields (Some sections) = indexed fields sections
 
-abbrev pub section_with : Place → Option Tree → Sections → Sections
-section_with place None rest = bare place rest
-section_with place (Some t) rest = mapped place t rest
+abbrev pub section_with : SectionHead → Option Tree → Sections → Sections
+section_with head None rest = bare head rest
+section_with head (Some t) rest = mapped head t rest
 
 -- the keys of a record but for its sections
 abbrev pub flat : Tree → Fields
@@ -82,7 +82,7 @@ flat (indexed fields _) = fields
 abbrev pub debug_id : Data → Option (List ℕ)
 debug_id d = with (text d) debug_id_of
 
--- of two spellings the first wins; a fault in either is one
+-- the first of two spellings wins; an invalid value of either is an error
 abbrev pub debug_id_in : Members → Option (Option (List ℕ))
 debug_id_in ms =
     with (at (codes "debugId") debug_id ms) (λ new.
@@ -91,8 +91,8 @@ debug_id_in ms =
 
 abbrev pub scopes_in : Members → Option Scopes
 scopes_in ms =
-    with (needed (codes "names") (list text) ms) (λ names.
-    with (needed (codes "mappings") text ms) (λ mappings.
+    with (required (codes "names") (list text) ms) (λ names.
+    with (required (codes "mappings") text ms) (λ mappings.
     Some (record { names = names; mappings = mappings })))
 
 abbrev pub scopes : Data → Option Scopes
@@ -131,20 +131,20 @@ fields_in ms =
 
 abbrev pub offset_in : Members → Option RawSectionOffset
 offset_in ms =
-    with (needed (codes "line") small_number ms) (λ line.
-    with (needed (codes "column") small_number ms) (λ column.
+    with (required (codes "line") small_number ms) (λ line.
+    with (required (codes "column") small_number ms) (λ column.
     Some (record { line = line; column = column })))
 
 abbrev pub offset : Data → Option RawSectionOffset
 offset d = with (as_object d) offset_in
 
-abbrev pub place_in : Members → Option Place
-place_in ms =
-    with (needed (codes "offset") offset ms) (λ offset.
+abbrev pub section_head_in : Members → Option SectionHead
+section_head_in ms =
+    with (required (codes "offset") offset ms) (λ offset.
     with (at (codes "url") text ms) (λ url.
     Some (record { line = offset.line; column = offset.column; url = url })))
 
--- the record that a value stands for; what its sections hold, and the map of each, are read in turn
+-- the record of a value, with its sections and their maps
 abbrev mutual
   pub record_of : Data → Option Tree
   record_of (object ms) = with (sections_in ms) (λ sections. with (fields_in ms) (λ fields. Some (tree_with fields sections)))
@@ -156,25 +156,25 @@ abbrev mutual
 
   pub sections_read : Items → Option Sections
   sections_read no_items = Some no_more
-  sections_read (item d ds) = with (section_of d) (λ section. with (sections_read ds) (λ rest. Some (section_with section.place section.map rest)))
+  sections_read (item d ds) = with (section_of d) (λ section. with (sections_read ds) (λ rest. Some (section_with section.head section.map rest)))
 
   pub section_of : Data → Option Section
-  section_of (object ms) = with (map_in ms) (λ t. with (place_in ms) (λ place. Some (section_at place t)))
+  section_of (object ms) = with (map_in ms) (λ t. with (section_head_in ms) (λ head. Some (section_at head t)))
   section_of _ = None
 
-  -- the member `sections`, or null, or none
+  -- the member `sections`, which may be missing or null
   pub sections_in : Members → Option (Option Sections)
   sections_in no_members = Some None
   sections_in (member key d ms) = match_ordering (slice_cmp nat_cmp (codes "sections") key) (sections_in ms) (or_null_of d (sections_of d)) (sections_in ms)
 
-  -- the member `map`, or null, or none
+  -- the member `map`, which may be missing or null
   pub map_in : Members → Option (Option Tree)
   map_in no_members = Some None
   map_in (member key d ms) = match_ordering (slice_cmp nat_cmp (codes "map") key) (map_in ms) (or_null_of d (record_of d)) (map_in ms)
 
--- ---- what tells a record from other values
+-- ---- the keys by which a map is detected
 
--- there, and not null
+-- present, and not null
 abbrev pub is_there : Option Data → Bool
 is_there None = false
 is_there (Some null) = false
@@ -226,13 +226,13 @@ written_offset offset = object (put_all (
     (codes "line", Some (written_number offset.line)) ∷
     (codes "column", Some (written_number offset.column)) ∷ []) no_members)
 
-abbrev pub written_section : Place → Data → Data
-written_section place t = object (put_all (
+abbrev pub written_section : SectionHead → Data → Data
+written_section head t = object (put_all (
     (codes "map", Some t) ∷
-    (codes "offset", Some (written_offset (record { line = place.line; column = place.column }))) ∷
-    (codes "url", Some (written_or_null string place.url)) ∷ []) no_members)
+    (codes "offset", Some (written_offset (record { line = head.line; column = head.column }))) ∷
+    (codes "url", Some (written_or_null string head.url)) ∷ []) no_members)
 
--- what is missing is not written, but for version, sources, url and map, which are null then
+-- a missing key is left out, except version, sources, url and map, which are written as null
 abbrev mutual
   pub written : Tree → Data
   written (plain fields) = object (written_fields fields)
@@ -240,14 +240,14 @@ abbrev mutual
 
   pub written_sections : Sections → Items
   written_sections no_more = no_items
-  written_sections (bare place rest) = item (written_section place null) (written_sections rest)
-  written_sections (mapped place t rest) = item (written_section place (written t)) (written_sections rest)
+  written_sections (bare head rest) = item (written_section head null) (written_sections rest)
+  written_sections (mapped head t rest) = item (written_section head (written t)) (written_sections rest)
 
 -- one section alone
 abbrev pub written_one : Section → Data
-written_one s = written_section s.place (written_or_null written s.map)
+written_one s = written_section s.head (written_or_null written s.map)
 
--- ---- what is read back as it was written
+-- ---- which records read back
 
 -- a number of a record is below 2^32
 abbrev pub FitsU32 : ℕ → Type 0
@@ -259,10 +259,10 @@ pub record AreInRange (fields : Fields) : Type 0 where
   pub x_facebook_offsets : IfSome fields.x_facebook_offsets (AllByRecursion (λ n. IfSome n FitsU32))
   pub debug_id : IfSome fields.debug_id IsId
 
-abbrev pub IsPlaceInRange : Place → Type 0
-IsPlaceInRange place = FitsU32 place.line × FitsU32 place.column
+abbrev pub IsSectionHeadInRange : SectionHead → Type 0
+IsSectionHeadInRange head = FitsU32 head.line × FitsU32 head.column
 
--- numbers are below 2^32 and a debug id is 16 bytes, as in every record that there is
+-- numbers are below 2^32 and a debug id has 16 bytes, as in every record in memory
 abbrev mutual
   pub IsInRange : Tree → Type 0
   IsInRange (plain fields) = AreInRange fields
@@ -270,14 +270,14 @@ abbrev mutual
 
   pub AreSectionsInRange : Sections → Type 0
   AreSectionsInRange no_more = Unit {0}
-  AreSectionsInRange (bare place rest) = IsPlaceInRange place × AreSectionsInRange rest
-  AreSectionsInRange (mapped place t rest) = IsPlaceInRange place × IsInRange t × AreSectionsInRange rest
+  AreSectionsInRange (bare head rest) = IsSectionHeadInRange head × AreSectionsInRange rest
+  AreSectionsInRange (mapped head t rest) = IsSectionHeadInRange head × IsInRange t × AreSectionsInRange rest
 
 -- one section alone
 abbrev pub IsSectionInRange : Section → Type 0
-IsSectionInRange s = IsPlaceInRange s.place × IfSome s.map IsInRange
+IsSectionInRange s = IsSectionHeadInRange s.head × IfSome s.map IsInRange
 
--- no file is a JSON null, which is read as none; in the maps of sections neither
+-- no `file`, of the record or of a section's map, is a JSON null, which reads as missing
 abbrev mutual
   pub HasNoNullFile : Tree → Type 0
   HasNoNullFile (plain fields) = fields.file ≢ Some null
@@ -285,14 +285,14 @@ abbrev mutual
 
   pub HaveNoNullFile : Sections → Type 0
   HaveNoNullFile no_more = Unit {0}
-  HaveNoNullFile (bare place rest) = HaveNoNullFile rest
-  HaveNoNullFile (mapped place t rest) = HasNoNullFile t × HaveNoNullFile rest
+  HaveNoNullFile (bare head rest) = HaveNoNullFile rest
+  HaveNoNullFile (mapped head t rest) = HasNoNullFile t × HaveNoNullFile rest
 
--- a tree that is read back as it was written
+-- a record that reads back as itself
 abbrev pub IsFine : Tree → Type 0
 IsFine t = IsInRange t × HasNoNullFile t
 
--- ---- what a clause sees of a record
+-- ---- from records in memory to the model
 
 abbrev pub text_view : Option (String Global) → Option (List ℕ)
 text_view s = option_map string_bytes s
@@ -320,15 +320,15 @@ fields_view r = record {
   debug_id = r.debug_id;
 }
 
-abbrev pub place_view : {X Y : Type 0} → RawSection-F X Y → Place
-place_view s = record { line = s.offset.line; column = s.offset.column; url = text_view s.url }
+abbrev pub section_head_view : {X Y : Type 0} → RawSection-F X Y → SectionHead
+section_head_view s = record { line = s.offset.line; column = s.offset.column; url = text_view s.url }
 
 abbrev pub section_step : RawSection-F Section Tree → Section
-section_step s = record { place = place_view s; map = option_map (λ b. b.value) s.map }
+section_step s = record { head = section_head_view s; map = option_map (λ b. b.value) s.map }
 
 abbrev pub sections_from : List Section → Sections
 sections_from [] = no_more
-sections_from (s ∷ ss) = section_with s.place s.map (sections_from ss)
+sections_from (s ∷ ss) = section_with s.head s.map (sections_from ss)
 
 abbrev pub tree_step : RawSourceMap-F Section Tree → Tree
 tree_step r = tree_with (fields_view r) (option_map (λ v. sections_from v.items) r.sections)

@@ -1,5 +1,5 @@
 -- The keys of a record in three groups, in the order in which they are read and written. The debug
--- id, which has two keys, stands beside them.
+-- id, which has two keys, is in none of them.
 use Rattle.std.specs.Prelude.{◌≡◌, ℕ, List, [], ◌∷◌, map, codes, Option, Some, IfSome, option_map, string_bytes, false}
 use Rattle.std.specs.List.{list_any, AllByRecursion}
 use Rattle.std.specs.Str.{bytes_eq}
@@ -8,12 +8,12 @@ use Rattle.serde_json.specs.Find.{get_member}
 use Rattle.serde_json.specs.View.{view}
 use Rattle.sourcemap_records.specs.Field.{with, any, text, small_number, or_null, list, at, written_number, written_or_null, written_list}
 use Rattle.sourcemap_records.specs.Jsontypes.{FitsU32, Fields, Scopes, scopes, scopes_view, text_view, texts_view, written_scopes}
-use Rattle.sourcemap_records.specs.declared.keys.RawHeading.{RawHeading}
-use Rattle.sourcemap_records.specs.declared.keys.RawContent.{RawContent}
-use Rattle.sourcemap_records.specs.declared.keys.RawExtras.{RawExtras}
+use Rattle.sourcemap_records.specs.declared.keys.RawFileKeys.{RawFileKeys}
+use Rattle.sourcemap_records.specs.declared.keys.RawContentKeys.{RawContentKeys}
+use Rattle.sourcemap_records.specs.declared.keys.RawExtraKeys.{RawExtraKeys}
 use Rattle.sourcemap_records.specs.declared.keys.RawGroups.{RawGroups}
 
-pub record HeadingKeys : Type 0 where
+pub record FileKeys : Type 0 where
   pub version : Option ℕ
   pub file : Option Data
   pub sources : Option (List (Option (List ℕ)))
@@ -31,57 +31,57 @@ pub record ExtraKeys : Type 0 where
   pub x_metro_module_paths : Option (List (List ℕ))
   pub x_facebook_sources : Option (List (Option (List Scopes)))
 
-abbrev pub heading_of : Fields → HeadingKeys
-heading_of f = record { version = f.version; file = f.file; sources = f.sources; source_root = f.source_root }
+abbrev pub file_keys_of : Fields → FileKeys
+file_keys_of f = record { version = f.version; file = f.file; sources = f.sources; source_root = f.source_root }
 
-abbrev pub content_of : Fields → ContentKeys
-content_of f = record { sources_content = f.sources_content; names = f.names; range_mappings = f.range_mappings; mappings = f.mappings }
+abbrev pub content_keys_of : Fields → ContentKeys
+content_keys_of f = record { sources_content = f.sources_content; names = f.names; range_mappings = f.range_mappings; mappings = f.mappings }
 
-abbrev pub extras_of : Fields → ExtraKeys
-extras_of f = record {
+abbrev pub extra_keys_of : Fields → ExtraKeys
+extra_keys_of f = record {
   ignore_list = f.ignore_list;
   x_facebook_offsets = f.x_facebook_offsets;
   x_metro_module_paths = f.x_metro_module_paths;
   x_facebook_sources = f.x_facebook_sources;
 }
 
-abbrev pub fields_from : HeadingKeys → ContentKeys → ExtraKeys → Option (List ℕ) → Fields
-fields_from heading content extras debug_id = record {
-  version = heading.version;
-  file = heading.file;
-  sources = heading.sources;
-  source_root = heading.source_root;
-  sources_content = content.sources_content;
-  names = content.names;
-  range_mappings = content.range_mappings;
-  mappings = content.mappings;
-  ignore_list = extras.ignore_list;
-  x_facebook_offsets = extras.x_facebook_offsets;
-  x_metro_module_paths = extras.x_metro_module_paths;
-  x_facebook_sources = extras.x_facebook_sources;
+abbrev pub fields_from : FileKeys → ContentKeys → ExtraKeys → Option (List ℕ) → Fields
+fields_from file_keys content_keys extra_keys debug_id = record {
+  version = file_keys.version;
+  file = file_keys.file;
+  sources = file_keys.sources;
+  source_root = file_keys.source_root;
+  sources_content = content_keys.sources_content;
+  names = content_keys.names;
+  range_mappings = content_keys.range_mappings;
+  mappings = content_keys.mappings;
+  ignore_list = extra_keys.ignore_list;
+  x_facebook_offsets = extra_keys.x_facebook_offsets;
+  x_metro_module_paths = extra_keys.x_metro_module_paths;
+  x_facebook_sources = extra_keys.x_facebook_sources;
   debug_id = debug_id;
 }
 
--- ---- what a clause sees of a group
+-- ---- from groups in memory to the model
 
-abbrev pub heading_view : RawHeading → HeadingKeys
-heading_view h = record {
+abbrev pub file_keys_view : RawFileKeys → FileKeys
+file_keys_view h = record {
   version = h.version;
   file = option_map view h.file;
   sources = texts_view h.sources;
   source_root = text_view h.source_root;
 }
 
-abbrev pub content_view : RawContent → ContentKeys
-content_view c = record {
+abbrev pub content_keys_view : RawContentKeys → ContentKeys
+content_keys_view c = record {
   sources_content = texts_view c.sources_content;
   names = option_map (λ v. map view v.items) c.names;
   range_mappings = text_view c.range_mappings;
   mappings = text_view c.mappings;
 }
 
-abbrev pub extras_view : RawExtras → ExtraKeys
-extras_view x = record {
+abbrev pub extra_keys_view : RawExtraKeys → ExtraKeys
+extra_keys_view x = record {
   ignore_list = option_map (λ v. v.items) x.ignore_list;
   x_facebook_offsets = option_map (λ v. v.items) x.x_facebook_offsets;
   x_metro_module_paths = option_map (λ v. map string_bytes v.items) x.x_metro_module_paths;
@@ -89,36 +89,36 @@ extras_view x = record {
 }
 
 abbrev pub groups_view : RawGroups → Fields
-groups_view g = fields_from (heading_view g.heading) (content_view g.content) (extras_view g.extras) g.debug_id
+groups_view g = fields_from (file_keys_view g.file_keys) (content_keys_view g.content_keys) (extra_keys_view g.extra_keys) g.debug_id
 
 -- ---- which values a group may have
 
-abbrev pub IsHeadingInRange : HeadingKeys → Type 0
-IsHeadingInRange h = IfSome h.version FitsU32
+abbrev pub AreFileKeysInRange : FileKeys → Type 0
+AreFileKeysInRange h = IfSome h.version FitsU32
 
-abbrev pub AreExtrasInRange : ExtraKeys → Type 0
-AreExtrasInRange x = IfSome x.ignore_list (AllByRecursion FitsU32) × IfSome x.x_facebook_offsets (AllByRecursion (λ n. IfSome n FitsU32))
+abbrev pub AreExtraKeysInRange : ExtraKeys → Type 0
+AreExtraKeysInRange x = IfSome x.ignore_list (AllByRecursion FitsU32) × IfSome x.x_facebook_offsets (AllByRecursion (λ n. IfSome n FitsU32))
 
 -- ---- reading
 
-abbrev pub heading_in : Members → Option HeadingKeys
-heading_in ms =
+abbrev pub file_keys_in : Members → Option FileKeys
+file_keys_in ms =
     with (at (codes "version") small_number ms) (λ version.
     with (at (codes "file") any ms) (λ file.
     with (at (codes "sources") (list (or_null text)) ms) (λ sources.
     with (at (codes "sourceRoot") text ms) (λ source_root.
     Some (record { version = version; file = file; sources = sources; source_root = source_root })))))
 
-abbrev pub content_in : Members → Option ContentKeys
-content_in ms =
+abbrev pub content_keys_in : Members → Option ContentKeys
+content_keys_in ms =
     with (at (codes "sourcesContent") (list (or_null text)) ms) (λ sources_content.
     with (at (codes "names") (list any) ms) (λ names.
     with (at (codes "rangeMappings") text ms) (λ range_mappings.
     with (at (codes "mappings") text ms) (λ mappings.
     Some (record { sources_content = sources_content; names = names; range_mappings = range_mappings; mappings = mappings })))))
 
-abbrev pub extras_in : Members → Option ExtraKeys
-extras_in ms =
+abbrev pub extra_keys_in : Members → Option ExtraKeys
+extra_keys_in ms =
     with (at (codes "ignoreList") (list small_number) ms) (λ ignore_list.
     with (at (codes "x_facebook_offsets") (list (or_null small_number)) ms) (λ x_facebook_offsets.
     with (at (codes "x_metro_module_paths") (list text) ms) (λ x_metro_module_paths.
@@ -130,12 +130,12 @@ extras_in ms =
       x_facebook_sources = x_facebook_sources;
     })))))
 
--- the keys that a group takes out, the last one first
-abbrev pub heading_names : List (List ℕ)
-heading_names = codes "sourceRoot" ∷ codes "sources" ∷ codes "file" ∷ codes "version" ∷ []
+-- the keys that reading a group removes, the last one first
+abbrev pub file_key_names : List (List ℕ)
+file_key_names = codes "sourceRoot" ∷ codes "sources" ∷ codes "file" ∷ codes "version" ∷ []
 
-abbrev pub content_names : List (List ℕ)
-content_names = codes "mappings" ∷ codes "rangeMappings" ∷ codes "names" ∷ codes "sourcesContent" ∷ []
+abbrev pub content_key_names : List (List ℕ)
+content_key_names = codes "mappings" ∷ codes "rangeMappings" ∷ codes "names" ∷ codes "sourcesContent" ∷ []
 
 -- all members but these are as before
 abbrev pub KeepsBut : List (List ℕ) → Members → Members → Type 0
@@ -143,8 +143,8 @@ KeepsBut names before after = (other : List ℕ) → list_any (bytes_eq other) n
 
 -- ---- writing
 
-abbrev pub heading_entries : HeadingKeys → List (List ℕ × Option Data)
-heading_entries h =
+abbrev pub file_entries : FileKeys → List (List ℕ × Option Data)
+file_entries h =
     (codes "version", Some (written_or_null written_number h.version)) ∷
     (codes "file", h.file) ∷
     (codes "sources", Some (written_or_null (written_list (written_or_null string)) h.sources)) ∷

@@ -1,12 +1,12 @@
-// Records copied whole.
+// Deep copies of records.
 ghost use Rattle.std.specs.Prelude.{map, option_map};
 ghost use Rattle.sourcemap_records.specs.Field.{Makes};
-ghost use Rattle.sourcemap_records.specs.Keys.{heading_of, heading_view, content_of, content_view, extras_of, extras_view, groups_view};
+ghost use Rattle.sourcemap_records.specs.Keys.{file_keys_of, file_keys_view, content_keys_of, content_keys_view, extra_keys_of, extra_keys_view, groups_view};
 ghost use Rattle.sourcemap_records.specs.Jsontypes.{flat, section, sections_from, tree, tree_with};
 
 use crate::field::Field;
 use crate::jsontypes::{RawSection, RawSourceMap};
-use crate::keys::{RawContent, RawExtras, RawGroups, RawHeading, joined};
+use crate::keys::{RawContentKeys, RawExtraKeys, RawFileKeys, RawGroups, join};
 use sourcemap_errors::errors::Result;
 use std::alloc::Global;
 
@@ -15,19 +15,19 @@ pub(crate) fn copy_map(whole: &RawSourceMap, alloc: Global) -> Result<RawSourceM
     ensures { Makes tree result (tree whole.now) }
 {
     let sections = match &whole.sections {
-        Some(sections) => Some(copy_list(sections, alloc)?),
+        Some(sections) => Some(copy_section_list(sections, alloc)?),
         None => None,
     };
     copy_fields(whole, sections, alloc)
 }
 
-fn copy_heading(whole: &RawSourceMap, alloc: Global) -> Result<RawHeading>
-    ensures { Makes heading_view result (heading_of (flat (tree whole.now))) }
+fn copy_file_keys(whole: &RawSourceMap, alloc: Global) -> Result<RawFileKeys>
+    ensures { Makes file_keys_view result (file_keys_of (flat (tree whole.now))) }
 {
     let file = whole.file.duplicate(alloc)?;
     let sources = whole.sources.duplicate(alloc)?;
     let source_root = whole.source_root.duplicate(alloc)?;
-    Ok(RawHeading {
+    Ok(RawFileKeys {
         version: whole.version,
         file,
         sources,
@@ -35,14 +35,14 @@ fn copy_heading(whole: &RawSourceMap, alloc: Global) -> Result<RawHeading>
     })
 }
 
-fn copy_content(whole: &RawSourceMap, alloc: Global) -> Result<RawContent>
-    ensures { Makes content_view result (content_of (flat (tree whole.now))) }
+fn copy_content_keys(whole: &RawSourceMap, alloc: Global) -> Result<RawContentKeys>
+    ensures { Makes content_keys_view result (content_keys_of (flat (tree whole.now))) }
 {
     let sources_content = whole.sources_content.duplicate(alloc)?;
     let names = whole.names.duplicate(alloc)?;
     let range_mappings = whole.range_mappings.duplicate(alloc)?;
     let mappings = whole.mappings.duplicate(alloc)?;
-    Ok(RawContent {
+    Ok(RawContentKeys {
         sources_content,
         names,
         range_mappings,
@@ -50,14 +50,14 @@ fn copy_content(whole: &RawSourceMap, alloc: Global) -> Result<RawContent>
     })
 }
 
-fn copy_extras(whole: &RawSourceMap, alloc: Global) -> Result<RawExtras>
-    ensures { Makes extras_view result (extras_of (flat (tree whole.now))) }
+fn copy_extra_keys(whole: &RawSourceMap, alloc: Global) -> Result<RawExtraKeys>
+    ensures { Makes extra_keys_view result (extra_keys_of (flat (tree whole.now))) }
 {
     let ignore_list = whole.ignore_list.duplicate(alloc)?;
     let x_facebook_offsets = whole.x_facebook_offsets.duplicate(alloc)?;
     let x_metro_module_paths = whole.x_metro_module_paths.duplicate(alloc)?;
     let x_facebook_sources = whole.x_facebook_sources.duplicate(alloc)?;
-    Ok(RawExtras {
+    Ok(RawExtraKeys {
         ignore_list,
         x_facebook_offsets,
         x_metro_module_paths,
@@ -68,13 +68,13 @@ fn copy_extras(whole: &RawSourceMap, alloc: Global) -> Result<RawExtras>
 fn copy_groups(whole: &RawSourceMap, alloc: Global) -> Result<RawGroups>
     ensures { Makes groups_view result (flat (tree whole.now)) }
 {
-    let heading = copy_heading(whole, alloc)?;
-    let content = copy_content(whole, alloc)?;
-    let extras = copy_extras(whole, alloc)?;
+    let file_keys = copy_file_keys(whole, alloc)?;
+    let content_keys = copy_content_keys(whole, alloc)?;
+    let extra_keys = copy_extra_keys(whole, alloc)?;
     Ok(RawGroups {
-        heading,
-        content,
-        extras,
+        file_keys,
+        content_keys,
+        extra_keys,
         debug_id: whole.debug_id,
     })
 }
@@ -88,11 +88,11 @@ fn copy_fields(
         (option_map (λ v. sections_from (map section v.items)) sections)) }
 {
     let groups = copy_groups(whole, alloc)?;
-    Ok(joined(groups, sections))
+    Ok(join(groups, sections))
 }
 
 #[cycle(copy)]
-fn copy_list(sections: &Vec<RawSection>, alloc: Global) -> Result<Vec<RawSection>>
+fn copy_section_list(sections: &Vec<RawSection>, alloc: Global) -> Result<Vec<RawSection>>
     ensures { Makes (λ v. map section v.items) result (map section sections.now.items) }
 {
     let mut copies = Vec::with_capacity(alloc, sections.len())?;

@@ -1,4 +1,4 @@
-// How the fields of a record are read from JSON and written as JSON.
+// Fields of a record, read from JSON values and written as JSON values.
 ghost use Rattle.std.specs.Prelude.{◌≡◌, ℕ, List, Option, Some, Ok, map, option_map, string_bytes, IfOk, IfErr, IfSome, OnOk};
 ghost use Rattle.std.specs.List.{AllByRecursion};
 ghost use Rattle.serde_json.specs.Data.{Data, string};
@@ -6,15 +6,15 @@ ghost use Rattle.serde_json.specs.Find.{get, get_member};
 ghost use Rattle.serde_json.specs.View.{view, items_view, members_view};
 ghost use Rattle.sourcemap_errors.specs.declared.errors.Error.TheVariants.{OutOfMemory};
 ghost use Rattle.sourcemap_records.specs.Jsontypes.{FitsU32, is_there};
-ghost use Rattle.sourcemap_records.specs.Field.{IsUnbounded, due, GivesReading, Makes, put_if, written_number, written_or_null, written_list, KeepsOthers, any, text, small_number, or_null, items_read, found, list, at, needed};
+ghost use Rattle.sourcemap_records.specs.Field.{IsUnbounded, due, GivesReading, Makes, put_if, written_number, written_or_null, written_list, KeepsOthers, any, text, small_number, or_null, items_read, found, list, at, required};
 
 use serde_json::{Map, Value, put};
 use sourcemap_errors::errors::{Error, JsonFault, Result};
 use std::alloc::Global;
 
-// What a field of a record may be.
+// A type that a field of a record may have.
 pub(crate) trait Field: Drop {
-    // What a clause sees of it, and how that is read and written.
+    // The model of a field in clauses, and how it is read and written.
     ghost Seen: { Type 0 };
 
     ghost see: { Self → Seen };
@@ -23,19 +23,19 @@ pub(crate) trait Field: Drop {
 
     ghost writing: { Seen → Data };
 
-    // What each value of the type meets.
+    // A bound that each value of the type meets.
     ghost in_range: { Seen → Type 0 };
 
-    // Takes its texts out of the value.
-    fn take(alloc: Global, value: Value) -> Result<Self>
+    // Moves the strings out of the value.
+    fn from_json_value(alloc: Global, value: Value) -> Result<Self>
         ensures { GivesReading see result (reading (view value)) };
 
-    // Leaves its texts to the value.
-    fn give(self, alloc: Global) -> Result<Value>
+    // Moves the strings into the value.
+    fn to_json_value(self, alloc: Global) -> Result<Value>
         ensures value { Makes view result (writing (see self)) }
         ensures in_range { OnOk result (in_range (see self)) };
 
-    // The same, on its own.
+    // A deep copy.
     fn duplicate(&self, alloc: Global) -> Result<Self>
         ensures { Makes see result (see self.now) };
 }
@@ -51,11 +51,11 @@ impl Field for Value {
 
     ghost in_range = { IsUnbounded };
 
-    fn take(_alloc: Global, value: Value) -> Result<Value> {
+    fn from_json_value(_alloc: Global, value: Value) -> Result<Value> {
         Ok(value)
     }
 
-    fn give(self, _alloc: Global) -> Result<Value> {
+    fn to_json_value(self, _alloc: Global) -> Result<Value> {
         Ok(self)
     }
 
@@ -75,14 +75,14 @@ impl Field for String {
 
     ghost in_range = { IsUnbounded };
 
-    fn take(_alloc: Global, value: Value) -> Result<String> {
+    fn from_json_value(_alloc: Global, value: Value) -> Result<String> {
         match value {
             Value::String(text) => Ok(text),
             _ => Err(Error::BadJson(JsonFault::Shape)),
         }
     }
 
-    fn give(self, _alloc: Global) -> Result<Value> {
+    fn to_json_value(self, _alloc: Global) -> Result<Value> {
         Ok(Value::String(self))
     }
 
@@ -102,11 +102,11 @@ impl Field for u32 {
 
     ghost in_range = { FitsU32 };
 
-    fn take(_alloc: Global, value: Value) -> Result<u32> {
+    fn from_json_value(_alloc: Global, value: Value) -> Result<u32> {
         read_number(&value)
     }
 
-    fn give(self, _alloc: Global) -> Result<Value> {
+    fn to_json_value(self, _alloc: Global) -> Result<Value> {
         Ok(Value::from(self))
     }
 
@@ -115,7 +115,6 @@ impl Field for u32 {
     }
 }
 
-// A whole number below 2^32.
 fn read_number(value: &Value) -> Result<u32>
     ensures { result ≡ due (small_number (view value.now)) }
 {
@@ -136,16 +135,16 @@ impl<T: Field> Field for Option<T> {
 
     ghost in_range = { λ o. IfSome o T.in_range };
 
-    fn take(alloc: Global, value: Value) -> Result<Option<T>> {
+    fn from_json_value(alloc: Global, value: Value) -> Result<Option<T>> {
         if let Value::Null = value {
             return Ok(None);
         }
-        Ok(Some(T::take(alloc, value)?))
+        Ok(Some(T::from_json_value(alloc, value)?))
     }
 
-    fn give(self, alloc: Global) -> Result<Value> {
+    fn to_json_value(self, alloc: Global) -> Result<Value> {
         match self {
-            Some(field) => field.give(alloc),
+            Some(field) => field.to_json_value(alloc),
             None => Ok(Value::Null),
         }
     }
@@ -169,15 +168,15 @@ impl<T: Field> Field for Vec<T> {
 
     ghost in_range = { AllByRecursion T.in_range };
 
-    fn take(alloc: Global, value: Value) -> Result<Vec<T>> {
+    fn from_json_value(alloc: Global, value: Value) -> Result<Vec<T>> {
         match value {
-            Value::Array(items) => take_items(alloc, items),
+            Value::Array(items) => items_from_json(alloc, items),
             _ => Err(Error::BadJson(JsonFault::Shape)),
         }
     }
 
-    fn give(self, alloc: Global) -> Result<Value> {
-        Ok(Value::Array(give_items(alloc, self)?))
+    fn to_json_value(self, alloc: Global) -> Result<Value> {
+        Ok(Value::Array(items_to_json(alloc, self)?))
     }
 
     fn duplicate(&self, alloc: Global) -> Result<Vec<T>> {
@@ -189,31 +188,31 @@ impl<T: Field> Field for Vec<T> {
     }
 }
 
-fn take_items<T: Field>(alloc: Global, items: Vec<Value>) -> Result<Vec<T>>
+fn items_from_json<T: Field>(alloc: Global, items: Vec<Value>) -> Result<Vec<T>>
     ensures { GivesReading (λ v. map T.see v.items) result
         (items_read T.reading (items_view items.items)) }
 {
     let mut fields = Vec::with_capacity(alloc, items.len())?;
     for item in items {
-        fields.push(T::take(alloc, item)?)?;
+        fields.push(T::from_json_value(alloc, item)?)?;
     }
     Ok(fields)
 }
 
-fn give_items<T: Field>(alloc: Global, fields: Vec<T>) -> Result<Vec<Value>>
+fn items_to_json<T: Field>(alloc: Global, fields: Vec<T>) -> Result<Vec<Value>>
     ensures ok { IfOk result (λ v. map view v.items ≡ map T.writing (map T.see fields.items)) }
     ensures in_range { OnOk result (AllByRecursion T.in_range (map T.see fields.items)) }
     ensures err { IfErr result (λ e. e ≡ OutOfMemory) }
 {
     let mut items = Vec::with_capacity(alloc, fields.len())?;
     for field in fields {
-        items.push(field.give(alloc)?)?;
+        items.push(field.to_json_value(alloc)?)?;
     }
     Ok(items)
 }
 
-// The value of a key, taken out; the other keys keep theirs.
-pub(crate) fn take_value(members: &mut Map<String, Value>, key: &str) -> Option<Value>
+// Removes the value of a key.
+pub(crate) fn remove_value(members: &mut Map<String, Value>, key: &str) -> Option<Value>
     ensures value { option_map view result
         ≡ get_member key.now (members_view members.old.entries) }
     ensures others { KeepsOthers key.now (members_view members.old.entries)
@@ -222,8 +221,8 @@ pub(crate) fn take_value(members: &mut Map<String, Value>, key: &str) -> Option<
     members.remove(key)
 }
 
-// The field of a key that may be missing.
-pub(crate) fn take_optional<F: Field>(
+// Removes and reads a field that may be missing or null.
+pub(crate) fn read_optional<F: Field>(
     alloc: Global,
     members: &mut Map<String, Value>,
     key: &str,
@@ -233,13 +232,13 @@ pub(crate) fn take_optional<F: Field>(
     ensures others { KeepsOthers key.now (members_view members.old.entries)
         (members_view members.new.entries) }
 {
-    match take_value(members, key) {
-        Some(value) => Field::take(alloc, value),
+    match remove_value(members, key) {
+        Some(value) => Field::from_json_value(alloc, value),
         None => Ok(None),
     }
 }
 
-// The values of a list as they stand, where a null is none.
+// The items of an array, or `None` for null.
 fn value_list(value: Value) -> Result<Option<Vec<Value>>>
     ensures { GivesReading (option_map (λ v. map view v.items)) result
         (or_null (list any) (view value)) }
@@ -251,37 +250,37 @@ fn value_list(value: Value) -> Result<Option<Vec<Value>>>
     }
 }
 
-// The values of a key that may be missing. They stay in their list, so that none is moved.
-pub(crate) fn take_values(members: &mut Map<String, Value>, key: &str) -> Result<Option<Vec<Value>>>
+// Removes an array of values that may be missing or null. Its `Vec` is moved, not its items.
+pub(crate) fn read_values(members: &mut Map<String, Value>, key: &str) -> Result<Option<Vec<Value>>>
     ensures value { GivesReading (option_map (λ v. map view v.items)) result
         (at key.now (list any) (members_view members.old.entries)) }
     ensures others { KeepsOthers key.now (members_view members.old.entries)
         (members_view members.new.entries) }
 {
-    match take_value(members, key) {
+    match remove_value(members, key) {
         Some(value) => value_list(value),
         None => Ok(None),
     }
 }
 
-// The field of a key that must be there.
-pub(crate) fn take_needed<F: Field>(
+// Removes and reads a required field.
+pub(crate) fn read_required<F: Field>(
     alloc: Global,
     members: &mut Map<String, Value>,
     key: &str,
 ) -> Result<F>
     ensures value { GivesReading F.see result
-        (needed key.now F.reading (members_view members.old.entries)) }
+        (required key.now F.reading (members_view members.old.entries)) }
     ensures others { KeepsOthers key.now (members_view members.old.entries)
         (members_view members.new.entries) }
 {
-    match take_value(members, key) {
-        Some(value) => F::take(alloc, value),
+    match remove_value(members, key) {
+        Some(value) => F::from_json_value(alloc, value),
         None => Err(Error::BadJson(JsonFault::Shape)),
     }
 }
 
-// Puts a field under its key, if there is one.
+// Inserts a field at its key, if there is one.
 pub(crate) fn put_field<F: Field>(
     alloc: Global,
     members: &mut Map<String, Value>,
@@ -295,12 +294,12 @@ pub(crate) fn put_field<F: Field>(
     ensures err { IfErr result (λ e. e ≡ OutOfMemory) }
 {
     if let Some(field) = field {
-        put(members, alloc, key, field.give(alloc)?)?;
+        put(members, alloc, key, field.to_json_value(alloc)?)?;
     }
     Ok(())
 }
 
-// Puts values under their key, if there are any. They stay in their list, so that none is moved.
+// Inserts an array of values at its key, if there is one. Its `Vec` is moved, not its items.
 pub(crate) fn put_values(
     alloc: Global,
     members: &mut Map<String, Value>,
@@ -318,7 +317,7 @@ pub(crate) fn put_values(
     Ok(())
 }
 
-// The number of a key that may be missing.
+// The number of a key that may be missing or null.
 pub(crate) fn number_at(value: &Value, key: &str) -> Result<Option<u32>>
     ensures { result ≡ due (found small_number (get key.now (view value.now))) }
 {
@@ -328,7 +327,7 @@ pub(crate) fn number_at(value: &Value, key: &str) -> Result<Option<u32>>
     }
 }
 
-// Whether a key is there with a value other than null.
+// Whether a key has a value other than null.
 pub(crate) fn has(value: &Value, key: &str) -> bool
     ensures { result ≡ is_there (get key.now (view value.now)) }
 {

@@ -1,4 +1,4 @@
-// The parts of a record that are fields of their own.
+// Types of this crate and of `sourcemap_headers` as fields.
 ghost use Rattle.std.specs.Prelude.{◌≡◌, ℕ, List, string_bytes};
 ghost use Rattle.serde_json.specs.Data.{string};
 ghost use Rattle.serde_json.specs.View.{members_view};
@@ -6,7 +6,7 @@ ghost use Rattle.sourcemap_headers.specs.DebugId.{IsId, debug_id_of, debug_id_te
 ghost use Rattle.sourcemap_records.specs.Field.{IsUnbounded, GivesReading};
 ghost use Rattle.sourcemap_records.specs.Jsontypes.{FitsU32, Scopes, scopes, scopes_in, scopes_view, written_scopes, offset, offset_in, written_offset, debug_id};
 
-use crate::field::{Field, put_field, take_needed};
+use crate::field::{Field, put_field, read_required};
 use crate::jsontypes::{FacebookScopeMapping, RawSectionOffset};
 use serde_json::{Map, Value};
 use sourcemap_errors::errors::{Error, JsonFault, Result};
@@ -24,12 +24,12 @@ impl Field for DebugId {
 
     ghost in_range = { IsId };
 
-    fn take(alloc: Global, value: Value) -> Result<DebugId> {
-        let text = String::take(alloc, value)?;
+    fn from_json_value(alloc: Global, value: Value) -> Result<DebugId> {
+        let text = String::from_json_value(alloc, value)?;
         parsed_id(&text)
     }
 
-    fn give(self, alloc: Global) -> Result<Value> {
+    fn to_json_value(self, alloc: Global) -> Result<Value> {
         Ok(Value::String(self.to_string(alloc)?))
     }
 
@@ -60,14 +60,14 @@ impl Field for RawSectionOffset {
 
     ghost in_range = { λ offset. FitsU32 offset.line × FitsU32 offset.column };
 
-    fn take(alloc: Global, value: Value) -> Result<RawSectionOffset> {
+    fn from_json_value(alloc: Global, value: Value) -> Result<RawSectionOffset> {
         match value {
-            Value::Object(members) => take_offset(alloc, members),
+            Value::Object(members) => read_offset(alloc, members),
             _ => Err(Error::BadJson(JsonFault::Shape)),
         }
     }
 
-    fn give(self, alloc: Global) -> Result<Value> {
+    fn to_json_value(self, alloc: Global) -> Result<Value> {
         let mut members = Map::new(alloc);
         put_field(alloc, &mut members, "line", Some(self.line))?;
         put_field(alloc, &mut members, "column", Some(self.column))?;
@@ -79,11 +79,11 @@ impl Field for RawSectionOffset {
     }
 }
 
-fn take_offset(alloc: Global, mut members: Map<String, Value>) -> Result<RawSectionOffset>
+fn read_offset(alloc: Global, mut members: Map<String, Value>) -> Result<RawSectionOffset>
     ensures { GivesReading (λ offset. offset) result (offset_in (members_view members.entries)) }
 {
-    let line = take_needed(alloc, &mut members, "line")?;
-    let column = take_needed(alloc, &mut members, "column")?;
+    let line = read_required(alloc, &mut members, "line")?;
+    let column = read_required(alloc, &mut members, "column")?;
     Ok(RawSectionOffset { line, column })
 }
 
@@ -98,14 +98,14 @@ impl Field for FacebookScopeMapping {
 
     ghost in_range = { IsUnbounded };
 
-    fn take(alloc: Global, value: Value) -> Result<FacebookScopeMapping> {
+    fn from_json_value(alloc: Global, value: Value) -> Result<FacebookScopeMapping> {
         match value {
-            Value::Object(members) => take_scopes(alloc, members),
+            Value::Object(members) => read_scopes(alloc, members),
             _ => Err(Error::BadJson(JsonFault::Shape)),
         }
     }
 
-    fn give(self, alloc: Global) -> Result<Value> {
+    fn to_json_value(self, alloc: Global) -> Result<Value> {
         let FacebookScopeMapping { names, mappings } = self;
         let mut members = Map::new(alloc);
         put_field(alloc, &mut members, "names", Some(names))?;
@@ -120,10 +120,10 @@ impl Field for FacebookScopeMapping {
     }
 }
 
-fn take_scopes(alloc: Global, mut members: Map<String, Value>) -> Result<FacebookScopeMapping>
+fn read_scopes(alloc: Global, mut members: Map<String, Value>) -> Result<FacebookScopeMapping>
     ensures { GivesReading scopes_view result (scopes_in (members_view members.entries)) }
 {
-    let names = take_needed(alloc, &mut members, "names")?;
-    let mappings = take_needed(alloc, &mut members, "mappings")?;
+    let names = read_required(alloc, &mut members, "names")?;
+    let mappings = read_required(alloc, &mut members, "mappings")?;
     Ok(FacebookScopeMapping { names, mappings })
 }

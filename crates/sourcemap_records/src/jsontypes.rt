@@ -1,15 +1,15 @@
-//! Records as they stand in JSON, key by key: read from a JSON value, and written as one.
+//! Source map records, key by key, read from a JSON value and written as one.
 use crate::copy::copy_map;
 use crate::field::{Field, has, number_at};
-use crate::from_json::take_map;
-use crate::to_json::give_map;
+use crate::from_json::read_map;
+use crate::to_json::write_map;
 use serde_json::Value;
 use sourcemap_errors::errors::{Error, JsonFault, Result};
 pub use sourcemap_headers::debug_id::DebugId;
 use std::alloc::Global;
 
-/// Where a section of an index map starts: line and column of the generated text, from 0, the
-/// column in UTF-16 units.
+/// The generated position at which a section of an index map starts. Lines and columns count from 0,
+/// columns in UTF-16 code units.
 #[derive(Clone, Copy, Debug, PartialEq)]
 pub struct RawSectionOffset {
     /// The line.
@@ -18,74 +18,73 @@ pub struct RawSectionOffset {
     pub column: u32,
 }
 
-/// The scopes of one source: the names of its functions, and where they stand.
+/// The function scopes of one source.
 #[derive(Debug, PartialEq, Drop)]
 pub struct FacebookScopeMapping {
     /// The names of the functions.
     pub names: Vec<String>,
-    /// Where they stand, in base64 digits: segments of a step in the column, in the number of the
-    /// name and in the line, between commas, and lines of segments between semicolons.
+    /// Where the functions start, in base64 VLQ: segments of differences in column, name index and
+    /// line, separated by commas, and groups of segments separated by semicolons.
     pub mappings: String,
 }
 
-/// For each source, in the order of the sources, its scopes: a list of which the first entry
-/// counts, or `None`.
+/// For each source, in order, a list of scopes of which only the first entry is used, or `None`.
 pub type FacebookSources = Option<Vec<Option<Vec<FacebookScopeMapping>>>>;
 
-/// A section of an index map as it stands in JSON.
+/// A section of an index map, as in JSON.
 #[derive(Debug, PartialEq, Drop)]
 #[cycle(records)]
 pub struct RawSection {
-    /// Where it starts.
+    /// The generated position at which it starts.
     pub offset: RawSectionOffset,
-    /// Where its map may be found.
+    /// The URL of its map.
     pub url: Option<String>,
     /// Its map.
     pub map: Option<Box<RawSourceMap>>,
 }
 
-/// A source map as it stands in JSON, key by key. A key that is missing or null is `None`.
+/// A source map, as in JSON. A key that is missing or null is `None`.
 #[derive(Debug, PartialEq, Drop)]
 #[cycle(records)]
 pub struct RawSourceMap {
-    /// The number of the format: 3, but none is refused here.
+    /// The version of the format. Any number is accepted here.
     pub version: Option<u32>,
-    /// The generated file: its name if this is a JSON text. Any other value names none, but stays
-    /// and is written as it is; a null that a caller puts here is read back as `None`.
+    /// The name of the generated file, if this is a JSON string. Any other value is kept and written
+    /// unchanged. A null that a caller puts here is read back as `None`.
     pub file: Option<Value>,
-    /// The texts of the sources, without the root; `None` for one without a text.
+    /// The sources, without `source_root`, or `None` for a null.
     pub sources: Option<Vec<Option<String>>>,
-    /// The root: what stands before each source.
+    /// The prefix of each source.
     pub source_root: Option<String>,
-    /// The contents of the sources, in their order; `None` for one without contents.
+    /// The contents of the sources, in order, or `None` for a source without contents.
     pub sources_content: Option<Vec<Option<String>>>,
     /// The sections of an index map.
     pub sections: Option<Vec<RawSection>>,
-    /// The names: texts, or values that name nothing.
+    /// The names. A value that is not a string is not a name.
     pub names: Option<Vec<Value>>,
     /// Which tokens are range tokens, in base64 digits, line by line.
     pub range_mappings: Option<String>,
-    /// The tokens, in base64 digits: segments between commas, and lines of segments, one a line of
-    /// the generated text, between semicolons.
+    /// The mappings, in base64 VLQ: segments separated by commas, and generated lines separated by
+    /// semicolons.
     pub mappings: Option<String>,
-    /// The numbers, from 0, of the sources that a debugger passes over.
+    /// The indices of the sources that a debugger ignores.
     pub ignore_list: Option<Vec<u32>>,
-    /// The line, from 0, at which each module of a bundle starts; `None` for a number without a
+    /// The line, from 0, at which each module of a bundle starts, or `None` for an index without a
     /// module.
     pub x_facebook_offsets: Option<Vec<Option<u32>>>,
     /// The path of each module of a bundle.
     pub x_metro_module_paths: Option<Vec<String>>,
     /// The function names of each source.
     pub x_facebook_sources: FacebookSources,
-    /// The identifier that ties this map to its file.
+    /// The debug id that links this map to its generated file.
     pub debug_id: Option<DebugId>,
 }
 
-/// Which keys a value has, as far as they tell a source map from other JSON: each flag says that
-/// the key is there with a value other than null.
+/// The keys of a JSON value by which a source map is detected. Each flag is whether the key has a
+/// value other than null.
 #[derive(Clone, Copy, Debug, PartialEq)]
 pub struct MinimalRawSourceMap {
-    /// The number of the format; `None` where it is missing or null.
+    /// The version of the format, or `None` if it is missing or null.
     pub version: Option<u32>,
     /// Whether `file` is there.
     pub file: bool,
@@ -109,8 +108,8 @@ impl MinimalRawSourceMap {
     ghost use Rattle.sourcemap_records.specs.Field.{due};
     ghost use Rattle.sourcemap_records.specs.Jsontypes.{minimal_of};
 
-    /// The keys of a value. `BadJson(Shape)` if it is no object, or its version is neither null nor
-    /// a `u32`. It takes no memory.
+    /// Returns the keys of a value, or `BadJson(Shape)` if it is not an object or its version is
+    /// neither null nor a `u32`. Does not allocate.
     pub fn from_value(value: &Value) -> Result<MinimalRawSourceMap>
         ensures { result ≡ due (minimal_of (view value.now)) }
     {
@@ -136,7 +135,7 @@ impl FacebookScopeMapping {
     ghost use Rattle.sourcemap_errors.specs.Answer.{Gives};
     ghost use Rattle.sourcemap_records.specs.Jsontypes.{scopes_view};
 
-    /// A copy with the same names and mappings. Only want of memory refuses.
+    /// Returns a copy. The error is `OutOfMemory`.
     pub fn clone(&self) -> Result<FacebookScopeMapping>
         ensures { Gives scopes_view result (Ok (scopes_view self.now)) }
     {
@@ -151,27 +150,27 @@ impl RawSourceMap {
     ghost use Rattle.sourcemap_records.specs.Field.{due};
     ghost use Rattle.sourcemap_records.specs.Jsontypes.{tree, record_of, written, HasNoNullFile};
 
-    /// The record that a JSON value stands for. A key that is null counts as missing, unknown keys
-    /// are passed over, and of two debug ids `debugId` wins. `BadJson(Shape)` if the value is no
-    /// object or a key has a value of another kind than its field, a number outside `u32` included.
-    /// Else only want of memory refuses.
+    /// Returns the record of a JSON value. A null key counts as missing, unknown keys are ignored, and
+    /// `debugId` wins over `debug_id`. Returns `BadJson(Shape)` if the value is not an object, or if a
+    /// key has a value of another type than its field or a number outside `u32`. Any other error is
+    /// `OutOfMemory`.
     pub fn from_value(alloc: Global, value: &Value) -> Result<RawSourceMap>
         ensures { Gives tree result (due (record_of (view value.now))) }
     {
         RawSourceMap::from_owned(alloc, value.clone()?)
     }
 
-    /// The same record as by `from_value`, and the same faults, with the texts of the value itself.
+    /// Returns what `from_value` returns, but consumes the value and moves its strings.
     pub fn from_owned(alloc: Global, value: Value) -> Result<RawSourceMap>
         ensures { Gives tree result (due (record_of (view value))) }
     {
-        take_map(alloc, value)
+        read_map(alloc, value)
     }
 
-    /// The record as a JSON value, its keys in the order of their bytes: null for a missing version
-    /// or sources, and for a section's missing URL or map, while any other missing key is left out.
-    /// It is read back as this record, unless a `file`, of the record or of a section's map, is a
-    /// JSON null: that is read as `None`. Only want of memory refuses.
+    /// Returns the record as a JSON value, with its keys in byte order. A missing version or sources,
+    /// and a section's missing URL or map, are null; any other missing key is left out. The value reads
+    /// back as this record, except that a `file` that is a JSON null, of the record or of a section's
+    /// map, reads back as `None`. The error is `OutOfMemory`.
     pub fn to_value(&self, alloc: Global) -> Result<Value>
         ensures value { Gives view result (Ok (written (tree self.now))) }
         ensures reads_back { IfOk result (λ v. HasNoNullFile (tree self.now)
@@ -180,13 +179,12 @@ impl RawSourceMap {
         copy_map(self, alloc)?.into_value(alloc)
     }
 
-    /// The same value as by `to_value`, with the texts of the record itself. Only want of memory
-    /// refuses.
+    /// Returns what `to_value` returns, but consumes the record and moves its strings.
     pub fn into_value(self, alloc: Global) -> Result<Value>
         ensures value { Gives view result (Ok (written (tree self))) }
         ensures reads_back { IfOk result (λ v. HasNoNullFile (tree self)
             → record_of (view v) ≡ Some (tree self)) }
     {
-        give_map(alloc, self)
+        write_map(alloc, self)
     }
 }

@@ -1,4 +1,4 @@
-//! Source map records: the JSON values that stand for them, and the record that a value stands for.
+//! Source map records, key by key, read from JSON values and written as JSON values.
 #![tactic(auto)]
 
 pub mod bytes;

@@ -1,118 +1,130 @@
-// Records as values, each text moved into its value. Whoever writes a number has it in hand, and so
-// can say that it fits its type.
+// Records as JSON values. Each string is moved into its value. The writers of numbers also have a
+// clause that these are within `u32`, which reading back needs.
 ghost use Rattle.std.specs.Prelude.{◌≡◌, map, option_map, IfOk, IfErr, IfSome, OnOk};
 ghost use Rattle.std.specs.List.{AllByRecursion};
 ghost use Rattle.serde_json.specs.Data.{array};
 ghost use Rattle.serde_json.specs.View.{view, items_of, members_view};
 ghost use Rattle.sourcemap_errors.specs.declared.errors.Error.TheVariants.{OutOfMemory};
 ghost use Rattle.sourcemap_records.specs.Field.{Makes, put_all, written_or_null};
-ghost use Rattle.sourcemap_records.specs.Keys.{IsHeadingInRange, AreExtrasInRange, heading_entries, heading_view, content_entries, content_view, extra_entries, extras_view, groups_view};
+ghost use Rattle.sourcemap_records.specs.Keys.{AreFileKeysInRange, AreExtraKeysInRange, file_entries, file_keys_view, content_entries, content_keys_view, extra_entries, extra_keys_view, groups_view};
 ghost use Rattle.sourcemap_records.specs.Jsontypes.{AreInRange, IsInRange, IsSectionInRange, flat, written, written_fields, written_one, section, tree};
 
 use crate::field::{put_field, put_values};
 use crate::jsontypes::{RawSection, RawSourceMap};
-use crate::keys::{RawContent, RawExtras, RawGroups, RawHeading, split};
+use crate::keys::{RawContentKeys, RawExtraKeys, RawFileKeys, RawGroups, split};
 use serde_json::{Map, Value};
 use sourcemap_errors::errors::Result;
 use std::alloc::Global;
 
-fn put_heading(alloc: Global, members: &mut Map<String, Value>, heading: RawHeading) -> Result<()>
+fn put_file_keys(
+    alloc: Global,
+    members: &mut Map<String, Value>,
+    file_keys: RawFileKeys,
+) -> Result<()>
     ensures ok { OnOk result (members_view members.new.entries
-        ≡ put_all (heading_entries (heading_view heading)) (members_view members.old.entries)) }
-    ensures in_range { OnOk result (IsHeadingInRange (heading_view heading)) }
+        ≡ put_all (file_entries (file_keys_view file_keys)) (members_view members.old.entries)) }
+    ensures in_range { OnOk result (AreFileKeysInRange (file_keys_view file_keys)) }
     ensures err { IfErr result (λ e. e ≡ OutOfMemory) }
 {
-    let RawHeading {
+    let RawFileKeys {
         version,
         file,
         sources,
         source_root,
-    } = heading;
+    } = file_keys;
     put_field(alloc, members, "version", Some(version))?;
     put_field(alloc, members, "file", file)?;
     put_field(alloc, members, "sources", Some(sources))?;
     put_field(alloc, members, "sourceRoot", source_root)
 }
 
-fn put_content(alloc: Global, members: &mut Map<String, Value>, content: RawContent) -> Result<()>
+fn put_content_keys(
+    alloc: Global,
+    members: &mut Map<String, Value>,
+    content_keys: RawContentKeys,
+) -> Result<()>
     ensures ok { OnOk result (members_view members.new.entries
-        ≡ put_all (content_entries (content_view content)) (members_view members.old.entries)) }
+        ≡ put_all (content_entries (content_keys_view content_keys)) (members_view members.old.entries)) }
     ensures err { IfErr result (λ e. e ≡ OutOfMemory) }
 {
-    let RawContent {
+    let RawContentKeys {
         sources_content,
         names,
         range_mappings,
         mappings,
-    } = content;
+    } = content_keys;
     put_field(alloc, members, "sourcesContent", sources_content)?;
     put_values(alloc, members, "names", names)?;
     put_field(alloc, members, "rangeMappings", range_mappings)?;
     put_field(alloc, members, "mappings", mappings)
 }
 
-fn put_extras(alloc: Global, members: &mut Map<String, Value>, extras: RawExtras) -> Result<()>
+fn put_extra_keys(
+    alloc: Global,
+    members: &mut Map<String, Value>,
+    extra_keys: RawExtraKeys,
+) -> Result<()>
     ensures ok { OnOk result (members_view members.new.entries
-        ≡ put_all (extra_entries (extras_view extras)) (members_view members.old.entries)) }
-    ensures in_range { OnOk result (AreExtrasInRange (extras_view extras)) }
+        ≡ put_all (extra_entries (extra_keys_view extra_keys)) (members_view members.old.entries)) }
+    ensures in_range { OnOk result (AreExtraKeysInRange (extra_keys_view extra_keys)) }
     ensures err { IfErr result (λ e. e ≡ OutOfMemory) }
 {
-    let RawExtras {
+    let RawExtraKeys {
         ignore_list,
         x_facebook_offsets,
         x_metro_module_paths,
         x_facebook_sources,
-    } = extras;
+    } = extra_keys;
     put_field(alloc, members, "ignoreList", ignore_list)?;
     put_field(alloc, members, "x_facebook_offsets", x_facebook_offsets)?;
     put_field(alloc, members, "x_metro_module_paths", x_metro_module_paths)?;
     put_field(alloc, members, "x_facebook_sources", x_facebook_sources)
 }
 
-fn give_groups(alloc: Global, groups: RawGroups) -> Result<Map<String, Value>>
+fn write_groups(alloc: Global, groups: RawGroups) -> Result<Map<String, Value>>
     ensures ok { IfOk result (λ m. members_view m.entries ≡ written_fields (groups_view groups)) }
     ensures in_range { OnOk result (AreInRange (groups_view groups)) }
     ensures err { IfErr result (λ e. e ≡ OutOfMemory) }
 {
     let RawGroups {
-        heading,
-        content,
-        extras,
+        file_keys,
+        content_keys,
+        extra_keys,
         debug_id,
     } = groups;
     let mut members = Map::new(alloc);
-    put_heading(alloc, &mut members, heading)?;
-    put_content(alloc, &mut members, content)?;
-    put_extras(alloc, &mut members, extras)?;
+    put_file_keys(alloc, &mut members, file_keys)?;
+    put_content_keys(alloc, &mut members, content_keys)?;
+    put_extra_keys(alloc, &mut members, extra_keys)?;
     put_field(alloc, &mut members, "debugId", debug_id)?;
     Ok(members)
 }
 
 // All keys but the sections, which are dropped.
-fn give_fields(alloc: Global, map: RawSourceMap) -> Result<Map<String, Value>>
+fn write_fields(alloc: Global, map: RawSourceMap) -> Result<Map<String, Value>>
     ensures ok { IfOk result (λ m. members_view m.entries ≡ written_fields (flat (tree map))) }
     ensures in_range { OnOk result (AreInRange (flat (tree map))) }
     ensures err { IfErr result (λ e. e ≡ OutOfMemory) }
 {
-    give_groups(alloc, split(map))
+    write_groups(alloc, split(map))
 }
 
 #[cycle(to_json)]
-pub(crate) fn give_map(alloc: Global, mut map: RawSourceMap) -> Result<Value>
+pub(crate) fn write_map(alloc: Global, mut map: RawSourceMap) -> Result<Value>
     ensures value { Makes view result (written (tree map)) }
     ensures in_range { OnOk result (IsInRange (tree map)) }
 {
-    let listed = match map.sections.take() {
-        Some(sections) => Some(Value::Array(give_list(alloc, sections)?)),
+    let sections_value = match map.sections.take() {
+        Some(sections) => Some(Value::Array(write_section_list(alloc, sections)?)),
         None => None,
     };
-    let mut members = give_fields(alloc, map)?;
-    put_field(alloc, &mut members, "sections", listed)?;
+    let mut members = write_fields(alloc, map)?;
+    put_field(alloc, &mut members, "sections", sections_value)?;
     Ok(Value::Object(members))
 }
 
 #[cycle(to_json)]
-fn give_list(alloc: Global, sections: Vec<RawSection>) -> Result<Vec<Value>>
+fn write_section_list(alloc: Global, sections: Vec<RawSection>) -> Result<Vec<Value>>
     ensures ok { IfOk result (λ v. map view v.items
         ≡ map written_one (map section sections.items)) }
     ensures in_range { OnOk result (AllByRecursion IsSectionInRange (map section sections.items)) }
@@ -120,18 +132,18 @@ fn give_list(alloc: Global, sections: Vec<RawSection>) -> Result<Vec<Value>>
 {
     let mut items = Vec::with_capacity(alloc, sections.len())?;
     for section in sections {
-        items.push(give_section(alloc, section)?)?;
+        items.push(write_section(alloc, section)?)?;
     }
     Ok(items)
 }
 
 #[cycle(to_json)]
-fn give_section(alloc: Global, part: RawSection) -> Result<Value>
+fn write_section(alloc: Global, part: RawSection) -> Result<Value>
     ensures value { Makes view result (written_one (section part)) }
     ensures in_range { OnOk result (IsSectionInRange (section part)) }
 {
     let RawSection { offset, url, map } = part;
-    let inner = give_inner(alloc, map)?;
+    let inner = write_section_map(alloc, map)?;
     let mut members = Map::new(alloc);
     put_field(alloc, &mut members, "map", Some(inner))?;
     put_field(alloc, &mut members, "offset", Some(offset))?;
@@ -140,13 +152,13 @@ fn give_section(alloc: Global, part: RawSection) -> Result<Value>
 }
 
 #[cycle(to_json)]
-fn give_inner(alloc: Global, map: Option<Box<RawSourceMap>>) -> Result<Value>
+fn write_section_map(alloc: Global, map: Option<Box<RawSourceMap>>) -> Result<Value>
     ensures value { Makes view result
         (written_or_null written (option_map (λ b. tree b.value) map)) }
     ensures in_range { OnOk result (IfSome (option_map (λ b. tree b.value) map) IsInRange) }
 {
     match map {
-        Some(map) => give_map(alloc, Box::into_inner(map)),
+        Some(map) => write_map(alloc, Box::into_inner(map)),
         None => Ok(Value::Null),
     }
 }

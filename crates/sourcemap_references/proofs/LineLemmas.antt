@@ -1,4 +1,4 @@
--- A text is cut at its newlines, and is UTF-8 where each of its lines is.
+-- A text split at its newlines is UTF-8 if each of its lines is.
 use Rattle.std.proofs.Common.{◌≡◌, refl, sym, ap, subst, ◌∙◌, ℕ, zero, suc, ◌+◌, ◌-◌, ◌<◌, ◌≤◌, Bool, true, false, ◌&&◌, if◌then◌else◌, List, [], ◌∷◌, ◌++◌, MatchOption, Option, None, Some, is_some, option_map, length, take, drop, get_or, nat_lt, slice_range, arith, append_assoc, IsUtf8}
 use Rattle.std.proofs.lemmas.Bool.{and_parts, eqb-true, and_from, false_from_ne_true}
 use Rattle.std.specs.Cmp.{both_ways}
@@ -12,9 +12,9 @@ use Rattle.memchr.specs.Find.{NoneBefore, Nowhere, Passes, is_byte}
 use Rattle.std.specs.Str.{IsCharBoundary}
 use Rattle.sourcemap_references.specs.Lines.{IsFirstMarked, AreUnmarked, EndsAt, LeavesOnly, if_text, lines_after}
 use Rattle.sourcemap_references.specs.declared.lines.Line.{Line}
-use Rattle.sourcemap_references.specs.Reference.{Reference, first_on, first_reference, line_says, or_later, reference_on, text_lines}
+use Rattle.sourcemap_references.specs.Reference.{Reference, first_on, first_reference, line_reference, or_later, reference_on, text_lines}
 
--- ---- cut at newlines
+-- ---- splits at newlines
 
 pub text_lines-more : (byte : ℕ) (text : List ℕ) (line : List ℕ) (lines : List (List ℕ)) → is_byte 10 byte ≡ false
     → text_lines text ≡ line ∷ lines → text_lines (byte ∷ text) ≡ (byte ∷ line) ∷ lines
@@ -47,16 +47,16 @@ before_ascii : (front later : List ℕ) (byte : ℕ) → byte < 128 → IsUtf8 (
 before_ascii front later byte small text =
     let at = get_or_at front byte later 0 (length front) refl in
     let within = length-append front (byte ∷ later) in
-    let stands : get_or (front ++ byte ∷ later) (length front) 0 < 128 = omega (arith, at) in
+    let ascii_here : get_or (front ++ byte ∷ later) (length front) 0 < 128 = omega (arith, at) in
     subst IsUtf8 (take_at front (byte ∷ later) (length front) refl)
-    (IsUtf8-take (front ++ byte ∷ later) (length front) text (IsCharBoundary-before_ascii (front ++ byte ∷ later) (length front) (omega (arith, within)) stands))
+    (IsUtf8-take (front ++ byte ∷ later) (length front) text (IsCharBoundary-before_ascii (front ++ byte ∷ later) (length front) (omega (arith, within)) ascii_here))
 
 after_ascii : (front later : List ℕ) (byte : ℕ) → byte < 128 → IsUtf8 (front ++ byte ∷ later) → IsUtf8 later
 after_ascii front later byte small text =
     let at = get_or_at front byte later 0 (length front) refl in
     let within = length-append front (byte ∷ later) in
-    let stands : get_or (front ++ byte ∷ later) (length front) 0 < 128 = omega (arith, at) in
-    let rest = IsUtf8-drop (front ++ byte ∷ later) (length front + 1) text (IsCharBoundary-after_ascii (front ++ byte ∷ later) (length front) text (omega (arith, within)) stands) in
+    let ascii_here : get_or (front ++ byte ∷ later) (length front) 0 < 128 = omega (arith, at) in
+    let rest = IsUtf8-drop (front ++ byte ∷ later) (length front + 1) text (IsCharBoundary-after_ascii (front ++ byte ∷ later) (length front) text (omega (arith, within)) ascii_here) in
     let following = ap (drop (length front + 1)) (sym (append_assoc front (byte ∷ []) later)) ∙ drop_at (front ++ byte ∷ []) later (length front + 1) (length-append front (byte ∷ [])) in
     subst IsUtf8 following rest
 
@@ -75,7 +75,7 @@ is_utf8-nil = is_utf8-from_IsUtf8 [] IsUtf8-nil
 is_utf8-newline : (front : List ℕ) → is_utf8 (front ++ 10 ∷ []) ≡ is_utf8 front
 is_utf8-newline front = is_utf8-ascii front [] 10 (omega arith) ∙ ap (λ b. is_utf8 front && b) is_utf8-nil ∙ and-true (is_utf8 front)
 
--- ---- what one line says
+-- ---- one line
 
 if_both : (a b : Bool) (due : Option (Option Reference)) → (if a then (if b then due else None) else None) ≡ (if (a && b) then due else None)
 if_both true b due = refl
@@ -97,7 +97,7 @@ line_counts true None later some = absurd (let no = some in cc)
 line_counts true (Some _) later some = refl
 line_counts false found later some = refl
 
--- ---- lines that were passed
+-- ---- lines without a mark
 
 -- the lines before this index have no reference
 pub record IsPassed (text : List ℕ) (start : ℕ) : Type 0 where
@@ -154,7 +154,7 @@ is_utf8-end : (text : List ℕ) (start end : ℕ) → IsPassed text start → st
 is_utf8-end text start end passed order = ap is_utf8 (up_to_end text start end order) ∙ passed.parts (slice_range text start end)
 
 left-here : (text : List ℕ) (start end : ℕ) → IsPassed text start → EndsAt text start end
-    → first_reference text ≡ if_text (take start text) (or_later (line_says (slice_range text start end)) (first_on (lines_after text end)))
+    → first_reference text ≡ if_text (take start text) (or_later (line_reference (slice_range text start end)) (first_on (lines_after text end)))
 left-here text start end passed ends = passed.left ∙ ap (λ lines. if_text (take start text) (first_on lines)) ends.lines
 
 left-after : (text : List ℕ) (start end : ℕ) → IsPassed text start → EndsAt text start end → is_some (reference_on (slice_range text start end)) ≡ false
@@ -181,7 +181,7 @@ passed-line text start end passed ends none inside =
           ∙ ap (λ b. if b then first_reference (drop (end + 1) text) else None) (sym same);
     }
 
--- without a mark on the line that ends here, none of the lines so far has one
+-- if the line that ends here has no mark, no line so far has one
 pub unmarked : (text : List ℕ) (start end : ℕ) → IsPassed text start → EndsAt text start end → is_some (reference_on (slice_range text start end)) ≡ false
     → AreUnmarked text end
 unmarked text start end passed ends none = record { within = ends.within; left = left-after text start end passed ends none }

@@ -1,4 +1,4 @@
--- What a reader has left after a line.
+-- The bytes that a reader has left after a line.
 use Rattle.std.proofs.Common.{◌≡◌, refl, sym, ap, subst, ◌∙◌, ℕ, suc, ◌-◌, ◌<◌, ◌==◌, ◌⊎◌, Bool, true, false, if◌then◌else◌, List, [], ◌∷◌, ◌++◌, Option, None, Some, IfSome, length, nat_lt, arith, inl, inr}
 use Rattle.std.proofs.lemmas.Bool.{cases_Bool}
 use Rattle.std.proofs.BufReadLemmas.{take_through-nil, take_through_nonempty}
@@ -9,7 +9,7 @@ use Rattle.std.specs.Io.KnownBytes.{prepend_known}
 use Rattle.std.specs.declared.io.buffered.BufReader.{BufReader}
 use Rattle.sourcemap_references.proofs.LineLemmas.{is_utf8-nil, text_lines-more}
 use Rattle.sourcemap_references.specs.Lines.{ReadsLine}
-use Rattle.sourcemap_references.specs.Reference.{Reference, first_on, first_reference, line_says, or_later, reference_on, text_lines}
+use Rattle.sourcemap_references.specs.Reference.{Reference, first_on, first_reference, line_reference, or_later, reference_on, text_lines}
 
 if_cons : (b : Bool) (x : ℕ) (xs ys : List ℕ) → (if b then x ∷ xs else x ∷ ys) ≡ x ∷ (if b then xs else ys)
 if_cons true x xs ys = refl
@@ -62,13 +62,13 @@ lines_through (x ∷ y ∷ ys) some =
 first_reference-nil : first_reference [] ≡ Some None
 first_reference-nil = ap (λ b. or_later (if b then Some (reference_on []) else None) (Some None)) is_utf8-nil
 
-next_line : (text : List ℕ) → 0 < length text → first_reference text ≡ or_later (line_says (first_piece 10 text)) (first_reference (drop_through 10 text))
+next_line : (text : List ℕ) → 0 < length text → first_reference text ≡ or_later (line_reference (first_piece 10 text)) (first_reference (drop_through 10 text))
 next_line text some =
     elim (lines_through text some) [
       | inl more ↦ ap first_on more
       | inr last ↦
-          ap first_on last.0 ∙ ap (or_later (line_says (first_piece 10 text))) (sym first_reference-nil)
-          ∙ ap (λ rest. or_later (line_says (first_piece 10 text)) (first_reference rest)) (sym last.1)
+          ap first_on last.0 ∙ ap (or_later (line_reference (first_piece 10 text))) (sym first_reference-nil)
+          ∙ ap (λ rest. or_later (line_reference (first_piece 10 text)) (first_reference rest)) (sym last.1)
     ]
 
 -- ---- one read
@@ -89,12 +89,12 @@ reads_line (Some text) left old all line fresh is drops some piece =
       drop_through 10 text,
       drops,
       next_line text (take_through_nonempty 10 text (subst (λ xs. 0 < length xs) same some))
-          ∙ ap (λ xs. or_later (line_says xs) (first_reference (drop_through 10 text))) (sym read),
+          ∙ ap (λ xs. or_later (line_reference xs) (first_reference (drop_through 10 text))) (sym read),
     )
 
 -- ---- the lines so far
 
--- the bytes left say what all bytes do
+-- the bytes left decide the reference of all bytes
 abbrev pub HasLeft : Option (List ℕ) → Option (List ℕ) → Type 0
 HasLeft known left = IfSome known (λ text. (rest : List ℕ) × (left ≡ Some rest) × (first_reference text ≡ first_reference rest))
 
@@ -108,24 +108,24 @@ prepend_none (Some text) = refl
 
 pub left_at_start : {T A : Type 0} (remaining : T → Option (List ℕ)) (inner : T) (r : BufReader T A) → reader_inner r ≡ inner → reader_buffer r ≡ []
     → reader_capacity r ≡ 8192 → HasLeft (remaining inner) (reader_remaining remaining r)
-left_at_start remaining inner r is empty room =
-    let none : reader_capacity r == 0 ≡ false = ap (λ n. n == 0) room in
+left_at_start remaining inner r is empty capacity =
+    let none : reader_capacity r == 0 ≡ false = ap (λ n. n == 0) capacity in
     let all : reader_remaining remaining r ≡ prepend_known (reader_buffer r) (remaining r.inner) = ap (λ b. if b then None else prepend_known (reader_buffer r) (remaining r.inner)) none in
     same_left _ _ (all ∙ ap (λ xs. prepend_known xs (remaining r.inner)) empty ∙ prepend_none (remaining r.inner) ∙ ap remaining is)
 
-pub left_after : (known before left : Option (List ℕ)) (line : List ℕ) → HasLeft known before → ReadsLine before left true line → line_says line ≡ Some None
+pub left_after : (known before left : Option (List ℕ)) (line : List ℕ) → HasLeft known before → ReadsLine before left true line → line_reference line ≡ Some None
     → HasLeft known left
 left_after None before left line so_far reads says = tt
 left_after (Some text) before left line so_far reads says =
     let read = subst (λ b. ReadsLine b left true line) so_far.1 reads in
-    (read.0, read.1, so_far.2 ∙ read.2 ∙ ap (λ said. or_later said (first_reference read.0)) says)
+    (read.0, read.1, so_far.2 ∙ read.2 ∙ ap (λ current. or_later current (first_reference read.0)) says)
 
 pub found_after : (known before left : Option (List ℕ)) (line : List ℕ) (found : Reference) → HasLeft known before → ReadsLine before left true line
-    → line_says line ≡ Some (Some found) → IfSome known (λ text. first_reference text ≡ Some (Some found))
+    → line_reference line ≡ Some (Some found) → IfSome known (λ text. first_reference text ≡ Some (Some found))
 found_after None before left line found so_far reads says = tt
 found_after (Some text) before left line found so_far reads says =
     let read = subst (λ b. ReadsLine b left true line) so_far.1 reads in
-    so_far.2 ∙ read.2 ∙ ap (λ said. or_later said (first_reference read.0)) says
+    so_far.2 ∙ read.2 ∙ ap (λ current. or_later current (first_reference read.0)) says
 
 pub none_left : (known before left : Option (List ℕ)) (line : List ℕ) → HasLeft known before → ReadsLine before left false line
     → IfSome known (λ text. first_reference text ≡ Some None)

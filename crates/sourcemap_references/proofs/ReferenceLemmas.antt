@@ -1,4 +1,4 @@
--- What follows a mark, and what the line that decides says of a text.
+-- The rest after a mark, and the line that decides the reference of a text.
 use Rattle.std.proofs.Common.{◌≡◌, refl, sym, ap, ◌∙◌, ℕ, true, false, if◌then◌else◌, List, Option, None, Some, is_some, Result, Ok, Err, length, take, drop, get_or, codes, option_map, arith, inl, inr, IsUtf8, nat_eq, min, ◌-◌, slice_range}
 use Rattle.std.proofs.lemmas.Bool.{cases_Bool, false_from_ne_true}
 use Rattle.std.proofs.lemmas.List.{get_or-take, length-take}
@@ -39,7 +39,7 @@ pub if_text-utf8 : (bytes : List ℕ) (due : Option (Option Reference)) → IsUt
 if_text-utf8 bytes due text = ap (λ b. if b then due else None) (is_utf8-from_IsUtf8 bytes text)
 
 pub if_text-none : (bytes : List ℕ) (due : Option (Option Reference)) → ¬ IsUtf8 bytes → if_text bytes due ≡ None
-if_text-none bytes due no_text = ap (λ b. if b then due else None) (false_from_ne_true (is_utf8 bytes) (λ is. no_text (IsUtf8-from_is_utf8 bytes is)))
+if_text-none bytes due not_utf8 = ap (λ b. if b then due else None) (false_from_ne_true (is_utf8 bytes) (λ is. not_utf8 (IsUtf8-from_is_utf8 bytes is)))
 
 ok_in : Option Reference → Result (Option Reference) Error → Option Reference
 ok_in other (Ok found) = found
@@ -51,18 +51,18 @@ unfolding ok_in
 located (Ok found) due all is gives = is ∙ ap Some (ap (ok_in due) gives)
 located (Err e) due all is gives = UnlessMemory-weaker e (λ no. absurd (let wrong = no in cc)) gives
 
-pub no_text_due : (bytes : List ℕ) (due all : Option (Option Reference)) → all ≡ if_text bytes due → ¬ IsUtf8 bytes → (e : Error) → IsInvalidData e
+pub not_utf8_due : (bytes : List ℕ) (due all : Option (Option Reference)) → all ≡ if_text bytes due → ¬ IsUtf8 bytes → (e : Error) → IsInvalidData e
     → UnlessMemory e ((all ≡ None) × IsInvalidData e)
-no_text_due bytes due all is no_text e fault = UnlessMemory-from e (is ∙ if_text-none bytes due no_text, fault)
+not_utf8_due bytes due all is not_utf8 e invalid = UnlessMemory-from e (is ∙ if_text-none bytes due not_utf8, invalid)
 
--- bytes that are no text, before any line with a mark
-pub no_text_before : (text : List ℕ) (end : ℕ) → AreUnmarked text end → ¬ IsUtf8 (take end text) → first_reference text ≡ None
-no_text_before text end lines no_text = lines.left ∙ if_text-none (take end text) _ no_text
+-- bytes that are not UTF-8, before any line with a mark
+pub not_utf8_before : (text : List ℕ) (end : ℕ) → AreUnmarked text end → ¬ IsUtf8 (take end text) → first_reference text ≡ None
+not_utf8_before text end lines not_utf8 = lines.left ∙ if_text-none (take end text) _ not_utf8
 
 pub range_from_start : (text : List ℕ) (end : ℕ) → slice_range text 0 end ≡ take end text
 range_from_start text end = let all : end - 0 ≡ end = omega arith in ap (λ n. take n text) all
 
--- what is read of the line that decides
+-- the result on the line that decides
 pub decided : (text front part : List ℕ) (line : Line) (result : Result (Option SourceMapRef) Error) → IsFirstMarked text line → front ≡ take line.end text
     → IsUtf8 front → part ≡ drop line.start front → Gives (option_map reference) result (Ok (reference_on part)) → Locates result (first_reference text)
 decided text front part line result decides is utf8 rest gives =

@@ -1,23 +1,23 @@
--- Single lines of a text, and what follows for its reference.
+-- Single lines of a text, and the reference that each decides.
 use Rattle.std.specs.Prelude.{◌≡◌, ℕ, ◌+◌, ◌<◌, ◌≤◌, List, [], ◌∷◌, Option, None, Some, IfSome, Bool, true, false, drop, length, nat_lt, slice_index, slice_range, take, if◌then◌else◌}
 use Rattle.std.specs.Str.{IsCharBoundary, IsUtf8, is_utf8}
-use Rattle.sourcemap_references.specs.Reference.{Reference, first_on, first_reference, line_says, or_later, reference_on, text_lines}
+use Rattle.sourcemap_references.specs.Reference.{Reference, first_on, first_reference, line_reference, or_later, reference_on, text_lines}
 use Rattle.sourcemap_references.specs.declared.lines.Line.{Line}
 use Rattle.sourcemap_references.specs.declared.lines.Lines.{Lines}
 use Rattle.sourcemap_references.specs.declared.lines.Lines.TheVariants.{Marked, Unmarked}
 
--- the lines after the newline at this index, none where the text ends there
+-- the lines after the newline at this index, none if the text ends there
 abbrev pub lines_after : List ℕ → ℕ → List (List ℕ)
 lines_after text end = if nat_lt end (length text) then text_lines (drop (end + 1) text) else []
 
--- where the line ends that starts at an index: at the first newline from there on, or with the text
+-- the end of the line that starts at an index: the first newline from there on, or the end of the text
 pub record EndsAt (text : List ℕ) (start end : ℕ) : Type 0 where
   pub order : start ≤ end
   pub within : end ≤ length text
   pub newline : end < length text → slice_index text end ≡ 10
   pub lines : text_lines (drop start text) ≡ slice_range text start end ∷ lines_after text end
 
--- what is due where these bytes have to be UTF-8
+-- the result if these bytes are UTF-8, else None
 abbrev pub if_text : List ℕ → Option (Option Reference) → Option (Option Reference)
 if_text bytes due = if is_utf8 bytes then due else None
 
@@ -32,23 +32,23 @@ pub record AreUnmarked (text : List ℕ) (end : ℕ) : Type 0 where
   pub within : end ≤ length text
   pub left : first_reference text ≡ if_text (take end text) (first_on (lines_after text end))
 
--- of the first line with a mark, if there is one
+-- holds of the first line with a mark, if there is one
 abbrev pub IfMarked : Lines → (Line → Type 0) → Type 0
 IfMarked (Marked line) Holds = Holds line
 IfMarked (Unmarked _) Holds = Unit {0}
 
--- of the end of lines without a mark
+-- holds of the end of lines without a mark, if there is none with one
 abbrev pub IfUnmarked : Lines → (ℕ → Type 0) → Type 0
 IfUnmarked (Marked _) Holds = Unit {0}
 IfUnmarked (Unmarked end) Holds = Holds end
 
--- what a text says is what this rest of it does; without a rest, all of it is UTF-8 without a reference
+-- the reference of the text is that of its rest; without a rest, the text is UTF-8 and has no reference
 abbrev pub LeavesOnly : List ℕ → Option (List ℕ) → Type 0
 LeavesOnly text (Some rest) = (first_reference text ≡ first_reference rest) × (length rest < length text)
 LeavesOnly text None = first_reference text ≡ Some None
 
--- a line was read, or there was none: the known bytes say what it says, or else what the bytes left say
+-- for known bytes of a reader: the line that was read decides the reference, or else the bytes left do; without a line there is no reference
 abbrev pub ReadsLine : Option (List ℕ) → Option (List ℕ) → Bool → List ℕ → Type 0
 ReadsLine known left false line = IfSome known (λ text. first_reference text ≡ Some None)
 ReadsLine known left true line = IfSome known (λ text.
-    (rest : List ℕ) × (left ≡ Some rest) × (first_reference text ≡ or_later (line_says line) (first_reference rest)))
+    (rest : List ℕ) × (left ≡ Some rest) × (first_reference text ≡ or_later (line_reference line) (first_reference rest)))

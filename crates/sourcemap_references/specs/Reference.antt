@@ -1,14 +1,14 @@
--- What a line of a generated text says of its source map, and which line of a text counts.
+-- The reference on a line of generated code, and the line of a text that counts.
 use Rattle.std.specs.Prelude.{ℕ, List, [], ◌∷◌, Option, None, Some, codes, drop, nat_eq, ◌==◌, if◌then◌else◌}
 use Rattle.std.specs.List.{slice_split, starts_with}
 use Rattle.std.specs.Str.{is_utf8, trim}
 
--- the URL of a source map, and by which mark it stands in the text
+-- the URL of a source map, with its kind of mark
 pub data Reference : Type 0 where
   usual : List ℕ → Reference
   legacy : List ℕ → Reference
 
--- what follows a mark, without the white space around it
+-- the rest of a line after its mark, trimmed
 abbrev pub url_after_mark : List ℕ → List ℕ
 url_after_mark line = trim (drop 21 line)
 
@@ -19,24 +19,24 @@ reference_on line =
     else if starts_with nat_eq line (codes "//@ sourceMappingURL=") then Some (legacy (url_after_mark line))
     else None
 
--- what a line says: the reference on it, if any; None where it is not UTF-8
-abbrev pub line_says : List ℕ → Option (Option Reference)
-line_says line = if is_utf8 line then Some (reference_on line) else None
+-- the reference on a line, if any; None if the line is not UTF-8
+abbrev pub line_reference : List ℕ → Option (Option Reference)
+line_reference line = if is_utf8 line then Some (reference_on line) else None
 
--- what a line says, or what later ones do where it is text without a reference
+-- the result of a line, or of later lines if it is UTF-8 without a reference
 abbrev pub or_later : Option (Option Reference) → Option (Option Reference) → Option (Option Reference)
 or_later (Some None) later = later
-or_later said later = said
+or_later current later = current
 
--- what the first line says that is no text without a reference
+-- the result of the first line that is not UTF-8 without a reference
 abbrev pub first_on : List (List ℕ) → Option (Option Reference)
 first_on [] = Some None
-first_on (line ∷ lines) = or_later (line_says line) (first_on lines)
+first_on (line ∷ lines) = or_later (line_reference line) (first_on lines)
 
--- the lines of a text, cut at each newline
+-- the lines of a text, split at each newline
 abbrev pub text_lines : List ℕ → List (List ℕ)
 text_lines = slice_split (λ b. b == 10)
 
--- the reference on the first line that has one, if any; None where a line up to there is not UTF-8
+-- the reference on the first line that has one, if any; None if a line up to there is not UTF-8
 abbrev pub first_reference : List ℕ → Option (Option Reference)
 first_reference text = first_on (text_lines text)

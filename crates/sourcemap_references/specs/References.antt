@@ -1,4 +1,4 @@
--- What a `SourceMapRef` says, and what the search for one answers.
+-- The value of a `SourceMapRef`, and the result of a search for one.
 use Rattle.std.specs.Prelude.{◌≡◌, ℕ, List, Option, None, Some, Result, Ok, Err, IfSome, option_map, string_bytes}
 use Rattle.std.specs.IoError.{error_kind}
 use Rattle.std.specs.declared.io.ErrorKind.TheVariants.{InvalidData}
@@ -20,22 +20,22 @@ abbrev pub url_of : SourceMapRef → List ℕ
 url_of (Ref url) = string_bytes url
 url_of (LegacyRef url) = string_bytes url
 
--- the error of bytes that are not UTF-8
+-- the error for bytes that are not UTF-8
 abbrev pub IsInvalidData : Error → Type 0
 IsInvalidData (Io cause) = error_kind cause ≡ InvalidData
 IsInvalidData _ = ⊥
 
--- the reference that was found is the one that is due; where none is due, since a line is not UTF-8, the error says so
+-- the search finds what is due; if nothing is due, since a line is not UTF-8, its error is `InvalidData` or out of memory
 abbrev pub Locates : Result (Option SourceMapRef) Error → Option (Option Reference) → Type 0
 Locates (Ok found) due = due ≡ Some (option_map reference found)
 Locates (Err e) due = UnlessMemory e ((due ≡ None) × IsInvalidData e)
 
--- the error of a read, or of bytes that are not UTF-8; a read that failed for memory is `OutOfMemory`, and no `Io`
+-- the error of a read, or for bytes that are not UTF-8; a read that ran out of memory is `OutOfMemory`, not `Io`
 abbrev pub IsReadError : Error → Type 0
 IsReadError (Io cause) = FromIo cause (Io cause)
 IsReadError e = UnlessMemory e ⊥
 
--- the reference that was found is that of the bytes which the reader had, where these are known
+-- the search in a reader finds the reference of its bytes, where these are known
 abbrev pub LocatesRead : Option (List ℕ) → Result (Option SourceMapRef) Error → Type 0
 LocatesRead known (Ok found) = IfSome known (λ text. first_reference text ≡ Some (option_map reference found))
 LocatesRead known (Err e) = IsReadError e

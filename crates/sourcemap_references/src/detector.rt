@@ -8,10 +8,10 @@ ghost use Rattle.url.specs.Parts.{serialize};
 ghost use Rattle.sourcemap_errors.specs.Answer.{Gives, IsAnswer};
 ghost use Rattle.sourcemap_errors.specs.declared.errors.Error.{Error};
 ghost use Rattle.sourcemap_errors.specs.declared.errors.Error.TheVariants.{OutOfMemory};
-ghost use Rattle.sourcemap_places.specs.Places.{url_text};
-ghost use Rattle.sourcemap_places.specs.Urls.{IsLong};
+ghost use Rattle.sourcemap_file_urls.specs.Places.{url_text};
+ghost use Rattle.sourcemap_file_urls.specs.Urls.{IsLong};
 ghost use Rattle.sourcemap_references.specs.Lines.{AreUnmarked, IsFirstMarked, LeavesOnly, ReadsLine};
-ghost use Rattle.sourcemap_references.specs.Reference.{first_reference, line_says, reference_on, url_after_mark};
+ghost use Rattle.sourcemap_references.specs.Reference.{first_reference, line_reference, reference_on, url_after_mark};
 ghost use Rattle.sourcemap_references.specs.References.{IsInvalidData, IsReadError, Locates, LocatesRead, reference, url_of};
 ghost use Rattle.sourcemap_references.specs.declared.detector.SourceMapRef.{SourceMapRef};
 ghost use Rattle.sourcemap_references.specs.Resolution.{IsLongJoin, UnlessLong, is_data_url, resolved, resolved_path};
@@ -19,8 +19,8 @@ ghost use Rattle.sourcemap_references.specs.Resolution.{IsLongJoin, UnlessLong, 
 use crate::lines::{Line, Lines, first_lines};
 use simdutf8::compat::from_utf8;
 use sourcemap_errors::errors::{Error, Result};
-use sourcemap_places::places::{named_path, path_url};
-use sourcemap_places::urls;
+use sourcemap_file_urls::places::{named_path, path_url};
+use sourcemap_file_urls::urls;
 use std::alloc::Global;
 use std::io;
 use std::io::{BufRead, BufReader, Read};
@@ -29,14 +29,14 @@ use url::Url;
 /// A reference to a source map.
 #[derive(Debug, PartialEq, Eq, Drop)]
 pub enum SourceMapRef {
-    /// One with the usual mark, `//#`.
+    /// A reference marked with `//#`.
     Ref(String),
-    /// One with the legacy mark, `//@`.
+    /// A reference with the legacy mark `//@`.
     LegacyRef(String),
 }
 
 impl SourceMapRef {
-    /// The URL of the source map, as it stands in the text.
+    /// Returns the URL of the source map, unchanged.
     pub fn get_url(&self) -> &str
         ensures { result.now ≡ url_of self.now }
     {
@@ -58,9 +58,10 @@ impl SourceMapRef {
         self.get_url().as_bytes().starts_with(b"data:")
     }
 
-    /// The URL of the source map, seen from the URL of the text that carries the reference. None
-    /// where the reference is a `data:` URL, where either is refused as a URL, and maybe where they
-    /// have 2^28 bytes or more. Returns `OutOfMemory` only.
+    /// Resolves the URL of the source map against the URL of the file that holds the reference.
+    ///
+    /// Returns `None` if the reference is a `data:` URL, if either URL is rejected, or possibly if
+    /// they have 2^28 bytes or more. The only error is `OutOfMemory`.
     pub fn resolve(&self, minified_url: &str) -> Result<Option<String>>
         ensures { IsAnswer (option_map string_bytes)
             (UnlessLong (resolved minified_url.now (url_of self.now))
@@ -75,9 +76,11 @@ impl SourceMapRef {
         }
     }
 
-    /// The path of the source map, seen from the path of the text that carries the reference. None
-    /// where the reference is a `data:` URL or leads to no path of a file, where that path does not
-    /// start with `/`, and maybe where they have 2^28 bytes or more. Returns `OutOfMemory` only.
+    /// Resolves the path of the source map against the path of the file that holds the reference.
+    ///
+    /// Returns `None` if the reference is a `data:` URL or leads to no file path, if
+    /// `minified_path` does not start with `/`, or possibly if they have 2^28 bytes or more. The
+    /// only error is `OutOfMemory`.
     pub fn resolve_path(&self, minified_path: &str) -> Result<Option<String>>
         ensures { IsAnswer (option_map string_bytes)
             (UnlessLong (resolved_path minified_path.now (url_of self.now))
@@ -94,7 +97,7 @@ impl SourceMapRef {
     }
 }
 
-// The text of the URL that a reference stands for, seen from `base`.
+// The text of a reference's URL, resolved against `base`.
 fn joined_text(base: &Url, reference: &str) -> Result<Option<String>>
     ensures { IsAnswer (option_map string_bytes) (UnlessLong
         (option_map serialize (result_ok (parse_url (Some base.now) reference.now)))
@@ -106,12 +109,12 @@ fn joined_text(base: &Url, reference: &str) -> Result<Option<String>>
     }
 }
 
-// So many bytes of a text, or more, are searched and then tested for UTF-8 while they are in the
-// nearest cache.
+// The least number of bytes that are searched and then tested for UTF-8, while they are in the
+// first-level cache.
 const BLOCK: usize = 1 << 14;
 
-/// The reference that a text carries, if it does, as `locate_sourcemap_reference_slice` finds it in
-/// bytes. Returns `OutOfMemory` only.
+/// Returns the reference in a text, as `locate_sourcemap_reference_slice` finds it in bytes. The
+/// only error is `OutOfMemory`.
 pub fn locate_in_text(alloc: Global, text: &str) -> Result<Option<SourceMapRef>>
     ensures value { Locates result (first_reference text.now) }
     ensures memory { IsOkUnless result OutOfMemory }
@@ -122,10 +125,9 @@ pub fn locate_in_text(alloc: Global, text: &str) -> Result<Option<SourceMapRef>>
     }
 }
 
-/// The reference on the first line that starts with `//# sourceMappingURL=`, or in legacy texts
-/// with `//@ sourceMappingURL=`: what follows on that line, without the white space around it.
-/// A line ends at a newline. Returns `Io` of kind `InvalidData` where a line up to there is not
-/// UTF-8, and `OutOfMemory`.
+/// Returns the reference on the first line that starts with `//# sourceMappingURL=` or the legacy
+/// `//@ sourceMappingURL=`: the rest of that line, trimmed. Lines end at newlines. The error is
+/// `Io` of kind `InvalidData` if a line up to there is not UTF-8, or `OutOfMemory`.
 pub fn locate_sourcemap_reference_slice(alloc: Global, bytes: &[u8]) -> Result<Option<SourceMapRef>>
     ensures { Locates result (first_reference bytes.now) }
 {
@@ -148,11 +150,11 @@ fn reference_at(alloc: Global, bytes: &[u8], line: Line) -> Result<Option<Source
 {
     match from_utf8(&bytes[..line.end]) {
         Ok(text) => reference_on_line(alloc, &text[line.start..]),
-        Err(_) => Err(no_text()),
+        Err(_) => Err(not_utf8()),
     }
 }
 
-// The lines that follow some without a mark, none if those were the last.
+// The lines after lines without a mark, `None` if those were the last.
 fn rest_after(bytes: &[u8], end: usize) -> Result<Option<&[u8]>>
     requires { AreUnmarked bytes.now end }
     ensures { MatchResult result
@@ -161,11 +163,11 @@ fn rest_after(bytes: &[u8], end: usize) -> Result<Option<&[u8]>>
 {
     match from_utf8(&bytes[..end]) {
         Ok(_) => Ok(lines_after_end(bytes, end)),
-        Err(_) => Err(no_text()),
+        Err(_) => Err(not_utf8()),
     }
 }
 
-// What follows the newline at an index, none where the text ends there.
+// The bytes after the newline at an index, `None` if the text ends there.
 fn lines_after_end(bytes: &[u8], end: usize) -> Option<&[u8]>
     requires { end ≤ length bytes.now }
     ensures { MatchOption result (end ≡ length bytes.now)
@@ -177,9 +179,9 @@ fn lines_after_end(bytes: &[u8], end: usize) -> Option<&[u8]>
     Some(&bytes[end + 1..])
 }
 
-/// The reference in what a reader gives, as `locate_sourcemap_reference_slice` finds it in a slice.
-/// Reads up to the end of that line, and holds one line at most. Returns `Io` where a read fails or
-/// a line is not UTF-8, `Io` of kind `Other` after 2^64 - 1 lines, and `OutOfMemory`.
+/// Returns the reference in a reader's bytes, as `locate_sourcemap_reference_slice` finds it in a
+/// slice. Reads to the end of that line, and buffers one line at a time. The error is `Io` if a
+/// read fails or a line is not UTF-8, `Io` of kind `Other` after 2^64 - 1 lines, or `OutOfMemory`.
 pub fn locate_sourcemap_reference<R: Read + Drop>(
     alloc: Global,
     reader: R,
@@ -199,8 +201,8 @@ pub fn locate_sourcemap_reference<R: Read + Drop>(
     Err(Error::Io(io::Error::from(io::ErrorKind::Other)))
 }
 
-/// A law: a reader and a slice of the same bytes find the same reference; and where the reader finds
-/// one, or none, only out of memory keeps the slice from it.
+/// A law: a reader and a slice of the same bytes find the same reference. If the reader returns
+/// `Ok`, the only error of the slice is out of memory.
 pub fn readers_find_what_slices_do()
     ensures found { (text : List ℕ) (read sliced : Option SourceMapRef)
         → LocatesRead (Some text) (Ok read) → Locates (Ok sliced) (first_reference text)
@@ -210,7 +212,7 @@ pub fn readers_find_what_slices_do()
         → e ≡ OutOfMemory }
 {}
 
-// Puts the next line in place of the last one, without its newline. False if there is none.
+// Reads the next line into `line`, without its newline. Returns false if there is none.
 fn read_line<R: Read + Drop>(reader: &mut BufReader<R>, line: &mut Vec<u8>) -> Result<bool>
     ensures { MatchResult result
         (λ more. ReadsLine (reader_remaining R.remaining reader.old)
@@ -226,7 +228,7 @@ fn read_line<R: Read + Drop>(reader: &mut BufReader<R>, line: &mut Vec<u8>) -> R
     Ok(true)
 }
 
-// Takes the newline off the end of a line.
+// Removes the newline at the end of a line.
 fn strip_newline(line: &mut Vec<u8>)
     ensures { line.new.items ≡ strip_last 10 line.old.items }
 {
@@ -237,16 +239,16 @@ fn strip_newline(line: &mut Vec<u8>)
 
 // The reference on a line of bytes, if it starts with a mark.
 fn reference_in_bytes(alloc: Global, line: &[u8]) -> Result<Option<SourceMapRef>>
-    ensures { Locates result (line_says line.now) }
+    ensures { Locates result (line_reference line.now) }
 {
     match from_utf8(line) {
         Ok(text) => reference_on_line(alloc, text),
-        Err(_) => Err(no_text()),
+        Err(_) => Err(not_utf8()),
     }
 }
 
-// The error of bytes that are not UTF-8.
-fn no_text() -> Error
+// The error for bytes that are not UTF-8.
+fn not_utf8() -> Error
     ensures { IsInvalidData result }
 {
     Error::Io(io::Error::from(io::ErrorKind::InvalidData))
@@ -265,7 +267,7 @@ fn reference_on_line(alloc: Global, line: &str) -> Result<Option<SourceMapRef>>
     Ok(None)
 }
 
-// What follows the mark of a line, without the white space around it.
+// The rest of a line after its mark, trimmed.
 fn url_after_mark(alloc: Global, line: &str) -> Result<String>
     requires { is_some (reference_on line.now) ≡ true }
     ensures { Gives string_bytes result (Ok (url_after_mark line.now)) }

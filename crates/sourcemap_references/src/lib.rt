@@ -1,4 +1,4 @@
-//! References to source maps in generated texts.
+//! References to source maps in generated code.
 #![tactic(auto)]
 
 pub mod detector;

@@ -1,30 +1,29 @@
-//! The lines of a text, up to the first that starts with the mark of a reference.
+//! The lines of a text up to the first one with the mark of a reference.
 ghost use Rattle.std.specs.Prelude.{◌≡◌, ◌≤◌, is_some, length};
 ghost use Rattle.sourcemap_references.specs.Lines.{IfMarked, IfUnmarked, IsFirstMarked, AreUnmarked, EndsAt};
 ghost use Rattle.sourcemap_references.specs.Reference.{reference_on};
 
 use memchr::memchr;
 
-/// Where a line of a text stands, in bytes.
+/// The range of a line in a text, in bytes.
 #[derive(Clone, Copy, Debug)]
 pub struct Line {
-    /// Where it starts.
+    /// The index of its first byte.
     pub start: usize,
-    /// Where its newline stands, or the text ends.
+    /// The index of its newline, or the length of the text.
     pub end: usize,
 }
 
-/// What the first lines of a text are.
+/// The first lines of a text.
 #[derive(Clone, Copy, Debug)]
 pub enum Lines {
-    /// Some without a mark, and then this one, which has one.
+    /// The first line with a mark.
     Marked(Line),
-    /// Lines without a mark, of which the last ends here.
+    /// Lines without a mark, with the end of the last one.
     Unmarked(usize),
 }
 
-/// The first lines of a text: up to the first with a mark, or else to the first that ends at
-/// `least` or later.
+/// Reads lines up to the first with a mark, or else to the first that ends at `least` or later.
 pub fn first_lines(bytes: &[u8], least: usize) -> Lines
     requires { least ≤ length bytes.now }
     ensures marked { IfMarked result (λ line. IsFirstMarked bytes.now line) }
@@ -44,7 +43,7 @@ pub fn first_lines(bytes: &[u8], least: usize) -> Lines
     }
 }
 
-// Where the line ends that starts here: at its newline, or with the text.
+// The end of the line that starts here: its newline or the end of the text.
 fn line_end(bytes: &[u8], start: usize) -> usize
     requires { start ≤ length bytes.now }
     ensures { EndsAt bytes.now start result }

@@ -10,7 +10,7 @@ use Rattle.std.proofs.lemmas.Iterator.{YieldsList, items_from_drains}
 use Rattle.std.proofs.lemmas.Bool.{cases_Bool, cases_lt, or_cases, eqb-true, ne_eqb, le-leb, lt-leb}
 use Rattle.std.proofs.lemmas.Slice.Eq.{bytes_eq-Decides}
 use Rattle.std.proofs.lemmas.Str.{IsCharBoundary-start, IsCharBoundary-end, IsCharBoundary-before_ascii}
-use Rattle.sourcemap_texts.specs.Paths.{is_absolute, is_separator, lengthened, path_parts, common_parts, first_parts}
+use Rattle.sourcemap_texts.specs.Paths.{is_absolute, is_separator, with_first_byte, path_parts, common_parts, first_parts}
 
 -- ---- parts
 
@@ -23,7 +23,7 @@ path_parts-cut : (byte : ℕ) (text : List ℕ) → ends_part text ≡ true → 
 path_parts-cut byte [] e = refl
 path_parts-cut byte (next ∷ text) e = rw e refl
 
-path_parts-joined : (byte : ℕ) (text : List ℕ) → ends_part text ≡ false → path_parts (byte ∷ text) ≡ lengthened byte (path_parts text)
+path_parts-joined : (byte : ℕ) (text : List ℕ) → ends_part text ≡ false → path_parts (byte ∷ text) ≡ with_first_byte byte (path_parts text)
 path_parts-joined byte [] e = cc
 path_parts-joined byte (next ∷ text) e = rw e refl
 
@@ -39,13 +39,13 @@ starts byte (next ∷ text) =
     let later = starts next text in
     elim (cases_Bool (is_separator next)) [
       | inl e ↦ record { part = []; others = path_parts (next ∷ text); is = path_parts-cut byte (next ∷ text) e }
-      | inr e ↦ record { part = next ∷ later.part; others = later.others; is = path_parts-joined byte (next ∷ text) e ∙ ap (lengthened byte) later.is }
+      | inr e ↦ record { part = next ∷ later.part; others = later.others; is = path_parts-joined byte (next ∷ text) e ∙ ap (with_first_byte byte) later.is }
     ]
 
--- cutting loses nothing
-concat-lengthened : (byte : ℕ) (parts : List (List ℕ)) → concat (lengthened byte parts) ≡ byte ∷ concat parts
-concat-lengthened byte [] = refl
-concat-lengthened byte (part ∷ parts) = refl
+-- splitting loses nothing
+concat-with_first_byte : (byte : ℕ) (parts : List (List ℕ)) → concat (with_first_byte byte parts) ≡ byte ∷ concat parts
+concat-with_first_byte byte [] = refl
+concat-with_first_byte byte (part ∷ parts) = refl
 
 pub concat-path_parts : (text : List ℕ) → concat (path_parts text) ≡ text
 concat-path_parts [] = refl
@@ -53,7 +53,7 @@ concat-path_parts (byte ∷ text) =
     let rest : concat (path_parts text) ≡ text = concat-path_parts text in
     elim (cases_Bool (ends_part text)) [
       | inl e ↦ ap concat (path_parts-cut byte text e) ∙ ap (λ t. byte ∷ t) rest
-      | inr e ↦ ap concat (path_parts-joined byte text e) ∙ concat-lengthened byte (path_parts text) ∙ ap (λ t. byte ∷ t) rest
+      | inr e ↦ ap concat (path_parts-joined byte text e) ∙ concat-with_first_byte byte (path_parts text) ∙ ap (λ t. byte ∷ t) rest
     ]
 
 -- ---- common parts
@@ -98,18 +98,18 @@ common_parts-assoc (p ∷ ps) (q ∷ qs) (r ∷ rs) =
           ])
     ]
 
--- one list more at the end
+-- with one more list at the end
 first_parts-append : (parts : List (List ℕ)) (lists : List (List (List ℕ))) (last : List (List ℕ)) → first_parts ((parts ∷ lists) ++ last ∷ []) ≡ common_parts (first_parts (parts ∷ lists)) last
 first_parts-append parts [] last = refl
 first_parts-append parts (next ∷ lists) last =
     ap (common_parts parts) (first_parts-append next lists last) ∙ sym (common_parts-assoc parts (first_parts (next ∷ lists)) last)
 
--- the first parts of the lists, if there are any lists
+-- the common first parts of the lists, `None` for no list
 abbrev pub start_of : List (List (List ℕ)) → Option (List (List ℕ))
 start_of [] = None
 start_of (parts ∷ lists) = Some (first_parts (parts ∷ lists))
 
--- what is left of a start beside one list more
+-- the common parts of a start and one more list
 abbrev pub start_with : Option (List (List ℕ)) → List (List ℕ) → List (List ℕ)
 start_with None parts = parts
 start_with (Some start) parts = common_parts start parts
@@ -118,7 +118,7 @@ pub start_of-append : (lists : List (List (List ℕ))) (last : List (List ℕ)) 
 start_of-append [] last = refl
 start_of-append (parts ∷ lists) last = ap Some (first_parts-append parts lists last)
 
--- ---- the texts that came so far
+-- ---- the texts so far
 
 -- the parts of the absolute paths among them
 abbrev pub parts_among : List (Bor (List ℕ)) → List (List (List ℕ))
@@ -140,7 +140,7 @@ parts_among-skipped (first ∷ texts) text e =
     ≡ map path_parts (cond b (first.now ∷ filter is_absolute (map (λ t. t.now) texts)) (filter is_absolute (map (λ t. t.now) texts))))
     [ true ↦ ap (λ l. path_parts first.now ∷ l) rest | false ↦ rest ]
 
--- the start of the texts so far, as one more comes
+-- the start of the texts so far and one more
 pub start_of-taken : (texts : List (Bor (List ℕ))) (text : Bor (List ℕ)) → is_absolute text.now ≡ true → start_of (parts_among (texts ++ text ∷ [])) ≡ Some (start_with (start_of (parts_among texts)) (path_parts text.now))
 start_of-taken texts text e = ap start_of (parts_among-taken texts text e) ∙ start_of-append (parts_among texts) (path_parts text.now)
 
@@ -153,14 +153,14 @@ concat-first_parts (parts ∷ lists) None none joined empty is same = cc
 concat-first_parts (parts ∷ lists) (Some s) none joined empty is same =
     let first : path_parts s.now ≡ first_parts (parts ∷ lists) = cc in ap (λ t. t.now) is ∙ sym (concat-path_parts s.now) ∙ ap concat first
 
--- ---- where two texts part
+-- ---- where two texts differ
 
--- how far the shared front goes, by how far that of the texts behind one equal byte goes
+-- the length of the shared front with one more equal byte, from the length after that byte
 abbrev pub extended : ℕ → Bool → ℕ
 extended zero both_end = cond both_end 1 0
 extended (suc count) both_end = suc (suc count)
 
--- how many bytes the common first parts take
+-- the length of the common first parts, in bytes
 abbrev pub shared : List ℕ → List ℕ → ℕ
 shared [] b = 0
 shared (x ∷ a) [] = 0
@@ -170,7 +170,7 @@ shared-nil : (a : List ℕ) → shared a [] ≡ 0
 shared-nil [] = refl
 shared-nil (x ∷ a) = refl
 
--- equal bytes in front
+-- equal first bytes
 shared-same : (x : ℕ) (a b : List ℕ) → shared (x ∷ a) (x ∷ b) ≡ extended (shared a b) (ends_part a && ends_part b)
 shared-same x a b = let same : (x == x) ≡ true = eq-eqb x x refl in rw same refl
 
@@ -203,13 +203,12 @@ extended-true : (count : ℕ) → extended count true ≡ suc count
 extended-true zero = refl
 extended-true (suc count) = refl
 
--- no bytes without parts, and no parts without bytes
+-- no bytes have no parts, and only they
 take-empty : (n : ℕ) (x : ℕ) (a : List ℕ) → path_parts (take n (x ∷ a)) ≡ [] → n ≡ 0
 take-empty zero x a e = refl
 take-empty (suc n) x a e = let h = starts x (take n a) in let clash : [] ≡ (x ∷ h.part) ∷ h.others = sym e ∙ h.is in cc
 
--- the bytes of both texts from here on start with one byte x
--- both texts end a part after x
+-- two texts that start with one byte x, and both end a part after x
 parts-both_end : (x : ℕ) (a b : List ℕ) → ends_part a ≡ true → ends_part b ≡ true → path_parts (take (shared a b) a) ≡ common_parts (path_parts a) (path_parts b)
     → path_parts (take (shared (x ∷ a) (x ∷ b)) (x ∷ a)) ≡ common_parts (path_parts (x ∷ a)) (path_parts (x ∷ b))
 parts-both_end x a b e f tails =
@@ -230,8 +229,8 @@ parts-neither_ends x c d a b e f tails =
     let both : common_parts (path_parts (c ∷ a)) (path_parts (d ∷ b)) ≡ common_parts (p ∷ left.others) (q ∷ right.others) =
     ap (λ l. common_parts l (path_parts (d ∷ b))) left.is ∙ ap (common_parts (p ∷ left.others)) right.is in
     let longer : common_parts (path_parts (x ∷ c ∷ a)) (path_parts (x ∷ d ∷ b)) ≡ common_parts ((x ∷ p) ∷ left.others) ((x ∷ q) ∷ right.others) =
-    ap (λ l. common_parts l (path_parts (x ∷ d ∷ b))) (path_parts-joined x (c ∷ a) e ∙ ap (lengthened x) left.is)
-    ∙ ap (common_parts ((x ∷ p) ∷ left.others)) (path_parts-joined x (d ∷ b) f ∙ ap (lengthened x) right.is) in
+    ap (λ l. common_parts l (path_parts (x ∷ d ∷ b))) (path_parts-joined x (c ∷ a) e ∙ ap (with_first_byte x) left.is)
+    ∙ ap (common_parts ((x ∷ p) ∷ left.others)) (path_parts-joined x (d ∷ b) f ∙ ap (with_first_byte x) right.is) in
     let count : shared (x ∷ c ∷ a) (x ∷ d ∷ b) ≡ extended (shared (c ∷ a) (d ∷ b)) false =
     shared-same x (c ∷ a) (d ∷ b) ∙ ap (λ t. extended (shared (c ∷ a) (d ∷ b)) (t && is_separator d)) e in
     elim (cases_Bool (bytes_eq p q)) [
@@ -250,7 +249,7 @@ parts-neither_ends x c d a b e f tails =
     grown : (n : ℕ) (part : List ℕ) (others : List (List ℕ)) → path_parts (take n (c ∷ a)) ≡ part ∷ others
         → path_parts (take (extended n false) (x ∷ c ∷ a)) ≡ (x ∷ part) ∷ others
     grown zero part others h = cc
-    grown (suc n) part others h = path_parts-joined x (take (suc n) (c ∷ a)) e ∙ ap (lengthened x) h
+    grown (suc n) part others h = path_parts-joined x (take (suc n) (c ∷ a)) e ∙ ap (with_first_byte x) h
 
 -- only the first does
 parts-left_ends : (x d : ℕ) (a b : List ℕ) → ends_part a ≡ true → is_separator d ≡ false
@@ -262,7 +261,7 @@ parts-left_ends x d a b e f =
     let differ : bytes_eq (x ∷ []) (x ∷ d ∷ right.part) ≡ false = rw (eq-eqb x x refl) refl in
     ap (λ n. path_parts (take n (x ∷ a))) count
     ∙ sym (ap (λ l. common_parts l (path_parts (x ∷ d ∷ b))) (path_parts-cut x a e)
-    ∙ ap (common_parts ((x ∷ []) ∷ path_parts a)) (path_parts-joined x (d ∷ b) f ∙ ap (lengthened x) right.is)
+    ∙ ap (common_parts ((x ∷ []) ∷ path_parts a)) (path_parts-joined x (d ∷ b) f ∙ ap (with_first_byte x) right.is)
     ∙ common_parts-apart (x ∷ []) (x ∷ d ∷ right.part) (path_parts a) right.others differ)
 
 -- only the second does
@@ -274,11 +273,11 @@ parts-right_ends x c a b e f =
     ∙ ap (λ t. extended 0 (t && ends_part b)) e in
     let differ : bytes_eq (x ∷ c ∷ left.part) (x ∷ []) ≡ false = rw (eq-eqb x x refl) refl in
     ap (λ n. path_parts (take n (x ∷ c ∷ a))) count
-    ∙ sym (ap (λ l. common_parts l (path_parts (x ∷ b))) (path_parts-joined x (c ∷ a) e ∙ ap (lengthened x) left.is)
+    ∙ sym (ap (λ l. common_parts l (path_parts (x ∷ b))) (path_parts-joined x (c ∷ a) e ∙ ap (with_first_byte x) left.is)
     ∙ ap (common_parts ((x ∷ c ∷ left.part) ∷ left.others)) (path_parts-cut x b f)
     ∙ common_parts-apart (x ∷ c ∷ left.part) (x ∷ []) left.others (path_parts b) differ)
 
--- one equal byte more in front
+-- one more equal byte in front
 parts-step : (x : ℕ) (a b : List ℕ) → path_parts (take (shared a b) a) ≡ common_parts (path_parts a) (path_parts b)
     → path_parts (take (shared (x ∷ a) (x ∷ b)) (x ∷ a)) ≡ common_parts (path_parts (x ∷ a)) (path_parts (x ∷ b))
 parts-step x [] [] tails = parts-both_end x [] [] refl refl tails
@@ -325,32 +324,32 @@ path_parts-shared (x ∷ a) (y ∷ b) =
 
 -- ---- a walk over both texts
 
--- the shared bytes, at an equal byte at `at`, after which as many are shared, where `kept` are shared if none are from there on
-abbrev pub settled : ℕ → ℕ → Bool → ℕ → ℕ
-settled at zero both_end kept = cond both_end at kept
-settled at (suc count) both_end kept = at + suc count
+-- the shared bytes when the bytes at `at` are equal, as many are shared after it, and `kept` are shared if none are
+abbrev pub shared_at : ℕ → ℕ → Bool → ℕ → ℕ
+shared_at at zero both_end kept = cond both_end at kept
+shared_at at (suc count) both_end kept = at + suc count
 
--- the walk is at the place `at`, and the last cut before it is at `kept`
+-- the walk is at `at`, and its last cut is at `kept`
 pub record IsWalk (a b : List ℕ) (at kept : ℕ) : Type 0 where
   pub within_a : at ≤ length a
   pub within_b : at ≤ length b
-  pub value : shared a b ≡ settled at (shared (drop at a) (drop at b)) (ends_part (drop at a) && ends_part (drop at b)) kept
+  pub value : shared a b ≡ shared_at at (shared (drop at a) (drop at b)) (ends_part (drop at a) && ends_part (drop at b)) kept
 
-settled-start : (count : ℕ) (both_end : Bool) → count ≡ settled 0 count both_end 0
-settled-start zero true = refl
-settled-start zero false = refl
-settled-start (suc count) both_end = omega arith
+shared_at-start : (count : ℕ) (both_end : Bool) → count ≡ shared_at 0 count both_end 0
+shared_at-start zero true = refl
+shared_at-start zero false = refl
+shared_at-start (suc count) both_end = omega arith
 
 pub IsWalk-start : (a b : List ℕ) → IsWalk a b 0 0
-IsWalk-start a b = record { within_a = omega arith; within_b = omega arith; value = settled-start (shared a b) (ends_part a && ends_part b) }
+IsWalk-start a b = record { within_a = omega arith; within_b = omega arith; value = shared_at-start (shared a b) (ends_part a && ends_part b) }
 
-settled-step : (at count kept : ℕ) (cut both_end : Bool) → settled at (extended count both_end) (cut && cut) kept ≡ settled (at + 1) count both_end (cond cut at kept)
-settled-step at zero kept cut true = refl
-settled-step at zero kept true false = refl
-settled-step at zero kept false false = refl
-settled-step at (suc count) kept cut both_end = omega arith
+shared_at-step : (at count kept : ℕ) (cut both_end : Bool) → shared_at at (extended count both_end) (cut && cut) kept ≡ shared_at (at + 1) count both_end (cond cut at kept)
+shared_at-step at zero kept cut true = refl
+shared_at-step at zero kept true false = refl
+shared_at-step at zero kept false false = refl
+shared_at-step at (suc count) kept cut both_end = omega arith
 
--- the texts from a place within them on
+-- a text from an index within it on
 drop-within : (at : ℕ) (a : List ℕ) → at < length a → drop at a ≡ get_or a at 0 ∷ drop (at + 1) a
 drop-within at a l = rw (add-one, drop-cons a at 0) refl
 
@@ -362,17 +361,17 @@ IsWalk-step {a} {b} {at} {kept} walk la lb same =
     let t = drop (at + 1) b in
     let left : drop at a ≡ x ∷ s = drop-within at a la in
     let right : drop at b ≡ x ∷ t = subst (λ y. drop at b ≡ y ∷ t) (sym same) (drop-within at b lb) in
-    let here : shared a b ≡ settled at (shared (x ∷ s) (x ∷ t)) (is_separator x && is_separator x) kept =
-    subst (λ m. shared a b ≡ settled at (shared (x ∷ s) m) (is_separator x && ends_part m) kept) right
-    (subst (λ m. shared a b ≡ settled at (shared m (drop at b)) (ends_part m && ends_part (drop at b)) kept) left walk.value) in
+    let here : shared a b ≡ shared_at at (shared (x ∷ s) (x ∷ t)) (is_separator x && is_separator x) kept =
+    subst (λ m. shared a b ≡ shared_at at (shared (x ∷ s) m) (is_separator x && ends_part m) kept) right
+    (subst (λ m. shared a b ≡ shared_at at (shared m (drop at b)) (ends_part m && ends_part (drop at b)) kept) left walk.value) in
     record {
       within_a = omega arith;
       within_b = omega arith;
-      value = here ∙ ap (λ n. settled at n (is_separator x && is_separator x) kept) (shared-same x s t)
-          ∙ settled-step at (shared s t) kept (is_separator x) (ends_part s && ends_part t);
+      value = here ∙ ap (λ n. shared_at at n (is_separator x && is_separator x) kept) (shared-same x s t)
+          ∙ shared_at-step at (shared s t) kept (is_separator x) (ends_part s && ends_part t);
     }
 
--- no more is shared where the next bytes differ, or a text ends
+-- nothing more is shared if the next bytes differ, or a text ends
 shared-differs : (at : ℕ) (a b : List ℕ) → (at < length a → at < length b → get_or a at 0 ≢ get_or b at 0) → shared (drop at a) (drop at b) ≡ 0
 shared-differs zero [] b differ = refl
 shared-differs zero (x ∷ a) [] differ = refl
@@ -394,12 +393,12 @@ ends_part-drop zero (x ∷ a) = let no : nat_le (suc (length a)) 0 ≡ false = l
 ends_part-drop (suc at) [] = let yes : nat_le 0 (suc at) ≡ true = le-leb 0 (suc at) (omega arith) in rw yes refl
 ends_part-drop (suc at) (x ∷ a) = rw (nat_le-suc (length a) at) (ends_part-drop at a)
 
--- the walk ends at a byte that differs, or at the end of a text: at a cut of both, or else behind one
+-- the walk ends at different bytes, or at the end of a text: with a cut of both there, or else with the last cut
 module _ {a b : List ℕ} {at kept : ℕ} (walk : IsWalk a b at kept) (differ : at < length a → at < length b → get_or a at 0 ≢ get_or b at 0)
     (x y : Bool) (left : x ≡ (nat_le (length a) at || is_separator (get_or a at 0))) (right : y ≡ (nat_le (length b) at || is_separator (get_or b at 0))) where
   IsWalk-end : shared a b ≡ cond (x && y) at kept
   IsWalk-end =
-      walk.value ∙ ap (λ n. settled at n (ends_part (drop at a) && ends_part (drop at b)) kept) (shared-differs at a b differ)
+      walk.value ∙ ap (λ n. shared_at at n (ends_part (drop at a) && ends_part (drop at b)) kept) (shared-differs at a b differ)
       ∙ sym (ap (λ t. cond (t && y) at kept) (left ∙ ends_part-drop at a) ∙ ap (λ t. cond (ends_part (drop at a) && t) at kept) (right ∙ ends_part-drop at b))
 
   pub IsWalk-cut : (x && y) ≡ true → shared a b ≡ at
@@ -410,7 +409,7 @@ module _ {a b : List ℕ} {at kept : ℕ} (walk : IsWalk a b at kept) (differ : 
 
 -- ---- where the shared bytes end
 
--- within the text, and before a separator, unless at one of its ends
+-- within the text, and before a separator or at an end of the text
 pub record IsCut (a : List ℕ) (n : ℕ) : Type 0 where
   pub within : n ≤ length a
   pub before : 0 < n → n < length a → is_separator (get_or a n 0) ≡ true
@@ -439,7 +438,7 @@ separator-ascii : (c : ℕ) → is_separator c ≡ true → c < 128
 separator-ascii c e =
     elim (or_cases (c == 47) (c == 92) e) [ inl h ↦ (let is : c ≡ 47 = eqb-true c 47 h in omega arith) | inr h ↦ (let is : c ≡ 92 = eqb-true c 92 h in omega arith) ]
 
--- a text may be cut there
+-- a text may be split there
 pub IsCharBoundary-cut : (a : List ℕ) (n : ℕ) → IsUtf8 a → n ≤ length a → (0 < n → n < length a → is_separator (get_or a n 0) ≡ true) → IsCharBoundary a n
 IsCharBoundary-cut a zero utf8 within before = IsCharBoundary-start a utf8
 IsCharBoundary-cut a (suc n) utf8 within before =
@@ -448,7 +447,7 @@ IsCharBoundary-cut a (suc n) utf8 within before =
       | inr l ↦ (let end : length a ≡ suc n = omega arith in subst (IsCharBoundary a) end (IsCharBoundary-end a))
     ]
 
--- ---- for callers: the items of a whole run are those of the list that the chain gives
+-- ---- for callers: the items of a whole run are those of the iterator's list
 pub items-whole : {S A B : Type 0} {steps : S → Option A → S → Type 0} {v : A → B} {s : S} {all : List B} (run : Run steps) → run.from ≡ s → run.whole ≡ true
     → YieldsList steps v s all → map v run.items ≡ all
 items-whole {S} {A} {B} {steps} {v} {s} {all} run from whole yields =

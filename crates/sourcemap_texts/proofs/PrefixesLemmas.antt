@@ -1,16 +1,16 @@
--- Prefixes that are cut.
+-- Prefixes that are stripped.
 use Rattle.std.proofs.Common.{◌≡◌, ℕ, List, [], ◌∷◌, ◌++◌, length, drop, codes, nat_eq, true, false, ◌&&◌, if◌then◌else◌, Option, Some, None, option_and_then, refl, sym, ap, ◌∙◌, Bor, MatchOption}
 use Rattle.std.specs.List.{starts_with, ends_with}
 use Rattle.std.specs.Option.{option_copied}
 use Rattle.std.specs.Str.Pattern.{FindsTextPrefix, StripsPrefix}
 use Rattle.std.proofs.lemmas.Str.Pattern.{starts_text}
-use Rattle.sourcemap_texts.specs.Prefixes.{completed}
+use Rattle.sourcemap_texts.specs.Prefixes.{with_slash}
 
--- a text behind a prefix, if it starts with it
+-- a text after a prefix, if it starts with it
 abbrev pub stripped : List ℕ → List ℕ → Option (List ℕ)
 stripped prefix text = if starts_with nat_eq text prefix then Some (drop (length prefix) text) else None
 
--- a prefix that is put together is cut part by part
+-- a concatenated prefix is stripped part by part
 pub stripped-append : (p q t : List ℕ) → stripped (p ++ q) t ≡ option_and_then (stripped q) (stripped p t)
 stripped-append [] q t = refl
 stripped-append (x ∷ p) q [] = refl
@@ -26,10 +26,10 @@ strips p t (Some x) (n, (is, split, bound), rest, many) =
     let starts : true ≡ starts_with nat_eq t p = starts_text true p t (n, (is, split, bound), rw is bound) in
     rw (← starts) (ap Some (rest ∙ ap (λ k. drop k t) is))
 
--- a completed prefix is cut, and then a slash, if the prefix does not end with one
-pub stripped-completed : (p t : List ℕ) → stripped (completed p) t
+-- a prefix with a slash is stripped as the prefix and then a slash, if the prefix does not end with one
+pub stripped-with_slash : (p t : List ℕ) → stripped (with_slash p) t
     ≡ option_and_then (λ rest. if ends_with nat_eq p (codes "/") then Some rest else stripped (codes "/") rest) (stripped p t)
-stripped-completed p t =
+stripped-with_slash p t =
     elim (ends_with nat_eq p (codes "/")) as (λ b. stripped (if b then p else p ++ codes "/") t
     ≡ option_and_then (λ rest. if b then Some rest else stripped (codes "/") rest) (stripped p t))
     [ true ↦ sym (same (stripped p t)) | false ↦ stripped-append p (codes "/") t ] where

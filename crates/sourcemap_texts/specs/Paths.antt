@@ -1,4 +1,4 @@
--- The first parts that absolute paths have in common.
+-- The common prefix of absolute paths, by parts.
 use Rattle.std.specs.Prelude.{ℕ, ◌==◌, nat_lt, Bool, false, ◌&&◌, ◌||◌, cond, List, [], ◌∷◌, length, Option, Some, None, slice_index, filter, map, codes}
 use Rattle.std.specs.List.{concat}
 use Rattle.std.specs.Char.{is_ascii_alphabetic}
@@ -20,32 +20,32 @@ is_absolute text =
     || (nat_lt 3 (length text)
     && (is_ascii_alphabetic (slice_index text 0) && ((slice_index text 1 == 58) && is_separator (slice_index text 2))))
 
--- parts with one byte more at the front of the first
-abbrev pub lengthened : ℕ → List (List ℕ) → List (List ℕ)
-lengthened byte [] = (byte ∷ []) ∷ []
-lengthened byte (part ∷ parts) = (byte ∷ part) ∷ parts
+-- parts with one more byte in front of the first
+abbrev pub with_first_byte : ℕ → List (List ℕ) → List (List ℕ)
+with_first_byte byte [] = (byte ∷ []) ∷ []
+with_first_byte byte (part ∷ parts) = (byte ∷ part) ∷ parts
 
--- a text cut before every separator
+-- a text, split before every separator
 abbrev pub path_parts : List ℕ → List (List ℕ)
 path_parts [] = []
-path_parts (byte ∷ text) = cond (is_separated text) ((byte ∷ []) ∷ path_parts text) (lengthened byte (path_parts text))
+path_parts (byte ∷ text) = cond (is_separated text) ((byte ∷ []) ∷ path_parts text) (with_first_byte byte (path_parts text))
 
--- the parts with which both start
+-- the longest common list of first parts
 abbrev pub common_parts : List (List ℕ) → List (List ℕ) → List (List ℕ)
 common_parts [] qs = []
 common_parts (p ∷ ps) [] = []
 common_parts (p ∷ ps) (q ∷ qs) = cond (bytes_eq p q) (p ∷ common_parts ps qs) []
 
--- the parts with which all start
+-- that of any number of lists
 abbrev pub first_parts : List (List (List ℕ)) → List (List ℕ)
 first_parts [] = []
 first_parts (parts ∷ []) = parts
 first_parts (parts ∷ next ∷ others) = common_parts parts (first_parts (next ∷ others))
 
--- a prefix that says something: not the empty text, and not `/` alone
-abbrev pub unless_bare : List ℕ → Option (List ℕ)
-unless_bare prefix = cond (bytes_eq prefix [] || bytes_eq prefix (codes "/")) None (Some prefix)
+-- none for the empty prefix and for `/` alone
+abbrev pub unless_root : List ℕ → Option (List ℕ)
+unless_root prefix = cond (bytes_eq prefix [] || bytes_eq prefix (codes "/")) None (Some prefix)
 
--- the first parts that all absolute paths among the texts have in common, joined
+-- the common first parts of all absolute paths among the texts, joined
 abbrev pub common_prefix : List (List ℕ) → Option (List ℕ)
-common_prefix texts = unless_bare (concat (first_parts (map path_parts (filter is_absolute texts))))
+common_prefix texts = unless_root (concat (first_parts (map path_parts (filter is_absolute texts))))

@@ -1,4 +1,4 @@
-//! Texts that are there or not, as strings of their own.
+//! Copies of optional strings.
 ghost use Rattle.std.specs.Prelude.{◌≡◌, Ok, [], option_map, unwrap_or, string_bytes};
 ghost use Rattle.std.specs.Option.{option_copied};
 ghost use Rattle.sourcemap_errors.specs.Answer.{Gives};
@@ -6,8 +6,8 @@ ghost use Rattle.sourcemap_errors.specs.Answer.{Gives};
 use sourcemap_errors::errors::Result;
 use std::alloc::Global;
 
-/// The text as a string of its own. Only want of memory refuses.
-pub fn owned(alloc: Global, text: Option<&str>) -> Result<Option<String>>
+/// A copy of the string, if there is one. The only error is out of memory.
+pub fn copy_text(alloc: Global, text: Option<&str>) -> Result<Option<String>>
     ensures { Gives (option_map string_bytes) result (Ok (option_copied text.entry)) }
 {
     match text {
@@ -16,7 +16,7 @@ pub fn owned(alloc: Global, text: Option<&str>) -> Result<Option<String>>
     }
 }
 
-/// The text, empty where there is none.
+/// The string, or the empty string if there is none.
 pub fn text_or_empty(text: &Option<String>) -> &str
     ensures { result.now ≡ unwrap_or (option_map string_bytes text.now) [] }
 {

@@ -1,4 +1,4 @@
-//! Texts: copies, what paths have in common, and prefixes that are cut.
+//! Strings: copies, the common prefix of paths, and stripped prefixes.
 #![tactic(auto)]
 
 pub mod copies;

@@ -1,17 +1,20 @@
-//! What absolute paths have in common.
+//! The common prefix of absolute paths.
 ghost use Rattle.std.specs.Prelude.{◌≡◌, ◌≢◌, ◌<◌, ◌≤◌, Ok, map, option_map, string_bytes, slice_index, length, take, nat_le, ◌||◌, true};
 ghost use Rattle.std.specs.Bool.{OnTrue, OnFalse};
 ghost use Rattle.std.specs.Iterator.{IsFinite};
 ghost use Rattle.std.specs.Iterator.Runs.{WholeRun};
 ghost use Rattle.sourcemap_errors.specs.Answer.{Gives};
-ghost use Rattle.sourcemap_texts.specs.Paths.{is_absolute as starts_at_root, is_separator as separates, common_prefix, unless_bare, path_parts, common_parts};
+ghost use Rattle.sourcemap_texts.specs.Paths.{is_absolute as starts_at_root, is_separator as separates, common_prefix, unless_root, path_parts, common_parts};
 
 use sourcemap_errors::errors::Result;
 use std::alloc::Global;
 
-/// The longest list of first parts that the absolute paths among `texts` have in common, joined.
-/// A path starts with `/`, or has more than 3 bytes and starts with a letter, `:` and `/` or `\`,
-/// and is cut before every `/` and `\`. None if that is empty or `/` alone. Only `OutOfMemory`.
+/// Returns the longest common prefix of the absolute paths among `texts` that ends where a part
+/// ends.
+///
+/// A path is absolute if it starts with `/`, or if it has more than 3 bytes and starts with a
+/// letter, `:` and `/` or `\`. A part starts at every `/` and `\`. Returns `None` if the prefix is
+/// empty or `/` alone. The only error is `OutOfMemory`.
 pub fn find_common_prefix<'a, I: Iterator<Item = &'a str> + Drop>(
     alloc: Global,
     texts: I,
@@ -31,10 +34,9 @@ pub fn find_common_prefix<'a, I: Iterator<Item = &'a str> + Drop>(
             });
         }
     }
-    owned_unless_bare(alloc, prefix.unwrap_or(""))
+    owned_unless_root(alloc, prefix.unwrap_or(""))
 }
 
-// Whether a text counts as a path.
 fn is_absolute(text: &str) -> bool
     ensures { result ≡ starts_at_root text.now }
 {
@@ -45,16 +47,16 @@ fn is_absolute(text: &str) -> bool
     }
 }
 
-// Whether a byte starts a part.
+// Whether this byte starts a part.
 fn is_separator(byte: u8) -> bool
     ensures { result ≡ separates byte }
 {
     byte == b'/' || byte == b'\\'
 }
 
-// A copy of the prefix, if it says something.
-fn owned_unless_bare(alloc: Global, prefix: &str) -> Result<Option<String>>
-    ensures { Gives (option_map string_bytes) result (Ok (unless_bare prefix.now)) }
+// A copy of the prefix, unless it is empty or the root.
+fn owned_unless_root(alloc: Global, prefix: &str) -> Result<Option<String>>
+    ensures { Gives (option_map string_bytes) result (Ok (unless_root prefix.now)) }
 {
     if prefix.is_empty() || prefix == "/" {
         return Ok(None);
@@ -62,14 +64,14 @@ fn owned_unless_bare(alloc: Global, prefix: &str) -> Result<Option<String>>
     Ok(Some(String::from_str(alloc, prefix)?))
 }
 
-// What two texts have in common of their first parts, joined.
+// The common first parts of two paths, joined.
 fn common_start<'a>(a: &'a str, b: &str) -> &'a str
     ensures { path_parts result.now ≡ common_parts (path_parts a.now) (path_parts b.now) }
 {
     &a[..common_length(a.as_bytes(), b.as_bytes())]
 }
 
-// How many bytes of the first text the common first parts of both take.
+// The length in bytes of the first parts that both paths have in common.
 fn common_length(a: &[u8], b: &[u8]) -> usize
     ensures parts { path_parts (take result a.now)
         ≡ common_parts (path_parts a.now) (path_parts b.now) }
@@ -85,7 +87,7 @@ fn common_length(a: &[u8], b: &[u8]) -> usize
         }
         at += 1;
     }
-    // `&` for the prover: both sides are cheap, and one branch leaves fewer goals than two
+    // prover: `&` for one branch
     if ends_part(a, at) & ends_part(b, at) {
         at
     } else {
@@ -93,7 +95,6 @@ fn common_length(a: &[u8], b: &[u8]) -> usize
     }
 }
 
-// Whether both texts have the same byte at the place `at`.
 fn has_same_byte(a: &[u8], b: &[u8], at: usize) -> bool
     ensures same { OnTrue result ((at < length a.now) × (at < length b.now)
         × (slice_index a.now at ≡ slice_index b.now at)) }
@@ -103,7 +104,7 @@ fn has_same_byte(a: &[u8], b: &[u8], at: usize) -> bool
     at < a.len() && at < b.len() && a[at] == b[at]
 }
 
-// Whether a part of the text ends before the place `at`.
+// Whether a part of the path ends before the index `at`, or the path itself.
 fn ends_part(text: &[u8], at: usize) -> bool
     ensures { result ≡ (nat_le (length text.now) at || separates (slice_index text.now at)) }
 {

@@ -1,19 +1,19 @@
-//! Prefixes that are cut from texts.
+//! Prefixes that are stripped from strings.
 ghost use Rattle.std.specs.Prelude.{◌≡◌, Some, None, Ok, if◌then◌else◌, length, drop, map, nat_eq, option_map, unwrap_or, string_bytes};
 ghost use Rattle.std.specs.List.{starts_with};
 ghost use Rattle.std.specs.Option.{option_copied};
 ghost use Rattle.sourcemap_errors.specs.Answer.{Gives};
-ghost use Rattle.sourcemap_texts.specs.Prefixes.{completed, cut_by};
+ghost use Rattle.sourcemap_texts.specs.Prefixes.{with_slash, without_prefix};
 
-use crate::copies::owned;
+use crate::copies::copy_text;
 use sourcemap_errors::errors::Result;
 use std::alloc::Global;
 use std::convert::AsStr;
 
-// The text behind a prefix, which takes a slash along if it does not end with one.
-fn behind<'a>(text: &'a str, prefix: &str) -> Option<&'a str>
-    ensures { option_copied result ≡ (if starts_with nat_eq text.now (completed prefix.now)
-        then Some (drop (length (completed prefix.now)) text.now) else None) }
+// The rest of the text after a prefix and a slash, or after the prefix alone if that ends with one.
+fn after_prefix<'a>(text: &'a str, prefix: &str) -> Option<&'a str>
+    ensures { option_copied result ≡ (if starts_with nat_eq text.now (with_slash prefix.now)
+        then Some (drop (length (with_slash prefix.now)) text.now) else None) }
 {
     let rest = text.strip_prefix(prefix)?;
     if prefix.ends_with("/") {
@@ -22,33 +22,33 @@ fn behind<'a>(text: &'a str, prefix: &str) -> Option<&'a str>
     rest.strip_prefix("/")
 }
 
-// The text behind the first of the prefixes that it starts with, if there is one.
-fn behind_first<'a, S: AsStr>(text: &'a str, prefixes: &[S]) -> Option<&'a str>
+// The rest after the first of the prefixes that the text starts with, if there is one.
+fn after_first_prefix<'a, S: AsStr>(text: &'a str, prefixes: &[S]) -> Option<&'a str>
     ensures { unwrap_or (option_copied result) text.now
-        ≡ cut_by (map S.text prefixes.now) text.now }
+        ≡ without_prefix (map S.text prefixes.now) text.now }
 {
     for prefix in prefixes {
-        if let Some(rest) = behind(text, prefix.as_str()) {
+        if let Some(rest) = after_prefix(text, prefix.as_str()) {
             return Some(rest);
         }
     }
     None
 }
 
-/// What to show in place of a text, once the first prefix that it starts with is cut from what is
-/// shown of it now: none where that is the text itself. A prefix takes along the slash behind it.
-/// Only want of memory refuses.
-pub fn cut_text<S: AsStr>(
+/// Strips the first matching prefix from what is displayed for a text: from `current`, or from the
+/// text itself if that is `None`. Returns what to display from then on, where `None` is the text
+/// itself. A slash after the prefix is stripped too. The only error is out of memory.
+pub fn strip_text<S: AsStr>(
     alloc: Global,
     text: &str,
-    shown: Option<&str>,
+    current: Option<&str>,
     prefixes: &[S],
 ) -> Result<Option<String>>
     ensures { Gives (λ cut. unwrap_or (option_map string_bytes cut) text.now) result
-        (Ok (cut_by (map S.text prefixes.now) (unwrap_or (option_copied shown.entry) text.now))) }
+        (Ok (without_prefix (map S.text prefixes.now) (unwrap_or (option_copied current.entry) text.now))) }
 {
-    match behind_first(shown.unwrap_or(text), prefixes) {
-        Some(rest) => owned(alloc, Some(rest)),
-        None => owned(alloc, shown),
+    match after_first_prefix(current.unwrap_or(text), prefixes) {
+        Some(rest) => copy_text(alloc, Some(rest)),
+        None => copy_text(alloc, current),
     }
 }

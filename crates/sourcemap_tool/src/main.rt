@@ -1,13 +1,12 @@
-//! Answers questions about a source map on standard input.
+//! The command-line program: runs a command on the source map on standard input.
 #![tactic(auto)]
 
 use sourcemap::Result;
-use sourcemap_commands::program::run;
-use sourcemap_commands::system::{report_error, words};
+use sourcemap_cli::program::run;
+use sourcemap_cli::system::{report_error, words};
 use std::io;
 use std::process::ExitCode;
 
-// Runs the arguments on standard input and output.
 fn run_arguments(rt: &HostRuntime) -> Result<u8> {
     let words = words(rt)?;
     run(

@@ -1,15 +1,15 @@
-// What commands say of maps of one kind and another, by the call that applies them.
+// Tests of `apply` on maps of each kind.
 use crate::runs::TWO;
 use sourcemap::{DecodedMap, Error, decode_slice};
-use sourcemap_commands::command::Command;
-use sourcemap_commands::output::apply;
+use sourcemap_cli::command::Command;
+use sourcemap_cli::output::apply;
 use std::test::Fail;
 
 const RANGED: &str = r#"{"sources":["a.js"],"mappings":"AAAO","rangeMappings":"B"}"#;
 
 const RANGED_WITHOUT_SOURCE: &str = r#"{"mappings":"A","rangeMappings":"B"}"#;
 
-// A map, a line and a column, and what `lookup` says of it.
+// A map, a generated position, and the output of `lookup`.
 static LOOKUPS: [(&str, (u32, u32), &str); 6] = [
     (RANGED, (0, 5), "a.js:0:12\n"),
     (RANGED, (3, 5), "a.js:0:7\n"),
@@ -23,12 +23,11 @@ static LOOKUPS: [(&str, (u32, u32), &str); 6] = [
     (TWO, (10, 3), "a.js:0:0\n"),
 ];
 
-// Whether a command has this answer.
 fn is_text(answer: Result<String, Error>, want: &str) -> Result<bool, Fail> {
     Ok(answer?.as_str() == want)
 }
 
-fn looks_up(
+fn lookup_prints(
     rt: &HostRuntime,
     map: DecodedMap,
     (line, col): (u32, u32),
@@ -38,15 +37,23 @@ fn looks_up(
     is_text(apply(rt, rt.alloc(), &command, map, None), want)
 }
 
-fn says_at(rt: &HostRuntime, text: &str, place: (u32, u32), want: &str) -> Result<bool, Fail> {
+fn lookup_of_text_prints(
+    rt: &HostRuntime,
+    text: &str,
+    position: (u32, u32),
+    want: &str,
+) -> Result<bool, Fail> {
     let map = decode_slice(rt.alloc(), text.as_bytes())?;
-    looks_up(rt, map, place, want)
+    lookup_prints(rt, map, position, want)
 }
 
 #[test]
 fn lookups_are_applied(rt: HostRuntime) -> Result<(), Fail> {
-    for (text, place, want) in LOOKUPS.iter() {
-        assert!(rt; says_at(&rt, text, *place, want)?, "{text} {place:?}");
+    for (text, position, want) in LOOKUPS.iter() {
+        assert!(rt;
+            lookup_of_text_prints(&rt, text, *position, want)?,
+            "{text} {position:?}"
+        );
     }
     Ok(())
 }
@@ -55,12 +62,12 @@ const FLAT: &str =
     r#"{"mappings":"AAAA;;;;;;;;;;ICAA","names":[],"sources":["a.js","b.js"],"version":3}
 "#;
 
-fn flattened(rt: &HostRuntime, text: &str) -> Result<String, Error> {
+fn flatten(rt: &HostRuntime, text: &str) -> Result<String, Error> {
     let map = decode_slice(rt.alloc(), text.as_bytes())?;
     apply(rt, rt.alloc(), &Command::Flatten, map, None)
 }
 
-// An index, and why it cannot be made flat.
+// An index map, and why it cannot be flatten.
 static REFUSED: [(&str, &str); 2] = [
     (
         r#"{"sections":[{"offset":{"line":4294967295,"column":0},"map":{"sources":["a.js"],"mappings":";AAAA"}}]}"#,
@@ -72,7 +79,7 @@ static REFUSED: [(&str, &str); 2] = [
     ),
 ];
 
-// Whether an index is refused for this reason.
+// Whether flattening returns `CannotFlatten` with this text.
 fn is_refused(answer: Result<String, Error>, want: &str) -> Result<bool, Error> {
     match answer {
         Err(Error::CannotFlatten(why)) => Ok(why.as_str() == want),
@@ -83,14 +90,14 @@ fn is_refused(answer: Result<String, Error>, want: &str) -> Result<bool, Error> 
 
 #[test]
 fn flattening_is_applied(rt: HostRuntime) -> Result<(), Fail> {
-    assert!(rt; is_text(flattened(&rt, TWO), FLAT)?);
+    assert!(rt; is_text(flatten(&rt, TWO), FLAT)?);
     for (text, want) in REFUSED.iter() {
-        assert!(rt; is_refused(flattened(&rt, text), want)?, "{text}");
+        assert!(rt; is_refused(flatten(&rt, text), want)?, "{text}");
     }
     Ok(())
 }
 
-// A map, the one that adjusts it, and what `compose` says of both.
+// A map, its adjustment, and the output of `compose`.
 static COMPOSED: [(&str, &str, &str); 3] = [
     (
         r#"{"sources":["o.js"],"mappings":"AAAA,KAAK"}"#,
@@ -116,7 +123,7 @@ const REGULAR: &str = r#"{"sources":["a.js"],"mappings":"AAAA"}"#;
 
 const HERMES: &str = r#"{"sources":["a.js"],"mappings":"AAAA","x_facebook_sources":[]}"#;
 
-// Maps of which one or both are not regular.
+// At least one of two maps is not regular.
 static NOT_REGULAR: [(&str, &str); 5] = [
     (TWO, REGULAR),
     (REGULAR, TWO),
@@ -125,14 +132,14 @@ static NOT_REGULAR: [(&str, &str); 5] = [
     (REGULAR, HERMES),
 ];
 
-// The last column comes from the first, so nothing that stands behind that has a place.
+// The last column maps to the first, so the second token of the map would pass it.
 const PAST_THE_LAST_COLUMN: (&str, &str) = (
     r#"{"sources":["o.js"],"mappings":"AAAA,CAAC"}"#,
     r#"{"sources":["t.js"],"mappings":"+/////HAAA"}"#,
 );
 
-// The path is not looked at: the second map is at hand.
-fn composed(rt: &HostRuntime, text: &str, by: &str) -> Result<String, Error> {
+// The path is not opened: the second map is given.
+fn compose(rt: &HostRuntime, text: &str, by: &str) -> Result<String, Error> {
     let command = Command::Compose(String::from_str(rt.alloc(), "any")?);
     let map = decode_slice(rt.alloc(), text.as_bytes())?;
     let adjustment = decode_slice(rt.alloc(), by.as_bytes())?;
@@ -150,12 +157,12 @@ fn is_incompatible(answer: Result<String, Error>) -> Result<bool, Error> {
 #[test]
 fn composing_is_applied(rt: HostRuntime) -> Result<(), Fail> {
     for (text, by, want) in COMPOSED.iter() {
-        assert!(rt; is_text(composed(&rt, text, by), want)?, "{text} {by}");
+        assert!(rt; is_text(compose(&rt, text, by), want)?, "{text} {by}");
     }
     for (text, by) in NOT_REGULAR.iter() {
-        assert!(rt; is_incompatible(composed(&rt, text, by))?, "{text} {by}");
+        assert!(rt; is_incompatible(compose(&rt, text, by))?, "{text} {by}");
     }
     let (text, by) = PAST_THE_LAST_COLUMN;
-    assert!(rt; is_incompatible(composed(&rt, text, by))?);
+    assert!(rt; is_incompatible(compose(&rt, text, by))?);
     Ok(())
 }

@@ -1,15 +1,15 @@
-// Runs of `compose FILE`: what is asked of a map and of the one in a file, printed and refused.
+// Runs of `compose FILE`.
+use crate::fake_files::FakeFiles;
 use crate::memory::unless_out;
 use crate::runs::words_of;
-use crate::shelves::Shelf;
-use sourcemap_commands::program::{reply_to, run};
+use sourcemap_cli::program::{reply_to, run};
 use std::cell::Cell;
 use std::io;
 use std::io::ErrorKind;
 use std::test::Fail;
 
-// A map, the file's text, the status and text of the run, and whether the file was opened. It is
-// not where the map is faulty, whose fault comes first.
+// A map, the file's text, the status and output of the run, and whether the file was opened. It is
+// not opened if the map is invalid.
 const ROWS: &str =
     r#"{"sources":["o.js"],"mappings":"AAAA,KAAK"}|{"sources":["t.js"],"mappings":"EAAA"}|0 {"mappings":"EAAA,KAAK","names":[],"sources":["o.js"],"version":3}|opened
 {"sources":["a.js"],"mappings":"AAAO","rangeMappings":"B"}|{"sources":["t.js"],"mappings":"EAAU"}|0 {"mappings":"EAAiB","names":[],"rangeMappings":"B","sources":["a.js"],"version":3}|opened
@@ -31,7 +31,7 @@ const ROWS: &str =
 []||1 bad json: a field has the wrong type|closed
 |[]|1 bad json: the text is not JSON|closed"#;
 
-// A row of the table.
+// A row of `ROWS`.
 #[derive(Drop)]
 struct Row<'a> {
     input: &'a str,
@@ -55,35 +55,35 @@ fn row_of(line: &str) -> Result<Row<'_>, Fail> {
     })
 }
 
-// A file system that has this text at `a.map`.
-fn shelf(text: &str) -> Shelf<'_> {
-    Shelf {
+// A file system with this text at `a.map`.
+fn files_with(text: &str) -> FakeFiles<'_> {
+    FakeFiles {
         path: "a.map",
         bytes: text.as_bytes(),
         left: None,
         kind: ErrorKind::BrokenPipe,
-        is_shut: false,
+        fails_on_open: false,
         is_opened: Cell::new(false),
     }
 }
 
-// Whether a text is this one and a newline.
+// Whether `text` is `want` and a newline.
 fn is_line(text: &[u8], want: &str) -> bool {
     text.strip_suffix(b"\n") == Some(want.as_bytes())
 }
 
-// Whether the words are replied to as a row says, on the bytes of both of its maps.
-fn is_replied(rt: &HostRuntime, words: &[String], row: &Row<'_>) -> Result<bool, Fail> {
+// Whether `reply_to` returns the status and text of a row for both of its maps.
+fn replies_with(rt: &HostRuntime, words: &[String], row: &Row<'_>) -> Result<bool, Fail> {
     let bytes = Vec::from_slice(rt.alloc(), row.input.as_bytes())?;
     let file = Vec::from_slice(rt.alloc(), row.file.as_bytes())?;
     let reply = reply_to(rt, rt.alloc(), words, bytes, Ok(file))?;
     Ok(reply.status == row.status && is_line(reply.text.as_bytes(), row.text))
 }
 
-// Whether a run over these files prints this line, and ends with this status.
+// Whether a run with these files prints this line and ends with this status.
 fn is_run(
     rt: &HostRuntime,
-    files: &Shelf<'_>,
+    files: &FakeFiles<'_>,
     words: &[String],
     input: &str,
     status: u8,
@@ -95,9 +95,9 @@ fn is_run(
     Ok(ended == status && is_line(output.as_slice(), text))
 }
 
-// Whether a run over the file of a row does what the row says.
+// Whether a run with the file of a row ends as the row says.
 fn is_met(rt: &HostRuntime, words: &[String], row: &Row<'_>) -> Result<bool, Fail> {
-    let files = shelf(row.file);
+    let files = files_with(row.file);
     let is_so = is_run(rt, &files, words, row.input, row.status, row.text)?;
     Ok(is_so && files.is_opened.get() == row.is_opened)
 }
@@ -107,20 +107,20 @@ fn maps_are_composed(rt: HostRuntime) -> Result<(), Fail> {
     let words = words_of(rt.alloc(), "compose a.map")?;
     for line in ROWS.lines() {
         let row = row_of(line)?;
-        assert!(rt; is_replied(&rt, words.as_slice(), &row)?, "{line}");
+        assert!(rt; replies_with(&rt, words.as_slice(), &row)?, "{line}");
         assert!(rt; is_met(&rt, words.as_slice(), &row)?, "{line}");
     }
     Ok(())
 }
 
-// A map, and the one in the file.
+// The map and the one in the file.
 const MAP: &str = r#"{"sources":["o.js"],"mappings":"AAAA,KAAK"}"#;
 
 const ADJUSTMENT: &str = r#"{"sources":["t.js"],"mappings":"EAAA"}"#;
 
-// Whether a run whose file fails after so many bytes prints that it did, with status 1.
+// Whether a run prints the error of a file that fails after `left` bytes, with status 1.
 fn is_refused(rt: &HostRuntime, words: &[String], left: usize) -> Result<bool, Fail> {
-    let mut files = shelf(ADJUSTMENT);
+    let mut files = files_with(ADJUSTMENT);
     files.left = Some(left);
     is_run(rt, &files, words, MAP, 1, "broken pipe")
 }
@@ -140,7 +140,7 @@ fn a_file_that_fails_is_refused(rt: HostRuntime) -> Result<(), Fail> {
 #[test]
 fn a_file_that_is_missing_is_refused(rt: HostRuntime) -> Result<(), Fail> {
     let words = words_of(rt.alloc(), "compose b.map")?;
-    let files = shelf(ADJUSTMENT);
+    let files = files_with(ADJUSTMENT);
     assert!(rt; is_run(&rt, &files, words.as_slice(), MAP, 1, "entity not found")?);
     let faulty = is_run(
         &rt,
@@ -155,11 +155,11 @@ fn a_file_that_is_missing_is_refused(rt: HostRuntime) -> Result<(), Fail> {
 }
 
 #[test]
-fn why_a_file_was_not_read_is_replied(rt: HostRuntime) -> Result<(), Fail> {
+fn read_errors_of_files_are_reported(rt: HostRuntime) -> Result<(), Fail> {
     let words = words_of(rt.alloc(), "compose b.map")?;
     let bytes = Vec::from_slice(rt.alloc(), MAP.as_bytes())?;
-    let fault = io::Error::from(ErrorKind::NotFound);
-    let reply = reply_to(&rt, rt.alloc(), words.as_slice(), bytes, Err(fault.into()))?;
+    let cause = io::Error::from(ErrorKind::NotFound);
+    let reply = reply_to(&rt, rt.alloc(), words.as_slice(), bytes, Err(cause.into()))?;
     assert!(rt; reply.status == 1 && is_line(reply.text.as_bytes(), "entity not found"));
     Ok(())
 }
@@ -167,7 +167,7 @@ fn why_a_file_was_not_read_is_replied(rt: HostRuntime) -> Result<(), Fail> {
 #[test]
 fn no_other_command_opens_a_file(rt: HostRuntime) -> Result<(), Fail> {
     let words = words_of(rt.alloc(), "lookup 0 5")?;
-    let files = shelf(ADJUSTMENT);
+    let files = files_with(ADJUSTMENT);
     assert!(rt; is_run(&rt, &files, words.as_slice(), MAP, 0, "o.js:0:5")?);
     assert!(rt; !files.is_opened.get());
     Ok(())

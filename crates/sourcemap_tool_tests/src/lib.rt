@@ -1,5 +1,5 @@
-//! Tests of the program's runs, over the calls that it makes. This crate holds nothing else, so that
-//! no proof and no must-fail edit waits for it.
+//! Tests of the program's runs. A crate of their own, so that no proof and no must-fail edit waits
+//! for them.
 #![tactic(auto)]
 
 #[cfg(test)]
@@ -7,15 +7,15 @@ mod applied;
 #[cfg(test)]
 mod composes;
 #[cfg(test)]
-mod faults;
+mod fake_files;
+#[cfg(test)]
+mod io_errors;
 #[cfg(test)]
 mod memory;
 #[cfg(test)]
 mod refusals;
 #[cfg(test)]
 mod runs;
-#[cfg(test)]
-mod shelves;
 #[cfg(test)]
 mod starts;
 #[cfg(test)]

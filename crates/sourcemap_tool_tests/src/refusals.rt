@@ -1,10 +1,10 @@
-// Texts at the limits of what is read, memory that runs out, and files that cannot be read, in runs.
+// Runs at the limits of input, out of memory, and with unreadable files.
+use crate::fake_files::FakeFiles;
 use crate::memory::unless_out;
 use crate::runs::{MAP, is_run, words_of};
-use crate::shelves::Shelf;
 use sourcemap::Error;
-use sourcemap_commands::program::run;
-use sourcemap_test_writers::HaltingReader;
+use sourcemap_cli::program::run;
+use sourcemap_test_support::readers::HaltingReader;
 use std::alloc::Global;
 use std::cell::Cell;
 use std::io::ErrorKind;
@@ -15,7 +15,7 @@ const NO_JSON: &str = "bad json: the text is not JSON\n";
 
 const NO_MEMORY: &str = "out of memory\n";
 
-// Whether words are answered with this text on a map that is read whole, with this status.
+// Whether a run reads all of the map, prints this text and ends with this status.
 fn is_answered(
     rt: &HostRuntime,
     line: &str,
@@ -46,14 +46,14 @@ const OPENED: &str = r#"{"sections":[{"offset":{"line":0,"column":0},"map":"#;
 const FLAT: &str = r#"{"mappings":"AAAA","names":[],"sources":["a.js"],"version":3}
 "#;
 
-// So many indexes in one another.
+// `depth` nested index maps.
 fn nested(alloc: Global, depth: usize) -> Result<String, Error> {
     let head = OPENED.repeat(alloc, depth)?;
     let tail = "}]}".repeat(alloc, depth)?;
     Ok(format!(in alloc; "{head}{INNERMOST}{tail}")?)
 }
 
-// How many indexes stand in one another, words, the status and the text of the run.
+// The depth of nested index maps, words, the status and the output of the run.
 static NESTED: [(usize, &str, u8, &str); 4] = [
     (20, "lookup 0 0", 0, "a.js:0:0\n"),
     (20, "flatten", 0, FLAT),
@@ -82,12 +82,12 @@ fn tokens_at_one_position_are_looked_up(rt: HostRuntime) -> Result<(), Fail> {
     Ok(())
 }
 
-// A reader of the map that is interrupted before each byte and fails after so many reads.
+// A reader of the map that is interrupted before each byte and fails after `reads` reads.
 fn halting(reads: usize, kind: ErrorKind) -> HaltingReader<'static> {
     HaltingReader::new(MAP.as_bytes(), reads, kind)
 }
 
-// The status and the text of a run over these files, where they are wanted.
+// Whether a run ends with this status and output. `OutOfMemory` fails the test unless expected.
 fn ends<F: Files>(
     rt: &HostRuntime,
     files: &F,
@@ -115,7 +115,7 @@ fn reader_ends(
 }
 
 #[test]
-fn reads_that_fail_are_told(rt: HostRuntime) -> Result<(), Fail> {
+fn failing_reads_are_reported(rt: HostRuntime) -> Result<(), Fail> {
     for reads in 0..=MAP.len() {
         assert!(rt;
             reader_ends(&rt, reads, ErrorKind::OutOfMemory, (1, NO_MEMORY))?,
@@ -131,8 +131,8 @@ fn reads_that_fail_are_told(rt: HostRuntime) -> Result<(), Fail> {
     Ok(())
 }
 
-// What a row is about, words, the bytes of the file, after how many of them a read fails and with
-// which kind, whether the file fails so where it is opened, and the status and the text of the run.
+// A label, words, the bytes of the file, after how many of them a read fails, the kind of the error,
+// whether already opening fails, and the status and output of the run.
 type Row = (
     &'static str,
     &'static str,
@@ -237,20 +237,19 @@ static FILES: [Row; 10] = [
 ];
 
 fn file_ends(rt: &HostRuntime, row: &Row) -> Result<bool, Fail> {
-    let (_, line, bytes, left, kind, is_shut, want) = *row;
-    let files = Shelf {
+    let (_, line, bytes, left, kind, fails_on_open, want) = *row;
+    let files = FakeFiles {
         path: "a.map",
         bytes,
         left,
         kind,
-        is_shut,
+        fails_on_open,
         is_opened: Cell::new(false),
     };
     let mut reader = HaltingReader::new(MAP.as_bytes(), usize::MAX, ErrorKind::TimedOut);
     ends(rt, &files, line, &mut reader, want)
 }
 
-// The row at this index.
 fn row_ends(rt: &HostRuntime, at: usize) -> Result<bool, Fail> {
     match FILES.get(at) {
         Some(row) => file_ends(rt, row),
@@ -259,20 +258,20 @@ fn row_ends(rt: &HostRuntime, at: usize) -> Result<bool, Fail> {
 }
 
 #[test]
-fn files_that_cannot_be_read_are_told(rt: HostRuntime) -> Result<(), Fail> {
+fn unreadable_files_are_reported(rt: HostRuntime) -> Result<(), Fail> {
     for at in 0..FILES.len() {
         assert!(rt; row_ends(&rt, at)?, "row {at}");
     }
     Ok(())
 }
 
-// A folder of the system, which is opened and fails where it is read.
+// Opening a folder succeeds; reading it fails.
 #[test]
 fn a_folder_is_no_file(rt: HostRuntime) -> Result<(), Fail> {
-    let told = (1, "Is a directory (os error 21)\n");
+    let want = (1, "Is a directory (os error 21)\n");
     for line in ["compose .", "trace ."] {
         let mut reader = HaltingReader::new(MAP.as_bytes(), usize::MAX, ErrorKind::TimedOut);
-        assert!(rt; ends(&rt, &rt, line, &mut reader, told)?, "{line}");
+        assert!(rt; ends(&rt, &rt, line, &mut reader, want)?, "{line}");
     }
     Ok(())
 }

@@ -1,9 +1,9 @@
-// Runs of the program: what is asked, printed and refused.
+// Runs of the program.
 use crate::memory::unless_out;
 use sourcemap::decode_slice;
-use sourcemap_commands::command::{Command, parse_words};
-use sourcemap_commands::output::apply;
-use sourcemap_commands::program::{reply_to, run};
+use sourcemap_cli::command::{Command, parse_words};
+use sourcemap_cli::output::apply;
+use sourcemap_cli::program::{reply_to, run};
 use std::alloc::{AllocError, Global};
 use std::test::Fail;
 
@@ -13,7 +13,7 @@ pub const MAP: &str =
 pub const USAGE: &str =
     "usage: lookup LINE COL | tokens | rewrite | flatten | compose FILE | shift ROWS | trace FILE\n";
 
-// Words, a map, and the status and text of the run.
+// Words, a map, and the status and output of the run.
 const RUNS: &str = r#"lookup 0 5|MAP|0 coolstuff.js:0:4 name=x
 lookup 0 0|MAP|0 coolstuff.js:0:0
 lookup 0 18|MAP|0 coolstuff.js:2:2 name=alert
@@ -69,22 +69,22 @@ shift 2|{"sections":[],"x_facebook_offsets":[5,null],"x_metro_module_paths":["a.
 shift 0|MAP|1 encountered incompatible sourcemap format
 shift 0|HERMES|1 encountered incompatible sourcemap format"#;
 
-// An index of two maps, and one of a section that has no map.
+// An index map of two maps.
 pub const TWO: &str =
     r#"{"version":3,"sections":[{"offset":{"line":0,"column":0},"map":{"version":3,"sources":["a.js"],"names":[],"mappings":"AAAA"}},{"offset":{"line":10,"column":4},"map":{"version":3,"sources":["b.js"],"names":[],"mappings":"AAAA"}}]}"#;
 
-// A Hermes map of two sources, of which tokens use the second.
+// A Hermes map of two sources; tokens use only the second.
 const HERMES: &str =
     r#"{"sources":["a.js","b.js"],"mappings":"ACAA","x_facebook_sources":[null,[{"names":["f"],"mappings":"AAA"}]]}"#;
 
 const LINK: &str = r#"{"sections":[{"offset":{"line":1,"column":4},"url":"u"}]}"#;
 
-// What `rewrite` says of the map.
+// The output of `rewrite` for `MAP`.
 const REWRITTEN: &str =
     r#"{"mappings":"AAAA,GAAIA,GAAI,EACR,IAAIA,GAAK,EAAG,CACVC,MAAM","names":["x","alert"],"sources":["coolstuff.js"],"version":3}
 "#;
 
-// What `tokens` says of the map.
+// The output of `tokens` for `MAP`.
 const LINES: &str = "0:0 coolstuff.js:0:0
 0:3 coolstuff.js:0:4 name=x
 0:6 coolstuff.js:0:8
@@ -126,7 +126,7 @@ pub fn words_of(alloc: Global, line: &str) -> Result<Vec<String>, AllocError> {
     Ok(words)
 }
 
-/// Whether a run on a reader prints this text, ends with this status and leaves so much of its input.
+/// Whether a run prints this text, ends with this status and leaves `left` bytes of its input.
 pub fn is_run(
     rt: &HostRuntime,
     words: &[String],
@@ -142,7 +142,7 @@ pub fn is_run(
     Ok((ended, rest.len()) == (status, left) && output.as_slice() == text.as_bytes())
 }
 
-// Whether words are replied to on these bytes with this status and text.
+// Whether `reply_to` returns this status and text.
 fn is_reply(
     rt: &HostRuntime,
     words: &[String],
@@ -155,7 +155,7 @@ fn is_reply(
     Ok(reply.status == status && reply.text.as_str() == text)
 }
 
-// Whether both are so, where a run that asks for a command reads all of its input, and no other any.
+// Checks `reply_to` and `run`. Words that are a command read all of the input, others nothing.
 fn is_answered(
     rt: &HostRuntime,
     line: &str,
@@ -171,7 +171,7 @@ fn is_answered(
     )
 }
 
-// Whether the words of a row are answered on its map with its status and text, and a newline.
+// Checks a row of `RUNS`.
 fn is_met(rt: &HostRuntime, row: &str) -> Result<bool, Fail> {
     let (line, rest) = row.split_once('|').ok_or("a short row")?;
     let (input, want) = rest.split_once('|').ok_or("a short row")?;
@@ -204,7 +204,7 @@ fn other_words_print_the_usage(rt: HostRuntime) -> Result<(), Fail> {
 }
 
 #[test]
-fn junk_headers_are_told_from_maps(rt: HostRuntime) -> Result<(), Fail> {
+fn junk_headers_are_recognised(rt: HostRuntime) -> Result<(), Fail> {
     assert!(rt; is_answered(&rt, "lookup 0 0", ")]}'\n{}", 0, "none\n")?);
     assert!(rt; is_answered(&rt, "tokens", ")]}'\n{}", 0, "")?);
     assert!(rt; is_answered(&rt, "tokens", ")]}'\r{}", 1, "invalid data\n")?);
@@ -212,14 +212,14 @@ fn junk_headers_are_told_from_maps(rt: HostRuntime) -> Result<(), Fail> {
     Ok(())
 }
 
-// Whether words ask for this command.
+// Whether words parse to this command.
 fn ask_for(alloc: Global, line: &str, command: Option<Command>) -> Result<bool, Fail> {
     let words = words_of(alloc, line)?;
     Ok(parse_words(alloc, words.as_slice())? == command)
 }
 
-// Whether a command that takes one map says this of the map.
-fn says(rt: &HostRuntime, command: &Command, want: &str) -> Result<bool, Fail> {
+// Whether a command without a file prints `want` for `MAP`.
+fn command_prints(rt: &HostRuntime, command: &Command, want: &str) -> Result<bool, Fail> {
     match command {
         Command::Compose(_) | Command::Trace(_) => Ok(false),
         command => {
@@ -249,13 +249,13 @@ fn words_ask_for_commands(rt: HostRuntime) -> Result<(), Fail> {
 #[test]
 fn commands_are_applied(rt: HostRuntime) -> Result<(), Fail> {
     assert!(rt;
-        says(
+        command_prints(
             &rt,
             &Command::Lookup(0, 18),
             "coolstuff.js:2:2 name=alert\n"
         )?
     );
-    assert!(rt; says(&rt, &Command::Tokens, LINES)?);
-    assert!(rt; says(&rt, &Command::Rewrite, REWRITTEN)?);
+    assert!(rt; command_prints(&rt, &Command::Tokens, LINES)?);
+    assert!(rt; command_prints(&rt, &Command::Rewrite, REWRITTEN)?);
     Ok(())
 }

@@ -1,10 +1,10 @@
-// The words that the program is started with, which need not be text.
-use sourcemap_commands::system::words;
+// The arguments of the program, which need not be UTF-8.
+use sourcemap_cli::system::words;
 use std::alloc::Global;
 use std::env::{Env, FillError};
 use std::test::Fail;
 
-// A system that starts the program with these words.
+// An environment with these arguments.
 #[derive(Drop)]
 struct Start<'a> {
     alloc: Global,
@@ -22,8 +22,8 @@ impl Alloc for Start<'_> {
 impl Env for Start<'_> {
     fn arg(&self, i: usize, buf: &mut [u8]) -> Result<usize, FillError> {
         let word = self.words.get(i).ok_or(FillError::NotPresent)?;
-        let place = buf.get_mut(..word.len()).ok_or(FillError::TooLong)?;
-        place.copy_from_slice(word);
+        let target = buf.get_mut(..word.len()).ok_or(FillError::TooLong)?;
+        target.copy_from_slice(word);
         Ok(word.len())
     }
 
@@ -36,7 +36,7 @@ impl Env for Start<'_> {
     }
 }
 
-// Whether the program's words are these, when it is started with a name and with those.
+// Whether `words` returns `want` for the arguments `given`, of which the first is the name.
 fn are_words(rt: &HostRuntime, given: &[&[u8]], want: &[&str]) -> Result<bool, Fail> {
     let start = Start {
         alloc: rt.alloc(),

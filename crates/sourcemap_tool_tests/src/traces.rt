@@ -1,9 +1,9 @@
-// Lists of positions, answered by the call and by runs of `trace FILE`.
+// `trace_text`, and runs of `trace FILE`.
+use crate::fake_files::FakeFiles;
 use crate::memory::unless_out;
 use crate::runs::{MAP, TWO, words_of};
-use crate::shelves::Shelf;
 use sourcemap::{DecodedMap, Error, decode_slice};
-use sourcemap_commands::program::{reply_to, run};
+use sourcemap_cli::program::{reply_to, run};
 use sourcemap_trace::trace_text;
 use std::alloc::Global;
 use std::cell::Cell;
@@ -11,18 +11,18 @@ use std::io;
 use std::io::ErrorKind;
 use std::test::Fail;
 
-// The flat map of `TWO`.
+// `TWO`, flatten.
 const FLAT: &str = r#"{"sources":["a.js","b.js"],"mappings":"AAAA;;;;;;;;;;ICAA"}"#;
 
 const RANGED: &str = r#"{"sources":["a.js"],"mappings":"AAAO","rangeMappings":"B"}"#;
 
 const HERMES: &str = r#"{"sources":["a.js"],"mappings":"AAAA","x_facebook_sources":[]}"#;
 
-// Nothing stands before the section.
+// No token is before the section.
 const LATE: &str =
     r#"{"sections":[{"offset":{"line":5,"column":0},"map":{"sources":["a.js"],"mappings":"AAAA"}}]}"#;
 
-// A map, a list of positions, and the answers.
+// A map, a list of positions, and the output.
 static TRACES: [(&str, &str, &str); 21] = [
     (
         MAP,
@@ -95,34 +95,33 @@ static TRACES: [(&str, &str, &str); 21] = [
     ),
 ];
 
-// The answers of a map, which is asked again where memory runs out.
-fn traced_twice(alloc: Global, map: &DecodedMap, positions: &[u8]) -> Result<String, Error> {
+// Traces again after `OutOfMemory`.
+fn trace_with_retry(alloc: Global, map: &DecodedMap, positions: &[u8]) -> Result<String, Error> {
     match trace_text(alloc, map, positions) {
         Err(Error::OutOfMemory) => trace_text(alloc, map, positions),
         answer => answer,
     }
 }
 
-fn traced(rt: &HostRuntime, map: &str, positions: &[u8]) -> Result<String, Error> {
+fn trace_of(rt: &HostRuntime, map: &str, positions: &[u8]) -> Result<String, Error> {
     let map = decode_slice(rt.alloc(), map.as_bytes())?;
-    traced_twice(rt.alloc(), &map, positions)
+    trace_with_retry(rt.alloc(), &map, positions)
 }
 
-// Whether a list of positions has these answers.
-fn is_traced(rt: &HostRuntime, map: &str, positions: &[u8], want: &str) -> Result<bool, Fail> {
-    Ok(traced(rt, map, positions)?.as_str() == want)
+fn traces_to(rt: &HostRuntime, map: &str, positions: &[u8], want: &str) -> Result<bool, Fail> {
+    Ok(trace_of(rt, map, positions)?.as_str() == want)
 }
 
 #[test]
 fn positions_are_answered(rt: HostRuntime) -> Result<(), Fail> {
     for (map, positions, want) in TRACES.iter() {
         assert!(rt;
-            is_traced(&rt, map, positions.as_bytes(), want)?,
+            traces_to(&rt, map, positions.as_bytes(), want)?,
             "{map} {positions}"
         );
     }
     assert!(rt;
-        is_traced(
+        traces_to(
             &rt,
             MAP,
             b"\xff:5\n0:5",
@@ -136,30 +135,30 @@ fn positions_are_answered(rt: HostRuntime) -> Result<(), Fail> {
 fn long_lines_and_many_are_answered(rt: HostRuntime) -> Result<(), Fail> {
     let zeros = "0".repeat(rt.alloc(), 10_000_000)?;
     let line = format!(in rt.alloc(); "{zeros}:5")?;
-    assert!(rt; is_traced(&rt, MAP, line.as_bytes(), "coolstuff.js:0:4 name=x\n")?);
-    assert!(rt; is_traced(&rt, MAP, zeros.as_bytes(), "bad position\n")?);
+    assert!(rt; traces_to(&rt, MAP, line.as_bytes(), "coolstuff.js:0:4 name=x\n")?);
+    assert!(rt; traces_to(&rt, MAP, zeros.as_bytes(), "bad position\n")?);
     let newlines = "\n".repeat(rt.alloc(), 1_000_000)?;
     let answers = "bad position\n".repeat(rt.alloc(), 1_000_000)?;
-    assert!(rt; is_traced(&rt, MAP, newlines.as_bytes(), answers.as_str())?);
+    assert!(rt; traces_to(&rt, MAP, newlines.as_bytes(), answers.as_str())?);
     Ok(())
 }
 
-// A file system that has these positions at `a.txt`.
-fn shelf(text: &str) -> Shelf<'_> {
-    Shelf {
+// A file system with these positions at `a.txt`.
+fn files_with(text: &str) -> FakeFiles<'_> {
+    FakeFiles {
         path: "a.txt",
         bytes: text.as_bytes(),
         left: None,
         kind: ErrorKind::BrokenPipe,
-        is_shut: false,
+        fails_on_open: false,
         is_opened: Cell::new(false),
     }
 }
 
-// Whether a run over these files prints this text, and ends with this status.
+// Whether a run with these files prints this text and ends with this status.
 fn is_run(
     rt: &HostRuntime,
-    files: &Shelf<'_>,
+    files: &FakeFiles<'_>,
     words: &[String],
     map: &str,
     status: u8,
@@ -171,8 +170,8 @@ fn is_run(
     Ok(ended == status && output.as_slice() == text.as_bytes())
 }
 
-// Whether the words are replied to with this text, on the bytes of a map and of the positions.
-fn is_replied(
+// Whether `reply_to` returns this text for a map and positions.
+fn replies_with(
     rt: &HostRuntime,
     words: &[String],
     map: &str,
@@ -189,9 +188,9 @@ fn is_replied(
 fn runs_answer_positions(rt: HostRuntime) -> Result<(), Fail> {
     let words = words_of(rt.alloc(), "trace a.txt")?;
     for (map, positions, want) in TRACES.iter() {
-        let files = shelf(positions);
+        let files = files_with(positions);
         assert!(rt;
-            is_replied(&rt, words.as_slice(), map, positions, want)?,
+            replies_with(&rt, words.as_slice(), map, positions, want)?,
             "{map} {positions}"
         );
         assert!(rt;
@@ -203,9 +202,9 @@ fn runs_answer_positions(rt: HostRuntime) -> Result<(), Fail> {
     Ok(())
 }
 
-// Whether a run whose file fails after so many bytes prints that it did, with status 1.
+// Whether a run prints the error of a file that fails after `left` bytes, with status 1.
 fn is_refused(rt: &HostRuntime, words: &[String], left: usize) -> Result<bool, Fail> {
-    let mut files = shelf("0:5\nx");
+    let mut files = files_with("0:5\nx");
     files.left = Some(left);
     is_run(rt, &files, words, MAP, 1, "broken pipe\n")
 }
@@ -220,7 +219,7 @@ fn files_of_positions_may_fail(rt: HostRuntime) -> Result<(), Fail> {
         );
     }
     let other = words_of(rt.alloc(), "trace b.txt")?;
-    let files = shelf("0:5");
+    let files = files_with("0:5");
     assert!(rt; is_run(&rt, &files, other.as_slice(), MAP, 1, "entity not found\n")?);
     Ok(())
 }
@@ -228,7 +227,7 @@ fn files_of_positions_may_fail(rt: HostRuntime) -> Result<(), Fail> {
 #[test]
 fn maps_are_decoded_before_positions_are_read(rt: HostRuntime) -> Result<(), Fail> {
     let words = words_of(rt.alloc(), "trace a.txt")?;
-    let files = shelf("0:5");
+    let files = files_with("0:5");
     let is_so = is_run(
         &rt,
         &files,
@@ -242,11 +241,11 @@ fn maps_are_decoded_before_positions_are_read(rt: HostRuntime) -> Result<(), Fai
 }
 
 #[test]
-fn why_positions_were_not_read_is_replied(rt: HostRuntime) -> Result<(), Fail> {
+fn read_errors_of_positions_are_reported(rt: HostRuntime) -> Result<(), Fail> {
     let words = words_of(rt.alloc(), "trace a.txt")?;
     let bytes = Vec::from_slice(rt.alloc(), MAP.as_bytes())?;
-    let fault = io::Error::from(ErrorKind::NotFound);
-    let reply = reply_to(&rt, rt.alloc(), words.as_slice(), bytes, Err(fault.into()))?;
+    let cause = io::Error::from(ErrorKind::NotFound);
+    let reply = reply_to(&rt, rt.alloc(), words.as_slice(), bytes, Err(cause.into()))?;
     assert!(rt; reply.status == 1 && reply.text.as_str() == "entity not found\n");
     Ok(())
 }

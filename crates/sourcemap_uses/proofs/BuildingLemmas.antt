@@ -1,11 +1,11 @@
--- Maps that are made of tokens, written, and asked once they are read.
+-- Maps built from tokens, written and read back.
 use Rattle.std.proofs.Common.{◌≡◌, ◌↔◌, ◌∙◌, sym, ap, subst, ℕ, List, [], ◌∷◌, None, option_map, Result, Ok, Err}
 use Rattle.sourcemap.specs.Answer.{Gives, IsAnswer}
 use Rattle.sourcemap.specs.Due.{Gives-given}
 use Rattle.sourcemap.specs.AnyMap.{map_tree}
 use Rattle.sourcemap.specs.Decoder.{AreSame, BytesDecode}
 use Rattle.sourcemap.specs.Encoder.{ReadsBack, Restores as RestoresRegular}
-use Rattle.sourcemap.specs.Reading.{BytesStandFor, RegularDecodes}
+use Rattle.sourcemap.specs.Reading.{BytesHaveResult, RegularDecodes}
 use Rattle.sourcemap.specs.TreeEncoder.{Restores}
 use Rattle.sourcemap.specs.Trees.{regular, MapTree, leaf, meaning as meaning_of}
 use Rattle.sourcemap.specs.Types.{MapValue, made_of, meaning}
@@ -13,7 +13,7 @@ use Rattle.sourcemap.specs.declared.errors.Error.{Error}
 use Rattle.sourcemap.specs.declared.errors.Error.TheVariants.{OutOfMemory}
 use Rattle.sourcemap.specs.declared.types.DecodedMap.{DecodedMap}
 use Rattle.sourcemap.specs.declared.types.RawToken.{RawToken}
-use Rattle.sourcemap_uses.specs.Building.{source_place}
+use Rattle.sourcemap_uses.specs.Building.{source_position}
 use Rattle.sourcemap_uses.proofs.RefusalLemmas.{memory_alone}
 
 -- the map of one source
@@ -25,29 +25,29 @@ made m tokens names sources source gave no_names one_source =
     ∙ ap (λ names. made_of None tokens names sources []) no_names
     ∙ ap (λ sources. made_of None tokens [] sources []) one_source
 
--- a regular map that is read back is read back as a map of any kind
+-- a regular map that reads back also reads back as a map of any kind
 pub reads_back : (m due : MapValue) (text : List ℕ) → m ≡ due
-    → ((back : MapValue) → BytesStandFor RegularDecodes text (Ok back) ↔ BytesDecode text (Ok (leaf (regular back))))
-    → ReadsBack (BytesStandFor RegularDecodes text) (RestoresRegular m) → ReadsBack (BytesDecode text) (Restores (leaf (regular due)))
-reads_back m due text is any (back, stands, restored) =
+    → ((back : MapValue) → BytesHaveResult RegularDecodes text (Ok back) ↔ BytesDecode text (Ok (leaf (regular back))))
+    → ReadsBack (BytesHaveResult RegularDecodes text) (RestoresRegular m) → ReadsBack (BytesDecode text) (Restores (leaf (regular due)))
+reads_back m due text is any (back, decodes, restored) =
     let whole : Restores (leaf (regular m)) (leaf (regular back)) = (restored.0, restored) in (
       leaf (regular back),
-      (any back).0 stands,
+      (any back).0 decodes,
       subst (λ m. Restores (leaf (regular m)) (leaf (regular back))) is whole,
     )
 
--- what the map that was read means is what the map that was written means
-pub place_found : (bytes text : List ℕ) (m : MapValue) (map : DecodedMap) (p : ℕ × ℕ)
+-- the decoded map has the meaning of the written map
+pub lookup_found : (bytes text : List ℕ) (m : MapValue) (map : DecodedMap) (p : ℕ × ℕ)
     → bytes ≡ text → ReadsBack (BytesDecode text) (Restores (leaf (regular m)))
     → ((due : Result MapTree Error) → BytesDecode bytes due → IsAnswer map_tree (AreSame due) (Ok map))
-    → option_map source_place (meaning_of (map_tree map) p) ≡ option_map source_place (meaning m p)
-place_found bytes text m map p same (back, stands, restored) only =
-    let read = only (Ok back) (subst (λ bytes. BytesDecode bytes (Ok back)) (sym same) stands) in
-    ap (option_map source_place) (ap (λ t. meaning_of t p) (sym read) ∙ restored.0 p)
+    → option_map source_position (meaning_of (map_tree map) p) ≡ option_map source_position (meaning m p)
+lookup_found bytes text m map p same (back, decodes, restored) only =
+    let read = only (Ok back) (subst (λ bytes. BytesDecode bytes (Ok back)) (sym same) decodes) in
+    ap (option_map source_position) (ap (λ t. meaning_of t p) (sym read) ∙ restored.0 p)
 
--- what was written is read unless memory runs out
+-- the written map decodes, or out of memory
 pub read_unless_memory : (bytes text : List ℕ) (m : MapValue) (e : Error)
     → bytes ≡ text → ReadsBack (BytesDecode text) (Restores (leaf (regular m)))
     → ((due : Result MapTree Error) → BytesDecode bytes due → IsAnswer map_tree (AreSame due) (Err e)) → e ≡ OutOfMemory
-read_unless_memory bytes text m e same (back, stands, restored) only =
-    memory_alone e (only (Ok back) (subst (λ bytes. BytesDecode bytes (Ok back)) (sym same) stands))
+read_unless_memory bytes text m e same (back, decodes, restored) only =
+    memory_alone e (only (Ok back) (subst (λ bytes. BytesDecode bytes (Ok back)) (sym same) decodes))

@@ -1,4 +1,4 @@
--- From what a reference holds itself, or leads to, to where the map of its text is.
+-- From the embedded map or the resolved path of a reference to where the map of its text is.
 use Rattle.std.proofs.Common.{◌≡◌, refl, sym, subst, inl, ℕ, List, Option, Some, None, Result, Ok, Err}
 use Rattle.sourcemap.specs.Answer.{UnlessMemory, IsAnswer}
 use Rattle.sourcemap.specs.Embedded.{EmbeddedAnswer}
@@ -15,7 +15,7 @@ weaker : (e : Error) (P Q : Type 0) → (P → Q) → UnlessMemory e P → Unles
 weaker OutOfMemory P Q f h = tt
 weaker _ P Q f h = f h
 
--- the map of a URL that holds none itself is the file that it leads to
+-- the map of a URL without an embedded map is the file that it resolves to
 pub no_map_held : (url path : List ℕ) → EmbeddedAnswer url (Ok None)
     → (r : Result FoundMap Error) → IsAnswer found_value (FileOfUrl url path) r → IsAnswer found_value (MapOfUrl url path) r
 no_map_held url path none (Ok found) file = inl (None, none, file)

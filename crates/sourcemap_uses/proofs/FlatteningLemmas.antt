@@ -1,4 +1,4 @@
--- What is told of a position by comparing what two lookups find.
+-- Comparing two lookups decides whether the meaning of a position is kept.
 use Rattle.std.proofs.Common.{◌≡◌, ℕ, Bool, Option, Some, IfSome, subst}
 use Rattle.std.specs.Bool.{Decides}
 use Rattle.sourcemap.specs.Trees.{MapTree, meaning as meaning_of}

@@ -1,4 +1,4 @@
--- An index with another section in one place.
+-- An index map with one section replaced.
 use Rattle.std.proofs.Common.{◌≡◌, ◌≢◌, ◌∙◌, refl, sym, ap, subst, ℕ, zero, suc, List, [], ◌∷◌, slice_get, slice_set, Option, Some, None, option_map, Result, Ok, Err}
 use Rattle.std.specs.Prelude.{IfNone, unwrap_or}
 use Rattle.sourcemap.specs.Answer.{Changes}
@@ -20,11 +20,11 @@ set_same [] id x there = refl
 set_same (y ∷ ys) zero x there = cc
 set_same (y ∷ ys) (suc id) x there = ap (λ zs. y ∷ zs) (set_same ys id x there)
 
--- an index that does not change is the one that is due, where no section has the id
+-- if no section has the id, the unchanged index is the specified one
 pub linked_none : (i : IndexValue) (id : ℕ) (url : List ℕ) → None ≡ slice_get i.sections id → i ≡ linked i id url
 linked_none i id url none = ap (λ o. unwrap_or (option_map (λ s. with_section i id (with_url s (Some url))) o) i) none
 
--- the index is changed as its section is
+-- changing a section changes the index accordingly
 pub linked_as : {T : Type 0} (r : Result T Error) (before after : IndexValue) (id : ℕ) (old new : MapSection) (url : List ℕ)
     → Some old ≡ slice_get before.sections id → after ≡ with_section before id new → Changes r old new (with_url old (Some url))
     → Changes r before after (linked before id url)

@@ -1,27 +1,27 @@
--- A builder to which sources are added.
+-- Adding sources to a builder.
 use Rattle.std.proofs.Common.{◌≡◌, ◌∙◌, refl, sym, ap, subst, ℕ, ◌≤◌, List, [], ◌∷◌, ◌++◌, append-nil, append_assoc, arith, cond, fold, is_some, length, length-append, map, nat_lt, Bool, true, false, Option, Some, None, Result, Ok, Err, IfOk}
 use Rattle.std.proofs.lemmas.Bool.{ltb-false}
 use Rattle.sourcemap.specs.Answer.{Gives, UnlessMemory}
 use Rattle.sourcemap.specs.Builder.{BuilderValue, empty_builder, with_source, built}
 use Rattle.sourcemap.specs.Interner.{id_for, id_of, with_text}
 use Rattle.sourcemap.specs.Rewrite.{kept_once}
-use Rattle.sourcemap.specs.Types.{MapValue, made_of, shown, shown_sources}
+use Rattle.sourcemap.specs.Types.{MapValue, made_of, resolved, resolved_sources}
 use Rattle.sourcemap.specs.declared.errors.Error.{Error}
 use Rattle.sourcemap.specs.declared.errors.Error.TheVariants.{IncompatibleSourceMap}
 use Rattle.sourcemap_uses.specs.Merging.{AreTooMany, HasFirstOf}
 use Rattle.sourcemap_uses.proofs.RefusalLemmas.{unless_memory}
 
--- What is added.
+-- Added sources.
 
--- a source that is added is shown as it was given
-shown_as_given : (b : BuilderValue) (text : List ℕ) → b.sources ≡ b.interned → (with_source b text).sources ≡ (with_source b text).interned
-shown_as_given b text same = ap (λ texts. cond (is_some (id_of text b.interned)) texts (texts ++ text ∷ [])) same
+-- an added source is displayed unchanged
+added_unchanged : (b : BuilderValue) (text : List ℕ) → b.sources ≡ b.interned → (with_source b text).sources ≡ (with_source b text).interned
+added_unchanged b text same = ap (λ texts. cond (is_some (id_of text b.interned)) texts (texts ++ text ∷ [])) same
 
 -- nothing else is changed
 all_added : (b : BuilderValue) (texts : List (List ℕ)) → b.sources ≡ b.interned
     → fold with_source b texts ≡ record b { interned = fold with_text b.interned texts; sources = fold with_text b.interned texts }
 all_added b [] same = ap (λ sources. record b { sources = sources }) same
-all_added b (text ∷ texts) same = all_added (with_source b text) texts (shown_as_given b text same)
+all_added b (text ∷ texts) same = all_added (with_source b text) texts (added_unchanged b text same)
 
 all_interned : (b : BuilderValue) (texts : List (List ℕ)) → (fold with_source b texts).interned ≡ fold with_text b.interned texts
 all_interned b [] = refl
@@ -31,15 +31,15 @@ fold_twice : {X Y : Type 0} → (f : X → Y → X) → (x : X) → (ys zs : Lis
 fold_twice f x [] zs = refl
 fold_twice f x (y ∷ ys) zs = fold_twice f (f x y) ys zs
 
--- what comes first is added first
+-- sources are added in order
 pub both_added : (b one two : BuilderValue) (first second : List (List ℕ)) → one ≡ fold with_source b first → two ≡ fold with_source one second
     → two ≡ fold with_source b (first ++ second)
 both_added b one two first second is_one is_two =
     is_two ∙ ap (λ b. fold with_source b second) is_one ∙ fold_twice with_source b first second
 
-as_they_stand : (texts : List (List ℕ)) → map (shown None) texts ≡ texts
-as_they_stand [] = refl
-as_they_stand (text ∷ texts) = ap (λ texts. text ∷ texts) (as_they_stand texts)
+resolve_without_root : (texts : List (List ℕ)) → map (resolved None) texts ≡ texts
+resolve_without_root [] = refl
+resolve_without_root (text ∷ texts) = ap (λ texts. text ∷ texts) (resolve_without_root texts)
 
 merged_is : (b one two : BuilderValue) (first second : List (List ℕ)) (m : MapValue)
     → empty_builder None ≡ b → one ≡ fold with_source b first → two ≡ fold with_source one second → built two ≡ m
@@ -58,18 +58,18 @@ merged b one two first second (Ok m) made is_one is_two gave =
     merged_is b one two first second m start is_one is_two is
 merged b one two first second (Err e) made is_one is_two gave = tt
 
-pub shown_so : (texts : List (List ℕ)) (r : Result MapValue Error)
-    → IfOk r (λ m. m ≡ made_of None [] [] texts []) → IfOk r (λ m. shown_sources m ≡ texts)
-shown_so texts (Ok m) is = ap shown_sources is ∙ as_they_stand texts
-shown_so texts (Err e) is = tt
+pub rootless_sources_are : (texts : List (List ℕ)) (r : Result MapValue Error)
+    → IfOk r (λ m. m ≡ made_of None [] [] texts []) → IfOk r (λ m. resolved_sources m ≡ texts)
+rootless_sources_are texts (Ok m) is = ap resolved_sources is ∙ resolve_without_root texts
+rootless_sources_are texts (Err e) is = tt
 
--- What is refused.
+-- Errors.
 
 more_or_same : (b : Bool) (texts : List (List ℕ)) (text : List ℕ) → length texts ≤ length (cond b texts (texts ++ text ∷ []))
 more_or_same true texts text = omega arith
 more_or_same false texts text = omega (arith, length-append texts (text ∷ []))
 
--- texts that are added leave no fewer
+-- adding texts never removes one
 no_fewer : (texts more : List (List ℕ)) → length texts ≤ length (fold with_text texts more)
 no_fewer texts [] = omega arith
 no_fewer texts (text ∷ more) =
@@ -96,7 +96,7 @@ stopped_at b text texts e h = unless_memory e (id_for b.interned text ≡ Err e)
     (too_many_more (with_text b.interned text) texts e (without_id (id_of text b.interned) b.interned text e refl refused)))
     h
 
--- the sources of both maps are too many where those of the first are
+-- the sources of both maps are too many if those of the first are
 both_kept : (b : BuilderValue) (first second : List (List ℕ)) → empty_builder None ≡ b
     → fold with_text (fold with_source b first).interned second ≡ kept_once (first ++ second)
 both_kept b first second start =
@@ -119,7 +119,7 @@ too_many_both b one first second e made is_one h =
 
 -- Loops.
 
--- of all sources some were added, and others are left
+-- a prefix of all sources was added, the rest remains
 abbrev pub HasAdded : (old new : BuilderValue) (left all : List (List ℕ)) → Type 0
 HasAdded old new left all = (added : List (List ℕ)) × (all ≡ added ++ left) × (new ≡ fold with_source old added)
 

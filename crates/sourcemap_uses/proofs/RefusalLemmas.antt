@@ -1,4 +1,4 @@
--- Refusals that are passed on.
+-- Errors that are passed on.
 use Rattle.std.proofs.Common.{◌≡◌, refl, Result, Ok, Err, IfErr, IsOkUnless}
 use Rattle.std.proofs.lemmas.Result.{IfErr-weaker}
 use Rattle.sourcemap.specs.Answer.{Gives, UnlessMemory}
@@ -11,7 +11,7 @@ pub unless_memory : (e : Error) (P Q : Type 0) → (P → Q) → UnlessMemory e 
 unless_memory OutOfMemory P Q f h = tt
 unless_memory _ P Q f h = f h
 
--- where a value is due, want of memory alone refuses
+-- if a value is specified, the only error is out of memory
 pub never_due : {Y : Type 0} (due : Y) (e : Error) (Q : Type 0) → Ok due ≡ Err e → Q
 never_due due e Q wrong = absurd (cc)
 
@@ -22,15 +22,15 @@ pub never_refused : {X Y : Type 0} (view : X → Y) (due : Y) (r : Result X Erro
 never_refused view due (Ok x) Q gave = tt
 never_refused view due (Err e) Q gave = due_refused due e (Q e) gave
 
--- a regular map is written, unless memory runs out
+-- a regular map is written, or out of memory
 pub unwritten : (m : MapValue) (e : Error) (P : Type 0) → UnlessMemory e (RecordAnswer m (Err e)) → UnlessMemory e P
 unwritten m e P h = unless_memory e ⊥ P (λ never. absurd never) h
 
--- where nothing else refuses, memory ran out
+-- if no other error is possible, it is out of memory
 pub memory_alone : (e : Error) → UnlessMemory e ⊥ → e ≡ OutOfMemory
 memory_alone OutOfMemory h = refl
 memory_alone _ h = absurd h
 
--- what memory alone refuses is refused for nothing else
+-- a call whose only error is out of memory returns no other error
 pub memory_refused : {X : Type 0} (Q : Error → Type 0) (r : Result X Error) → IsOkUnless r OutOfMemory → IfErr r (λ e. UnlessMemory e (Q e))
 memory_refused Q r h = IfErr-weaker r (λ e. e ≡ OutOfMemory) (λ e. UnlessMemory e (Q e)) (λ e is. rw is tt) h

@@ -1,11 +1,11 @@
--- What a rewriting leaves that takes names and contents away, and one by default.
+-- Rewriting that removes names and contents, and rewriting with default options.
 use Rattle.std.proofs.Common.{◌≡◌, ◌∙◌, refl, sym, ap, subst, ℕ, ◌<◌, List, [], ◌∷◌, map, length, false, Option, Some, None, option_map, Result, Ok, Err, IfOk, IsOkUnless}
 use Rattle.sourcemap.specs.Answer.{Gives, IsAnswer, UnlessMemory}
 use Rattle.sourcemap.specs.Due.{Gives-given}
 use Rattle.sourcemap.specs.Encoder.{ReadsBack, Restores}
-use Rattle.sourcemap.specs.Prefixes.{cut_by}
-use Rattle.sourcemap.specs.Reading.{BytesStandFor, RegularDecodes}
-use Rattle.sourcemap.specs.Rewrite.{IsDefault, LacksFolder, MeansLess, no_removal, removal_of, rewritten, taken_away, used_sources, Gives-rewritten, Rewrites, lacks_none, without_loading}
+use Rattle.sourcemap.specs.Prefixes.{without_prefix}
+use Rattle.sourcemap.specs.Reading.{BytesHaveResult, RegularDecodes}
+use Rattle.sourcemap.specs.Rewrite.{IsDefault, LacksFolder, MeansLess, no_removal, removal_of, rewritten, without_removed, used_sources, Gives-rewritten, Rewrites, lacks_none, without_loading}
 use Rattle.sourcemap.specs.Types.{MapValue, Meaning, contents_of, meaning}
 use Rattle.sourcemap.specs.declared.errors.Error.{Error}
 use Rattle.sourcemap.specs.declared.errors.Error.TheVariants.{OutOfMemory}
@@ -13,7 +13,7 @@ use Rattle.sourcemap.specs.declared.types.RewriteOptions.{RewriteOptions}
 use Rattle.sourcemap_uses.proofs.RefusalLemmas.{memory_alone, unless_memory}
 use Rattle.sourcemap_uses.specs.Publishing.{Publishes, without_name, no_details}
 
-whole : (source : Option (List ℕ)) → option_map (cut_by []) source ≡ source
+whole : (source : Option (List ℕ)) → option_map (without_prefix []) source ≡ source
 whole None = refl
 whole (Some text) = refl
 
@@ -21,13 +21,13 @@ map_same : {X Y : Type 0} → (f g : X → Y) → ((x : X) → f x ≡ g x) → 
 map_same f g same None = refl
 map_same f g same (Some x) = ap Some (same x)
 
-but_the_name : (m : MapValue) (says : Meaning) → taken_away no_details m says ≡ without_name says
+but_the_name : (m : MapValue) (says : Meaning) → without_removed no_details m says ≡ without_name says
 but_the_name m says = λ i. record says { source = whole says.source i; name = None }
 
 means_but_names : (old new : MapValue) → MeansLess no_details old new
     → (p : ℕ × ℕ) → meaning new p ≡ option_map without_name (meaning old p)
 means_but_names old new less p =
-    less p ∙ map_same (taken_away no_details old) without_name (but_the_name old) (meaning old p)
+    less p ∙ map_same (without_removed no_details old) without_name (but_the_name old) (meaning old p)
 
 details : (options : RewriteOptions) → options.with_names ≡ false → options.with_source_contents ≡ false
     → options.strip_prefixes.now ≡ [] → removal_of options ≡ no_details
@@ -48,13 +48,13 @@ pub but_details : (options : RewriteOptions) (m bare : MapValue) → options.wit
 but_details options m bare names contents prefixes =
     subst (λ removal. MeansLess removal m bare) (details options names contents prefixes)
 
-pub published_as : (m bare : MapValue) (bytes text : List ℕ) → BytesStandFor RegularDecodes bytes (Ok m)
+pub published_as : (m bare : MapValue) (bytes text : List ℕ) → BytesHaveResult RegularDecodes bytes (Ok m)
     → bare ≡ rewritten no_details m → MeansLess no_details m bare
-    → ReadsBack (BytesStandFor RegularDecodes text) (Restores bare) → Publishes bytes text
-published_as m bare bytes text stands is less (back, reads, restored) = (
+    → ReadsBack (BytesHaveResult RegularDecodes text) (Restores bare) → Publishes bytes text
+published_as m bare bytes text decodes is less (back, reads, restored) = (
   m,
   back,
-  stands,
+  decodes,
   reads,
   record {
     meaning = λ p. restored.0 p ∙ means_but_names m bare less p;
@@ -64,12 +64,12 @@ published_as m bare bytes text stands is less (back, reads, restored) = (
   },
 )
 
--- options that load no contents are refused by memory alone
+-- with options that load no contents, the only error is out of memory
 pub bare_refused : (options : RewriteOptions) (e : Error) (P : Type 0) → options.load_local_source_contents ≡ false
     → UnlessMemory e (LacksFolder options e) → UnlessMemory e P
 bare_refused options e P no_files = unless_memory e (LacksFolder options e) P (λ lacks. absurd (lacks_none options e no_files lacks))
 
--- By default.
+-- Default options.
 
 pub default_whole : (options : RewriteOptions) (m : MapValue) (r : Result MapValue Error) → IsDefault options → removal_of options ≡ no_removal
     → IsAnswer (λ m. m) (Rewrites options m) r → IfOk r (λ small. small ≡ rewritten no_removal m)
@@ -86,7 +86,7 @@ pub whole_so : (P : MapValue → Type 0) (r : Result MapValue Error) (due : MapV
 whole_so P (Ok small) due is holds = subst P (sym is) holds
 whole_so P (Err e) due is holds = tt
 
-all_uncut : (texts : List (List ℕ)) → map (cut_by []) texts ≡ texts
+all_uncut : (texts : List (List ℕ)) → map (without_prefix []) texts ≡ texts
 all_uncut [] = refl
 all_uncut (text ∷ texts) = ap (λ texts. text ∷ texts) (all_uncut texts)
 

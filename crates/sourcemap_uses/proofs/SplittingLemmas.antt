@@ -1,4 +1,4 @@
--- The first module of a bundle that is split, and what its map says.
+-- The first module of a split bundle, and the meaning of its map.
 use Rattle.std.proofs.Common.{◌≡◌, ◌∙◌, refl, sym, ap, subst, ℕ, List, ◌∷◌, ◌&&◌, Bool, true, false, Option, Some, is_some, Result, Ok, Err, ◌⊎◌, inl, inr, map, filter_map}
 use Rattle.std.specs.Str.{is_utf8}
 use Rattle.sourcemap.specs.BundleModules.{ModuleValue}
@@ -13,7 +13,7 @@ module _ (i : IndexValue) (modules : List (Result ModuleValue Error)) (split : S
   split_over : MapValue → SplitValue
   split_over flat = record { flat = flat; offsets = is_first.offsets; modules = modules }
 
-  -- the flat map of the bundle, and what is given first
+  -- the flattened map of the bundle, and the first result
   pub first_due : Splits i modules (Ok split)
       → (split.flat ≡ flat) × ((others : List (Result ModuleParts Error)) × (dues_in split ≡ parts_at flat first found ∷ others))
   unfolding split_over
@@ -24,7 +24,7 @@ module _ (i : IndexValue) (modules : List (Result ModuleValue Error)) (split : S
       (ap (λ s. s.flat) same, (map (due_of flat) is_first.others, ap dues_in same ∙ ap (map (due_of flat)) is_first.comes_first))
   first_due (inr nothing) = absurd nothing
 
--- a module that is given has the map of its lines
+-- a returned module has the map of its lines
 pub given_map : (flat : MapValue) (line : ℕ) (found : ModuleValue) (parts : ModuleParts) → parts_at flat line found ≡ Ok parts
     → (parts_on flat line found).map ≡ parts.map
 given_map flat line found parts is = by_cases (is_some (meaning flat (line, 0)) && is_utf8 found.text) refl

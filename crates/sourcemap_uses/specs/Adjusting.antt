@@ -1,14 +1,14 @@
--- What is behind a position of a later text.
+-- Original positions with owned strings.
 use Rattle.std.specs.Prelude.{option_map, string_bytes}
 use Rattle.sourcemap.specs.Types.{Meaning}
-use Rattle.sourcemap_uses.specs.declared.adjusting.Place.{Place}
+use Rattle.sourcemap_uses.specs.declared.adjusting.OriginalPosition.{OriginalPosition}
 
--- what a place tells, as what a map says of a position
-abbrev pub told : Place → Meaning
-told place = record {
-  source = option_map string_bytes place.source;
-  line = place.line;
-  column = place.column;
-  name = option_map string_bytes place.name;
-  is_range = place.is_range;
+-- the meaning of a token, of which this is the copy
+abbrev pub position_meaning : OriginalPosition → Meaning
+position_meaning position = record {
+  source = option_map string_bytes position.source;
+  line = position.line;
+  column = position.column;
+  name = option_map string_bytes position.name;
+  is_range = position.is_range;
 }

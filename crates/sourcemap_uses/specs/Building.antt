@@ -1,7 +1,7 @@
--- Where a position comes from.
+-- Original positions.
 use Rattle.std.specs.Prelude.{ℕ}
 use Rattle.sourcemap.specs.Types.{Meaning}
 
--- line and column in the source
-abbrev pub source_place : Meaning → ℕ × ℕ
-source_place says = (says.line, says.column)
+-- original line and column
+abbrev pub source_position : Meaning → ℕ × ℕ
+source_position says = (says.line, says.column)

@@ -1,11 +1,11 @@
--- What a reference to a map holds itself.
+-- Maps embedded in references.
 use Rattle.std.specs.Prelude.{ℕ, List, Option, Some, None, Result, Ok, Err}
 use Rattle.sourcemap.specs.DataUrl.{Holds}
 use Rattle.sourcemap.specs.Decoder.{BytesDecode, IsNoUrl, UrlDecodes}
 use Rattle.sourcemap.specs.Trees.{MapTree}
 use Rattle.sourcemap.specs.declared.errors.Error.{Error}
 
--- the map of a data URL, or why the bytes in it hold none; nothing of a text that is no data URL
+-- the map of a data URL, or the decoding error of its payload; `None` for a text that is not a data URL
 abbrev pub InlineAnswer : List ℕ → Result (Option MapTree) Error → Type 0
 InlineAnswer url (Ok (Some m)) = UrlDecodes url (Ok m)
 InlineAnswer url (Ok None) = IsNoUrl url

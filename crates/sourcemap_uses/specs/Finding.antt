@@ -27,12 +27,12 @@ abbrev pub file_at : Option (List ℕ) → FoundValue
 file_at (Some path) = file path
 file_at None = nowhere
 
--- the file that a URL leads to, seen from the path of its text; where these are long it may be nowhere
+-- the file that a URL resolves to, relative to the path of its text; long ones may resolve to no file
 abbrev pub FileOfUrl : List ℕ → List ℕ → Result FoundValue Error → Type 0
 FileOfUrl url path answer =
     Then (UnlessLong (resolved_path path url) (IsLongJoin (url_text path false) url)) (λ found a. a ≡ Ok (file_at found)) answer
 
--- the map that the URL holds itself, or the file that it leads to
+-- the map embedded in the URL, or the file that it resolves to
 abbrev pub MapOfUrl : List ℕ → List ℕ → Result FoundValue Error → Type 0
 MapOfUrl url path answer =
     Then (EmbeddedAnswer url) (λ held a. MatchOption held (FileOfUrl url path a) (λ m. a ≡ Ok (embedded m))) answer
@@ -41,8 +41,8 @@ abbrev pub url_in : Reference → List ℕ
 url_in (usual url) = url
 url_in (legacy url) = url
 
--- where a text at this path has its map, by the reference that it carries, if it carries one; where none
--- can be said, since a line is not UTF-8, the error says so
+-- where the map of a text at this path is, by the text's reference, if it has one; an error if it is unknown
+-- because a line is not UTF-8
 abbrev pub MapByReference : Option (Option Reference) → List ℕ → Result FoundValue Error → Type 0
 MapByReference None path answer = IsErrAnd answer IsInvalidData
 MapByReference (Some None) path answer = answer ≡ Ok nowhere

@@ -1,15 +1,15 @@
--- The function that a place in bytecode stands in.
+-- The function that contains a bytecode offset.
 use Rattle.std.specs.Prelude.{◌≡◌, ℕ, List, Option, Ok}
 use Rattle.sourcemap.specs.Hermes.{HermesValue, function_name}
 use Rattle.sourcemap.specs.HermesDecoder.{OnlyHermesDecodes}
 use Rattle.sourcemap.specs.HermesRewrite.{IsInOrderOf}
-use Rattle.sourcemap.specs.Reading.{BytesStandFor}
+use Rattle.sourcemap.specs.Reading.{BytesHaveResult}
 use Rattle.sourcemap.specs.Types.{lookup}
 
--- the name that a Hermes map has for a place, where the functions of its source stand in order
+-- the name that a Hermes map returns for an offset, if the functions of its source are sorted
 abbrev pub IsNameIn : HermesValue → ℕ → Option (List ℕ) → Type 0
 IsNameIn h offset name = IsInOrderOf h (lookup h.map (0, offset)) → name ≡ function_name h offset
 
--- the same of the Hermes map in these bytes
+-- the same for the Hermes map in these bytes
 abbrev pub IsNameAt : (bytes : List ℕ) → ℕ → Option (List ℕ) → Type 0
-IsNameAt bytes offset name = (h : HermesValue) × BytesStandFor OnlyHermesDecodes bytes (Ok h) × IsNameIn h offset name
+IsNameAt bytes offset name = (h : HermesValue) × BytesHaveResult OnlyHermesDecodes bytes (Ok h) × IsNameIn h offset name

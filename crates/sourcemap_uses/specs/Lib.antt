@@ -1,13 +1,13 @@
 pub mod Adjusting
 pub mod Building
 pub mod DataUrls
-pub mod Faults
+pub mod ErrorAdvice
 pub mod Finding
 pub mod Flattening
 pub mod Functions
 pub mod Linking
 pub mod Merging
 pub mod Naming
-pub mod Places
+pub mod Lookups
 pub mod Publishing
 pub mod Splitting

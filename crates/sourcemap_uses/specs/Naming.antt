@@ -1,15 +1,15 @@
--- What stands in the sources behind a place in a bundle.
+-- Original names and source lines.
 use Rattle.std.specs.Prelude.{◌≡◌, ℕ, List, Option, Ok, slice_get, option_and_then}
 use Rattle.sourcemap.specs.Lines.{line_bodies}
-use Rattle.sourcemap.specs.Reading.{BytesStandFor, RegularDecodes}
+use Rattle.sourcemap.specs.Reading.{BytesHaveResult, RegularDecodes}
 use Rattle.sourcemap.specs.TokenWalk.{function_name}
 use Rattle.sourcemap.specs.Types.{MapValue, TokenValue, contents_of}
 
--- the name that is guessed by the map that bytes hold
+-- the name guessed by the map that the bytes decode to
 abbrev pub IsNameOf : (bytes text : List ℕ) → ℕ × ℕ → (minified : List ℕ) → Option (List ℕ) → Type 0
 IsNameOf bytes text p minified name =
-    (m : MapValue) × BytesStandFor RegularDecodes bytes (Ok m) × (name ≡ function_name m text minified p)
+    (m : MapValue) × BytesHaveResult RegularDecodes bytes (Ok m) × (name ≡ function_name m text minified p)
 
--- the line of its source that a token leads to, where the map has the source's contents
-abbrev pub line_behind : TokenValue → Option (List ℕ)
-line_behind t = option_and_then (λ text. slice_get (line_bodies text) t.raw.src_line) (contents_of t.map_of t.raw.src_id)
+-- the source line of a token's original position, if the map has the source's contents
+abbrev pub source_line_of : TokenValue → Option (List ℕ)
+source_line_of t = option_and_then (λ text. slice_get (line_bodies text) t.raw.src_line) (contents_of t.map_of t.raw.src_id)

@@ -1,4 +1,4 @@
--- The first module of a bundle in the flat map of the bundle.
+-- The first module of a bundle in the bundle's flattened map.
 use Rattle.std.specs.Prelude.{◌≡◌, ℕ, true, List, [], ◌∷◌, filter_map, Option, Some, None, Result, Ok}
 use Rattle.sourcemap.specs.BundleModules.{ModuleValue}
 use Rattle.sourcemap.specs.Flat.{flat as flat_of}
@@ -12,12 +12,12 @@ use Rattle.sourcemap.specs.Utils.{closest_item}
 use Rattle.sourcemap.specs.declared.errors.Error.{Error}
 use Rattle.sourcemap.specs.declared.types.RawToken.{RawToken}
 
--- what a token prints, nothing where there is none
+-- what a token prints; the empty text if there is none
 abbrev pub printed : Option Meaning → List ℕ
 printed None = []
 printed (Some says) = token_text says
 
--- this is the index's flat map, and of the modules that are not passed over this one comes first, with this first line
+-- this is the flattened map of the index, and this module, with this first line, is the first one that is not skipped
 pub record IsFirstModule (i : IndexValue) (modules : List (Result ModuleValue Error)) (flat : MapValue) (found : ModuleValue) (first : ℕ) : Type 0 where
   pub flat_is : flat_of (index_tree i) ≡ Ok flat
   pub offsets : List (Option ℕ)

@@ -1,4 +1,4 @@
-//! A map that is made of tokens, written, and asked once it is read.
+//! Builds a map from tokens, writes it, reads it back and looks up a position.
 ghost use Rattle.std.specs.Prelude.{◌≡◌, ◌∷◌, [], None, IfOk, IsOkUnless, option_map};
 ghost use Rattle.sourcemap.specs.AnyMap.{map_tree};
 ghost use Rattle.sourcemap.specs.Decoder.{BytesDecode};
@@ -8,7 +8,7 @@ ghost use Rattle.sourcemap.specs.TreeEncoder.{Restores};
 ghost use Rattle.sourcemap.specs.Trees.{IsInOrder, leaf, meaning as meaning_of, regular};
 ghost use Rattle.sourcemap.specs.Types.{made_of, meaning};
 ghost use Rattle.sourcemap.specs.declared.errors.Error.TheVariants.{OutOfMemory};
-ghost use Rattle.sourcemap_uses.specs.Building.{source_place};
+ghost use Rattle.sourcemap_uses.specs.Building.{source_position};
 
 use sourcemap::encoder::encode_to_vec;
 use sourcemap::laws::{
@@ -18,10 +18,10 @@ use sourcemap::types::RawToken;
 use sourcemap::{DecodedMap, Result, SourceMap, decode_slice};
 use std::alloc::Global;
 
-/// Writes the map of these tokens, which all lead to one source or to none, reads what was written,
-/// and answers the line and the column in the source of a position of the generated text. Only want
-/// of memory refuses: what was written is read.
-pub fn place_once_written(
+/// Builds a map from tokens, writes it, reads it back, and returns the original line and column of a
+/// generated position. Each token refers to `source` or to no source. The only error is
+/// `OutOfMemory`.
+pub fn lookup_once_written(
     alloc: Global,
     source: &str,
     tokens: Vec<RawToken>,
@@ -29,20 +29,19 @@ pub fn place_once_written(
     col: u32,
 ) -> Result<Option<(u32, u32)>>
     requires { AllWithin 1 0 tokens.items }
-    ensures place { IfOk result (λ found. found ≡ option_map source_place
+    ensures position { IfOk result (λ found. found ≡ option_map source_position
         (meaning (made_of None tokens.items [] (source.now ∷ []) []) (line, col))) }
     ensures memory { IsOkUnless result OutOfMemory }
 {
     well_formed_maps_are_in_order();
     let text = written(alloc, source, tokens)?;
     let map = decode_slice(alloc, text.as_slice())?;
-    Ok(place_in_source(&map, line, col))
+    Ok(lookup_source_position(&map, line, col))
 }
 
-// The line and the column in the source that a map in order says of a position.
-fn place_in_source(map: &DecodedMap, line: u32, col: u32) -> Option<(u32, u32)>
+fn lookup_source_position(map: &DecodedMap, line: u32, col: u32) -> Option<(u32, u32)>
     ensures { IsInOrder (map_tree map.now)
-        → result ≡ option_map source_place (meaning_of (map_tree map.now) (line, col)) }
+        → result ≡ option_map source_position (meaning_of (map_tree map.now) (line, col)) }
 {
     match map.lookup_token(line, col) {
         None => None,
@@ -50,8 +49,8 @@ fn place_in_source(map: &DecodedMap, line: u32, col: u32) -> Option<(u32, u32)>
     }
 }
 
-/// The bytes of the map of these tokens, which all lead to one source or to none. Whoever reads
-/// them gets that map back, but for repeats among its tokens. Only want of memory refuses.
+/// Returns the encoded map of these tokens, each of which refers to `source` or to no source. The
+/// bytes decode to that map, without repeated tokens. The only error is `OutOfMemory`.
 pub fn written(alloc: Global, source: &str, tokens: Vec<RawToken>) -> Result<Vec<u8>>
     requires { AllWithin 1 0 tokens.items }
     ensures reads_back { IfOk result (λ text. ReadsBack (BytesDecode text.items)
@@ -62,7 +61,7 @@ pub fn written(alloc: Global, source: &str, tokens: Vec<RawToken>) -> Result<Vec
     regular_maps_are_of_a_kind();
     let sources = vec![in alloc; String::from_str(alloc, source)?]?;
     let map = SourceMap::new(alloc, None, tokens, Vec::new(alloc), sources, None)?;
-    // in two steps for the prover: what a call answers is known behind its `?`
+    // prover: clauses of a call after `?`
     let text = encode_to_vec(alloc, &map)?;
     Ok(text)
 }

@@ -1,8 +1,8 @@
-//! A regular map to a file, piece by piece.
+//! Writes a regular map in pieces.
 ghost use Rattle.std.specs.Prelude.{ℕ, List, OnOk};
 ghost use Rattle.std.specs.Io.KnownBytes.{Appends};
 ghost use Rattle.sourcemap.specs.Encoder.{ReadsBack, Restores};
-ghost use Rattle.sourcemap.specs.Reading.{BytesStandFor, RegularDecodes};
+ghost use Rattle.sourcemap.specs.Reading.{BytesHaveResult, RegularDecodes};
 ghost use Rattle.sourcemap.specs.Types.{IsWellFormed};
 
 use sourcemap::encoder::encode_in_parts;
@@ -11,14 +11,14 @@ use sourcemap::{Result, SourceMap};
 use std::alloc::Global;
 use std::io::Write;
 
-/// Writes a map to a file, or to any writer, in pieces. If the map is well-formed, whoever reads
-/// what was written gets a map that means the same at every position, with all parts kept. After an
-/// error the file may hold a part of it.
+/// Writes a map to a file, or to any writer, in pieces. If the map is well-formed, the bytes decode
+/// to a map of the same parts and the same meaning at every position. After an error the file may
+/// hold a part of the text.
 pub fn export<W: Write>(alloc: Global, map: &SourceMap, file: &mut W) -> Result<()>
     ensures written { OnOk result ((text : List ℕ)
         × Appends (W.contents file.old) (W.contents file.new) text
         × (IsWellFormed map.now
-        → ReadsBack (BytesStandFor RegularDecodes text) (Restores map.now))) }
+        → ReadsBack (BytesHaveResult RegularDecodes text) (Restores map.now))) }
 {
     written_maps_read_back();
     encode_in_parts(alloc, map, file)?;

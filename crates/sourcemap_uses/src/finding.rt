@@ -1,4 +1,4 @@
-//! The map of a generated text: in the text itself, or in a file that the text names.
+//! Finds the map of a generated text: embedded in it, or in a file that it names.
 ghost use Rattle.sourcemap.specs.Answer.{IsAnswer};
 ghost use Rattle.sourcemap.specs.Reference.{first_reference};
 ghost use Rattle.sourcemap.specs.References.{url_of};
@@ -15,13 +15,13 @@ pub enum FoundMap {
     Embedded(DecodedMap),
     /// In the file with this path.
     File(String),
-    /// The text names no map, or none that leads to a file.
+    /// The text has no reference, or one that resolves to no file.
     Nowhere,
 }
 
-/// Returns where the map of a generated text is, by the first line with a reference and the path of
-/// the text. Returns `Io` of kind `InvalidData` where a line up to there is not UTF-8, the errors of
-/// `decode_data_url` for a reference that starts with `data:`, and `OutOfMemory`.
+/// Returns where the map of a generated text is, by its first line with a reference and the path of
+/// the text. Errors: `Io` of kind `InvalidData` if a line up to there is not UTF-8, the errors of
+/// `decode_data_url` if the reference starts with `data:`, and `OutOfMemory`.
 pub fn find_map(alloc: Global, text: &[u8], path: &str) -> Result<FoundMap>
     ensures { IsAnswer found_value (MapByReference (first_reference text.now) path.now) result }
 {
@@ -32,7 +32,6 @@ pub fn find_map(alloc: Global, text: &[u8], path: &str) -> Result<FoundMap>
     }
 }
 
-// Where the map is that a reference names.
 fn map_of(reference: &SourceMapRef, path: &str) -> Result<FoundMap>
     ensures { IsAnswer found_value (MapOfUrl (url_of reference.now) path.now) result }
 {
@@ -43,7 +42,6 @@ fn map_of(reference: &SourceMapRef, path: &str) -> Result<FoundMap>
     }
 }
 
-// The file that a reference leads to.
 fn file_of(reference: &SourceMapRef, path: &str) -> Result<FoundMap>
     ensures { IsAnswer found_value (FileOfUrl (url_of reference.now) path.now) result }
 {

@@ -1,4 +1,4 @@
-//! Index maps whose sections get the URLs of their maps.
+//! Sets URLs of the sections of an index map.
 ghost use Rattle.std.specs.Prelude.{◌≡◌, ◌≢◌, ℕ, IfNone, IsOk, slice_get};
 ghost use Rattle.sourcemap.specs.Answer.{Changes};
 ghost use Rattle.sourcemap.specs.AnyMap.{index_value};
@@ -6,9 +6,8 @@ ghost use Rattle.sourcemap_uses.specs.Linking.{linked};
 
 use sourcemap::{Result, SourceMapIndex};
 
-/// Sets the URL of the section with this id, if there is one. All else of that section and of the
-/// index stays as it is. Only want of memory refuses, and then nothing is changed; where no section
-/// has this id, nothing is changed and nothing refuses.
+/// Sets the URL of the section with this id. Changes nothing else, and nothing at all if there is no
+/// such section. The only error is `OutOfMemory`; the index map is then unchanged.
 pub fn link(index: &mut SourceMapIndex, id: u32, url: &str) -> Result<()>
     ensures linked { Changes result (index_value index.old) (index_value index.new)
         (linked (index_value index.old) id url.now) }

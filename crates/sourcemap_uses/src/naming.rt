@@ -1,22 +1,21 @@
-//! What stands in the sources behind a place in a bundle: a function's name, a line of text.
+//! Original function names and source lines for positions in a bundle.
 ghost use Rattle.std.specs.Prelude.{◌≡◌, ◌+◌, Err, IfErr, IfOk, IsOkUnless, option_and_then, option_map, string_bytes};
 ghost use Rattle.std.specs.Option.{option_copied};
 ghost use Rattle.sourcemap.specs.Answer.{UnlessMemory};
 ghost use Rattle.sourcemap.specs.Lines.{count_ends};
-ghost use Rattle.sourcemap.specs.Reading.{BytesStandFor, RegularDecodes};
+ghost use Rattle.sourcemap.specs.Reading.{BytesHaveResult, RegularDecodes};
 ghost use Rattle.sourcemap.specs.TokenWalk.{function_name};
 ghost use Rattle.sourcemap.specs.Types.{lookup};
 ghost use Rattle.sourcemap.specs.declared.errors.Error.TheVariants.{OutOfMemory};
-ghost use Rattle.sourcemap_uses.specs.Naming.{IsNameOf, line_behind};
+ghost use Rattle.sourcemap_uses.specs.Naming.{IsNameOf, source_line_of};
 
 use sourcemap::laws::lines_make_their_text;
 use sourcemap::{Result, SourceMap, SourceView};
 use std::alloc::Global;
 
-/// What the function that is called `minified` in a bundle, whose code stands at a line and a
-/// column of its text, is called in its source: guessed by the bundle's map, which these bytes
-/// hold, and by the text. `None` if there is no guess. Lines and columns count from 0, columns in
-/// UTF-16 units. Bytes that hold no such map are refused as by `SourceMap::from_slice`.
+/// Guesses the original name of the function `minified` whose code is at a generated position, by
+/// the map in these bytes and the generated text. Returns `None` if there is no guess. Lines and
+/// columns count from 0, columns in UTF-16 units. Returns the errors of `SourceMap::from_slice`.
 pub fn original_name(
     alloc: Global,
     map: &[u8],
@@ -27,17 +26,17 @@ pub fn original_name(
 ) -> Result<Option<String>>
     ensures name { IfOk result (λ name.
         IsNameOf map.now text.now (line, col) minified.now (option_map string_bytes name)) }
-    ensures fault { IfErr result
-        (λ e. UnlessMemory e (BytesStandFor RegularDecodes map.now (Err e))) }
+    ensures error { IfErr result
+        (λ e. UnlessMemory e (BytesHaveResult RegularDecodes map.now (Err e))) }
 {
-    // no `?` for the prover: which fault is passed on is known of a match
+    // prover: error passed on by `match`
     match SourceMap::from_slice(alloc, map) {
         Ok(map) => name_in(alloc, &map, text, line, col, minified),
-        Err(fault) => Err(fault),
+        Err(error) => Err(error),
     }
 }
 
-// The same of a map that is lent, so that it is let go at one place.
+// prover: one drop
 fn name_in(
     alloc: Global,
     map: &SourceMap,
@@ -57,17 +56,17 @@ fn name_in(
     }
 }
 
-/// The line of the source that a place in the generated text comes from, if the map has the
-/// contents of that source. It takes no memory.
+/// Returns the original source line of a generated position, if the map has the contents of that
+/// source. Allocates nothing.
 pub fn source_line(map: &SourceMap, line: u32, col: u32) -> Option<&str>
-    ensures { option_copied result ≡ option_and_then line_behind (lookup map.now (line, col)) }
+    ensures { option_copied result ≡ option_and_then source_line_of (lookup map.now (line, col)) }
 {
     let token = map.lookup_token(line, col)?;
     token.get_source_view()?.get_line(token.get_src_line())
 }
 
-/// How many lines a source has, by the number of its line ends: `\n`, `\r` and `\r\n`. It takes no
-/// memory.
+/// Returns how many lines a source has: one more than its line ends `\n`, `\r` and `\r\n`. Allocates
+/// nothing.
 pub fn line_total(view: &SourceView) -> usize
     ensures { result ≡ count_ends view.now + 1 }
 {

@@ -1,7 +1,7 @@
-//! A map as it may be published: what it says stays, but names and the contents of sources go.
+//! Removes names and source contents from a map before it is published.
 ghost use Rattle.std.specs.Prelude.{Err, IfErr, IfOk};
 ghost use Rattle.sourcemap.specs.Answer.{UnlessMemory};
-ghost use Rattle.sourcemap.specs.Reading.{BytesStandFor, RegularDecodes};
+ghost use Rattle.sourcemap.specs.Reading.{BytesHaveResult, RegularDecodes};
 ghost use Rattle.sourcemap_uses.specs.Publishing.{Publishes};
 
 use sourcemap::encoder::encode_to_vec;
@@ -10,13 +10,12 @@ use sourcemap::{Result, RewriteOptions, SourceMap};
 use std::alloc::Global;
 use std::rt::Files;
 
-/// The bytes of a map that says the same of each position as the map in `bytes`, but no names, and
-/// that holds no contents of sources. Bytes that hold no such map are refused as by
-/// `SourceMap::from_slice`.
+/// Removes names and source contents from the map in `bytes`. The result maps each position to the
+/// same original position. Returns the errors of `SourceMap::from_slice`.
 pub fn published<F: Files>(rt: &F, alloc: Global, bytes: &[u8]) -> Result<Vec<u8>>
     ensures published { IfOk result (λ text. Publishes bytes.now text.items) }
-    ensures fault { IfErr result
-        (λ e. UnlessMemory e (BytesStandFor RegularDecodes bytes.now (Err e))) }
+    ensures error { IfErr result
+        (λ e. UnlessMemory e (BytesHaveResult RegularDecodes bytes.now (Err e))) }
 {
     written_maps_read_back();
     let map = SourceMap::from_slice(alloc, bytes)?;
@@ -26,7 +25,7 @@ pub fn published<F: Files>(rt: &F, alloc: Global, bytes: &[u8]) -> Result<Vec<u8
         ..RewriteOptions::default()
     };
     let bare = map.rewrite(rt, &options)?;
-    // in two steps for the prover: what a call answers is known behind its `?`
+    // prover: clauses of a call after `?`
     let text = encode_to_vec(alloc, &bare)?;
     Ok(text)
 }

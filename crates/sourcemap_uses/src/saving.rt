@@ -1,4 +1,4 @@
-//! A map of any kind in a file, so that it can be asked again.
+//! Encodes a map of any kind, so that it can be read again.
 ghost use Rattle.std.specs.Prelude.{◌≤◌, IfOk, IsOkUnless};
 ghost use Rattle.sourcemap.specs.AnyMap.{levels, map_tree};
 ghost use Rattle.sourcemap.specs.Decoder.{BytesDecode};
@@ -12,9 +12,8 @@ use sourcemap::laws::{encoded_texts_read_back, maps_of_forty_levels_are_shallow}
 use sourcemap::{DecodedMap, Result};
 use std::alloc::Global;
 
-/// The bytes of a map, for a file. If the map is well-formed and at most 40 indexes stand in one
-/// another in it, whoever reads them gets a map that means the same at every position, with all
-/// parts kept. Only want of memory refuses.
+/// Encodes a map. If the map is well-formed and at most 40 index maps are nested, the bytes decode to
+/// a map of the same parts and the same meaning at every position. The only error is `OutOfMemory`.
 pub fn saved(alloc: Global, map: &DecodedMap) -> Result<Vec<u8>>
     ensures reads_back { IfOk result (λ text. IsWellFormed (map_tree map.now)
         → levels (map_tree map.now) ≤ 40
@@ -23,7 +22,7 @@ pub fn saved(alloc: Global, map: &DecodedMap) -> Result<Vec<u8>>
 {
     encoded_texts_read_back();
     maps_of_forty_levels_are_shallow();
-    // in two steps for the prover: what a call answers is known behind its `?`
+    // prover: clauses of a call after `?`
     let text = encode_to_vec(alloc, map)?;
     Ok(text)
 }

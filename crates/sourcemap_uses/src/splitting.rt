@@ -10,12 +10,12 @@ use sourcemap::ram_bundle::{RamBundle, split_ram_bundle};
 use sourcemap::{Result, SourceMap, SourceMapIndex};
 use std::alloc::Global;
 
-/// Returns what the map of the first module of a bundle says of a position of its text, as a token
-/// prints it, and an empty text where it says nothing or there is no module. Returns the errors of
+/// Returns the original position of a position in the first module of a bundle, by the module's map,
+/// as a token prints it; an empty text if there is no token or no module. Returns the errors of
 /// `split_ram_bundle`, then that of the module.
 ///
-/// Where the token closest to the position in the flat map is one of the module's lines, it is what
-/// the flat map of the whole bundle says of the position there.
+/// If the closest token in the flattened map is on one of the module's lines, the result is that of
+/// the flattened map of the whole bundle.
 pub fn trace_first_module<'a>(
     alloc: Global,
     bundle: &'a RamBundle<'a>,
@@ -37,7 +37,6 @@ pub fn trace_first_module<'a>(
     }
 }
 
-// What a map says of a position, as a token prints it.
 fn text_at(alloc: Global, map: &SourceMap, line: u32, col: u32) -> Result<String>
     ensures { IfOk result (λ text. string_bytes text ≡ printed (meaning map.now (line, col))) }
 {

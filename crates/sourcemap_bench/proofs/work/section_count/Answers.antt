@@ -1,5 +1,5 @@
 use Rattle.sourcemap.specs.AnyMap.{index_value}
-use Rattle.sourcemap_trees.proofs.MapTreeLemmas.{section_list-from}
+use Rattle.sourcemap_index_model.proofs.MapTreeLemmas.{section_list-from}
 use Rattle.sourcemap_bench.proofs.work.section_count.Goals as goal
 
 pub returns : goal.returns

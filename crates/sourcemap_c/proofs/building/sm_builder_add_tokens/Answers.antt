@@ -1,4 +1,4 @@
-use Rattle.sourcemap_handles.specs.Handles.{held_in}
+use Rattle.sourcemap_c_handles.specs.Handles.{held_in}
 use Rattle.sourcemap_c.proofs.BuildingLemmas.{adds_all}
 use Rattle.sourcemap_c.proofs.building.sm_builder_add_tokens.Goals as goal
 use Rattle.sourcemap_c.specs.Kinds.{builder_in}

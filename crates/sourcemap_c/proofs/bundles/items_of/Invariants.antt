@@ -1,6 +1,6 @@
 use Rattle.std.proofs.Common.{◌≡◌, ◌++◌, length, map}
 use Rattle.sourcemap_c.specs.Bundles.{due_value, item_value}
-use Rattle.sourcemap_splitting.specs.Iterators.{dues_left}
+use Rattle.sourcemap_bundle_split.specs.Iterators.{dues_left}
 use Rattle.sourcemap_c.proofs.bundles.items_of.Given as goal
 
 abbrev pub invariant-loop-parts : goal.invariant-loop-parts

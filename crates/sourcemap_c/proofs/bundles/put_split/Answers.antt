@@ -1,6 +1,6 @@
 use Rattle.std.proofs.Common.{refl}
 use Rattle.sourcemap_index.specs.Family.{index_value}
-use Rattle.sourcemap_splitting.specs.Iterators.{split_value}
+use Rattle.sourcemap_bundle_split.specs.Iterators.{split_value}
 use Rattle.sourcemap_c.proofs.CodesLemmas.{weaker_put}
 use Rattle.sourcemap_c.proofs.bundles.put_split.Goals as goal
 

@@ -1,7 +1,7 @@
 use Rattle.std.proofs.Common.{◌∙◌, ap, refl}
 use Rattle.sourcemap_index.proofs.FamilyLemmas.{index_tree-of}
 use Rattle.sourcemap_index.specs.Family.{index_value, map_tree}
-use Rattle.sourcemap_trees.specs.MapTree.{index_tree}
+use Rattle.sourcemap_index_model.specs.MapTree.{index_tree}
 use Rattle.sourcemap_c.proofs.changing.move_down.Goals as goal
 
 pub returns-then-adjust_sections_offset_rows : goal.returns-then-adjust_sections_offset_rows

@@ -1,5 +1,5 @@
 use Rattle.std.proofs.Common.{◌≡◌, ◌≤◌, ◌<◌, ◌-◌, ℕ, drop, length, slice_get}
-use Rattle.sourcemap_regular.specs.Iterators.{ids_left}
+use Rattle.sourcemap_map_regular.specs.Iterators.{ids_left}
 use Rattle.sourcemap_c.proofs.ids.write_ids.Given as goal
 
 abbrev pub invariant-loop-count : goal.invariant-loop-count

@@ -1,6 +1,6 @@
 use Rattle.std.proofs.Common.{◌≡◌, ◌≤◌, ℕ, slice_get}
 use Rattle.sourcemap_index.specs.Family.{map_tree}
-use Rattle.sourcemap_trees.specs.WellFormed.{IsInOrder}
+use Rattle.sourcemap_index_model.specs.WellFormed.{IsInOrder}
 use Rattle.sourcemap_c.specs.Lookup.{AreAnswered}
 use Rattle.sourcemap_c.proofs.lookup.look_up_each.Given as goal
 

@@ -2,7 +2,7 @@ use Rattle.std.proofs.Common.{◌≡◌, ◌∙◌, ap, subst, ℕ, List, Bor}
 use Rattle.std.proofs.Common.{map as list_map}
 use Rattle.std.specs.List.{All}
 use Rattle.std.specs.Str.{IsUtf8}
-use Rattle.sourcemap_handles.specs.Handles.{held_in}
+use Rattle.sourcemap_c_handles.specs.Handles.{held_in}
 use Rattle.sourcemap_c.specs.Changing.{FailsAs, HoldsNew, IsRewritten}
 use Rattle.sourcemap_c.specs.Kinds.{tree_in}
 use Rattle.sourcemap_c.specs.Making.{removal}

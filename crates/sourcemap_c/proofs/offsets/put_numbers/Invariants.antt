@@ -1,5 +1,5 @@
 use Rattle.std.proofs.Common.{◌≡◌, ◌≤◌, ℕ, slice_get}
-use Rattle.sourcemap_c.specs.Asking.{AreFrom}
+use Rattle.sourcemap_c.specs.Getters.{AreFrom}
 use Rattle.sourcemap_c.specs.Offsets.{or_none}
 use Rattle.sourcemap_c.proofs.offsets.put_numbers.Given as goal
 

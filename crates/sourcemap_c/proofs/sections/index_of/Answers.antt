@@ -1,7 +1,7 @@
 use Rattle.std.proofs.Common.{Some, ◌∙◌, ap, sym}
 use Rattle.sourcemap_index.proofs.FamilyLemmas.{index_tree-of}
 use Rattle.sourcemap_index.specs.Family.{map_tree, index_value}
-use Rattle.sourcemap_trees.proofs.MapTreeLemmas.{section_list-from}
+use Rattle.sourcemap_index_model.proofs.MapTreeLemmas.{section_list-from}
 use Rattle.sourcemap_c.specs.Sections.{sections_in}
 use Rattle.sourcemap_c.proofs.sections.index_of.Goals as goal
 

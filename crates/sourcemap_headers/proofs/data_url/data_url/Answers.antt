@@ -1,4 +1,4 @@
--- The text in front of the digits.
+-- The text before the base64 digits.
 use Rattle.std.proofs.Common.{rules}
 use Rattle.sourcemap_headers.proofs.data_url.data_url.Goals as goal
 

@@ -1,6 +1,6 @@
--- Behind the first spelling.
+-- The first spelling.
 use Rattle.std.proofs.Common.{rules}
 use Rattle.sourcemap_headers.proofs.data_url.without_charset.Goals as goal
 
-pub returns-in-Some-behind : goal.returns-in-Some-behind
-returns-in-Some-behind c = search rules
+pub returns-in-Some-after_front : goal.returns-in-Some-after_front
+returns-in-Some-after_front c = search rules

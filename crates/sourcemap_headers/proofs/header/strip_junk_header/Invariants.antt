@@ -1,10 +1,10 @@
 use Rattle.std.proofs.Common.{◌≡◌, length}
-use Rattle.sourcemap_headers.specs.Header.{behind_junk, behind_header}
+use Rattle.sourcemap_headers.specs.Header.{after_junk, after_header}
 use Rattle.sourcemap_headers.proofs.header.strip_junk_header.Given as goal
 
--- what stands behind the junk stands behind the junk that is left
+-- stripping the rest gives the same as stripping all bytes
 abbrev pub invariant-loop-rest : goal.invariant-loop-rest
-invariant-loop-rest l = behind_junk l.rest ≡ behind_header l.fn.bytes
+invariant-loop-rest l = after_junk l.rest ≡ after_header l.fn.bytes
 
 abbrev pub decreases-loop-rest : goal.decreases-loop-rest
 decreases-loop-rest l = length l.rest

@@ -1,10 +1,10 @@
 use Rattle.std.proofs.Common.{◌≡◌, List, ℕ, ◌++◌, drop}
-use Rattle.sourcemap_headers.specs.HeaderReader.{left_at}
-use Rattle.sourcemap_headers.specs.declared.header_reader.Place.TheVariants.{Junk}
+use Rattle.sourcemap_headers.specs.HeaderReader.{remaining_in}
+use Rattle.sourcemap_headers.specs.declared.header_reader.HeaderState.TheVariants.{InHeader}
 use Rattle.sourcemap_headers.proofs.header_reader.skip_junk.Given as goal
 
--- what is left of the chunk gives what all of it gives
+-- the rest of the chunk gives the same output as all of it
 abbrev pub invariant-loop-byte : goal.invariant-loop-byte
 invariant-loop-byte l =
     (l.at ≡ l.byte-index)
-    × ((later : List ℕ) → left_at (Junk l.after_return) (drop l.byte-index l.chunk ++ later) ≡ left_at (Junk l.fn.follows_return) (l.chunk ++ later))
+    × ((later : List ℕ) → remaining_in (InHeader l.after_return) (drop l.byte-index l.chunk ++ later) ≡ remaining_in (InHeader l.fn.follows_return) (l.chunk ++ later))

@@ -1,7 +1,7 @@
--- The record that bytes hold answers for them.
+-- Bytes decode to what their record decodes to.
 use Rattle.std.proofs.lemmas.Result.{err_from_is_err_and}
 use Rattle.sourcemap_records.specs.Jsontypes.{tree}
-use Rattle.sourcemap_records.proofs.BytesLemmas.{answer_of_bytes, fault_of_bytes}
+use Rattle.sourcemap_records.proofs.BytesLemmas.{answer_of_bytes, error_of_bytes}
 use Rattle.sourcemap_hermes.specs.Decode.{OnlyHermesDecodes}
 use Rattle.sourcemap_hermes.specs.Map.{hermes_value}
 use Rattle.sourcemap_hermes.proofs.decode.hermes_in_owned.Goals as goal
@@ -14,4 +14,4 @@ returns-clause-answer c =
 pub returns-in_err-raw-clause-answer : goal.returns-in_err-raw-clause-answer
 returns-in_err-raw-clause-answer c =
     let p = err_from_is_err_and c.from_residual.result c.from_residual.ensures.1 in
-    rw (p.1, p.2) (fault_of_bytes hermes_value OnlyHermesDecodes c.args.bytes.items _ c.in_err-raw.ensures)
+    rw (p.1, p.2) (error_of_bytes hermes_value OnlyHermesDecodes c.args.bytes.items _ c.in_err-raw.ensures)

@@ -1,6 +1,6 @@
 -- The bytes that were read are the reader's.
 use Rattle.std.proofs.lemmas.Result.{err_from_is_err_and}
-use Rattle.sourcemap_records.proofs.BytesLemmas.{answer_of_reader, fault_of_reader}
+use Rattle.sourcemap_records.proofs.BytesLemmas.{answer_of_reader, error_of_reader}
 use Rattle.sourcemap_index.specs.Family.{map_tree}
 use Rattle.sourcemap_index.specs.Decode.{BytesDecode}
 use Rattle.sourcemap_index.proofs.DecodeLemmas.{reader_only}
@@ -19,4 +19,4 @@ returns-clause-only g c =
 pub returns-in_err-bytes-clause-answer : goal.returns-in_err-bytes-clause-answer
 returns-in_err-bytes-clause-answer g c =
     let p = err_from_is_err_and c.from_residual.result c.from_residual.ensures.1 in
-    rw (p.1, p.2) (fault_of_reader map_tree BytesDecode (g.R.Read.remaining c.args.reader) _ c.in_err-bytes.ensures)
+    rw (p.1, p.2) (error_of_reader map_tree BytesDecode (g.R.Read.remaining c.args.reader) _ c.in_err-bytes.ensures)

@@ -1,9 +1,9 @@
 -- The record that bytes hold answers for them.
 use Rattle.std.proofs.lemmas.Result.{err_from_is_err_and}
 use Rattle.sourcemap_records.specs.Jsontypes.{tree}
-use Rattle.sourcemap_records.proofs.BytesLemmas.{answer_of_bytes, fault_of_bytes}
+use Rattle.sourcemap_records.proofs.BytesLemmas.{answer_of_bytes, error_of_bytes}
 use Rattle.sourcemap_index.specs.Family.{map_tree}
-use Rattle.sourcemap_trees.specs.Decode.{TreeDecodes}
+use Rattle.sourcemap_index_model.specs.Decode.{TreeDecodes}
 use Rattle.sourcemap_index.proofs.decode.decode_bytes.Goals as goal
 
 pub returns-clause-answer : goal.returns-clause-answer
@@ -14,4 +14,4 @@ returns-clause-answer c =
 pub returns-in_err-raw-clause-answer : goal.returns-in_err-raw-clause-answer
 returns-in_err-raw-clause-answer c =
     let p = err_from_is_err_and c.from_residual.result c.from_residual.ensures.1 in
-    rw (p.1, p.2) (fault_of_bytes map_tree TreeDecodes c.args.bytes.now _ c.in_err-raw.ensures)
+    rw (p.1, p.2) (error_of_bytes map_tree TreeDecodes c.args.bytes.now _ c.in_err-raw.ensures)

@@ -1,6 +1,6 @@
 -- A data URL has one answer, and only a text that is none is refused as one.
 use Rattle.sourcemap_index.proofs.DecodeLemmas.{url_only}
-use Rattle.sourcemap_index.proofs.UrlFaultLemmas.{refused_as_no_url}
+use Rattle.sourcemap_index.proofs.UrlErrorLemmas.{refused_as_no_url}
 use Rattle.sourcemap_index.proofs.decode.decode_data_url.Goals as goal
 
 pub returns-clause-only : goal.returns-clause-only

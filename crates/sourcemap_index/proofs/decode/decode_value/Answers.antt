@@ -4,7 +4,7 @@ use Rattle.serde_json.specs.View.{view}
 use Rattle.sourcemap_records.specs.Jsontypes.{tree}
 use Rattle.sourcemap_records.proofs.BytesLemmas.{answer_of_record}
 use Rattle.sourcemap_index.specs.Family.{map_tree}
-use Rattle.sourcemap_trees.specs.Decode.{TreeDecodes}
+use Rattle.sourcemap_index_model.specs.Decode.{TreeDecodes}
 use Rattle.sourcemap_index.proofs.DecodeLemmas.{fault_of_value}
 use Rattle.sourcemap_index.proofs.decode.decode_value.Goals as goal
 

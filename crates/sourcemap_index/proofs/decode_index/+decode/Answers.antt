@@ -1,14 +1,14 @@
--- Sections are decoded one by one, and the first fault is answered.
+-- Sections are decoded one by one, and the first error is returned.
 use Rattle.std.proofs.Common.{◌≡◌, ◌∙◌, refl, sym, ap, subst, arith, [], ◌∷◌, map, Ok, Err}
 use Rattle.std.proofs.lemmas.List.{map-append, nil_from_length, length-map, append-nil}
 use Rattle.std.proofs.lemmas.Result.{err_from_is_err_and}
 use Rattle.std.specs.Vec.Iter.{into_iter_items}
 use Rattle.sourcemap_errors.proofs.AnswerLemmas.{UnlessMemory-weaker}
 use Rattle.sourcemap_records.specs.Jsontypes.{flat, tree, section, sections_from}
-use Rattle.sourcemap_trees.specs.Decode.{SectionsDecode}
+use Rattle.sourcemap_index_model.specs.Decode.{SectionsDecode}
 use Rattle.sourcemap_index.specs.Family.{section_value}
 use Rattle.sourcemap_index.specs.Decode.{SectionDecodes}
-use Rattle.sourcemap_index.proofs.DecodeIndexLemmas.{behind, behind-more, one_more, one_refused, sections_among, among_with, too_many, parts_refused, parts_decoded, plain_answer}
+use Rattle.sourcemap_index.proofs.DecodeIndexLemmas.{prepend, prepend-more, one_more, one_refused, sections_among, among_with, too_many, parts_refused, parts_decoded, plain_answer}
 use Rattle.sourcemap_index.proofs.decode_index.+decode.Goals as goal
 
 pub decode_parts-returns-then-len-gt-SECTION_LIMIT :
@@ -51,9 +51,9 @@ decode_sections-loop-part-preserved t c =
     let more = ap (map section_value) c.in_ok-push.ensures.items ∙ map-append section_value c.loop-part.decoded.items _ in
     record {
       decoded = λ a h.
-          subst (SectionsDecode (sections_from (map section c.args.sections.items))) (behind-more done (section_value c.in_ok-decode_section.field-0) a ∙ ap (λ ss. behind ss a) (sym more))
-          (c.loop-part.invariant.decoded (behind (section_value c.in_ok-decode_section.field-0 ∷ []) a)
-          (subst (λ xs. SectionsDecode (sections_from (map section xs)) (behind (section_value c.in_ok-decode_section.field-0 ∷ []) a)) (sym next)
+          subst (SectionsDecode (sections_from (map section c.args.sections.items))) (prepend-more done (section_value c.in_ok-decode_section.field-0) a ∙ ap (λ ss. prepend ss a) (sym more))
+          (c.loop-part.invariant.decoded (prepend (section_value c.in_ok-decode_section.field-0 ∷ []) a)
+          (subst (λ xs. SectionsDecode (sections_from (map section xs)) (prepend (section_value c.in_ok-decode_section.field-0 ∷ []) a)) (sym next)
           (one_more (section c.in-Some.part) rest (section_value c.in_ok-decode_section.field-0) a c.in_ok-decode_section.ensures h)));
       depth = omega (arith, here, c.loop-part.invariant.depth);
     }

@@ -2,10 +2,10 @@ use Rattle.std.proofs.Common.{◌+◌, ◌*◌, ◌≤◌, List, map, Result}
 use Rattle.std.specs.Vec.Iter.{into_iter_items}
 use Rattle.sourcemap_errors.specs.declared.errors.Error.{Error}
 use Rattle.sourcemap_records.specs.Jsontypes.{tree, section, sections_from}
-use Rattle.sourcemap_trees.specs.Decode.{SectionsDecode}
-use Rattle.sourcemap_trees.specs.MapTree.{MapSection}
+use Rattle.sourcemap_index_model.specs.Decode.{SectionsDecode}
+use Rattle.sourcemap_index_model.specs.MapTree.{MapSection}
 use Rattle.sourcemap_index.specs.Family.{section_value}
-use Rattle.sourcemap_index.proofs.DecodeIndexLemmas.{behind, sections_below, sections_among, sections_at}
+use Rattle.sourcemap_index.proofs.DecodeIndexLemmas.{prepend, sections_below, sections_among, sections_at}
 use Rattle.sourcemap_index.proofs.decode_index.+decode.Given as goal
 
 abbrev pub decreases-decode_record : goal.decreases-decode_record
@@ -20,10 +20,10 @@ decreases-decode_sections l = 4 * sections_among (sections_from (map section l.s
 abbrev pub decreases-decode_section : goal.decreases-decode_section
 decreases-decode_section l = 4 * sections_at (section l.part).map + 1
 
--- what is left, behind the sections that were decoded, and no deeper
+-- what is left, after the sections that were decoded, and no deeper
 abbrev pub invariant-decode_sections-loop-part : goal.invariant-decode_sections-loop-part
 invariant-decode_sections-loop-part l = record {
   decoded : (a : Result (List MapSection) Error) → SectionsDecode (sections_from (map section (into_iter_items l.part-iterator))) a
-      → SectionsDecode (sections_from (map section l.fn.sections.items)) (behind (map section_value l.decoded.items) a);
+      → SectionsDecode (sections_from (map section l.fn.sections.items)) (prepend (map section_value l.decoded.items) a);
   depth : sections_among (sections_from (map section (into_iter_items l.part-iterator))) ≤ sections_among (sections_from (map section l.fn.sections.items));
 }

@@ -1,11 +1,11 @@
 -- A stable sort by offset is the sorted list.
 use Rattle.std.proofs.Common.{◌≡◌, refl, sym, ap, ◌∙◌, map, ℕ, rules}
 use Rattle.std.proofs.lemmas.List.Sorted.{answers_always}
-use Rattle.sourcemap_lists.specs.Tokens.{position_cmp}
-use Rattle.sourcemap_lists.proofs.SortLemmas.{stably_sorted}
-use Rattle.sourcemap_lists.proofs.TokensLemmas.{position_cmp_total}
-use Rattle.sourcemap_trees.specs.MapTree.{section_offset}
-use Rattle.sourcemap_trees.proofs.SortLemmas.{sorted_by-change}
+use Rattle.sourcemap_tokens.specs.Tokens.{position_cmp}
+use Rattle.sourcemap_tokens.proofs.SortLemmas.{stably_sorted}
+use Rattle.sourcemap_tokens.proofs.TokensLemmas.{position_cmp_total}
+use Rattle.sourcemap_index_model.specs.MapTree.{section_offset}
+use Rattle.sourcemap_index_model.proofs.SortLemmas.{sorted_by-change}
 use Rattle.sourcemap_index.specs.Family.{section_value}
 use Rattle.sourcemap_index.specs.declared.family.SourceMapSection.{SourceMapSection}
 use Rattle.sourcemap_index.proofs.decode_index.sort_sections.Goals as goal

@@ -1,7 +1,7 @@
 use Rattle.std.proofs.Common.{◌+◌, ◌*◌, ◌≤◌, ◌++◌, List, map}
 use Rattle.std.specs.Vec.Iter.{into_iter_items}
 use Rattle.sourcemap_records.specs.Jsontypes.{Section, section}
-use Rattle.sourcemap_trees.specs.MapTree.{index_tree, sections_from}
+use Rattle.sourcemap_index_model.specs.MapTree.{index_tree, sections_from}
 use Rattle.sourcemap_index.specs.Family.{map_tree, index_value, section_value}
 use Rattle.sourcemap_index.proofs.EncodeLemmas.{ArePairs}
 use Rattle.sourcemap_index.proofs.FlattenLemmas.{section_indexes}
@@ -20,7 +20,7 @@ decreases-sections_into_records l = 4 * indexes_in (sections_from (map section_v
 abbrev pub decreases-section_into_record : goal.decreases-section_into_record
 decreases-section_into_record l = 4 * section_indexes (section_value l.part) + 4
 
--- the records of what is left stand behind those that were made, and nothing that is left goes deeper
+-- the records of what is left come after those that were made, and nothing that is left goes deeper
 abbrev pub invariant-sections_into_records-loop-part : goal.invariant-sections_into_records-loop-part
 invariant-sections_into_records-loop-part l = record {
   pairs : (rs : List Section) → ArePairs (map section_value (into_iter_items l.part-iterator)) rs

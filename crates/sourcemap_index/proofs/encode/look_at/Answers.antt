@@ -1,7 +1,7 @@
 use Rattle.std.proofs.Common.{◌∙◌, sym, ap, subst, arith, IfSome, None, [], ◌∷◌, ◌++◌, take}
 use Rattle.std.specs.List.{AllByRecursion}
 use Rattle.std.proofs.lemmas.List.{take_more, take_all}
-use Rattle.sourcemap_lists.proofs.AllLemmas.{All-append}
+use Rattle.sourcemap_tokens.proofs.AllLemmas.{All-append}
 use Rattle.sourcemap_records.specs.Jsontypes.{FitsU32}
 use Rattle.sourcemap_index.proofs.encode.look_at.Goals as goal
 

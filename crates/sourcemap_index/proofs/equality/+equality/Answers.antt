@@ -1,6 +1,6 @@
 -- Indexes are compared by their parts and section by section.
 use Rattle.std.proofs.Common.{◌∙◌, sym}
-use Rattle.sourcemap_trees.specs.Equality.{same_tree}
+use Rattle.sourcemap_index_model.specs.Equality.{same_tree}
 use Rattle.sourcemap_index.specs.Family.{index_value, map_tree}
 use Rattle.sourcemap_index.proofs.EqualityLemmas.{index_same}
 use Rattle.sourcemap_index.proofs.FamilyLemmas.{index_tree-of}

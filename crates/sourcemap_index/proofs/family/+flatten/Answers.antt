@@ -2,11 +2,11 @@
 use Rattle.std.proofs.Common.{◌≡◌, ◌∙◌, sym, ap, subst, List, [], ◌∷◌, arith, map, drop, take, OnOk, ◌+◌, slice_get}
 use Rattle.std.specs.List.{AllByRecursion}
 use Rattle.std.proofs.lemmas.Result.{err_from_is_err_and}
-use Rattle.sourcemap_regular.specs.Lists.{AreListsOf}
-use Rattle.sourcemap_trees.specs.MapTree.{MapSection, IndexValue, sections_from}
-use Rattle.sourcemap_trees.specs.Flat.{merged, pieces_behind}
-use Rattle.sourcemap_lists.proofs.AllLemmas.{All-append}
-use Rattle.sourcemap_flattening.specs.Gathering.{RefusesFor}
+use Rattle.sourcemap_map_regular.specs.Lists.{AreListsOf}
+use Rattle.sourcemap_index_model.specs.MapTree.{MapSection, IndexValue, sections_from}
+use Rattle.sourcemap_index_model.specs.Flat.{merged, pieces_after}
+use Rattle.sourcemap_tokens.proofs.AllLemmas.{All-append}
+use Rattle.sourcemap_index_flatten.specs.Gathering.{RefusesFor}
 use Rattle.sourcemap_index.specs.Family.{index_value, map_tree, section_value}
 use Rattle.sourcemap_index.specs.Flatten.{Gathered, IsSectionInOrder, map_added}
 use Rattle.sourcemap_index.proofs.FamilyLemmas.{hermes_tree, index-out, index_tree-of, regular_tree}
@@ -72,7 +72,7 @@ SourceMapIndex::gathered-returns-in_err-gather-clause-refused t c =
     let same : all ≡ (index_value c.args.self.now).sections = ap (map section_value) c.deref-section-items.ensures.value ∙ sym (ap (λ (v : IndexValue). v.sections) (index-out c.args.self.now)) in
     let p = err_from_is_err_and c.from_residual-in_err-gather.result c.from_residual-in_err-gather.ensures.1 in
     rw (p.1, p.2)
-    (subst (λ ss. RefusesFor (pieces_behind [] (sections_from ss)) c.in_err-gather.field-0.0) same
+    (subst (λ ss. RefusesFor (pieces_after [] (sections_from ss)) c.in_err-gather.field-0.0) same
     (so_far-refused all (section_value item) (drop (i + 1) all) c.loop-section.gathering c.in_err-gather.field-0.0
     (subst (λ rest. SoFar all rest c.loop-section.gathering) (item-next items i item c.loop-section-test.true c.section-item.is) c.loop-section.invariant.so_far)
     c.in_err-gather.ensures.refused))
@@ -84,7 +84,7 @@ SourceMapIndex::gathered-returns-clause-ok t c =
     let same : all ≡ (index_value c.args.self.now).sections = ap (map section_value) c.deref-section-items.ensures.value ∙ sym (ap (λ (v : IndexValue). v.sections) (index-out c.args.self.now)) in
     let so_far : SoFar all [] c.loop-section.gathering =
     subst (λ rest. SoFar all rest c.loop-section.gathering) (none-left items c.loop-section.section-index c.loop-section-test.false) c.loop-section.invariant.so_far in
-    if_ok_then c.finish.result (λ f h. (so_far.0, ap (λ ss. pieces_behind [] (sections_from ss)) (sym same) ∙ so_far.1, h)) (c.finish.ensures.ok so_far.0 so_far.2)
+    if_ok_then c.finish.result (λ f h. (so_far.0, ap (λ ss. pieces_after [] (sections_from ss)) (sym same) ∙ so_far.1, h)) (c.finish.ensures.ok so_far.0 so_far.2)
 
 pub SourceMapIndex::gathered-returns-clause-in_order :
     goal.SourceMapIndex::gathered-returns-clause-in_order

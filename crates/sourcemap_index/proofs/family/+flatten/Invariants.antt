@@ -1,6 +1,6 @@
 use Rattle.std.proofs.Common.{◌+◌, ◌*◌, map, drop, take}
 use Rattle.std.specs.List.{AllByRecursion}
-use Rattle.sourcemap_trees.specs.MapTree.{index_tree}
+use Rattle.sourcemap_index_model.specs.MapTree.{index_tree}
 use Rattle.sourcemap_index.specs.Family.{map_tree, index_value, section_value}
 use Rattle.sourcemap_index.specs.Flatten.{IsSectionInOrder}
 use Rattle.sourcemap_index.proofs.LookupLemmas.{indexes}

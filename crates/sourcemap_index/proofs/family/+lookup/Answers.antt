@@ -1,9 +1,9 @@
 -- The closest section's map answers for the index.
 use Rattle.std.proofs.Common.{◌≡◌, ◌∙◌, sym, ap, subst, ℕ, arith, None, Some, option_map, IfSome}
-use Rattle.sourcemap_regular.specs.Token.{token_value}
-use Rattle.sourcemap_trees.specs.MapTree.{section_offset}
-use Rattle.sourcemap_trees.specs.Meaning.{lookup, lowered}
-use Rattle.sourcemap_trees.specs.WellFormed.{IsInOrder}
+use Rattle.sourcemap_map_regular.specs.Token.{token_value}
+use Rattle.sourcemap_index_model.specs.MapTree.{section_offset}
+use Rattle.sourcemap_index_model.specs.Meaning.{lookup, relative_position}
+use Rattle.sourcemap_index_model.specs.WellFormed.{IsInOrder}
 use Rattle.sourcemap_index.specs.Family.{index_value, map_tree, section_value}
 use Rattle.sourcemap_index.proofs.FamilyLemmas.{section_map, section_at}
 use Rattle.sourcemap_index.proofs.LookupLemmas.{index_answers, indexes_below, answer_of, found_in_leaf, found_in_section}
@@ -35,8 +35,8 @@ SourceMapIndex::closest_token-returns-in-Some-clause-value t c =
     c.in_ok-section.ensures.closest
     (λ inner.
     c.closest_among_many.ensures.value (subst (λ m. IfSome m IsInOrder) is inner)
-    ∙ ap (lookup (map_tree c.deref.result.now)) (c.lowered-line.ensures ∙ ap (λ o. lowered o p) (sym (section_at s)))
-    ∙ ap (λ m. answer_of m (lowered (section_offset (section_value s)) p)) (sym is))
+    ∙ ap (lookup (map_tree c.deref.result.now)) (c.relative_position-line.ensures ∙ ap (λ o. relative_position o p) (sym (section_at s)))
+    ∙ ap (λ m. answer_of m (relative_position (section_offset (section_value s)) p)) (sym is))
 
 pub SourceMapIndex::closest_token-returns-in-Some-clause-found :
     goal.SourceMapIndex::closest_token-returns-in-Some-clause-found
@@ -54,4 +54,4 @@ SourceMapIndex::closest_token-returns-in-None-clause-value t c =
     let is : (section_value s).map ≡ None = section_map s ∙ ap (option_map (λ b. map_tree b.value)) c.in-None.is in
     index_answers (index_value c.args.self.now) (c.args.line, c.args.col) (Some (section_value s)) None
     c.in_ok-section.ensures.closest
-    (λ _. ap (λ m. answer_of m (lowered (section_offset (section_value s)) (c.args.line, c.args.col))) (sym is))
+    (λ _. ap (λ m. answer_of m (relative_position (section_offset (section_value s)) (c.args.line, c.args.col))) (sym is))

@@ -1,5 +1,5 @@
 use Rattle.std.proofs.Common.{◌+◌, ◌*◌}
-use Rattle.sourcemap_trees.specs.MapTree.{index_tree}
+use Rattle.sourcemap_index_model.specs.MapTree.{index_tree}
 use Rattle.sourcemap_index.specs.Family.{map_tree, index_value}
 use Rattle.sourcemap_index.proofs.LookupLemmas.{indexes}
 use Rattle.sourcemap_index.proofs.family.+lookup.Given as goal

@@ -1,5 +1,5 @@
-use Rattle.sourcemap_regular.specs.Decode.{RegularDecodes}
-use Rattle.sourcemap_trees.specs.MapTree.{regular}
+use Rattle.sourcemap_map_regular.specs.Decode.{RegularDecodes}
+use Rattle.sourcemap_index_model.specs.MapTree.{regular}
 use Rattle.sourcemap_index.proofs.KindLemmas.{any_of_regular, regular_of_any, values_of, bytes_of, urls_of}
 use Rattle.sourcemap_index.proofs.laws.regular_maps_are_of_a_kind.Goals as goal
 

@@ -1,5 +1,5 @@
 use Rattle.std.proofs.Common.{drop, map}
-use Rattle.sourcemap_trees.specs.Shift.{HaveRowsLeft}
+use Rattle.sourcemap_index_model.specs.Shift.{HaveRowsLeft}
 use Rattle.sourcemap_index.specs.Family.{section_value}
 use Rattle.sourcemap_index.proofs.rows.have_rows_left.Given as goal
 

@@ -15,5 +15,5 @@ loop-left-preserved g c =
       kept = c.skip_by_line-row.ensures.kept ∙ c.loop-left.invariant.kept;
       remains = λ d l. Remains-half _ _ _ _ _ (omega arith) counted (omega arith) (c.loop-left.invariant.remains d l);
       raised = raised_on _ _ _ c.loop-left.invariant.raised counted;
-      asked = λ l. raised_once _ _ _ c.loop-left.invariant.raised counted;
+      at_least_one = λ l. raised_once _ _ _ c.loop-left.invariant.raised counted;
     }

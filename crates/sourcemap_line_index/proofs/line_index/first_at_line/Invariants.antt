@@ -9,7 +9,7 @@ invariant-loop-left g l = record {
   kept : g.P.Probe.position l.probe ≡ g.P.Probe.position l.initial.probe;
   remains : (d : ℕ) → length l.lines < 2 ^ d → Remains (g.P.Probe.comparisons l.initial.probe + d) (g.P.Probe.comparisons l.probe) l.left;
   raised : min (g.P.Probe.comparisons l.initial.probe) 4294967295 ≤ g.P.Probe.comparisons l.probe;
-  asked : l.left < length l.lines → min (g.P.Probe.comparisons l.initial.probe + 1) 4294967295 ≤ g.P.Probe.comparisons l.probe;
+  at_least_one : l.left < length l.lines → min (g.P.Probe.comparisons l.initial.probe + 1) 4294967295 ≤ g.P.Probe.comparisons l.probe;
 }
 
 abbrev pub decreases-loop-left : goal.decreases-loop-left

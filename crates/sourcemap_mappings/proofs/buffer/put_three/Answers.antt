@@ -1,6 +1,6 @@
 use Rattle.std.proofs.Common.{◌≡◌, ℕ, ◌+◌, ◌/◌, ◌%◌, List, [], ◌∷◌, ◌++◌, take, ◌∙◌, ap, subst, sym, arith, inl, inr}
 use Rattle.std.proofs.lemmas.Bool.{cases_lt}
-use Rattle.sourcemap_digits.specs.Vlq.{glyph}
+use Rattle.sourcemap_vlq.specs.Vlq.{glyph}
 use Rattle.sourcemap_mappings.specs.Write.{difference}
 use Rattle.sourcemap_mappings.specs.Buffer.{Adds, raw_difference}
 use Rattle.sourcemap_mappings.proofs.BufferLemmas.{Adds-last, Adds-two, Adds-three, triple-one, triple-two, triple-three}
@@ -15,32 +15,32 @@ returns-clause-text c =
     let start = take at buffer in
     let raw : ℕ = raw_difference a b in
     let is : c.raw_difference-raw.result ≡ raw = c.raw_difference-raw.ensures.value in
-    let second = c.goes_on-second.result in
-    let third = c.goes_on-third.result in
+    let second = c.continues-second.result in
+    let third = c.continues-third.result in
     let end : ℕ = at + 1 + second + third in
     let x = c.glyph_of.result in
     let y = c.glyph_of-2.result in
     let z = c.glyph_of-3.result in
     elim (cases_lt raw 32) [
       | inl one ↦
-          let no_second : second ≡ 0 = c.goes_on-second.ensures.no (omega arith) in
-          let no_third : third ≡ 0 = c.goes_on-third.ensures.no (omega arith) in
+          let no_second : second ≡ 0 = c.continues-second.ensures.no (omega arith) in
+          let no_third : third ≡ 0 = c.continues-third.ensures.no (omega arith) in
           let first : x ≡ glyph raw = c.glyph_of.ensures ∙ ap glyph (omega arith) in
           subst (λ (t : List ℕ). Adds (difference a b ∷ []) start t)
           (sym (triple-one buffer at x y z end (omega arith) (omega arith) ∙ ap (λ g. start ++ g ∷ []) first))
           (Adds-last a b start [] raw (omega arith) (omega arith) tt one (omega arith) (λ h. omega arith))
       | inr more ↦
-          let a_second : second ≡ 1 = c.goes_on-second.ensures.yes (omega arith) in
+          let a_second : second ≡ 1 = c.continues-second.ensures.yes (omega arith) in
           let first : x ≡ glyph (raw % 32 + 32) = c.glyph_of.ensures ∙ ap glyph (omega arith) in
           elim (cases_lt raw 1024) [
             | inl two ↦
-                let no_third : third ≡ 0 = c.goes_on-third.ensures.no (omega arith) in
+                let no_third : third ≡ 0 = c.continues-third.ensures.no (omega arith) in
                 let last : y ≡ glyph (raw / 32) = c.glyph_of-2.ensures ∙ ap glyph (omega arith) in
                 subst (λ (t : List ℕ). Adds (difference a b ∷ []) start t)
                 (sym (triple-two buffer at x y z end (omega arith) (omega arith) ∙ ap (λ g. start ++ (g ∷ y ∷ [])) first ∙ ap (λ g. start ++ (glyph (raw % 32 + 32) ∷ g ∷ [])) last))
                 (Adds-two a b start (omega arith) (omega arith) more two)
             | inr far ↦
-                let a_third : third ≡ 1 = c.goes_on-third.ensures.yes (omega arith) in
+                let a_third : third ≡ 1 = c.continues-third.ensures.yes (omega arith) in
                 let middle : y ≡ glyph (raw / 32 % 32 + 32) = c.glyph_of-2.ensures ∙ ap glyph (omega arith) in
                 let last : z ≡ glyph (raw / 32 / 32) = c.glyph_of-3.ensures ∙ ap glyph (omega arith) in
                 subst (λ (t : List ℕ). Adds (difference a b ∷ []) start t)

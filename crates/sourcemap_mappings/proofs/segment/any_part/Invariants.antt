@@ -1,6 +1,6 @@
 use Rattle.std.proofs.Common.{length}
 use Rattle.sourcemap_mappings.specs.SegmentSteps.{AreSteps}
-use Rattle.sourcemap_digits.specs.Vlq.{IsSound}
+use Rattle.sourcemap_vlq.specs.Vlq.{IsSound}
 use Rattle.sourcemap_mappings.proofs.SegmentLemmas.{Lacks}
 use Rattle.sourcemap_mappings.proofs.segment.any_part.Given as goal
 

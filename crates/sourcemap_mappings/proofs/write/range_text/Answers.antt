@@ -1,8 +1,8 @@
 use Rattle.std.proofs.Common.{option_copied, ◌≡◌, ℕ, ◌+◌, ◌-◌, ◌<◌, Bool, List, [], ◌∷◌, ◌++◌, take, get_or, replicate, string_bytes, Some, true, false, sym, ap, subst, ◌∙◌, refl, arith}
 use Rattle.std.proofs.lemmas.List.{take_more, take_all}
-use Rattle.sourcemap_lists.specs.declared.tokens.RawToken.{RawToken}
-use Rattle.sourcemap_digits.specs.Bits.{IsBitText}
-use Rattle.sourcemap_lists.specs.Tokens.{without_repeats}
+use Rattle.sourcemap_tokens.specs.declared.tokens.RawToken.{RawToken}
+use Rattle.sourcemap_vlq.specs.Bits.{IsBitText}
+use Rattle.sourcemap_tokens.specs.Tokens.{without_repeats}
 use Rattle.sourcemap_mappings.specs.Segment.{semicolon}
 use Rattle.sourcemap_mappings.specs.Write.{base, LineByLine, IsRangeLine}
 use Rattle.sourcemap_mappings.specs.WriteSteps.{repeats}
@@ -18,7 +18,7 @@ loop-token-init c = record {
       (subst (λ (fs : List Bool). Ranging 0 [] [] fs) (sym c.new-flags.ensures.items) Ranging-none);
 }
 
--- a value of what the text, the flags and the line are, carried to other names for them
+-- the facts about text, flags and line, transported along equalities
 carried : (n m : ℕ) (ts : List RawToken) (s t : List ℕ) (fs gs : List Bool) → m ≡ n → t ≡ s → gs ≡ fs → Ranging n ts s fs → Ranging m ts t gs
 carried n m ts s t fs gs em et eg r =
     subst (λ (k : ℕ). Ranging k ts t gs) (sym em) (subst (λ (x : List ℕ). Ranging n ts x gs) (sym et) (subst (λ (x : List Bool). Ranging n ts s x) (sym eg) r))

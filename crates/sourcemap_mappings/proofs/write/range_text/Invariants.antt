@@ -1,5 +1,5 @@
 use Rattle.std.proofs.Common.{option_copied, take, string_bytes}
-use Rattle.sourcemap_lists.specs.Tokens.{without_repeats}
+use Rattle.sourcemap_tokens.specs.Tokens.{without_repeats}
 use Rattle.sourcemap_mappings.proofs.WriteWalk.{Walked}
 use Rattle.sourcemap_mappings.proofs.WriteRanges.{Ranging}
 use Rattle.sourcemap_mappings.proofs.write.range_text.Given as goal

@@ -2,7 +2,7 @@ use Rattle.std.proofs.Common.{option_copied, ◌≡◌, ℕ, ◌+◌, ◌≤◌,
 use Rattle.std.proofs.lemmas.List.{take_more, take_all}
 use Rattle.std.specs.Str.{IsAscii}
 use Rattle.std.proofs.lemmas.Str.Ascii.{IsAscii-nil}
-use Rattle.sourcemap_lists.specs.declared.tokens.RawToken.{RawToken}
+use Rattle.sourcemap_tokens.specs.declared.tokens.RawToken.{RawToken}
 use Rattle.sourcemap_mappings.specs.Write.{base}
 use Rattle.sourcemap_mappings.specs.WriteSteps.{repeats}
 use Rattle.sourcemap_mappings.proofs.WriteReadBack.{reads_back}
@@ -18,7 +18,7 @@ loop-token-init c = record {
   ascii = IsAscii-nil;
 }
 
--- what is known of a text and a buffer, carried to other names for them
+-- the facts about a text and a buffer, transported along equalities
 record Gathered (names : ℕ) (done : List RawToken) (previous : Option RawToken) (against : RawToken) (text buffer : List ℕ) (at : ℕ) : Type 0 where
   writing : Writing names done previous against (text ++ take at buffer)
   within : at ≤ 1024
@@ -26,11 +26,11 @@ record Gathered (names : ℕ) (done : List RawToken) (previous : Option RawToken
 
 carried : (names : ℕ) (done more : List RawToken) (previous : Option RawToken) (a b : RawToken) (s t r q : List ℕ) (m n : ℕ)
     → more ≡ done → b ≡ a → t ≡ s → q ≡ r → n ≡ m → Gathered names done previous a s r m → Gathered names more previous b t q n
-carried names done more previous a b s t r q m n is_done is_against is_text is_room is_at known =
+carried names done more previous a b s t r q m n is_done is_against is_text is_buffer is_at known =
     subst (λ (ts : List RawToken). Gathered names ts previous b t q n) (sym is_done)
     (subst (λ (x : RawToken). Gathered names done previous x t q n) (sym is_against)
     (subst (λ (x : List ℕ). Gathered names done previous a x q n) (sym is_text)
-    (subst (λ (x : List ℕ). Gathered names done previous a s x n) (sym is_room)
+    (subst (λ (x : List ℕ). Gathered names done previous a s x n) (sym is_buffer)
     (subst (λ (k : ℕ). Gathered names done previous a s r k) (sym is_at) known))))
 
 pub loop-token-preserved : goal.loop-token-preserved
@@ -70,7 +70,7 @@ loop-token-preserved c =
           record { writing = all.writing; within = all.within; ascii = all.ascii }
     ]
 
--- all tokens are in the text with what the buffer holds
+-- the text and the buffer together contain all tokens
 whole : (names n : ℕ) (tokens : List RawToken) (previous : Option RawToken) (against : RawToken) (text gathered : List ℕ) → length tokens ≤ n
     → text ≡ gathered → Writing names (take n tokens) previous against gathered → Writing names tokens previous against text
 whole names n tokens previous against text gathered h is w =

@@ -1,4 +1,4 @@
--- What the reader told was read.
+-- The bytes that the reader specifies were read.
 use Rattle.std.proofs.Common.{rules}
 use Rattle.sourcemap_records.proofs.bytes.read_all.Goals as goal
 

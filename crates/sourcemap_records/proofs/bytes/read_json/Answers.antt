@@ -1,4 +1,4 @@
--- The text behind the header is not JSON.
+-- The text after the header is not JSON.
 use Rattle.std.proofs.Common.{rules}
 use Rattle.sourcemap_records.proofs.bytes.read_json.Goals as goal
 

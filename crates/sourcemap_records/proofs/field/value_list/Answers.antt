@@ -1,4 +1,4 @@
--- A list of values is read as it stands.
+-- A list of values is read unchanged.
 use Rattle.std.proofs.Common.{ap, Some, option_map}
 use Rattle.serde_json.proofs.Views.{view-Array}
 use Rattle.sourcemap_records.proofs.FieldLemmas.{any_items}

@@ -8,24 +8,24 @@ use Rattle.sourcemap_records.proofs.FromJsonLemmas.{before}
 use Rattle.sourcemap_records.proofs.DepthLemmas.{depth_in}
 use Rattle.sourcemap_records.proofs.from_json.+from_json.Given as goal
 
-abbrev pub decreases-take_map : goal.decreases-take_map
-decreases-take_map l = 2 * depth (view l.value)
+abbrev pub decreases-read_map : goal.decreases-read_map
+decreases-read_map l = 2 * depth (view l.value)
 
-abbrev pub decreases-take_sections : goal.decreases-take_sections
-decreases-take_sections l = 2 * depth_in (option_map view l.value) + 1
+abbrev pub decreases-read_sections : goal.decreases-read_sections
+decreases-read_sections l = 2 * depth_in (option_map view l.value) + 1
 
-abbrev pub decreases-take_list : goal.decreases-take_list
-decreases-take_list l = 2 * items_depth (items_view l.items.items) + 2
+abbrev pub decreases-read_section_list : goal.decreases-read_section_list
+decreases-read_section_list l = 2 * items_depth (items_view l.items.items) + 2
 
-abbrev pub decreases-take_section : goal.decreases-take_section
-decreases-take_section l = 2 * depth (view l.value) + 1
+abbrev pub decreases-read_section : goal.decreases-read_section
+decreases-read_section l = 2 * depth (view l.value) + 1
 
-abbrev pub decreases-take_inner : goal.decreases-take_inner
-decreases-take_inner l = 2 * depth_in (option_map view l.value) + 1
+abbrev pub decreases-read_section_map : goal.decreases-read_section_map
+decreases-read_section_map l = 2 * depth_in (option_map view l.value) + 1
 
--- what is left, behind the sections that were read, and no deeper
-abbrev pub invariant-take_list-loop-item : goal.invariant-take_list-loop-item
-invariant-take_list-loop-item l = record {
+-- the sections that were read, followed by what is left, which is no deeper
+abbrev pub invariant-read_section_list-loop-item : goal.invariant-read_section_list-loop-item
+invariant-read_section_list-loop-item l = record {
   read : sections_read (items_view l.fn.items.items) ≡ with (sections_read (items_view (into_iter_items l.item-iterator))) (λ more. Some (before (map section l.sections.items) more));
   depth : items_depth (items_view (into_iter_items l.item-iterator)) ≤ items_depth (items_view l.fn.items.items);
 }

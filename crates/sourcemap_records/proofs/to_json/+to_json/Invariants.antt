@@ -5,9 +5,9 @@ use Rattle.serde_json.specs.View.{view}
 use Rattle.sourcemap_records.specs.Jsontypes.{IsSectionInRange, written_one, section}
 use Rattle.sourcemap_records.proofs.to_json.+to_json.Given as goal
 
--- what was written, in front of what is left; all are in range where what is left is
-abbrev pub invariant-give_list-loop-section : goal.invariant-give_list-loop-section
-invariant-give_list-loop-section l =
+-- what was written, followed by what is left; all are in range where what is left is
+abbrev pub invariant-write_section_list-loop-section : goal.invariant-write_section_list-loop-section
+invariant-write_section_list-loop-section l =
     (map view l.items.items ++ map written_one (map section (into_iter_items l.section-iterator))
     ≡ map written_one (map section l.fn.sections.items))
     × (AllByRecursion IsSectionInRange (map section (into_iter_items l.section-iterator))

@@ -1,5 +1,5 @@
 use Rattle.std.proofs.Common.{subst, IsUtf8, sym}
-use Rattle.sourcemap_references.proofs.ReferenceLemmas.{decided, no_text_due}
+use Rattle.sourcemap_references.proofs.ReferenceLemmas.{decided, not_utf8_due}
 use Rattle.sourcemap_references.proofs.detector.reference_at.Goals as goal
 
 pub returns-in-Ok : goal.returns-in-Ok
@@ -9,4 +9,4 @@ returns-in-Ok c =
     c.range_from.ensures.value c.reference_on_line.ensures
 
 pub returns-in-Err : goal.returns-in-Err
-returns-in-Err c = no_text_due _ _ _ c.requires.first c.in-Err.ensures.cases.0 _ c.no_text.ensures
+returns-in-Err c = not_utf8_due _ _ _ c.requires.first c.in-Err.ensures.cases.0 _ c.not_utf8.ensures

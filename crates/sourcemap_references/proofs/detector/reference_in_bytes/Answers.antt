@@ -1,5 +1,5 @@
 use Rattle.std.proofs.Common.{◌∙◌, ap, refl, sym, Some}
-use Rattle.sourcemap_references.proofs.ReferenceLemmas.{if_text-utf8, located, no_text_due}
+use Rattle.sourcemap_references.proofs.ReferenceLemmas.{if_text-utf8, located, not_utf8_due}
 use Rattle.sourcemap_references.specs.Reference.{reference_on}
 use Rattle.sourcemap_references.proofs.detector.reference_in_bytes.Goals as goal
 
@@ -9,4 +9,4 @@ returns-in-Ok c =
     located c.reference_on_line.result _ _ (if_text-utf8 c.args.line.now _ text.1 ∙ ap (λ xs. Some (reference_on xs)) (sym text.0)) c.reference_on_line.ensures
 
 pub returns-in-Err : goal.returns-in-Err
-returns-in-Err c = no_text_due c.args.line.now (Some (reference_on c.args.line.now)) _ refl c.in-Err.ensures.cases.0 _ c.no_text.ensures
+returns-in-Err c = not_utf8_due c.args.line.now (Some (reference_on c.args.line.now)) _ refl c.in-Err.ensures.cases.0 _ c.not_utf8.ensures

@@ -1,5 +1,5 @@
 use Rattle.sourcemap_references.proofs.LineLemmas.{leaves_after}
-use Rattle.sourcemap_references.proofs.ReferenceLemmas.{no_text_before}
+use Rattle.sourcemap_references.proofs.ReferenceLemmas.{not_utf8_before}
 use Rattle.sourcemap_references.proofs.detector.rest_after.Goals as goal
 
 pub returns-in-Ok : goal.returns-in-Ok
@@ -8,4 +8,4 @@ returns-in-Ok c =
     leaves_after c.args.bytes.now c.args.end (λ r. r.now) _ c.requires text.1 c.lines_after_end.ensures
 
 pub returns-in-Err : goal.returns-in-Err
-returns-in-Err c = (no_text_before c.args.bytes.now c.args.end c.requires c.in-Err.ensures.cases.0, c.no_text.ensures)
+returns-in-Err c = (not_utf8_before c.args.bytes.now c.args.end c.requires c.in-Err.ensures.cases.0, c.not_utf8.ensures)

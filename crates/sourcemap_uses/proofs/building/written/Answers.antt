@@ -1,4 +1,4 @@
--- The law of written maps, at the map of these tokens.
+-- The law of written maps, for the map of these tokens.
 use Rattle.std.proofs.Common.{◌∙◌, ap, map, string_bytes, [], ◌∷◌}
 use Rattle.sourcemap_uses.proofs.BuildingLemmas.{made, reads_back}
 use Rattle.sourcemap_uses.proofs.building.written.Goals as goal

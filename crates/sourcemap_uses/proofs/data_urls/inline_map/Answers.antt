@@ -1,4 +1,4 @@
--- A data URL whose bytes hold no map.
+-- A data URL whose payload does not decode.
 use Rattle.sourcemap_uses.proofs.DataUrlsLemmas.{held_unless_memory}
 use Rattle.sourcemap_uses.proofs.data_urls.inline_map.Goals as goal
 

@@ -1,4 +1,4 @@
--- The law of written maps, at what was written.
+-- The law of written maps, for this map.
 use Rattle.sourcemap_uses.proofs.exporting.export.Goals as goal
 
 pub returns : goal.returns

@@ -1,4 +1,4 @@
--- A reference that leads to a file, and one that leads to none.
+-- A reference that resolves to a file, and one that resolves to none.
 use Rattle.std.proofs.Common.{refl, inl, Some, None}
 use Rattle.std.specs.Prelude.{string_bytes}
 use Rattle.sourcemap_uses.proofs.finding.file_of.Goals as goal

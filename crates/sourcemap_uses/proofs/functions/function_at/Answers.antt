@@ -1,9 +1,9 @@
--- What is said of the map that the bytes hold.
+-- The name by the decoded map.
 use Rattle.std.proofs.Common.{Err, option_map, string_bytes}
 use Rattle.std.proofs.lemmas.Result.{IfOk-weaker}
 use Rattle.sourcemap.specs.Hermes.{hermes_value}
 use Rattle.sourcemap.specs.HermesDecoder.{OnlyHermesDecodes}
-use Rattle.sourcemap.specs.Reading.{BytesStandFor}
+use Rattle.sourcemap.specs.Reading.{BytesHaveResult}
 use Rattle.sourcemap_uses.specs.Functions.{IsNameAt, IsNameIn}
 use Rattle.sourcemap_uses.proofs.RefusalLemmas.{memory_refused}
 use Rattle.sourcemap_uses.proofs.functions.function_at.Goals as goal
@@ -15,5 +15,5 @@ returns-in-Ok-clause-name c =
     (λ name. IsNameAt c.args.bytes.now c.args.offset (option_map string_bytes name))
     (λ name is. (h, c.in-Ok.ensures.answer, is)) c.name_at.ensures.name
 
-pub returns-in-Ok-clause-fault : goal.returns-in-Ok-clause-fault
-returns-in-Ok-clause-fault c = memory_refused (λ e. BytesStandFor OnlyHermesDecodes c.args.bytes.now (Err e)) c.name_at.result c.name_at.ensures.memory
+pub returns-in-Ok-clause-error : goal.returns-in-Ok-clause-error
+returns-in-Ok-clause-error c = memory_refused (λ e. BytesHaveResult OnlyHermesDecodes c.args.bytes.now (Err e)) c.name_at.result c.name_at.ensures.memory

@@ -1,4 +1,4 @@
--- What is written to one section stands in its place, and in no other.
+-- Writing one section changes no other.
 use Rattle.std.proofs.Common.{◌≡◌, ◌∙◌, ap, slice_get, subst}
 use Rattle.std.specs.Option.{OnSome}
 use Rattle.sourcemap.specs.AnyMap.{index_value, section_value}

@@ -1,7 +1,7 @@
--- What is guessed by the map that the bytes hold.
+-- The guess by the decoded map.
 use Rattle.std.proofs.Common.{◌≡◌, Err, option_map, string_bytes}
 use Rattle.std.proofs.lemmas.Result.{IfOk-weaker}
-use Rattle.sourcemap.specs.Reading.{BytesStandFor, RegularDecodes}
+use Rattle.sourcemap.specs.Reading.{BytesHaveResult, RegularDecodes}
 use Rattle.sourcemap.specs.TokenWalk.{function_name}
 use Rattle.sourcemap_uses.specs.Naming.{IsNameOf}
 use Rattle.sourcemap_uses.proofs.RefusalLemmas.{memory_refused}
@@ -14,5 +14,5 @@ returns-in-Ok-clause-name c =
     (λ name. IsNameOf c.args.map.now c.args.text.now (c.args.line, c.args.col) c.args.minified.now (option_map string_bytes name))
     (λ name is. (c.in-Ok.map, c.in-Ok.ensures.answer, is)) c.name_in.ensures.name
 
-pub returns-in-Ok-clause-fault : goal.returns-in-Ok-clause-fault
-returns-in-Ok-clause-fault c = memory_refused (λ e. BytesStandFor RegularDecodes c.args.map.now (Err e)) c.name_in.result c.name_in.ensures.memory
+pub returns-in-Ok-clause-error : goal.returns-in-Ok-clause-error
+returns-in-Ok-clause-error c = memory_refused (λ e. BytesHaveResult RegularDecodes c.args.map.now (Err e)) c.name_in.result c.name_in.ensures.memory

@@ -1,4 +1,4 @@
--- A rewriting by default, part by part.
+-- Rewriting with default options, part by part.
 use Rattle.std.proofs.Common.{◌≡◌, refl, None, arith}
 use Rattle.sourcemap.specs.Rewrite.{no_removal, rewritten, used_names, used_sources}
 use Rattle.sourcemap_uses.proofs.RewritingLemmas.{default_memory, default_whole, sources_uncut, whole_so}

@@ -1,4 +1,4 @@
--- The first module is given with a map that says on its lines what the flat map says.
+-- On its lines, the first module's map has the meaning of the flattened map.
 use Rattle.std.proofs.Common.{◌≡◌, ◌∙◌, ◌+◌, ◌-◌, sym, ap, subst, Ok, IfOk, string_bytes, arith}
 use Rattle.sourcemap.specs.Answer.{Gives}
 use Rattle.sourcemap.specs.AnyMap.{index_value}
@@ -30,6 +30,6 @@ returns c = λ flat found first is_first on_lines.
     let law = c.module_means_what_flat_means.ensures flat (file_name found.id) found.text first (first + line, col) on_lines.token few.sources few.names
     on_lines.inside on_lines.closest on_lines.within in
     let back : first + line - first ≡ line = omega arith in
-    let said : meaning c.in-Some-Ok.map (line, col) ≡ meaning flat (first + line, col) =
+    let same : meaning c.in-Some-Ok.map (line, col) ≡ meaning flat (first + line, col) =
     ap (λ m. meaning m (line, col)) (sym map_is) ∙ ap (λ l. meaning (parts_on flat first found).map (l, col)) (sym back) ∙ law in
-    subst (λ says. IfOk c.text_at.result (λ text. string_bytes text ≡ printed says)) said c.text_at.ensures
+    subst (λ says. IfOk c.text_at.result (λ text. string_bytes text ≡ printed says)) same c.text_at.ensures

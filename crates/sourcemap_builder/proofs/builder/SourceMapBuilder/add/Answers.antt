@@ -1,4 +1,4 @@
--- What the search finds, so that a wrong body is refused fast.
+-- prover: explicit search
 use Rattle.std.proofs.Common.{rules}
 use Rattle.sourcemap_builder.proofs.builder.SourceMapBuilder.add.Goals as goal
 
@@ -11,5 +11,5 @@ returns-clause-ok c = search rules
 pub returns-clause-err : goal.returns-clause-err
 returns-clause-err c = search rules
 
-pub returns-clause-there : goal.returns-clause-there
-returns-clause-there c = search rules
+pub returns-clause-in_range : goal.returns-clause-in_range
+returns-clause-in_range c = search rules

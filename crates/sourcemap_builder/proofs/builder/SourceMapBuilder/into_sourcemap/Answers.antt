@@ -1,7 +1,7 @@
--- Tokens that are put in order stay within the counts.
+-- Sorting keeps ids within their bounds.
 use Rattle.std.proofs.Common.{Ok, length, rules}
-use Rattle.sourcemap_lists.proofs.TokensLemmas.{AllWithin-in_order}
-use Rattle.sourcemap_regular.proofs.MapLemmas.{given-well}
+use Rattle.sourcemap_tokens.proofs.TokensLemmas.{AllWithin-in_order}
+use Rattle.sourcemap_map_regular.proofs.MapLemmas.{given-well}
 use Rattle.sourcemap_builder.specs.Builder.{built}
 use Rattle.sourcemap_builder.proofs.builder.SourceMapBuilder.into_sourcemap.Goals as goal
 

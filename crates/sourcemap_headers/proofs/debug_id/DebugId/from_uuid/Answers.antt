@@ -1,4 +1,4 @@
--- The bytes are kept.
+-- prover: explicit search
 use Rattle.std.proofs.Common.{rules}
 use Rattle.sourcemap_headers.proofs.debug_id.DebugId.from_uuid.Goals as goal
 

@@ -1,4 +1,4 @@
--- A text of either length is read as a UUID, and one that is none has no id.
+-- Texts of both lengths.
 use Rattle.std.proofs.Common.{true≢false, sym, rules}
 use Rattle.sourcemap_headers.proofs.DebugIdLemmas.{not_parsed}
 use Rattle.sourcemap_headers.proofs.debug_id.DebugId.parse.Goals as goal

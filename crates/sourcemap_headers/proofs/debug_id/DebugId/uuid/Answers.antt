@@ -1,4 +1,4 @@
--- The bytes are given as they are kept.
+-- prover: explicit search
 use Rattle.std.proofs.Common.{rules}
 use Rattle.sourcemap_headers.proofs.debug_id.DebugId.uuid.Goals as goal
 

@@ -1,4 +1,4 @@
--- The hyphenated text.
+-- prover: explicit search
 use Rattle.std.proofs.Common.{rules}
 use Rattle.sourcemap_headers.proofs.debug_id.DebugIdDisplay.fmt.Goals as goal
 

@@ -1,6 +1,6 @@
--- Nothing was read, so all that stands behind a header is left.
+-- prover: explicit search
 use Rattle.std.proofs.Common.{rules}
 use Rattle.sourcemap_headers.proofs.header_reader.StripHeaderReader.new.Goals as goal
 
-pub returns-clause-left : goal.returns-clause-left
-returns-clause-left g c = search rules
+pub returns-clause-unread : goal.returns-clause-unread
+returns-clause-unread g c = search rules

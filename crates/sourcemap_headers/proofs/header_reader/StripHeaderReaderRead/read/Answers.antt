@@ -1,6 +1,6 @@
--- A fault that was met is answered again.
+-- prover: explicit search
 use Rattle.std.proofs.Common.{rules}
 use Rattle.sourcemap_headers.proofs.header_reader.StripHeaderReaderRead.read.Goals as goal
 
-pub returns-in-Faulty-clause-refused : goal.returns-in-Faulty-clause-refused
-returns-in-Faulty-clause-refused g c = search rules
+pub returns-in-Invalid-clause-refused : goal.returns-in-Invalid-clause-refused
+returns-in-Invalid-clause-refused g c = search rules

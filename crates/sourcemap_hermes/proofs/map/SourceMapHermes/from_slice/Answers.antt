@@ -1,4 +1,4 @@
--- Bytes have one answer.
+-- Bytes decode to one result.
 use Rattle.sourcemap_records.proofs.BytesLemmas.{bytes_only}
 use Rattle.sourcemap_hermes.specs.Decode.{OnlyHermesDecodes}
 use Rattle.sourcemap_hermes.specs.Map.{hermes_value}

@@ -1,5 +1,5 @@
 use Rattle.sourcemap_records.specs.Jsontypes.{tree}
-use Rattle.sourcemap_scopes.specs.ScopeLists.{entries_in}
+use Rattle.sourcemap_hermes_scopes.specs.ScopeLists.{entries_in}
 use Rattle.sourcemap_hermes.specs.Map.{hermes_value}
 use Rattle.sourcemap_hermes.proofs.EncodeLemmas.{scoped_answer}
 use Rattle.sourcemap_hermes.proofs.map.SourceMapHermes.into_raw_sourcemap.Goals as goal

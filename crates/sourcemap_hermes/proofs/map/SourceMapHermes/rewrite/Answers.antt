@@ -1,7 +1,7 @@
 use Rattle.std.proofs.Common.{◌≤◌, ◌∙◌, length, nat_eq, subst, sym, arith, ap}
 use Rattle.std.specs.List.{IsDistinct}
 use Rattle.sourcemap_hermes.specs.Map.{HermesValue, hermes_value}
-use Rattle.sourcemap_scopes.specs.SourceScopes.{picked_scopes}
+use Rattle.sourcemap_hermes_scopes.specs.SourceScopes.{picked_scopes}
 use Rattle.sourcemap_hermes.proofs.RewriteLemmas.{answer_well_formed, answer_keeps_scopes}
 use Rattle.sourcemap_hermes.proofs.map.SourceMapHermes.rewrite.Goals as goal
 
@@ -9,8 +9,8 @@ pub returns-clause-value : goal.returns-clause-value
 returns-clause-value g c =
     let h : HermesValue = hermes_value c.args.self in
     let slice = c.as_slice.ensures.value in
-    let picked = c.in_ok-scopes.ensures.picked (subst (IsDistinct nat_eq) (sym slice) c.in_ok-sm.ensures.distinct) in
-    (c.in_ok-sm.ensures.value, picked ∙ ap (picked_scopes h.scopes) (slice ∙ c.in_ok-sm.ensures.ids))
+    let select = c.in_ok-scopes.ensures.select (subst (IsDistinct nat_eq) (sym slice) c.in_ok-sm.ensures.distinct) in
+    (c.in_ok-sm.ensures.value, select ∙ ap (picked_scopes h.scopes) (slice ∙ c.in_ok-sm.ensures.ids))
 
 pub returns-clause-well_formed : goal.returns-clause-well_formed
 returns-clause-well_formed g c well =

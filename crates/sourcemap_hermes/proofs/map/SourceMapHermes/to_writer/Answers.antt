@@ -5,5 +5,5 @@ use Rattle.sourcemap_hermes.proofs.map.SourceMapHermes.to_writer.Goals as goal
 pub returns-clause-encoded : goal.returns-clause-encoded
 returns-clause-encoded g c = search rules
 
-pub returns-clause-fault : goal.returns-clause-fault
-returns-clause-fault g c = search rules
+pub returns-clause-error : goal.returns-clause-error
+returns-clause-error g c = search rules

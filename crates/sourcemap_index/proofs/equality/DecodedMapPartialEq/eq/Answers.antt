@@ -1,5 +1,5 @@
 -- The test decides whether the values are equal.
-use Rattle.sourcemap_trees.proofs.EqualityLemmas.{trees_decide}
+use Rattle.sourcemap_index_model.proofs.EqualityLemmas.{trees_decide}
 use Rattle.sourcemap_index.specs.Family.{map_tree}
 use Rattle.sourcemap_index.proofs.equality.DecodedMapPartialEq.eq.Goals as goal
 

@@ -1,9 +1,9 @@
 -- The search over the sections finds the closest one.
 use Rattle.std.proofs.Common.{◌∙◌, sym, ap, subst, ℕ, Some, None, option_map, slice_get, IsSortedByKey}
 use Rattle.std.proofs.lemmas.Option.{slice_get-map}
-use Rattle.sourcemap_lists.specs.Search.{closest, closest_item}
-use Rattle.sourcemap_lists.specs.Tokens.{position_cmp}
-use Rattle.sourcemap_trees.specs.MapTree.{section_offset}
+use Rattle.sourcemap_tokens.specs.Search.{closest, closest_item}
+use Rattle.sourcemap_tokens.specs.Tokens.{position_cmp}
+use Rattle.sourcemap_index_model.specs.MapTree.{section_offset}
 use Rattle.sourcemap_index.specs.Family.{section_value}
 use Rattle.sourcemap_index.specs.declared.family.SourceMapIndex.{out-SourceMapIndex}
 use Rattle.sourcemap_index.proofs.FamilyLemmas.{index-out}

@@ -1,9 +1,9 @@
-use Rattle.sourcemap_regular.specs.Map.{IsWellFormed as IsWellFormedRegular}
-use Rattle.sourcemap_trees.specs.MapTree.{IndexValue, index_tree}
-use Rattle.sourcemap_trees.specs.Flat.{AnswersLike, SaysFlat}
-use Rattle.sourcemap_trees.specs.FlatList.{IsOrderly}
-use Rattle.sourcemap_trees.specs.WellFormed.{IsWellFormed}
-use Rattle.sourcemap_trees.proofs.FlatLemmas.{flat_says, flat_answers, flat_well}
+use Rattle.sourcemap_map_regular.specs.Map.{IsWellFormed as IsWellFormedRegular}
+use Rattle.sourcemap_index_model.specs.MapTree.{IndexValue, index_tree}
+use Rattle.sourcemap_index_model.specs.Flat.{AnswersLike, SaysFlat}
+use Rattle.sourcemap_index_model.specs.FlatList.{IsOrderly}
+use Rattle.sourcemap_index_model.specs.WellFormed.{IsWellFormed}
+use Rattle.sourcemap_index_model.proofs.FlatLemmas.{flat_says, flat_answers, flat_well}
 use Rattle.sourcemap_index.specs.Family.{index_value}
 use Rattle.sourcemap_index.proofs.FlattenLemmas.{answer-made, flat-if_ok}
 use Rattle.sourcemap_index.proofs.family.SourceMapIndex.flatten.Goals as goal

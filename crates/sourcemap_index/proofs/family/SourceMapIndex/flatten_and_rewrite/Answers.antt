@@ -1,6 +1,6 @@
 -- What the flat map answers, less what rewriting takes away.
-use Rattle.sourcemap_regular.specs.Rewrite.{removal_of}
-use Rattle.sourcemap_trees.specs.MapTree.{MapTree, index_tree}
+use Rattle.sourcemap_map_regular.specs.Rewrite.{removal_of}
+use Rattle.sourcemap_index_model.specs.MapTree.{MapTree, index_tree}
 use Rattle.sourcemap_index.specs.Family.{index_value}
 use Rattle.sourcemap_index.proofs.FlattenLemmas.{answers_alike, answers_less, if_ok_then}
 use Rattle.sourcemap_index.proofs.family.SourceMapIndex.flatten_and_rewrite.Goals as goal

@@ -1,4 +1,4 @@
--- A section stands in the list.
+-- A section of the list.
 use Rattle.std.proofs.Common.{◌∙◌, sym, ap, slice_get, map}
 use Rattle.sourcemap_index.proofs.FamilyLemmas.{index-out, item_seen}
 use Rattle.sourcemap_index.specs.Family.{section_value}

@@ -1,4 +1,4 @@
--- A section stands in the list; what is put in its place is seen there.
+-- A section of the list, and what replaces it.
 use Rattle.std.proofs.Common.{refl, ◌∙◌, sym, ap, slice_get}
 use Rattle.sourcemap_index.proofs.FamilyLemmas.{index-out, index_same, item_seen, on_some, section_put}
 use Rattle.sourcemap_index.specs.Family.{section_value}

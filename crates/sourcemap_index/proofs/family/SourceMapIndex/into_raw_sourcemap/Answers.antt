@@ -1,5 +1,5 @@
 -- The record that is made is as is due.
-use Rattle.sourcemap_trees.specs.MapTree.{index_tree}
+use Rattle.sourcemap_index_model.specs.MapTree.{index_tree}
 use Rattle.sourcemap_index.specs.Family.{index_value}
 use Rattle.sourcemap_index.proofs.EncodeLemmas.{record_answer}
 use Rattle.sourcemap_index.proofs.family.SourceMapIndex.into_raw_sourcemap.Goals as goal

@@ -1,4 +1,4 @@
-use Rattle.sourcemap_trees.specs.MapTree.{index_tree}
+use Rattle.sourcemap_index_model.specs.MapTree.{index_tree}
 use Rattle.sourcemap_index.specs.Family.{index_value}
 use Rattle.sourcemap_index.proofs.LookupLemmas.{meaning_found}
 use Rattle.sourcemap_index.proofs.family.SourceMapIndex.lookup_token.Goals as goal

@@ -1,7 +1,7 @@
 -- What the search finds, so that a wrong body is refused fast.
 use Rattle.std.proofs.Common.{rules}
-use Rattle.sourcemap_index.proofs.FamilyLemmas.{section_place}
+use Rattle.sourcemap_index.proofs.FamilyLemmas.{section_offset_and_url}
 use Rattle.sourcemap_index.proofs.family.SourceMapSection.get_offset.Goals as goal
 
 pub returns : goal.returns
-returns c = search (rules, section_place c.args.self.now)
+returns c = search (rules, section_offset_and_url c.args.self.now)

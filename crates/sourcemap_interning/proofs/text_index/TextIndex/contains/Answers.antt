@@ -1,5 +1,5 @@
 use Rattle.std.proofs.Common.{ℕ, List, Bor, is_some, map, sym, ap, subst, ◌∙◌}
-use Rattle.sourcemap_lists.specs.Interner.{id_of}
+use Rattle.sourcemap_interning.specs.Interner.{id_of}
 use Rattle.sourcemap_interning.specs.Slots.{IsFree, hash_of, number_in_tree}
 use Rattle.sourcemap_interning.specs.declared.slots.Probe.TheVariants.{Free, Full}
 use Rattle.sourcemap_interning.proofs.IndexLemmas.{none-free, others-full, probed-here}

@@ -1,4 +1,4 @@
--- What the search finds, so that a wrong body is refused fast.
+-- prover: wrong bodies refused fast
 use Rattle.std.proofs.Common.{rules}
 use Rattle.sourcemap_line_index.proofs.line_index.LineIndex.push.Goals as goal
 

@@ -13,7 +13,7 @@ returns-then-lines-eq1-clause-span g c =
     span_in_one c.args.tokens.now c.args.self.now c.requires (subst (λ xs. length xs ≡ 1) same c.if-lines-eq1.true) p c.span_of_one.result
     (subst (λ xs. p ≡ slice_index xs 0 → c.span_of_one.result ≡ (0, n)) same c.span_of_one.ensures.same)
     (subst (λ xs. p < slice_index xs 0 → c.span_of_one.result ≡ (0, 0)) same c.span_of_one.ensures.before)
-    (subst (λ xs. slice_index xs 0 < p → c.span_of_one.result ≡ (n, n)) same c.span_of_one.ensures.behind)
+    (subst (λ xs. slice_index xs 0 < p → c.span_of_one.result ≡ (n, n)) same c.span_of_one.ensures.after)
 
 pub returns-then-is_eq-clause-span : goal.returns-then-is_eq-clause-span
 returns-then-is_eq-clause-span g c =

@@ -1,4 +1,3 @@
--- The copy says the same.
 use Rattle.std.proofs.Common.{rules}
 use Rattle.sourcemap_records.proofs.jsontypes.FacebookScopeMapping.clone.Goals as goal
 

@@ -1,0 +1,31 @@
+-- Positions on lines that count from a later one.
+use Rattle.std.proofs.Common.{◌≡◌, refl, ℕ, ◌-◌, ◌≤◌, Bool, true, false, not, nat_lt, nat_eq, arith}
+use Rattle.std.specs.Ordering.{is_lt, nat_cmp}
+use Rattle.std.proofs.lemmas.Bool.Decides.{nat_tests}
+use Rattle.sourcemap_tokens.specs.Tokens.{position_cmp}
+use Rattle.sourcemap_bundle_split.specs.ModuleMap.{is_in}
+
+-- what is on these lines is on the first of them or later
+pub in-later : (line : ℕ) (end p : ℕ × ℕ) → is_in line end p ≡ true → line ≤ p.0
+in-later line end p inside = by_cases (nat_lt p.0 line) refl
+  where
+    by_cases : (b : Bool) → nat_lt p.0 line ≡ b → line ≤ p.0
+    by_cases true b = let no : false ≡ true = (rw b at inside) in cc
+    by_cases false b = grind (arith, nat_tests, b)
+
+pub less-relative_position : (a b line : ℕ) → line ≤ a → line ≤ b → nat_lt (a - line) (b - line) ≡ nat_lt a b
+less-relative_position a b line la lb = grind (arith, nat_tests)
+
+pub same-relative_position : (a b line : ℕ) → line ≤ a → line ≤ b → nat_eq (a - line) (b - line) ≡ nat_eq a b
+same-relative_position a b line la lb = grind (arith, nat_tests)
+
+pub cmp-relative_position : (a b line : ℕ) → line ≤ a → line ≤ b → nat_cmp (a - line) (b - line) ≡ nat_cmp a b
+cmp-relative_position a b line la lb = rw (less-relative_position a b line la lb, same-relative_position a b line la lb) refl
+
+-- what is not before the start of a line is on it or later
+pub not_before-line : (line : ℕ) (p : ℕ × ℕ) → not (is_lt (position_cmp p (line, 0))) ≡ true → line ≤ p.0
+not_before-line line p passes = by_cases (nat_lt p.0 line) refl
+  where
+    by_cases : (b : Bool) → nat_lt p.0 line ≡ b → line ≤ p.0
+    by_cases true b = let no : false ≡ true = (rw b at passes) in cc
+    by_cases false b = grind (arith, nat_tests, b)

@@ -1,0 +1,13 @@
+use Rattle.std.proofs.Common.{◌≡◌, length}
+use Rattle.sourcemap_bundles.specs.Iterators.{modules_left}
+use Rattle.sourcemap_bundle_split.specs.Iterators.{laid_left}
+use Rattle.sourcemap_bundle_split.proofs.split.SplitRamBundleModuleIter.next_laid.Given as goal
+
+abbrev pub invariant-loop-item : goal.invariant-loop-item
+invariant-loop-item l = record {
+  left : laid_left l.self ≡ laid_left l.initial.self;
+  maps : l.self.maps ≡ l.initial.self.maps;
+}
+
+abbrev pub decreases-loop-item : goal.decreases-loop-item
+decreases-loop-item l = length (modules_left l.self.modules)

@@ -1,0 +1,91 @@
+-- A bundle split: the name, the text and the map of each module, or why it has none.
+use Rattle.std.specs.Prelude.{◌≡◌, ◌≤◌, ℕ, ◌&&◌, if◌then◌else◌, List, [], ◌∷◌, ◌++◌, codes, length, map, filter_map, slice_get, Option, Some, None, is_some, MatchOption, Result, Ok, Err, string_bytes}
+use Rattle.std.specs.Fmt.{decimal}
+use Rattle.std.specs.Str.{is_utf8}
+use Rattle.std.specs.declared.alloc.Global.{Global}
+use Rattle.std.specs.declared.string.String.{String}
+use Rattle.sourcemap_errors.specs.Answer.{Gives}
+use Rattle.sourcemap_errors.specs.declared.errors.Error.{Error}
+use Rattle.sourcemap_errors.specs.declared.errors.Error.TheVariants.{InvalidRamBundleEntry, NotARamBundle}
+use Rattle.sourcemap_map_regular.specs.Map.{MapValue, meaning}
+use Rattle.sourcemap_index_model.specs.Decode.{Then}
+use Rattle.sourcemap_index_model.specs.Flat.{FlatAnswer}
+use Rattle.sourcemap_index_model.specs.MapTree.{IndexValue, index_tree}
+use Rattle.sourcemap_bundles.specs.Modules.{ModuleValue}
+use Rattle.sourcemap_bundle_split.specs.ModuleMap.{end_of, module_map}
+
+-- the item of a module: its name, its text and its map
+pub record ModuleParts : Type 0 where
+  pub name : List ℕ
+  pub text : List ℕ
+  pub map : MapValue
+
+abbrev pub parts_value : String Global × List ℕ × MapValue → ModuleParts
+parts_value parts = record { name = string_bytes parts.0; text = parts.1; map = parts.2 }
+
+-- the name of the file of a module
+abbrev pub file_name : ℕ → List ℕ
+file_name id = decimal id ++ codes ".js"
+
+abbrev pub parts_on : MapValue → ℕ → ModuleValue → ModuleParts
+parts_on flat line m = record {
+  name = file_name m.id;
+  text = m.text;
+  map = module_map flat (file_name m.id) line (end_of line m.text);
+}
+
+-- bytes as a text, which are to be UTF-8
+abbrev pub text_of : List ℕ → Result (List ℕ) Error
+text_of bytes = if is_utf8 bytes then Ok bytes else Err InvalidRamBundleEntry
+
+-- the module that begins at this line of the flat map, if the map answers there and the text is UTF-8
+abbrev pub parts_at : MapValue → ℕ → ModuleValue → Result ModuleParts Error
+parts_at flat line m =
+    if is_some (meaning flat (line, 0)) && is_utf8 m.text then Ok (parts_on flat line m) else Err InvalidRamBundleEntry
+
+-- a module with its first line: one past the offsets is an error, one without an offset is skipped
+abbrev pub with_line : ModuleValue → Option (Option ℕ) → Option (Result (ModuleValue × ℕ) Error)
+with_line m None = Some (Err InvalidRamBundleEntry)
+with_line m (Some None) = None
+with_line m (Some (Some line)) = Some (Ok (m, line))
+
+abbrev pub laid : List (Option ℕ) → Result ModuleValue Error → Option (Result (ModuleValue × ℕ) Error)
+laid offsets (Ok m) = with_line m (slice_get offsets m.id)
+laid offsets (Err e) = Some (Err InvalidRamBundleEntry)
+
+abbrev pub due_of : MapValue → Result (ModuleValue × ℕ) Error → Result ModuleParts Error
+due_of flat (Ok found) = parts_at flat found.1 found.0
+due_of flat (Err e) = Err e
+
+-- the item of each of these modules that is not skipped
+abbrev pub dues_of : MapValue → List (Option ℕ) → List (Result ModuleValue Error) → List (Result ModuleParts Error)
+dues_of flat offsets modules = map (due_of flat) (filter_map (laid offsets) modules)
+
+-- a flat map, the first lines of modules, and modules that are still to come
+pub record SplitValue : Type 0 where
+  pub flat : MapValue
+  pub offsets : List (Option ℕ)
+  pub modules : List (Result ModuleValue Error)
+
+abbrev pub dues_in : SplitValue → List (Result ModuleParts Error)
+dues_in split = dues_of split.flat split.offsets split.modules
+
+-- an index without the list of first lines is of no bundle
+abbrev pub with_offsets : MapValue → List (Result ModuleValue Error) → Option (List (Option ℕ)) → Result SplitValue Error
+with_offsets flat modules None = Err NotARamBundle
+with_offsets flat modules (Some offsets) = Ok (record { flat = flat; offsets = offsets; modules = modules })
+
+-- the index is flattened first
+abbrev pub Splits : IndexValue → List (Result ModuleValue Error) → Result SplitValue Error → Type 0
+Splits i modules answer =
+    Then (FlatAnswer (index_tree i)) (λ flat a. a ≡ with_offsets flat modules i.parts.x_facebook_offsets) answer
+
+-- each source and each name has a number
+pub record HasFewTexts (flat : MapValue) : Type 0 where
+  pub sources : length flat.sources ≤ 4294967295
+  pub names : length flat.names ≤ 4294967295
+
+-- a call gave what is due first, unless memory ran out, and left the others
+abbrev pub YieldsDue : {S A B : Type 0} → (A → B) → (S → List (Result B Error)) → S → Option (Result A Error) → S → Type 0
+YieldsDue {B = B} view rest s item t =
+    MatchOption item ((rest s ≡ []) × (rest t ≡ [])) (λ r. (due : Result B Error) × (rest s ≡ due ∷ rest t) × Gives view r due)

@@ -1,0 +1,18 @@
+//! What follows from how the map of a module is made.
+ghost use Rattle.std.specs.Prelude.{◌≡◌, ◌≤◌, ℕ, List, Some, length, true};
+ghost use Rattle.sourcemap_tokens.specs.Search.{closest_item};
+ghost use Rattle.sourcemap_tokens.specs.Tokens.{destination, position_cmp};
+ghost use Rattle.sourcemap_tokens.specs.declared.tokens.RawToken.{RawToken};
+ghost use Rattle.sourcemap_map_regular.specs.Map.{MapValue, meaning};
+ghost use Rattle.sourcemap_bundle_split.specs.ModuleMap.{end_of, is_in, lowered_to, module_map};
+
+/// At each position of a module's lines whose closest token in the flat map is one of these lines,
+/// the module's map answers as the flat map does, at the line less the module's first line.
+pub fn module_means_what_flat_means()
+    ensures { (flat : MapValue) (name text : List ℕ) (line : ℕ) (p : ℕ × ℕ) (t : RawToken)
+        → length flat.sources ≤ 4294967295 → length flat.names ≤ 4294967295
+        → is_in line (end_of line text) p ≡ true
+        → closest_item destination position_cmp flat.tokens p ≡ Some t
+        → is_in line (end_of line text) (destination t) ≡ true
+        → meaning (module_map flat name line (end_of line text)) (lowered_to line p) ≡ meaning flat p }
+{}

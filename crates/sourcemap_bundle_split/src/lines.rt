@@ -1,0 +1,84 @@
+//! The tokens on the lines of a module.
+ghost use Rattle.std.specs.Prelude.{◌≡◌, ◌≤◌, ℕ, All, filter, length, take, drop, not};
+ghost use Rattle.std.specs.Ordering.{is_lt};
+ghost use Rattle.std.specs.Str.{chars};
+ghost use Rattle.sourcemap_tokens.specs.Tokens.{AreInOrder, destination, position_cmp};
+ghost use Rattle.sourcemap_source_views.specs.Columns.{width};
+ghost use Rattle.sourcemap_bundle_split.specs.ModuleMap.{end_of, tokens_in};
+ghost use Rattle.sourcemap_bundle_split.specs.Lines.{IsBound};
+
+use sourcemap_source_views::sourceview::SourceView;
+use sourcemap_tokens::tokens::RawToken;
+
+/// A line and a column, which may lie past all those of tokens.
+#[derive(Clone, Copy)]
+pub(crate) struct Bound {
+    line: u64,
+    col: u64,
+}
+
+/// Returns where the text of a module ends that begins at this line.
+pub(crate) fn end_of(line: u32, view: &SourceView) -> Bound
+    ensures { IsBound result (end_of line view.now) }
+{
+    let last = view.line_count().saturating_sub(1) as u64;
+    let text = match u32::try_from(last) {
+        Ok(last) => view.get_line(last).unwrap_or(""),
+        Err(_) => "",
+    };
+    Bound {
+        line: u64::from(line).saturating_add(last),
+        col: units_in(text),
+    }
+}
+
+/// Returns the tokens from a line on and before an end.
+pub(crate) fn tokens_in(tokens: &[RawToken], line: u32, end: Bound) -> &[RawToken]
+    requires { AreInOrder tokens.now }
+    ensures tokens { (e : ℕ × ℕ) → IsBound end e → result.now ≡ tokens_in line e tokens.now }
+    ensures later { All (λ t. line ≤ t.dst_line) result.now }
+    ensures in_order { AreInOrder result.now }
+{
+    let start = Bound {
+        line: u64::from(line),
+        col: 0,
+    };
+    let (_, later) = tokens.split_at(first_at(tokens, start));
+    let (own, _) = later.split_at(first_at(later, end));
+    own
+}
+
+// The number of tokens before a bound.
+fn first_at(tokens: &[RawToken], bound: Bound) -> usize
+    requires { AreInOrder tokens.now }
+    ensures within { result ≤ length tokens.now }
+    ensures before { (b : ℕ × ℕ) → IsBound bound b
+        → take result tokens.now ≡ filter (λ t. is_lt (position_cmp (destination t) b)) tokens.now }
+    ensures from { (b : ℕ × ℕ) → IsBound bound b
+        → drop result tokens.now ≡ filter (λ t. not (is_lt (position_cmp (destination t) b))) tokens.now }
+{
+    tokens.partition_point(|token| stands_before(token, bound))
+}
+
+// Whether the token is before a bound.
+fn stands_before(token: &RawToken, bound: Bound) -> bool
+    ensures { (b : ℕ × ℕ) → IsBound bound b
+        → result ≡ is_lt (position_cmp (destination token.now) b) }
+{
+    let line = u64::from(token.dst_line);
+    line < bound.line || (line == bound.line && u64::from(token.dst_col) < bound.col)
+}
+
+// The number of UTF-16 units of a text.
+fn units_in(text: &str) -> u64
+    ensures { result ≡ width (chars text.now) }
+{
+    if text.is_ascii() {
+        return text.len() as u64;
+    }
+    let mut total = 0;
+    for character in text.chars() {
+        total += character.len_utf16() as u64;
+    }
+    total
+}

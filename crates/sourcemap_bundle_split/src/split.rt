@@ -1,0 +1,129 @@
+//! Bundles split into their modules, each with a map of its own.
+ghost use Rattle.std.specs.Prelude.{◌≡◌, ◌≤◌, IfOk, Ok, length};
+ghost use Rattle.std.specs.Iterator.{YieldsFirstBy};
+ghost use Rattle.sourcemap_errors.specs.Answer.{Gives, IsAnswer};
+ghost use Rattle.sourcemap_bundles.specs.Iterators.{modules_left};
+ghost use Rattle.sourcemap_bundles.specs.Modules.{bundle_count, modules_of};
+ghost use Rattle.sourcemap_bundles.specs.Stored.{module_value};
+ghost use Rattle.sourcemap_index.specs.Family.{index_value};
+ghost use Rattle.sourcemap_bundle_split.specs.Iterators.{dues_left, laid_left, laid_value, split_value};
+ghost use Rattle.sourcemap_bundle_split.specs.Split.{HasFewTexts, Splits, parts_at, parts_value, text_of};
+
+use crate::module_maps::ModuleMaps;
+use sourcemap_bundles::ram_bundle::{RamBundle, RamBundleModule, RamBundleModuleIter};
+use sourcemap_errors::errors::{Error, Result};
+use sourcemap_index::family::SourceMapIndex;
+use sourcemap_map_regular::map::SourceMap;
+use sourcemap_source_views::sourceview::SourceView;
+use std::alloc::Global;
+use std::str;
+
+/// The modules of a bundle that are still to come, each with its name, its text and its map.
+#[derive(Drop)]
+pub struct SplitRamBundleModuleIter<'a> {
+    modules: RamBundleModuleIter<'a>,
+    maps: ModuleMaps,
+    offsets: Vec<Option<u32>>,
+    alloc: Global,
+}
+
+/// Returns the modules of a bundle in turn, each with a map made of the index map of the bundle.
+/// The errors of `flatten` come first; an index without `x_facebook_offsets` is `NotARamBundle`.
+///
+/// A module begins at the line that the list has for its number, and takes as many lines as its
+/// text has; on the last one it ends at that line's length in UTF-16 units. Its name is its number
+/// and `.js`. Its map has the tokens of its lines, which count from the first of them, and the
+/// sources with their contents and the names that these use, in the order of first use. A number
+/// for which the list has null gives no item. `InvalidRamBundleEntry` is the item of a module that
+/// the bundle refuses, whose number is past the list, whose text is not UTF-8, or with no token at
+/// the first column of its first line or before it. An item may be `OutOfMemory`; it loses that
+/// module alone.
+pub fn split_ram_bundle<'a>(
+    alloc: Global,
+    bundle: &'a RamBundle<'a>,
+    map: &SourceMapIndex,
+) -> Result<SplitRamBundleModuleIter<'a>>
+    ensures answer { IsAnswer split_value (Splits (index_value map.now) (modules_of bundle.now)) result }
+    ensures few { IfOk result (λ it. HasFewTexts (split_value it).flat) }
+    ensures bound { IfOk result (λ it. length (dues_left it) ≤ bundle_count bundle.now) }
+{
+    let flat = map.flatten()?;
+    let offsets = map.x_facebook_offsets().ok_or(Error::NotARamBundle)?;
+    let offsets = Vec::from_slice(alloc, offsets)?;
+    let maps = ModuleMaps::new(alloc, flat)?;
+    Ok(SplitRamBundleModuleIter {
+        modules: bundle.iter_modules(),
+        maps,
+        offsets,
+        alloc,
+    })
+}
+
+impl<'a> SplitRamBundleModuleIter<'a> {
+    // The next module that is not skipped, with its first line.
+    fn next_laid(&mut self) -> Option<Result<(RamBundleModule<'a>, u32)>>
+        ensures next { YieldsFirstBy laid_value laid_left self.old result self.new }
+        ensures maps { self.new.maps ≡ self.old.maps }
+    {
+        while let Some(item) = self.modules.next() {
+            let Ok(found) = item else {
+                return Some(Err(Error::InvalidRamBundleEntry));
+            };
+            match self.offsets.get(found.id()) {
+                None => return Some(Err(Error::InvalidRamBundleEntry)),
+                Some(None) => {}
+                Some(Some(line)) => return Some(Ok((found, *line))),
+            }
+        }
+        None
+    }
+
+    // The name, the text and the map of a module that begins at this line.
+    fn parts_at(
+        &mut self,
+        found: &RamBundleModule<'a>,
+        line: u32,
+    ) -> Result<(String, SourceView, SourceMap)>
+        ensures parts { Gives parts_value result
+            (parts_at self.old.maps line (module_value found.now)) }
+        ensures left { split_value self.new ≡ split_value self.old }
+    {
+        if !self.maps.reaches(line) {
+            return Err(Error::InvalidRamBundleEntry);
+        }
+        let view = view_of(found, self.alloc)?;
+        let id = found.id();
+        let name = format!(in self.alloc; "{id}.js")?;
+        let map = self.maps.map_of(self.alloc, name.as_str(), line, &view)?;
+        Ok((name, view, map))
+    }
+}
+
+// A view of the module's text, which has to be UTF-8.
+fn view_of(found: &RamBundleModule<'_>, alloc: Global) -> Result<SourceView>
+    ensures { Gives (λ view. view) result (text_of found.now.text.now) }
+{
+    match str::from_utf8(found.data()) {
+        Ok(text) => SourceView::new(alloc, text),
+        Err(_) => Err(Error::InvalidRamBundleEntry),
+    }
+}
+
+impl<'a> Iterator for SplitRamBundleModuleIter<'a> {
+    type Item = Result<(String, SourceView, SourceMap)>;
+
+    ghost use Rattle.std.specs.Iterator.{item_count};
+    ghost use Rattle.sourcemap_bundle_split.specs.Iterators.{dues_left};
+    ghost use Rattle.sourcemap_bundle_split.specs.Split.{YieldsDue, parts_value};
+
+    ghost next_gives = { YieldsDue parts_value dues_left };
+
+    ghost remaining = { item_count dues_left };
+
+    fn next(&mut self) -> Option<Result<(String, SourceView, SourceMap)>> {
+        match self.next_laid()? {
+            Ok((found, line)) => Some(self.parts_at(&found, line)),
+            Err(e) => Some(Err(e)),
+        }
+    }
+}

@@ -1,0 +1,51 @@
+-- Getters of a map in a handle.
+use Rattle.std.specs.Prelude.{◌≡◌, ◌<◌, ◌+◌, ℕ, List, length, min, Option, Some, None, option_map, option_and_then, slice_get}
+use Rattle.sourcemap_map_regular.specs.Map.{MapValue, source_of, name_of, contents_of}
+use Rattle.sourcemap_index_model.specs.MapTree.{MapTree, leaf, index, held, section_list}
+use Rattle.sourcemap_c_handles.specs.declared.layout.Counts.{Counts}
+
+-- the regular map, also of a Hermes map
+abbrev pub leaf_in : MapTree → Option MapValue
+leaf_in (leaf l) = Some (held l)
+leaf_in (index _ _) = None
+
+-- 4294967295 also for more
+abbrev pub counted : ℕ → ℕ
+counted n = min n 4294967295
+
+abbrev pub counts_of_map : MapValue → Counts
+counts_of_map m = record {
+  tokens = counted (length m.tokens);
+  sources = length m.sources;
+  names = length m.names;
+  ignored = counted (length m.ignored);
+  sections = 0;
+}
+
+abbrev pub counts_of_sections : ℕ → Counts
+counts_of_sections n = record { tokens = 0; sources = 0; names = 0; ignored = 0; sections = counted n }
+
+abbrev pub counts_of : MapTree → Counts
+counts_of (leaf l) = counts_of_map (held l)
+counts_of (index parts ss) = counts_of_sections (length (section_list ss))
+
+abbrev pub file_of : MapTree → Option (List ℕ)
+file_of (leaf l) = (held l).file
+file_of (index parts _) = parts.file
+
+abbrev pub root_of : MapTree → Option (List ℕ)
+root_of t = option_and_then (λ m. m.root) (leaf_in t)
+
+abbrev pub source_in : ℕ → MapTree → Option (List ℕ)
+source_in id t = option_and_then (λ m. source_of m id) (leaf_in t)
+
+abbrev pub name_in : ℕ → MapTree → Option (List ℕ)
+name_in id t = option_and_then (λ m. name_of m id) (leaf_in t)
+
+abbrev pub contents_in : ℕ → MapTree → Option (List ℕ)
+contents_in id t = option_and_then (λ m. contents_of m id) (leaf_in t)
+
+-- the first n items of the array are those from index `first`
+abbrev pub AreFrom : {X Y : Type 0} → (X → Y) → (first : ℕ) → List X → List Y → ℕ → Type 0
+AreFrom view first items written n =
+    (i : ℕ) → i < n → slice_get written i ≡ option_map view (slice_get items (first + i))

@@ -1,0 +1,41 @@
+-- Conversions of the structs of the header.
+use Rattle.std.specs.Prelude.{Option, Some, None, false, true}
+use Rattle.sourcemap_tokens.specs.declared.tokens.RawToken.{RawToken}
+use Rattle.sourcemap_map_regular.specs.Token.{TokenValue, says}
+use Rattle.sourcemap_c_handles.specs.declared.layout.Found.{Found}
+use Rattle.sourcemap_c_handles.specs.declared.layout.MapToken.{MapToken}
+
+-- a stored token
+abbrev pub map_token : RawToken → MapToken
+map_token raw = record {
+  line = raw.dst_line;
+  column = raw.dst_col;
+  original_line = raw.src_line;
+  original_column = raw.src_col;
+  source = raw.src_id;
+  name = raw.name_id;
+  is_range = raw.is_range;
+}
+
+abbrev pub raw_token : MapToken → RawToken
+raw_token token = record {
+  dst_line = token.line;
+  dst_col = token.column;
+  src_line = token.original_line;
+  src_col = token.original_column;
+  src_id = token.source;
+  name_id = token.name;
+  is_range = token.is_range;
+}
+
+-- a token that a lookup found: its original position is that of the position that was looked up
+abbrev pub found_token : TokenValue → MapToken
+found_token token = record (map_token token.raw) { original_line = (says token).line; original_column = (says token).column }
+
+-- the result of a lookup with this closest token
+abbrev pub found_in : Option TokenValue → Found
+found_in None = record {
+  token = record { line = 0; column = 0; original_line = 0; original_column = 0; source = 0; name = 0; is_range = false };
+  found = false;
+}
+found_in (Some token) = record { token = found_token token; found = true }

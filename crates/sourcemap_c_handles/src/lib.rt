@@ -1,0 +1,12 @@
+//! The handles, the structs and the error reports of the C interface.
+#![tactic(auto)]
+
+pub mod errors;
+pub mod handle;
+pub mod held;
+pub mod layout;
+pub mod no_files;
+pub(crate) mod sealed;
+
+pub use handle::Handle;
+pub use held::{Held, SplitModule};

@@ -1,0 +1,503 @@
+-- From the results of calls to the reply, and from the reply to the output of a run.
+use Rattle.std.proofs.Common.{◌≡◌, ◌≢◌, ◌⊎◌, inl, inr, refl, sym, ap, subst, ◌∙◌, ℕ, List, [], ◌++◌, codes, Option, Some, None, Result, Ok, Err, IfSome, IsOkAnd, MatchOption, MatchResult, IfOk, string_bytes, String, Global, Vec}
+use Rattle.std.specs.IoError.{error_kind}
+use Rattle.std.specs.declared.io.Error.{Error as IoError}
+use Rattle.std.specs.declared.io.ErrorKind.TheVariants.{OutOfMemory as NoMemory}
+use Rattle.sourcemap.specs.Answer.{UnlessMemory, Gives, IsAnswer}
+use Rattle.sourcemap.specs.AnyMap.{map_tree}
+use Rattle.sourcemap.specs.Decoder.{AreSame, BytesDecode, Reading, UnlessReadFails}
+use Rattle.sourcemap.specs.Jsontypes.{Tree, record_of}
+use Rattle.sourcemap.specs.Reading.{IsSameError}
+use Rattle.sourcemap.specs.Errors.{error_text, FromIo}
+use Rattle.sourcemap.specs.Flat.{FlatAnswer}
+use Rattle.sourcemap.specs.Shift.{HaveRowsLeft, shifted}
+use Rattle.sourcemap.specs.TreeDecoder.{Then, TreeDecodes}
+use Rattle.sourcemap.specs.Trees.{LeafMap, regular, hermes, MapTree, leaf, index, IndexParts, IndexValue, index_tree, MapSection, section_list, sections_from, meaning, IsInOrder}
+use Rattle.sourcemap.specs.Types.{MapValue}
+use Rattle.sourcemap.specs.declared.errors.Error.{Error}
+use Rattle.sourcemap.specs.declared.errors.Error.TheVariants.{BadJson, CannotFlatten, IncompatibleSourceMap, Io, OutOfMemory}
+use Rattle.sourcemap_index.specs.declared.family.DecodedMap.{DecodedMap}
+use Rattle.sourcemap_trace.specs.Trace.{trace_of}
+use Rattle.sourcemap_cli.specs.Command.{AskFor, IsOfMaps, IsSameCommand, TakesAdjustment}
+use Rattle.sourcemap_cli.specs.Program.{AskForNone, ReturnsOnBytes, Ending, answered, misused, Ends, FileDecodes, MayBeRead, MayEnd, IsCutShort, IsReply, IsReplyOf, IsReplyTo, IsPrinted, IsRefusal, IsWriteError, IsLookupLine, IsJsonLine, IsNotIndex, PrintsMap, Runs, Returns, ReturnsWithFile, ShiftAnswer, WithFile, adjusted_by, file_read, found_text, newline, rewritten_leaf, traced}
+use Rattle.sourcemap_cli.specs.declared.command.Command.{Command}
+use Rattle.sourcemap_cli.specs.declared.command.Command.TheVariants.{Compose, Flatten, Lookup, Rewrite, Shift, Tokens, Trace}
+use Rattle.sourcemap_cli.specs.declared.program.Reply.{Reply}
+use Rattle.sourcemap_errors.proofs.AnswerLemmas.{UnlessMemory-weaker, UnlessMemory-from}
+use Rattle.sourcemap_index.proofs.DecodeLemmas.{bytes_decode_once}
+use Rattle.sourcemap_index.proofs.WrittenValueLemmas.{written_text_once}
+use Rattle.sourcemap.specs.declared.errors.JsonFault.TheVariants.{Shape}
+use Rattle.sourcemap_index_model.proofs.MapTreeLemmas.{section_list-from}
+use Rattle.sourcemap_index_model.proofs.WellFormedLemmas.{decoded_well, well_formed_in_order}
+use Rattle.sourcemap_cli.proofs.CommandLemmas.{command_once}
+
+-- every call may return `OutOfMemory`; any other error must be the specified one
+pub no_memory : (e : Error) (P : Type 0) → e ≡ OutOfMemory → UnlessMemory e P
+no_memory e P is = rw is tt
+
+with_memory : (e : Error) (P : Type 0) → e ≢ OutOfMemory → UnlessMemory e P → P
+with_memory OutOfMemory P is h = absurd (is refl)
+with_memory _ P is h = h
+
+-- From the output of a command to the reply.
+
+-- a map's line, or out of memory
+prints_map : (t : MapTree) (r : Result (String Global) Error)
+    → MatchResult r (λ text. IsJsonLine t (string_bytes text)) (λ e. e ≡ OutOfMemory)
+    → IsAnswer string_bytes (PrintsMap t) r
+prints_map t (Ok text) h = h
+prints_map t (Err e) h = no_memory e (PrintsMap t (Err e)) h
+
+pub returns_rewritten : (l new : LeafMap) (t : MapTree) (r : Result (String Global) Error) → new ≡ rewritten_leaf l → t ≡ leaf new
+    → MatchResult r (λ text. IsJsonLine t (string_bytes text)) (λ e. e ≡ OutOfMemory)
+    → IsAnswer string_bytes (Returns Rewrite (leaf l) None) r
+returns_rewritten l new t r is of h =
+    subst (λ x. IsAnswer string_bytes (PrintsMap x) r) (of ∙ ap leaf is) (prints_map t r h)
+
+-- a second step follows a first answer; an error of the first step is the result
+then_made : {X : Type 0} (First : Result X Error → Type 0) (Next : X → Result (List ℕ) Error → Type 0) (x : X)
+    (r : Result (String Global) Error) → First (Ok x) → IsAnswer string_bytes (Next x) r
+    → IsAnswer string_bytes (Then First Next) r
+then_made First Next x (Ok text) first h = inl (x, first, h)
+then_made First Next x (Err e) first h = UnlessMemory-weaker e (λ says. inl (x, first, says)) h
+
+then_refused : {X : Type 0} (First : Result X Error → Type 0) (Next : X → Result (List ℕ) Error → Type 0) (e : Error)
+    → UnlessMemory e (First (Err e)) → UnlessMemory e (Then First Next (Err e))
+then_refused First Next e h = UnlessMemory-weaker e (λ refused. inr refused) h
+
+then_prints : (First : Result MapValue Error → Type 0) (m : MapValue) (t : MapTree) (r : Result (String Global) Error)
+    → First (Ok m) → t ≡ leaf (regular m)
+    → MatchResult r (λ text. IsJsonLine t (string_bytes text)) (λ e. e ≡ OutOfMemory)
+    → IsAnswer string_bytes (Then First (λ m a. PrintsMap (leaf (regular m)) a)) r
+then_prints First m t r made of h =
+    then_made First (λ m a. PrintsMap (leaf (regular m)) a) m r made
+    (subst (λ x. IsAnswer string_bytes (PrintsMap x) r) of (prints_map t r h))
+
+pub returns_flat : (i : IndexValue) (m : MapValue) (t : MapTree) (r : Result (String Global) Error)
+    → FlatAnswer (index_tree i) (Ok m) → t ≡ leaf (regular m)
+    → MatchResult r (λ text. IsJsonLine t (string_bytes text)) (λ e. e ≡ OutOfMemory)
+    → IsAnswer string_bytes (Returns Flatten (index_tree i) None) r
+returns_flat i m t r made of h = then_prints (FlatAnswer (index_tree i)) m t r made of h
+
+pub returns_no_flat : (i : IndexValue) (e : Error) → UnlessMemory e (FlatAnswer (index_tree i) (Err e))
+    → UnlessMemory e (Returns Flatten (index_tree i) None (Err e))
+returns_no_flat i e h = then_refused (FlatAnswer (index_tree i)) (λ m a. PrintsMap (leaf (regular m)) a) e h
+
+pub returns_adjusted : (path : String Global) (t : MapTree) (other : Option MapTree) (m : MapValue) (u : MapTree)
+    (r : Result (String Global) Error) → adjusted_by t other ≡ Ok m → u ≡ leaf (regular m)
+    → MatchResult r (λ text. IsJsonLine u (string_bytes text)) (λ e. e ≡ OutOfMemory)
+    → IsAnswer string_bytes (Returns (Compose path) t other) r
+returns_adjusted path t other m u r made of h = then_prints (λ a. a ≡ adjusted_by t other) m u r (sym made) of h
+
+pub returns_no_adjusted : (path : String Global) (t : MapTree) (other : Option MapTree) (e : Error)
+    → UnlessMemory e (adjusted_by t other ≡ Err e) → UnlessMemory e (Returns (Compose path) t other (Err e))
+returns_no_adjusted path t other e h =
+    then_refused (λ a. a ≡ adjusted_by t other) (λ m a. PrintsMap (leaf (regular m)) a) e (UnlessMemory-weaker e (λ is. sym is) h)
+
+none_adjusted : (t : MapTree) → adjusted_by t None ≡ Err IncompatibleSourceMap
+none_adjusted (leaf (regular m)) = refl
+none_adjusted (leaf (hermes h)) = refl
+none_adjusted (index parts ss) = refl
+
+-- `compose` needs an adjustment
+pub compose_without_adjustment : (path : String Global) (t : MapTree) → Returns (Compose path) t None (Err IncompatibleSourceMap)
+compose_without_adjustment path t = inr (sym (none_adjusted t))
+
+-- only `compose` takes a second map
+pub says_of_two : {X : Type 0} (x : X) (command : Command) (t u : MapTree) (r : Result (String Global) Error)
+    → TakesAdjustment command (Some x)
+    → ((path : String Global) → IsAnswer string_bytes (Returns (Compose path) t (Some u)) r)
+    → IsAnswer string_bytes (Returns command t (Some u)) r
+says_of_two x (Compose path) t u r takes h = h path
+says_of_two x command t u r takes h = absurd cc
+
+-- the sections of an index are those of its tree
+returns_shift : (rows : ℕ) (i : IndexValue) (answer : Result (List ℕ) Error) → ShiftAnswer rows i.parts i.sections answer
+    → Returns (Shift rows) (index_tree i) None answer
+returns_shift rows i answer h = subst (λ ss. ShiftAnswer rows i.parts ss answer) (sym (section_list-from i.sections)) h
+
+pub returns_shifted : (rows : ℕ) (i : IndexValue) (t : MapTree) (r : Result (String Global) Error) → HaveRowsLeft rows i.sections
+    → t ≡ index i.parts (sections_from (shifted rows i.sections))
+    → MatchResult r (λ text. IsJsonLine t (string_bytes text)) (λ e. e ≡ OutOfMemory)
+    → IsAnswer string_bytes (Returns (Shift rows) (index_tree i) None) r
+returns_shifted rows i t (Ok text) left of h =
+    returns_shift rows i (Ok (string_bytes text)) (inl (left, subst (λ x. IsJsonLine x (string_bytes text)) of h))
+returns_shifted rows i t (Err e) left of h = no_memory e (Returns (Shift rows) (index_tree i) None (Err e)) h
+
+pub returns_no_shift : (rows : ℕ) (i : IndexValue) → ¬ HaveRowsLeft rows i.sections
+    → Returns (Shift rows) (index_tree i) None (Err IncompatibleSourceMap)
+returns_no_shift rows i past = returns_shift rows i (Err IncompatibleSourceMap) (inr (past, refl))
+
+-- flattening another map than an index map is an error
+pub no_index_flat : (t : MapTree) (e : Error) → (e ≡ IncompatibleSourceMap) × IsNotIndex t → UnlessMemory e (Returns Flatten t None (Err e))
+no_index_flat (leaf l) e (is, other) = rw is refl
+no_index_flat (index parts ss) e (is, other) = absurd other
+
+-- shifting another map than an index map is an error
+pub no_index_shift : (rows : ℕ) (t : MapTree) (e : Error) → (e ≡ IncompatibleSourceMap) × IsNotIndex t → UnlessMemory e (Returns (Shift rows) t None (Err e))
+no_index_shift rows (leaf l) e (is, other) = rw is refl
+no_index_shift rows (index parts ss) e (is, other) = absurd other
+
+-- a command without positions needs only maps
+pub of_maps : (command : Command) → ((path : String Global) → command ≢ Trace path) → IsOfMaps command
+of_maps (Trace path) other = absurd (other path refl)
+of_maps command other = tt
+
+-- Reading a file.
+
+pub with_file : (held : Option (Result (List ℕ) Error)) (P Q : Result (List ℕ) Error → Type 0)
+    → ((file : Result (List ℕ) Error) → P file → Q file) → WithFile held P → WithFile held Q
+with_file (Some file) P Q f h = f file h
+with_file None P Q f (file, may, h) = (file, may, f file h)
+
+pub any_file : (held : Option (Result (List ℕ) Error)) (P : Result (List ℕ) Error → Type 0)
+    → ((file : Result (List ℕ) Error) → P file) → WithFile held P
+any_file (Some file) P f = f file
+any_file None P f = (Ok [], tt, f (Ok []))
+
+pub may_be_read : (known : Option (List ℕ)) (r : Result (Vec ℕ Global) Error)
+    → MatchResult r (λ bytes. IfSome known (λ xs. bytes.items ≡ xs)) (λ e. UnlessReadFails e ⊥) → MayBeRead (file_read r)
+may_be_read known (Ok bytes) h = tt
+may_be_read known (Err e) h = h
+
+-- an error of opening a file is one of a reader
+pub may_not_open : (cause : IoError) (e : Error) → FromIo cause e → UnlessReadFails e ⊥
+may_not_open cause OutOfMemory h = tt
+may_not_open cause (Io kept) (same, other) = inr (refl, subst (λ x. error_kind x ≢ NoMemory) (sym same) other)
+may_not_open cause e h = absurd h
+
+-- the map in a file, and the errors of reading and decoding it
+pub file_of_map : (held : Option (Result (List ℕ) Error)) (bytes : List ℕ) (r : Result DecodedMap Error)
+    → WithFile held (λ file. Ok bytes ≡ file) → IsAnswer map_tree (BytesDecode bytes) r
+    → WithFile held (λ file. IsAnswer map_tree (FileDecodes file) r)
+file_of_map held bytes r read h =
+    with_file held (λ file. Ok bytes ≡ file) (λ file. IsAnswer map_tree (FileDecodes file) r)
+    (λ file is. subst (λ x. IsAnswer map_tree (FileDecodes x) r) is h) read
+
+pub file_of_error : (held : Option (Result (List ℕ) Error)) (e : Error)
+    → WithFile held (λ file. Err e ≡ file) → WithFile held (λ file. UnlessMemory e (FileDecodes file (Err e)))
+file_of_error held e read =
+    with_file held (λ file. Err e ≡ file) (λ file. UnlessMemory e (FileDecodes file (Err e)))
+    (λ file is. subst (λ x. UnlessMemory e (FileDecodes x (Err e))) is (UnlessMemory-from e refl)) read
+
+-- a map is adjusted by the one in a file, or the file does not decode
+pub composes_with : (path : String Global) (file : Result (List ℕ) Error) (t u : MapTree) (r : Result (String Global) Error)
+    → FileDecodes file (Ok u) → IsAnswer string_bytes (Returns (Compose path) t (Some u)) r
+    → IsAnswer string_bytes (ReturnsWithFile file (Compose path) t) r
+composes_with path file t u r is h = then_made (FileDecodes file) (λ other a. Returns (Compose path) t (Some other) a) u r is h
+
+pub composes_with_none : (path : String Global) (file : Result (List ℕ) Error) (t : MapTree) (e : Error)
+    → UnlessMemory e (FileDecodes file (Err e)) → UnlessMemory e (ReturnsWithFile file (Compose path) t (Err e))
+composes_with_none path file t e is = then_refused (FileDecodes file) (λ other a. Returns (Compose path) t (Some other) a) e is
+
+-- the same for a file that is not preloaded
+pub composes_with_file : (held : Option (Result (List ℕ) Error)) (path : String Global) (t u : MapTree) (r : Result (String Global) Error)
+    → WithFile held (λ file. FileDecodes file (Ok u)) → IsAnswer string_bytes (Returns (Compose path) t (Some u)) r
+    → WithFile held (λ file. IsAnswer string_bytes (ReturnsWithFile file (Compose path) t) r)
+composes_with_file held path t u r is h =
+    with_file held (λ file. FileDecodes file (Ok u)) (λ file. IsAnswer string_bytes (ReturnsWithFile file (Compose path) t) r)
+    (λ file is. composes_with path file t u r is h) is
+
+pub composes_with_no_file : (held : Option (Result (List ℕ) Error)) (path : String Global) (t : MapTree) (e : Error)
+    → WithFile held (λ file. UnlessMemory e (FileDecodes file (Err e)))
+    → WithFile held (λ file. UnlessMemory e (ReturnsWithFile file (Compose path) t (Err e)))
+composes_with_no_file held path t e is =
+    with_file held (λ file. UnlessMemory e (FileDecodes file (Err e))) (λ file. UnlessMemory e (ReturnsWithFile file (Compose path) t (Err e)))
+    (λ file is. composes_with_none path file t e is) is
+
+-- the output of a command that ignores the file
+pub returns_without_file : (held : Option (Result (List ℕ) Error)) (command : Command) (t : MapTree) (r : Result (String Global) Error)
+    → ((path : String Global) → command ≢ Compose path) → ((path : String Global) → command ≢ Trace path)
+    → IsAnswer string_bytes (Returns command t None) r
+    → WithFile held (λ file. IsAnswer string_bytes (ReturnsWithFile file command t) r)
+returns_without_file held (Compose path) t r other none h = absurd (other path refl)
+returns_without_file held (Trace path) t r other none h = absurd (none path refl)
+returns_without_file held command t r other none h = any_file held (λ file. IsAnswer string_bytes (ReturnsWithFile file command t) r) (λ file. h)
+
+-- the output of `trace` for a map with sorted sections
+pub returns_trace : (held : Option (Result (List ℕ) Error)) (path : String Global) (t : MapTree) (r : Result (String Global) Error)
+    → IsInOrder t → WithFile held (λ file. IsInOrder t → IsAnswer string_bytes (λ a. a ≡ traced t file) r)
+    → WithFile held (λ file. IsAnswer string_bytes (ReturnsWithFile file (Trace path) t) r)
+returns_trace held path t r ordered h =
+    with_file held (λ file. IsInOrder t → IsAnswer string_bytes (λ a. a ≡ traced t file) r)
+    (λ file. IsAnswer string_bytes (ReturnsWithFile file (Trace path) t) r) (λ file says. says ordered) h
+
+-- the answers to the positions that were read, or the read error
+pub traced_read : (held : Option (Result (List ℕ) Error)) (positions : List ℕ) (t : MapTree) (r : Result (String Global) Error)
+    → WithFile held (λ file. Ok positions ≡ file)
+    → (IsInOrder t → Gives string_bytes r (Ok (trace_of (meaning t) positions)))
+    → WithFile held (λ file. IsInOrder t → IsAnswer string_bytes (λ a. a ≡ traced t file) r)
+traced_read held positions t r read h =
+    with_file held (λ file. Ok positions ≡ file) (λ file. IsInOrder t → IsAnswer string_bytes (λ a. a ≡ traced t file) r)
+    (λ file is. subst (λ x. IsInOrder t → IsAnswer string_bytes (λ a. a ≡ traced t x) r) is
+    (λ ordered. answers_due r (Ok (trace_of (meaning t) positions)) (h ordered))) read
+  where
+    answers_due : (r : Result (String Global) Error) (due : Result (List ℕ) Error) → Gives string_bytes r due
+        → IsAnswer string_bytes (λ a. a ≡ due) r
+    answers_due (Ok text) due h = sym h
+    answers_due (Err e) due h = UnlessMemory-weaker e (λ is. sym is) h
+
+pub traced_unread : (held : Option (Result (List ℕ) Error)) (t : MapTree) (e : Error)
+    → WithFile held (λ file. Err e ≡ file) → WithFile held (λ file. IsInOrder t → UnlessMemory e (Err e ≡ traced t file))
+traced_unread held t e read =
+    with_file held (λ file. Err e ≡ file) (λ file. IsInOrder t → UnlessMemory e (Err e ≡ traced t file))
+    (λ file is. subst (λ x. IsInOrder t → UnlessMemory e (Err e ≡ traced t x)) is (λ ordered. UnlessMemory-from e refl)) read
+
+-- the output of a command for decoded bytes
+pub returns_on_map : (held : Option (Result (List ℕ) Error)) (command : Command) (bytes : List ℕ) (m : MapTree) (r : Result (String Global) Error)
+    → BytesDecode bytes (Ok m) → WithFile held (λ file. IsAnswer string_bytes (ReturnsWithFile file command m) r)
+    → WithFile held (λ file. IsAnswer string_bytes (ReturnsOnBytes command bytes file) r)
+returns_on_map held command bytes m r stand h =
+    with_file held (λ file. IsAnswer string_bytes (ReturnsWithFile file command m) r) (λ file. IsAnswer string_bytes (ReturnsOnBytes command bytes file) r)
+    (λ file says. then_made (BytesDecode bytes) (λ t a. ReturnsWithFile file command t a) m r stand says) h
+
+-- bytes that do not decode
+pub returns_on_no_map : (held : Option (Result (List ℕ) Error)) (command : Command) (bytes : List ℕ) (e : Error)
+    → UnlessMemory e (BytesDecode bytes (Err e)) → WithFile held (λ file. UnlessMemory e (ReturnsOnBytes command bytes file (Err e)))
+returns_on_no_map held command bytes e h =
+    any_file held (λ file. UnlessMemory e (ReturnsOnBytes command bytes file (Err e)))
+    (λ file. then_refused (BytesDecode bytes) (λ t a. ReturnsWithFile file command t a) e h)
+
+reply_on_file : (words : List (List ℕ)) (bytes : List ℕ) (file : Result (List ℕ) Error) (command : Command)
+    (answer : Result (String Global) Error) (r : Result Reply Error)
+    → AskFor words command → IsAnswer string_bytes (ReturnsOnBytes command bytes file) answer
+    → MatchResult r (IsReplyOf answer) (λ e. e ≡ OutOfMemory)
+    → MatchResult r (IsReplyTo words bytes file) (λ e. e ≡ OutOfMemory)
+reply_on_file words bytes file command answer (Err e) asked given is = is
+reply_on_file words bytes file command (Ok text) (Ok reply) asked given is =
+    (answered (Ok (string_bytes text)), (command, asked, given), is)
+reply_on_file words bytes file command (Err e) (Ok reply) asked given is =
+    (answered (Err e), (command, asked, with_memory e (ReturnsOnBytes command bytes file (Err e)) is.0 given), is.1)
+
+pub reply_of_command : (held : Option (Result (List ℕ) Error)) (words : List (List ℕ)) (bytes : List ℕ) (command : Command)
+    (answer : Result (String Global) Error) (r : Result Reply Error)
+    → AskFor words command → WithFile held (λ file. IsAnswer string_bytes (ReturnsOnBytes command bytes file) answer)
+    → MatchResult r (IsReplyOf answer) (λ e. e ≡ OutOfMemory)
+    → WithFile held (λ file. MatchResult r (IsReplyTo words bytes file) (λ e. e ≡ OutOfMemory))
+reply_of_command held words bytes command answer r asked given is =
+    with_file held (λ file. IsAnswer string_bytes (ReturnsOnBytes command bytes file) answer)
+    (λ file. MatchResult r (IsReplyTo words bytes file) (λ e. e ≡ OutOfMemory))
+    (λ file says. reply_on_file words bytes file command answer r asked says is) given
+
+-- the reply to other words is the usage
+pub reply_to_others : (held : Option (Result (List ℕ) Error)) (words : List (List ℕ)) (bytes : List ℕ) (r : Result Reply Error)
+    → AskForNone words → MatchResult r (IsReply misused) (λ e. e ≡ OutOfMemory)
+    → WithFile held (λ file. MatchResult r (IsReplyTo words bytes file) (λ e. e ≡ OutOfMemory))
+reply_to_others held words bytes (Ok reply) none is =
+    any_file held (λ file. IsReplyTo words bytes file reply) (λ file. (misused, none, is))
+reply_to_others held words bytes (Err e) none is = any_file held (λ file. e ≡ OutOfMemory) (λ file. is)
+
+-- Words and bytes have one reply.
+
+-- two results that print alike: equal values, or errors of the same text
+abbrev PrintAlike : {X : Type 0} → (a b : Result X Error) → Type 0
+PrintAlike (Ok s) (Ok t) = s ≡ t
+PrintAlike (Err e) (Err f) = (text : List ℕ) → IsRefusal e text → IsRefusal f text
+PrintAlike _ _ = ⊥
+
+alike : {X : Type 0} (a b : Result X Error) → a ≡ b → PrintAlike a b
+alike (Ok s) b is = subst (PrintAlike (Ok s)) is refl
+alike (Err e) b is = subst (PrintAlike (Err e)) is (λ text h. h)
+
+-- second steps of first results that print alike
+then_alike : {X : Type 0} (First : Result X Error → Type 0) (Next : X → Result (List ℕ) Error → Type 0)
+    → ((a b : Result X Error) → First a → First b → PrintAlike a b)
+    → ((x : X) (a b : Result (List ℕ) Error) → First (Ok x) → Next x a → Next x b → PrintAlike a b)
+    → (a b : Result (List ℕ) Error) → Then First Next a → Then First Next b → PrintAlike a b
+then_alike First Next one next a b (inl (x, made, p)) (inl (y, made', q)) =
+    let same : x ≡ y = one (Ok x) (Ok y) made made' in
+    next y a b made' (subst (λ x. Next x a) same p) q
+then_alike First Next one next (Err e) (Err f) (inr h) (inr k) = one (Err e) (Err f) h k
+then_alike First Next one next a (Err f) (inl (x, made, p)) (inr k) = absurd (one (Ok x) (Err f) made k)
+then_alike First Next one next a (Ok text) p (inr k) = absurd k
+then_alike First Next one next (Err e) b (inr h) (inl (y, made, q)) = absurd (one (Err e) (Ok y) h made)
+then_alike First Next one next (Ok text) b (inr h) q = absurd h
+
+json_once : (t : MapTree) (a b : List ℕ) → IsJsonLine t a → IsJsonLine t b → a ≡ b
+json_once t a b (j, of_a, is) (k, of_b, is') = is ∙ ap (λ json. json ++ newline) (written_text_once t j k of_a of_b) ∙ sym is'
+
+maps_alike : (t : MapTree) (a b : Result (List ℕ) Error) → PrintsMap t a → PrintsMap t b → PrintAlike a b
+maps_alike t (Ok a) (Ok b) p q = json_once t a b p q
+maps_alike t (Err e) b p q = absurd p
+maps_alike t (Ok a) (Err f) p q = absurd q
+
+found_alike : (t : MapTree) (p : ℕ × ℕ) (a b : Result (List ℕ) Error) → IsInOrder t → IsOkAnd a (IsLookupLine t p) → IsOkAnd b (IsLookupLine t p) → PrintAlike a b
+found_alike t p (Ok a) (Ok b) ordered (x, is, of) (y, is', of') =
+    is ∙ ap (λ found. found_text found ++ newline) (of ordered ∙ sym (of' ordered)) ∙ sym is'
+found_alike t p (Err e) b ordered h k = absurd h
+found_alike t p (Ok a) (Err f) ordered h k = absurd k
+
+-- errors of one text
+texts_alike : (e f : Error) → error_text e ≡ error_text f → (text : List ℕ) → IsRefusal e text → IsRefusal f text
+texts_alike e f same text refused =
+    (refused.0, subst (λ known. IfSome known (λ line. refused.0 ≡ line)) same refused.1, refused.2)
+
+flat_once : (t : MapTree) (a b : Result MapValue Error) → FlatAnswer t a → FlatAnswer t b → PrintAlike a b
+flat_once t (Ok m) (Ok n) h k = let both = sym h ∙ k in cc
+flat_once t (Err (CannotFlatten e)) (Err (CannotFlatten f)) h k =
+    let same : string_bytes e ≡ string_bytes f = let both = sym h ∙ k in cc in
+    texts_alike (CannotFlatten e) (CannotFlatten f) (ap (λ reason. Some (codes "cannot flatten the indexed sourcemap: " ++ reason)) same)
+flat_once t (Ok m) (Err (CannotFlatten f)) h k = absurd (let both = sym h ∙ k in cc)
+flat_once t (Err (CannotFlatten e)) (Ok n) h k = absurd (let both = sym h ∙ k in cc)
+flat_once t (Ok m) (Err f) h k = absurd k
+flat_once t (Err (CannotFlatten e)) (Err f) h k = absurd k
+flat_once t (Err e) b h k = absurd h
+
+shift_alike : (rows : ℕ) (parts : IndexParts) (ss : List MapSection) (a b : Result (List ℕ) Error) → ShiftAnswer rows parts ss a
+    → ShiftAnswer rows parts ss b → PrintAlike a b
+shift_alike rows parts ss a b (inl (left, p)) (inl (left', q)) = maps_alike (index parts (sections_from (shifted rows ss))) a b p q
+shift_alike rows parts ss a b (inr (past, is)) (inr (past', is')) = alike a b (is ∙ sym is')
+shift_alike rows parts ss a b (inl (left, p)) (inr (past, is)) = absurd (past left)
+shift_alike rows parts ss a b (inr (past, is)) (inl (left, q)) = absurd (past left)
+
+-- the adjusted map is determined, and so is its text
+prints_alike : (First : Result MapValue Error → Type 0) → ((a b : Result MapValue Error) → First a → First b → PrintAlike a b)
+    → (a b : Result (List ℕ) Error) → Then First (λ m a. PrintsMap (leaf (regular m)) a) a
+    → Then First (λ m a. PrintsMap (leaf (regular m)) a) b → PrintAlike a b
+prints_alike First one a b p q =
+    then_alike First (λ m a. PrintsMap (leaf (regular m)) a) one (λ m a b made p q. maps_alike (leaf (regular m)) a b p q) a b p q
+
+-- for a map with sorted sections the output is determined
+returns_alike : (command : Command) (t : MapTree) (other : Option MapTree) (a b : Result (List ℕ) Error) → IsInOrder t
+    → Returns command t other a → Returns command t other b → PrintAlike a b
+returns_alike (Lookup line col) t other a b ordered p q = found_alike t (line, col) a b ordered p q
+returns_alike Tokens (leaf l) other a b ordered p q = alike a b (p ∙ sym q)
+returns_alike Tokens (index parts ss) other a b ordered p q = alike a b (p ∙ sym q)
+returns_alike Rewrite (leaf l) other a b ordered p q = maps_alike (leaf (rewritten_leaf l)) a b p q
+returns_alike Rewrite (index parts ss) other a b ordered p q = alike a b (p ∙ sym q)
+returns_alike Flatten (leaf l) other a b ordered p q = alike a b (p ∙ sym q)
+returns_alike Flatten (index parts ss) other a b ordered p q =
+    prints_alike (FlatAnswer (index parts ss)) (flat_once (index parts ss)) a b p q
+returns_alike (Compose path) t other a b ordered p q =
+    prints_alike (λ a. a ≡ adjusted_by t other) (λ a b h k. alike a b (h ∙ sym k)) a b p q
+returns_alike (Shift rows) (leaf l) other a b ordered p q = alike a b (p ∙ sym q)
+returns_alike (Shift rows) (index parts ss) other a b ordered p q = shift_alike rows parts (section_list ss) a b p q
+returns_alike (Trace path) t other a b ordered p q = absurd p
+
+reply_alike : (a b : Result (List ℕ) Error) → PrintAlike a b → (reply : Reply) → IsReply (answered a) reply → IsReply (answered b) reply
+reply_alike (Ok a) (Ok b) same reply is = (is.0 ∙ same, is.1)
+reply_alike (Err e) (Err f) same reply (refused, status) = (same (string_bytes reply.text) refused, status)
+reply_alike (Ok a) (Err f) same reply is = absurd same
+reply_alike (Err e) (Ok b) same reply is = absurd same
+
+refusal_alike : (e f : Error) (text : List ℕ) → IsSameError e f → IsRefusal e text → IsRefusal f text
+refusal_alike (Io e) (Io f) text same h = h
+refusal_alike e f text same h = subst (λ x. IsRefusal x text) same h
+
+-- bytes decode to one map, and so does a file
+decoded_alike : (a b : Result MapTree Error) → AreSame a b → PrintAlike a b
+decoded_alike (Ok t) (Ok u) same = same
+decoded_alike (Err e) (Err f) same = λ text refused. refusal_alike e f text same refused
+decoded_alike (Ok t) (Err f) same = absurd same
+decoded_alike (Err e) (Ok u) same = absurd same
+
+bytes_alike : (bytes : List ℕ) (a b : Result MapTree Error) → BytesDecode bytes a → BytesDecode bytes b → PrintAlike a b
+bytes_alike bytes a b h k = decoded_alike a b (bytes_decode_once bytes a b h k)
+
+file_alike : (file : Result (List ℕ) Error) (a b : Result MapTree Error) → FileDecodes file a → FileDecodes file b → PrintAlike a b
+file_alike (Ok bytes) a b h k = bytes_alike bytes a b h k
+file_alike (Err e) a b h k = alike a b (h ∙ sym k)
+
+returns_with_alike : (file : Result (List ℕ) Error) (command : Command) (t : MapTree) (a b : Result (List ℕ) Error) → IsInOrder t
+    → ReturnsWithFile file command t a → ReturnsWithFile file command t b → PrintAlike a b
+returns_with_alike file (Compose path) t a b ordered p q =
+    then_alike (FileDecodes file) (λ other a. Returns (Compose path) t (Some other) a) (file_alike file)
+    (λ other a b held p q. returns_alike (Compose path) t (Some other) a b ordered p q) a b p q
+returns_with_alike file (Trace path) t a b ordered p q = alike a b (p ∙ sym q)
+returns_with_alike file command t a b ordered p q = returns_alike command t None a b ordered p q
+
+-- a decoded map has sorted sections
+bytes_in_order : (bytes : List ℕ) (t : MapTree) → BytesDecode bytes (Ok t) → IsInOrder t
+bytes_in_order bytes t (inl (d, holds, stands)) = of_record (record_of d) stands
+  where
+    of_record : (found : Option Tree) → MatchOption found (Ok t ≡ Err (BadJson Shape)) (λ r. TreeDecodes r (Ok t)) → IsInOrder t
+    of_record None wrong = absurd cc
+    of_record (Some r) is = well_formed_in_order t (decoded_well r t is)
+bytes_in_order bytes t (inr none) = absurd none
+
+-- the buffer of a command's path does not matter
+same_command : (c d : Command) (bytes : List ℕ) (file a : Result (List ℕ) Error) → IsSameCommand c d
+    → ReturnsOnBytes c bytes file a → ReturnsOnBytes d bytes file a
+same_command (Compose path) (Compose other) bytes file a same h = h
+same_command (Trace path) (Trace other) bytes file a same h = h
+same_command c d bytes file a same h = subst (λ x. ReturnsOnBytes x bytes file a) same h
+
+pub replies_alike : (words : List (List ℕ)) (bytes : List ℕ) (file : Result (List ℕ) Error) (a b : Ending)
+    → Ends words bytes file a → Ends words bytes file b → (reply : Reply) → IsReply a reply → IsReply b reply
+replies_alike words bytes file (answered a) (answered b) (c, asked, says) (d, asked', says') reply is =
+    let due = same_command d c bytes file b (command_once words d c asked' asked) says' in
+    let both = then_alike (BytesDecode bytes) (λ t a. ReturnsWithFile file c t a) (bytes_alike bytes)
+    (λ t a b held p q. returns_with_alike file c t a b (bytes_in_order bytes t held) p q) a b says due in
+    reply_alike a b both reply is
+replies_alike words bytes file (answered a) misused p none reply is = absurd (none p.0 p.1)
+replies_alike words bytes file misused (answered b) none q reply is = absurd (none q.0 q.1)
+replies_alike words bytes file misused misused p q reply is = is
+
+-- the reply is determined
+pub only_reply : (words : List (List ℕ)) (bytes : List ℕ) (file : Result (List ℕ) Error) (r : Result Reply Error)
+    → MatchResult r (IsReplyTo words bytes file) (λ e. e ≡ OutOfMemory)
+    → IfOk r (λ reply. (due : Ending) → Ends words bytes file due → IsReply due reply)
+only_reply words bytes file (Ok reply) (ending, ends, is) = λ due right. replies_alike words bytes file ending due ends right reply is
+only_reply words bytes file (Err e) h = tt
+
+-- From a reader's bytes to the output.
+
+some_bytes : (known : Option (List ℕ)) → (bytes : List ℕ) × IfSome known (λ xs. bytes ≡ xs)
+some_bytes None = ([], tt)
+some_bytes (Some xs) = (xs, refl)
+
+pub out_of_memory : (words : List (List ℕ)) (e : Error) → e ≡ OutOfMemory → IsCutShort words e
+out_of_memory words e is = no_memory e _ is
+
+-- a command whose input could not be read
+pub reading_failed : (words : List (List ℕ)) (command : Command) (e : Error) → AskFor words command → UnlessReadFails e ⊥ → IsCutShort words e
+reading_failed words command e asked h = UnlessMemory-from e (command, asked, h)
+
+-- the reply to other words is the same on all bytes
+any_bytes : (words : List (List ℕ)) (a b : List ℕ) (file : Result (List ℕ) Error) (reply : Reply) → AskForNone words
+    → IsReplyTo words a file reply → IsReplyTo words b file reply
+any_bytes words a b file reply none (answered answer, ends, is) = absurd (none ends.0 ends.1)
+any_bytes words a b file reply none (misused, ends, is) = (misused, ends, is)
+
+reply_for_bytes : (words : List (List ℕ)) (a b : List ℕ) (r : Result Reply Error)
+    → ((file : Result (List ℕ) Error) (reply : Reply) → IsReplyTo words a file reply → IsReplyTo words b file reply)
+    → WithFile None (λ file. MatchResult r (IsReplyTo words a file) (λ e. e ≡ OutOfMemory))
+    → WithFile None (λ file. MatchResult r (IsReplyTo words b file) (IsCutShort words))
+reply_for_bytes words a b (Ok reply) f (file, may, h) = (file, may, f file reply h)
+reply_for_bytes words a b (Err e) f (file, may, h) = (file, may, out_of_memory words e h)
+
+pub reply_of_reader : (words : List (List ℕ)) (input : Option (List ℕ)) (bytes : List ℕ) (r : Result Reply Error)
+    → AskForNone words ⊎ IfSome input (λ known. bytes ≡ known)
+    → WithFile None (λ file. MatchResult r (IsReplyTo words bytes file) (λ e. e ≡ OutOfMemory))
+    → Reading input (λ bytes. WithFile None (λ file. MatchResult r (IsReplyTo words bytes file) (IsCutShort words)))
+reply_of_reader words input bytes r (inl none) h =
+    let has = some_bytes input in
+    (has.0, has.1, reply_for_bytes words bytes has.0 r (λ file reply is. any_bytes words bytes has.0 file reply none is) h)
+reply_of_reader words input bytes r (inr of_input) h = (bytes, of_input, reply_for_bytes words bytes bytes r (λ file reply is. is) h)
+
+pub cut_short : (words : List (List ℕ)) (input : Option (List ℕ)) (e : Error) (r : Result Reply Error)
+    → r ≡ Err e → IsCutShort words e
+    → Reading input (λ bytes. WithFile None (λ file. MatchResult r (IsReplyTo words bytes file) (IsCutShort words)))
+cut_short words input e r is h = let has = some_bytes input in (has.0, has.1, (Ok [], tt, rw is h))
+
+may_end : (words : List (List ℕ)) (bytes : List ℕ) (file : Result (List ℕ) Error) (ending : Ending)
+    → Ends words bytes file ending → MayEnd words bytes file ending
+may_end words bytes file (answered (Ok text)) h = h
+may_end words bytes file (answered (Err e)) h = inl h
+may_end words bytes file misused h = h
+
+reported_is_cut_short : (words : List (List ℕ)) (e reported : Error) → (reported ≡ e) ⊎ (reported ≡ OutOfMemory) → IsCutShort words e → IsCutShort words reported
+reported_is_cut_short words e reported (inl same) h = subst (λ x. IsCutShort words x) (sym same) h
+reported_is_cut_short words e reported (inr out) h = out_of_memory words reported out
+
+-- the reply was printed, or the error instead of it
+pub runs : (words : List (List ℕ)) (input : Option (List ℕ)) (made : Result Reply Error)
+    (old new : Option (List ℕ)) (result : Result ℕ Error)
+    → Reading input (λ bytes. WithFile None (λ file. MatchResult made (IsReplyTo words bytes file) (IsCutShort words)))
+    → MatchResult result (λ status. IsPrinted made status old new) IsWriteError
+    → IfOk result (λ status. Runs words input status old new)
+runs words input (Ok reply) old new (Ok status) (bytes, of_input, (file, may, (ending, ends, is))) output =
+    (bytes, of_input, (file, may, (ending, may_end words bytes file ending ends, output.0 ∙ is.1, (string_bytes reply.text, is.0, output.1))))
+runs words input (Err e) old new (Ok status) (bytes, of_input, (file, may, short)) (is, (reported, same, printed)) =
+    (bytes, of_input, (file, may, (answered (Err reported), inr (reported_is_cut_short words e reported same short), is, printed)))
+runs words input made old new (Err e) h output = tt

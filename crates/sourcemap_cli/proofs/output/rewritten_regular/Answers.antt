@@ -1,0 +1,23 @@
+-- The options are the default, so there is one rewritten map.
+use Rattle.std.proofs.Common.{ap, Ok, Err}
+use Rattle.std.proofs.lemmas.Result.{err_from_is_err_and}
+use Rattle.sourcemap.specs.AnyMap.{map_tree}
+use Rattle.sourcemap.specs.Trees.{regular}
+use Rattle.sourcemap_index.proofs.FamilyLemmas.{regular_tree}
+use Rattle.sourcemap_index.specs.declared.family.DecodedMap.TheVariants.{Regular}
+use Rattle.sourcemap_cli.proofs.MapsLemmas.{rewritten_by_default}
+use Rattle.sourcemap_cli.proofs.ProgramLemmas.{no_memory, returns_rewritten}
+use Rattle.sourcemap_cli.proofs.output.rewritten_regular.Goals as goal
+
+pub returns : goal.returns
+returns g c =
+    let new = c.in_ok-rewritten.rewritten in
+    let is = rewritten_by_default _ c.args.map (Ok new) c.default.ensures c.in_ok-rewritten.ensures.value in
+    returns_rewritten (regular c.args.map) (regular new) (map_tree (Regular new)) c.json_line.result (ap regular is)
+    (regular_tree new) c.json_line.ensures
+
+pub returns-in_err-rewritten : goal.returns-in_err-rewritten
+returns-in_err-rewritten g c =
+    let p = err_from_is_err_and c.from_residual.result c.from_residual.ensures.1 in
+    let is = rewritten_by_default _ c.args.map (Err _) c.default.ensures c.in_err-rewritten.ensures.value in
+    rw (p.1, p.2) (no_memory _ _ is)

@@ -1,0 +1,214 @@
+-- The output and the exit status of a run.
+use Rattle.std.specs.Prelude.{◌≡◌, ◌≢◌, ℕ, List, [], ◌∷◌, ◌++◌, codes, flat_map, if◌then◌else◌, Option, Some, None, IfSome, Result, Ok, Err, IsOkAnd, String, Vec, string_bytes, ◌⊎◌}
+use Rattle.std.specs.Fmt.{decimal}
+use Rattle.std.specs.Io.KnownBytes.{Appends}
+use Rattle.sourcemap.specs.Adjust.{adjusted}
+use Rattle.sourcemap.specs.AnyMap.{IsTextOf}
+use Rattle.sourcemap.specs.Answer.{UnlessMemory}
+use Rattle.sourcemap.specs.Errors.{error_text, FromIo}
+use Rattle.sourcemap.specs.HermesRewrite.{rewritten as hermes_rewritten}
+use Rattle.sourcemap.specs.Decoder.{BytesDecode, Reading, UnlessReadFails}
+use Rattle.sourcemap.specs.Flat.{FlatAnswer}
+use Rattle.sourcemap.specs.Rewrite.{no_removal, rewritten}
+use Rattle.sourcemap.specs.Shift.{HaveRowsLeft, shifted}
+use Rattle.sourcemap.specs.Token.{token_text, tokens_from, says, TokenValue}
+use Rattle.sourcemap.specs.TreeDecoder.{Then}
+use Rattle.sourcemap.specs.Trees.{LeafMap, regular, hermes, held, MapTree, leaf, index, MapSection, IndexParts, section_list, sections_from, lookup, meaning, IsInOrder}
+use Rattle.sourcemap.specs.Types.{MapValue}
+use Rattle.sourcemap.specs.declared.errors.Error.{Error}
+use Rattle.sourcemap.specs.declared.errors.Error.TheVariants.{IncompatibleSourceMap, OutOfMemory}
+use Rattle.std.specs.declared.alloc.Global.{Global}
+use Rattle.std.specs.declared.io.Error.{Error as IoError}
+use Rattle.sourcemap_trace.specs.Trace.{trace_of}
+use Rattle.sourcemap_cli.specs.Command.{AskFor}
+use Rattle.sourcemap_cli.specs.declared.command.Command.{Command}
+use Rattle.sourcemap_cli.specs.declared.command.Command.TheVariants.{Lookup, Tokens, Rewrite, Flatten, Compose, Shift, Trace}
+use Rattle.sourcemap_cli.specs.declared.program.Reply.{Reply}
+
+abbrev pub newline : List ℕ
+newline = 10 ∷ []
+
+abbrev pub usage_text : List ℕ
+usage_text = codes "usage: lookup LINE COL | tokens | rewrite | flatten | compose FILE | shift ROWS | trace FILE" ++ newline
+
+-- a token's text, or `none`
+abbrev pub found_text : Option TokenValue → List ℕ
+found_text (Some token) = token_text (says token)
+found_text None = codes "none"
+
+-- what follows the text of a range token
+abbrev pub range_mark : TokenValue → List ℕ
+range_mark t = if t.raw.is_range then codes " range" else []
+
+-- the line of a token: its generated position, its text, and whether it is a range token
+abbrev pub token_line : TokenValue → List ℕ
+token_line t =
+    decimal t.raw.dst_line ++ codes ":" ++ decimal t.raw.dst_col ++ codes " "
+    ++ token_text (says t) ++ range_mark t ++ newline
+
+-- the line of the closest token; unspecified for an index map with unsorted sections
+abbrev pub IsLookupLine : MapTree → ℕ × ℕ → List ℕ → Type 0
+IsLookupLine t p text = (found : Option TokenValue) × (text ≡ found_text found ++ newline) × (IsInOrder t → found ≡ lookup t p)
+
+-- the compact JSON text of a map, and a newline
+abbrev pub IsJsonLine : MapTree → List ℕ → Type 0
+IsJsonLine t text = (json : List ℕ) × IsTextOf t json × (text ≡ json ++ newline)
+
+abbrev pub PrintsMap : MapTree → Result (List ℕ) Error → Type 0
+PrintsMap t answer = IsOkAnd answer (IsJsonLine t)
+
+-- the index map with its sections moved down by this many rows; an error if one would pass the last row
+abbrev pub ShiftAnswer : ℕ → IndexParts → List MapSection → Result (List ℕ) Error → Type 0
+ShiftAnswer rows parts ss answer =
+    (HaveRowsLeft rows ss × PrintsMap (index parts (sections_from (shifted rows ss))) answer)
+    ⊎ ((¬ HaveRowsLeft rows ss) × (answer ≡ Err IncompatibleSourceMap))
+
+-- a map that is not regular
+abbrev pub IsNotRegular : MapTree → Type 0
+IsNotRegular (leaf (regular _)) = ⊥
+IsNotRegular _ = Unit {0}
+
+-- a map that is not an index map
+abbrev pub IsNotIndex : MapTree → Type 0
+IsNotIndex (index _ _) = ⊥
+IsNotIndex _ = Unit {0}
+
+-- a regular map adjusted by another one; an error for maps of other kinds
+abbrev pub adjusted_by : MapTree → Option MapTree → Result MapValue Error
+adjusted_by (leaf (regular m)) (Some (leaf (regular n))) = adjusted m n
+adjusted_by _ _ = Err IncompatibleSourceMap
+
+-- a regular map or a Hermes map rewritten with default options
+abbrev pub rewritten_leaf : LeafMap → LeafMap
+rewritten_leaf (regular m) = regular (rewritten no_removal m)
+rewritten_leaf (hermes h) = hermes (hermes_rewritten no_removal h)
+
+-- the answers to the positions in a file, or the error of reading it
+abbrev pub traced : MapTree → (file : Result (List ℕ) Error) → Result (List ℕ) Error
+traced t (Ok positions) = Ok (trace_of (meaning t) positions)
+traced t (Err e) = Err e
+
+-- the output of a command for a map, and for an adjustment if it takes one, or its error; a map of the wrong
+-- kind is reported first; `trace` also needs positions, and has no output here
+abbrev pub Returns : Command → MapTree → Option MapTree → Result (List ℕ) Error → Type 0
+Returns (Lookup line col) t _ answer = IsOkAnd answer (IsLookupLine t (line, col))
+Returns Tokens (leaf l) _ answer = answer ≡ Ok (flat_map token_line (tokens_from (held l) 0))
+Returns Tokens (index _ _) _ answer = answer ≡ Err IncompatibleSourceMap
+Returns Rewrite (leaf l) _ answer = PrintsMap (leaf (rewritten_leaf l)) answer
+Returns Rewrite (index _ _) _ answer = answer ≡ Err IncompatibleSourceMap
+Returns Flatten (leaf _) _ answer = answer ≡ Err IncompatibleSourceMap
+Returns Flatten (index parts ss) _ answer = Then (FlatAnswer (index parts ss)) (λ m a. PrintsMap (leaf (regular m)) a) answer
+Returns (Compose _) t adjustment answer = Then (λ a. a ≡ adjusted_by t adjustment) (λ m a. PrintsMap (leaf (regular m)) a) answer
+Returns (Shift _) (leaf _) _ answer = answer ≡ Err IncompatibleSourceMap
+Returns (Shift rows) (index parts ss) _ answer = ShiftAnswer rows parts (section_list ss) answer
+Returns (Trace _) _ _ _ = ⊥
+
+-- a file, given as its bytes or the error of reading it, decodes to this map or error
+abbrev pub FileDecodes : Result (List ℕ) Error → Result MapTree Error → Type 0
+FileDecodes (Ok bytes) decoded = BytesDecode bytes decoded
+FileDecodes (Err e) decoded = decoded ≡ Err e
+
+-- the output of a command for a map, and for the map or the positions in its file if it takes one
+abbrev pub ReturnsWithFile : Result (List ℕ) Error → Command → MapTree → Result (List ℕ) Error → Type 0
+ReturnsWithFile file (Compose path) t answer = Then (FileDecodes file) (λ other a. Returns (Compose path) t (Some other) a) answer
+ReturnsWithFile file (Trace _) t answer = answer ≡ traced t file
+ReturnsWithFile file command t answer = Returns command t None answer
+
+-- the output of a command for the map that the bytes decode to; errors of decoding come before those of the
+-- file
+abbrev pub ReturnsOnBytes : Command → (bytes : List ℕ) → (file : Result (List ℕ) Error) → Result (List ℕ) Error → Type 0
+ReturnsOnBytes command bytes file answer = Then (BytesDecode bytes) (λ t a. ReturnsWithFile file command t a) answer
+
+-- Runs, given words and the bytes of a map; for `compose` and `trace` also the bytes of a file, or the error
+-- of reading it.
+
+-- words that are no command
+abbrev pub AskForNone : List (List ℕ) → Type 0
+AskForNone words = (command : Command) → ¬ AskFor words command
+
+-- how a run ends: with the answer to a command, or with the usage
+pub data Ending : Type 0 where
+  answered : Result (List ℕ) Error → Ending
+  misused : Ending
+
+-- a run of these words on these bytes and this file ends so
+abbrev pub Ends : List (List ℕ) → (bytes : List ℕ) → (file : Result (List ℕ) Error) → Ending → Type 0
+Ends words bytes file (answered answer) =
+    (command : Command) × AskFor words command × ReturnsOnBytes command bytes file answer
+Ends words bytes file misused = AskForNone words
+
+-- the line of an error; std does not specify what its own errors print
+abbrev pub IsRefusal : Error → List ℕ → Type 0
+IsRefusal e text =
+    (line : List ℕ) × IfSome (error_text e) (λ known. line ≡ known) × (text ≡ line ++ newline)
+
+abbrev pub status_of : Ending → ℕ
+status_of (answered (Ok _)) = 0
+status_of (answered (Err _)) = 1
+status_of misused = 2
+
+abbrev pub Prints : Ending → List ℕ → Type 0
+Prints (answered (Ok text)) printed = printed ≡ text
+Prints (answered (Err e)) printed = IsRefusal e printed
+Prints misused printed = printed ≡ usage_text
+
+-- the text and the status of an ending
+abbrev pub IsReply : Ending → Reply → Type 0
+IsReply ending reply = Prints ending (string_bytes reply.text) × (reply.status ≡ status_of ending)
+
+-- a reply to these words on these bytes
+abbrev pub IsReplyTo : List (List ℕ) → (bytes : List ℕ) → (file : Result (List ℕ) Error) → Reply → Type 0
+IsReplyTo words bytes file reply = (ending : Ending) × Ends words bytes file ending × IsReply ending reply
+
+-- the reply for the answer to a command; `OutOfMemory` has none
+abbrev pub IsReplyOf : Result (String Global) Error → Reply → Type 0
+IsReplyOf (Ok text) reply = IsReply (answered (Ok (string_bytes text))) reply
+IsReplyOf (Err e) reply = (e ≢ OutOfMemory) × IsReply (answered (Err e)) reply
+
+-- Runs over a reader and a writer: a read may fail, and memory may run out. std does not specify which bytes
+-- a file has.
+
+-- the result of reading a file, without its buffer
+abbrev pub file_read : Result (Vec ℕ Global) Error → Result (List ℕ) Error
+file_read (Ok bytes) = Ok bytes.items
+file_read (Err e) = Err e
+
+-- what reading a file may return: bytes, or an error of a reader
+abbrev pub MayBeRead : Result (List ℕ) Error → Type 0
+MayBeRead (Ok bytes) = Unit {0}
+MayBeRead (Err e) = UnlessReadFails e ⊥
+
+-- P holds for the preloaded file, or else for some result of reading
+abbrev pub WithFile : Option (Result (List ℕ) Error) → (Result (List ℕ) Error → Type 0) → Type 0
+WithFile (Some file) P = P file
+WithFile None P = (file : Result (List ℕ) Error) × MayBeRead file × P file
+
+-- an error without a reply: out of memory, or a read error of a command
+abbrev pub IsCutShort : List (List ℕ) → Error → Type 0
+IsCutShort words e = UnlessMemory e ((command : Command) × AskFor words command × UnlessReadFails e ⊥)
+
+-- how a run of these words on a reader's bytes may end
+abbrev pub MayEnd : List (List ℕ) → (bytes : List ℕ) → (file : Result (List ℕ) Error) → Ending → Type 0
+MayEnd words bytes file (answered (Err e)) = Ends words bytes file (answered (Err e)) ⊎ IsCutShort words e
+MayEnd words bytes file ending = Ends words bytes file ending
+
+-- an error was printed, or `OutOfMemory` if its text could not be allocated
+abbrev pub PrintsRefusal : Error → Option (List ℕ) → Option (List ℕ) → Type 0
+PrintsRefusal e old new = (reported : Error) × ((reported ≡ e) ⊎ (reported ≡ OutOfMemory))
+    × ((printed : List ℕ) × IsRefusal reported printed × Appends old new printed)
+
+-- the reply, or the error instead of it, was printed, and the run ended with this status
+abbrev pub IsPrinted : Result Reply Error → ℕ → Option (List ℕ) → Option (List ℕ) → Type 0
+IsPrinted (Ok reply) status old new =
+    (status ≡ reply.status) × Appends old new (string_bytes reply.text)
+IsPrinted (Err e) status old new = (status ≡ 1) × PrintsRefusal e old new
+
+-- an error of a writer
+abbrev pub IsWriteError : Error → Type 0
+IsWriteError e = (cause : IoError) × FromIo cause e
+
+-- the output and status of a run of these words on a reader's bytes; if they are unknown, for some bytes
+abbrev pub Runs : List (List ℕ) → Option (List ℕ) → ℕ → Option (List ℕ) → Option (List ℕ) → Type 0
+Runs words input status old new = Reading input (λ bytes. WithFile None (λ file.
+    (ending : Ending) × MayEnd words bytes file ending
+    × (status ≡ status_of ending) × ((printed : List ℕ) × Prints ending printed × Appends old new printed)))

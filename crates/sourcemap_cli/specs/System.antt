@@ -1,0 +1,18 @@
+-- What is reported of an error that ended a run.
+use Rattle.std.specs.Prelude.{◌≡◌, ℕ, List, ◌++◌, Option, IfSome}
+use Rattle.std.specs.Io.KnownBytes.{Appends}
+use Rattle.std.specs.IoError.{error_kind}
+use Rattle.std.specs.declared.io.ErrorKind.TheVariants.{BrokenPipe}
+use Rattle.sourcemap.specs.Errors.{error_text}
+use Rattle.sourcemap.specs.declared.errors.Error.{Error}
+use Rattle.sourcemap.specs.declared.errors.Error.TheVariants.{Io}
+use Rattle.sourcemap_cli.specs.Program.{newline}
+
+-- an error of writing to a closed pipe
+abbrev pub IsReaderGone : Error → Type 0
+IsReaderGone (Io cause) = error_kind cause ≡ BrokenPipe
+IsReaderGone _ = ⊥
+
+-- the text of an error was written; std does not specify what its own errors print
+abbrev pub IsErrorPrinted : Error → Option (List ℕ) → Option (List ℕ) → Type 0
+IsErrorPrinted e old new = IfSome (error_text e) (λ text. Appends old new (text ++ newline))

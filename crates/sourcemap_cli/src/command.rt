@@ -1,0 +1,106 @@
+//! The commands of the program and their parser.
+ghost use Rattle.std.specs.Prelude.{◌≡◌, List, [], ◌∷◌, ℕ, codes, map, string_bytes, MatchOption, MatchResult};
+ghost use Rattle.sourcemap.specs.declared.errors.Error.TheVariants.{OutOfMemory};
+ghost use Rattle.sourcemap_cli.specs.Command.{IsNumber, IsSameCommand, AskFor};
+
+use sourcemap::Result;
+use std::alloc::Global;
+
+/// A command of the program, with its arguments.
+#[derive(Debug, PartialEq, Eq, Drop)]
+pub enum Command {
+    /// `lookup LINE COL`: the closest token to a generated position.
+    Lookup(u32, u32),
+    /// `tokens`: a line for each token.
+    Tokens,
+    /// `rewrite`: the map rewritten with default options, as JSON text.
+    Rewrite,
+    /// `flatten`: the index map flattened to a regular map, as JSON text.
+    Flatten,
+    /// `compose FILE`: the regular map adjusted by the one in this file, as JSON text.
+    Compose(String),
+    /// `shift ROWS`: the index map with each section moved down by this many rows, as JSON text.
+    Shift(u32),
+    /// `trace FILE`: the tokens at the generated positions that this file lists.
+    Trace(String),
+}
+
+// Only decimal digits: `parse` also accepts a sign.
+fn parse_number(word: &str) -> Option<u32>
+    ensures { MatchOption result ((n : ℕ) → ¬ IsNumber word.now n) (IsNumber word.now) }
+{
+    if word.starts_with('+') {
+        return None;
+    }
+    word.parse().ok()
+}
+
+fn parse_verb(verb: &str) -> Option<Command>
+    ensures { MatchOption result
+        ((command : _) → ¬ AskFor (verb.now ∷ []) command)
+        (AskFor (verb.now ∷ [])) }
+{
+    match verb {
+        "tokens" => Some(Command::Tokens),
+        "rewrite" => Some(Command::Rewrite),
+        "flatten" => Some(Command::Flatten),
+        _ => None,
+    }
+}
+
+fn parse_shift(rows: &str) -> Option<Command>
+    ensures { MatchOption result
+        ((command : _) → ¬ AskFor (codes "shift" ∷ rows.now ∷ []) command)
+        (AskFor (codes "shift" ∷ rows.now ∷ [])) }
+{
+    Some(Command::Shift(parse_number(rows)?))
+}
+
+fn parse_verb_and_argument(alloc: Global, verb: &str, argument: &str) -> Result<Option<Command>>
+    ensures { MatchResult result
+        (λ found. MatchOption found
+        ((command : _) → ¬ AskFor (verb.now ∷ argument.now ∷ []) command)
+        (AskFor (verb.now ∷ argument.now ∷ [])))
+        (λ e. e ≡ OutOfMemory) }
+{
+    match verb {
+        "compose" => Ok(Some(Command::Compose(String::from_str(alloc, argument)?))),
+        "shift" => Ok(parse_shift(argument)),
+        "trace" => Ok(Some(Command::Trace(String::from_str(alloc, argument)?))),
+        _ => Ok(None),
+    }
+}
+
+fn parse_lookup(verb: &str, line: &str, column: &str) -> Option<Command>
+    ensures { MatchOption result
+        ((command : _) → ¬ AskFor (verb.now ∷ line.now ∷ column.now ∷ []) command)
+        (AskFor (verb.now ∷ line.now ∷ column.now ∷ [])) }
+{
+    if verb != "lookup" {
+        return None;
+    }
+    Some(Command::Lookup(parse_number(line)?, parse_number(column)?))
+}
+
+/// Parses the arguments of a run. Returns `None` if they are no command. LINE, COL and ROWS are
+/// decimal numbers below 2^32, of digits only; FILE is any word. The only error is `OutOfMemory`.
+pub fn parse_words(alloc: Global, words: &[String]) -> Result<Option<Command>>
+    ensures { MatchResult result
+        (λ found. MatchOption found
+        ((command : _) → ¬ AskFor (map string_bytes words.now) command)
+        (AskFor (map string_bytes words.now)))
+        (λ e. e ≡ OutOfMemory) }
+{
+    match words {
+        [verb] => Ok(parse_verb(verb.as_str())),
+        [verb, argument] => parse_verb_and_argument(alloc, verb.as_str(), argument.as_str()),
+        [verb, line, column] => Ok(parse_lookup(verb.as_str(), line.as_str(), column.as_str())),
+        _ => Ok(None),
+    }
+}
+
+// The same words never parse to two commands.
+fn words_are_determined()
+    ensures { (words : List (List ℕ)) (a b : _) → AskFor words a → AskFor words b
+        → IsSameCommand a b }
+{}

@@ -1,0 +1,257 @@
+//! A run of the program: from words and input to a reply, a text and an exit status.
+ghost use Rattle.std.specs.Prelude.{◌≡◌, ℕ, List, Result, None, IfErr, IfOk, MatchResult, map, option_map, string_bytes};
+ghost use Rattle.std.specs.Io.KnownBytes.{Appends};
+ghost use Rattle.sourcemap.specs.Answer.{IsAnswer};
+ghost use Rattle.sourcemap.specs.AnyMap.{map_tree};
+ghost use Rattle.sourcemap.specs.Decoder.{Reading};
+ghost use Rattle.sourcemap.specs.Trees.{IsInOrder};
+ghost use Rattle.sourcemap.specs.declared.errors.Error.{Error};
+ghost use Rattle.sourcemap.specs.declared.errors.Error.TheVariants.{OutOfMemory};
+ghost use Rattle.sourcemap_cli.specs.Command.{AskFor};
+ghost use Rattle.sourcemap_cli.specs.declared.command.Command.TheVariants.{Compose};
+ghost use Rattle.sourcemap_cli.specs.declared.program.Reply.{Reply};
+ghost use Rattle.sourcemap_cli.specs.Program.{AskForNone, Ending, Ends, IsCutShort, IsPrinted, IsRefusal, IsReply, IsReplyOf, IsReplyTo, IsWriteError, PrintsRefusal, ReturnsOnBytes, ReturnsWithFile, Runs, WithFile, file_read, misused, traced};
+
+use crate::command::{Command, parse_words};
+use crate::files::{file_bytes, file_map};
+use crate::output::{adjusted_json, apply};
+use sourcemap::decoder::decode_vec;
+use sourcemap::{DecodedMap, Error, Result};
+use sourcemap_records::bytes::read_all;
+use sourcemap_trace::trace_text;
+use std::alloc::Global;
+use std::io::{Read, Write};
+use std::rt::Files;
+
+const USAGE: &str =
+    "usage: lookup LINE COL | tokens | rewrite | flatten | compose FILE | shift ROWS | trace FILE\n";
+
+const NO_MEMORY: &str = "out of memory\n";
+
+/// The output and the exit status of a run.
+#[derive(Debug, Drop)]
+pub struct Reply {
+    /// The whole output, with its last newline.
+    pub text: String,
+    /// 0 after success, 1 after an error, 2 for words that are no command.
+    pub status: u8,
+}
+
+fn compose<F: Files>(
+    rt: &F,
+    alloc: Global,
+    path: &str,
+    map: DecodedMap,
+    preloaded: Option<Result<Vec<u8>>>,
+) -> Result<String>
+    ensures { (path : _) → WithFile (option_map file_read preloaded)
+        (λ file. IsAnswer string_bytes (ReturnsWithFile file (Compose path) (map_tree map)) result) }
+{
+    let adjustment = file_map(rt, alloc, path, preloaded)?;
+    adjusted_json(alloc, map, adjustment)
+}
+
+fn trace<F: Files>(
+    rt: &F,
+    alloc: Global,
+    path: &str,
+    map: &DecodedMap,
+    preloaded: Option<Result<Vec<u8>>>,
+) -> Result<String>
+    ensures { WithFile (option_map file_read preloaded) (λ file. IsInOrder (map_tree map.now)
+        → IsAnswer string_bytes (λ a. a ≡ traced (map_tree map.now) file) result) }
+{
+    let positions = file_bytes(rt, alloc, path, preloaded)?;
+    trace_text(alloc, map, positions.as_slice())
+}
+
+// A file is opened only after the map is decoded, so an invalid map is reported first.
+fn execute<F: Files>(
+    rt: &F,
+    alloc: Global,
+    command: &Command,
+    bytes: Vec<u8>,
+    preloaded: Option<Result<Vec<u8>>>,
+) -> Result<String>
+    ensures { WithFile (option_map file_read preloaded)
+        (λ file. IsAnswer string_bytes (ReturnsOnBytes command.now bytes.items file) result) }
+{
+    let map = decode_vec(alloc, bytes)?;
+    match command {
+        Command::Compose(path) => compose(rt, alloc, path.as_str(), map, preloaded),
+        Command::Trace(path) => trace(rt, alloc, path.as_str(), &map, preloaded),
+        command => apply(rt, alloc, command, map, None),
+    }
+}
+
+fn error_line(alloc: Global, error: &Error) -> Result<String>
+    ensures { MatchResult result
+        (λ text. IsRefusal error.now (string_bytes text))
+        (λ e. e ≡ OutOfMemory) }
+{
+    let mut text = error.to_string(alloc)?;
+    text.push('\n')?;
+    Ok(text)
+}
+
+fn into_reply(alloc: Global, answer: Result<String>) -> Result<Reply>
+    ensures { MatchResult result (IsReplyOf answer) (λ e. e ≡ OutOfMemory) }
+{
+    match answer {
+        Ok(text) => Ok(Reply { text, status: 0 }),
+        Err(Error::OutOfMemory) => Err(Error::OutOfMemory),
+        Err(error) => {
+            let text = error_line(alloc, &error)?;
+            Ok(Reply { text, status: 1 })
+        }
+    }
+}
+
+fn usage_reply(alloc: Global) -> Result<Reply>
+    ensures { MatchResult result (IsReply misused) (λ e. e ≡ OutOfMemory) }
+{
+    let text = String::from_str(alloc, USAGE)?;
+    Ok(Reply { text, status: 2 })
+}
+
+fn reply_to_command<F: Files>(
+    rt: &F,
+    alloc: Global,
+    command: &Command,
+    bytes: Vec<u8>,
+    preloaded: Option<Result<Vec<u8>>>,
+) -> Result<Reply>
+    ensures { (words : _) → AskFor words command.now → WithFile (option_map file_read preloaded)
+        (λ file. MatchResult result (IsReplyTo words bytes.items file) (λ e. e ≡ OutOfMemory)) }
+{
+    let answer = execute(rt, alloc, command, bytes, preloaded);
+    into_reply(alloc, answer)
+}
+
+/// Returns the reply of a run, given the bytes of the map and those of the file that `Compose` or
+/// `Trace` names, or the error of reading that file. Other commands ignore the file.
+///
+/// - Status 0: the output of the command, as by `apply`, for `Trace` by `trace_text`.
+/// - Status 1: the text of the first error and a newline. Checked in this order: the map's bytes do
+///   not decode, as by `decode_slice` (`Io` only for an invalid junk header); the file could not be
+///   read; the file of `Compose` does not decode; the command returns an error.
+/// - Status 2: the usage, for words that are no command.
+///
+/// The only error is `OutOfMemory`.
+pub fn reply_to<F: Files>(
+    rt: &F,
+    alloc: Global,
+    words: &[String],
+    bytes: Vec<u8>,
+    file: Result<Vec<u8>>,
+) -> Result<Reply>
+    ensures answer { MatchResult result
+        (IsReplyTo (map string_bytes words.now) bytes.items (file_read file))
+        (λ e. e ≡ OutOfMemory) }
+    // No other reply is right.
+    ensures only { IfOk result (λ reply. (due : Ending)
+        → Ends (map string_bytes words.now) bytes.items (file_read file) due
+        → IsReply due reply) }
+{
+    match parse_words(alloc, words)? {
+        Some(command) => reply_to_command(rt, alloc, &command, bytes, Some(file)),
+        None => usage_reply(alloc),
+    }
+}
+
+// Words that are no command leave the input unread.
+fn reply_to_input<F: Files, R: Read>(
+    rt: &F,
+    alloc: Global,
+    words: &[String],
+    input: &mut R,
+) -> Result<Reply>
+    ensures answer { Reading (R.remaining input.old) (λ bytes. WithFile None (λ file.
+        MatchResult result
+        (IsReplyTo (map string_bytes words.now) bytes file)
+        (IsCutShort (map string_bytes words.now)))) }
+    ensures unread { AskForNone (map string_bytes words.now) → input.new ≡ input.old }
+{
+    match parse_words(alloc, words)? {
+        Some(command) => {
+            let bytes = read_all(alloc, input)?;
+            reply_to_command(rt, alloc, &command, bytes, None)
+        }
+        None => usage_reply(alloc),
+    }
+}
+
+fn print<W: Write>(output: &mut W, text: &str) -> Result<()>
+    ensures { MatchResult result
+        (λ _. Appends (W.contents output.old) (W.contents output.new) text.now)
+        IsWriteError }
+{
+    output.write_all(text.as_bytes())?;
+    output.flush()?;
+    Ok(())
+}
+
+// Falls back to `NO_MEMORY` if the text of the error cannot be allocated.
+fn print_error<W: Write>(alloc: Global, error: &Error, output: &mut W) -> Result<()>
+    ensures { MatchResult result
+        (λ _. PrintsRefusal error.now (W.contents output.old) (W.contents output.new))
+        IsWriteError }
+{
+    match error_line(alloc, error) {
+        Ok(text) => {
+            print(output, text.as_str())?;
+            Ok(())
+        }
+        Err(_) => {
+            print(output, NO_MEMORY)?;
+            Ok(())
+        }
+    }
+}
+
+fn print_reply<W: Write>(alloc: Global, reply: Result<Reply>, output: &mut W) -> Result<u8>
+    ensures { MatchResult result
+        (λ status. IsPrinted reply status (W.contents output.old) (W.contents output.new))
+        IsWriteError }
+{
+    match reply {
+        Ok(reply) => {
+            print(output, reply.text.as_str())?;
+            Ok(reply.status)
+        }
+        Err(error) => {
+            print_error(alloc, &error, output)?;
+            Ok(1)
+        }
+    }
+}
+
+/// Runs the program: prints the reply as by `reply_to`, and returns its status.
+///
+/// The map is read from `input`, but only if the words are a command; the file of `Compose` or
+/// `Trace` is opened after the input is decoded. A read error and `OutOfMemory` are printed like an
+/// invalid map, with status 1. The whole output is in memory before its first byte is written. The
+/// only error is one of the writer.
+pub fn run<F: Files, R: Read, W: Write>(
+    rt: &F,
+    alloc: Global,
+    words: &[String],
+    input: &mut R,
+    output: &mut W,
+) -> Result<u8>
+    ensures answer { IfOk result (λ status. Runs (map string_bytes words.now)
+        (R.remaining input.old) status (W.contents output.old) (W.contents output.new)) }
+    ensures unread { AskForNone (map string_bytes words.now) → input.new ≡ input.old }
+    ensures error { IfErr result IsWriteError }
+{
+    let reply = reply_to_input(rt, alloc, words, input);
+    print_reply(alloc, reply, output)
+}
+
+/// Law: the same words, bytes and file have one reply. Only the text of an invalid header's error is
+/// not determined.
+pub fn replies_are_determined()
+    ensures { (words : List (List ℕ)) (bytes : List ℕ) (read : Result (List ℕ) Error) (a b : Ending)
+        → Ends words bytes read a → Ends words bytes read b
+        → (reply : Reply) → IsReply a reply → IsReply b reply }
+{}

@@ -1,5 +1,0 @@
-use Rattle.sourcemap_commands.proofs.CommandLemmas.{command_once}
-use Rattle.sourcemap_commands.proofs.command.words_are_determined.Goals as goal
-
-pub returns : goal.returns
-returns c = command_once

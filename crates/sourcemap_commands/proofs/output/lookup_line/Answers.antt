@@ -1,7 +1,0 @@
--- The token that was found, and its text.
-use Rattle.std.proofs.Common.{Some}
-use Rattle.sourcemap.specs.Token.{token_value}
-use Rattle.sourcemap_commands.proofs.output.lookup_line.Goals as goal
-
-pub returns-in_ok-format-in-Some : goal.returns-in_ok-format-in-Some
-returns-in_ok-format-in-Some c = (Some (token_value c.in-Some.token), c.in_ok-format-in-Some.ensures.ok, c.in-Some.ensures.value)

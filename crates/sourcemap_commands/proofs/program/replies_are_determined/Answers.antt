@@ -1,5 +1,0 @@
-use Rattle.sourcemap_commands.proofs.ProgramLemmas.{replies_alike}
-use Rattle.sourcemap_commands.proofs.program.replies_are_determined.Goals as goal
-
-pub returns : goal.returns
-returns c = replies_alike

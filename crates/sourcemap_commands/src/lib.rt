@@ -1,9 +1,0 @@
-//! The commands of the program: how words ask for them, and what a run prints for a map.
-#![tactic(auto)]
-
-pub mod command;
-pub mod files;
-pub mod maps;
-pub mod output;
-pub mod program;
-pub mod system;

@@ -1,0 +1,67 @@
+-- Small compositions with known results, computed from the definitions.
+use Rattle.std.proofs.Common.{◌≡◌, refl, ℕ, [], ◌∷◌, true, false, Ok, Err}
+use Rattle.sourcemap_errors.specs.declared.errors.Error.TheVariants.{IncompatibleSourceMap}
+use Rattle.sourcemap_tokens.specs.declared.tokens.RawToken.{RawToken}
+use Rattle.sourcemap_compose.specs.Composition.{composition}
+
+abbrev at : (dst_line dst_col src_line src_col : ℕ) → RawToken
+at dst_line dst_col src_line src_col = record { dst_line = dst_line; dst_col = dst_col; src_line = src_line; src_col = src_col; src_id = 0; name_id = 4294967295; is_range = false }
+
+abbrev range : (dst_line dst_col src_line src_col : ℕ) → RawToken
+range dst_line dst_col src_line src_col = record { dst_line = dst_line; dst_col = dst_col; src_line = src_line; src_col = src_col; src_id = 0; name_id = 4294967295; is_range = true }
+
+abbrev bare_range : (dst_line dst_col : ℕ) → RawToken
+bare_range dst_line dst_col = record { dst_line = dst_line; dst_col = dst_col; src_line = 4294967295; src_col = 4294967295; src_id = 4294967295; name_id = 4294967295; is_range = true }
+
+-- an original that starts before the adjustment, and one that starts in it
+two_parts : composition (at 8 28 102 35 ∷ at 8 40 102 50 ∷ []) (at 17 23 8 30 ∷ []) ≡ Ok (at 17 23 102 35 ∷ at 17 33 102 50 ∷ [])
+two_parts = refl
+
+-- the adjustment ends with its line
+line_end : composition (at 8 28 102 35 ∷ at 8 40 102 50 ∷ at 9 10 103 12 ∷ []) (at 17 23 8 30 ∷ []) ≡ Ok (at 17 23 102 35 ∷ at 17 33 102 50 ∷ [])
+line_end = refl
+
+-- of two adjustments at one position the first is empty: it pairs only strictly inside of an original
+empty_inside : composition (at 0 0 1 1 ∷ []) (at 3 0 0 5 ∷ at 4 0 0 5 ∷ []) ≡ Ok (at 3 0 1 1 ∷ at 4 0 1 1 ∷ [])
+empty_inside = refl
+
+empty_at_start : composition (at 0 5 1 1 ∷ []) (at 3 0 0 5 ∷ at 4 0 0 5 ∷ []) ≡ Ok (at 4 0 1 1 ∷ [])
+empty_at_start = refl
+
+column_overflow : composition (at 0 0 1 1 ∷ at 0 1 1 2 ∷ []) (at 0 4294967295 0 0 ∷ []) ≡ Err IncompatibleSourceMap
+column_overflow = refl
+
+last_column : composition (at 0 0 1 1 ∷ []) (at 0 4294967295 0 0 ∷ []) ≡ Ok (at 0 4294967295 1 1 ∷ [])
+last_column = refl
+
+-- the same for originals
+empty_original_inside : composition (at 0 5 1 1 ∷ at 0 5 2 2 ∷ []) (at 0 0 0 0 ∷ []) ≡ Ok (at 0 5 1 1 ∷ at 0 5 2 2 ∷ [])
+empty_original_inside = refl
+
+empty_original_at_start : composition (at 0 5 1 1 ∷ at 0 5 2 2 ∷ []) (at 0 0 0 5 ∷ []) ≡ Ok (at 0 0 2 2 ∷ [])
+empty_original_at_start = refl
+
+-- an adjustment without a source
+no_source : composition (at 0 0 1 1 ∷ []) (at 0 0 4294967295 4294967295 ∷ []) ≡ Ok []
+no_source = refl
+
+-- two tokens at one position, in the order of the adjustment's sources
+one_position : composition (at 0 0 1 1 ∷ at 0 5 2 2 ∷ []) (at 0 0 0 0 ∷ at 0 0 0 5 ∷ []) ≡ Ok (at 0 0 1 1 ∷ at 0 0 2 2 ∷ [])
+one_position = refl
+
+-- lists out of order, and a sorted result
+out_of_order : composition (at 0 5 2 2 ∷ at 0 0 1 1 ∷ []) (at 0 0 0 5 ∷ at 7 0 0 0 ∷ []) ≡ Ok (at 0 0 2 2 ∷ at 7 0 1 1 ∷ [])
+out_of_order = refl
+
+-- cuts
+cut_range : composition (range 0 0 0 7 ∷ []) (at 5 0 0 10 ∷ []) ≡ Ok (range 5 0 0 17 ∷ [])
+cut_range = refl
+
+cut_plain : composition (at 0 0 0 7 ∷ []) (at 5 0 0 10 ∷ []) ≡ Ok (at 5 0 0 7 ∷ [])
+cut_plain = refl
+
+cut_to_the_end : composition (range 0 0 0 4294967290 ∷ []) (at 5 0 0 10 ∷ []) ≡ Ok (range 5 0 0 4294967295 ∷ [])
+cut_to_the_end = refl
+
+cut_bare : composition (bare_range 0 0 ∷ []) (at 5 0 0 10 ∷ []) ≡ Ok (bare_range 5 0 ∷ [])
+cut_bare = refl

@@ -1,0 +1,4 @@
+pub mod Composition
+pub mod Moved
+pub mod BlockSort
+pub mod Stretches

@@ -1,0 +1,67 @@
+-- The original positions of generated positions, and the moved positions that keep theirs.
+use Rattle.std.specs.Prelude.{◌≡◌, ℕ, ◌+◌, ◌-◌, min, Bool, ◌&&◌, ◌==◌, true, false, if◌then◌else◌, List, Option, Some, option_map, slice_get}
+use Rattle.std.specs.List.{Contains}
+use Rattle.sourcemap_tokens.specs.Search.{closest_item}
+use Rattle.sourcemap_tokens.specs.Tokens.{destination, position_cmp}
+use Rattle.sourcemap_tokens.specs.declared.tokens.RawToken.{RawToken}
+use Rattle.sourcemap_compose.specs.declared.stretches.Side.TheVariants.{Original, Adjustment}
+use Rattle.sourcemap_compose.specs.declared.stretches.Stretch.{Stretch}
+use Rattle.sourcemap_compose.specs.Stretches.{is_before, stretches_by}
+use Rattle.sourcemap_compose.specs.Composition.{composed, moved, overlap}
+
+-- an original position by numbers: source, line, column, name, and whether a range token gives it
+pub record Origin : Type 0 where
+  pub source : ℕ
+  pub line : ℕ
+  pub column : ℕ
+  pub name : ℕ
+  pub is_range : Bool
+
+-- the distance of a position from a range token on its line
+abbrev pub distance : RawToken → ℕ × ℕ → ℕ
+distance token p = if token.is_range && (token.dst_line == p.0) then p.1 - token.dst_col else 0
+
+-- the origin that a token gives to a position
+abbrev pub origin_by : RawToken → ℕ × ℕ → Origin
+origin_by token p = record {
+  source = token.src_id;
+  line = token.src_line;
+  column = min (token.src_col + distance token p) 4294967295;
+  name = token.name_id;
+  is_range = token.is_range;
+}
+
+-- the origin that the closest token gives
+abbrev pub origin : List RawToken → ℕ × ℕ → Option Origin
+origin tokens p = option_map (λ token. origin_by token p) (closest_item destination position_cmp tokens p)
+
+-- a position lies in a stretch
+abbrev pub LiesIn : ℕ × ℕ → Stretch → Type 0
+LiesIn q a = (is_before q a.start ≡ false) × (is_before q a.end ≡ true)
+
+-- no two tokens have the same destination
+abbrev pub HasDistinctDestinations : List RawToken → Type 0
+HasDistinctDestinations tokens =
+    (i j : ℕ) (s t : RawToken) → slice_get tokens i ≡ Some s → slice_get tokens j ≡ Some t
+    → destination s ≡ destination t → i ≡ j
+
+-- the closest token to a position is on its line
+abbrev pub ClosestIsOnLine : List RawToken → ℕ × ℕ → Type 0
+ClosestIsOnLine tokens q =
+    (t : RawToken) × (closest_item destination position_cmp tokens q ≡ Some t) × (t.dst_line ≡ q.0)
+
+-- of all overlapping pairs, only those of `a` give tokens between the moved start of `a` and p
+abbrev pub IsAloneUpTo : ℕ × ℕ → Stretch → (adjustments originals : List Stretch) → Type 0
+IsAloneUpTo p a adjustments originals =
+    (b o : Stretch) → Contains adjustments b → Contains originals o → overlap b o ≡ true
+    → is_before (destination (composed b o)) (moved a a.start) ≡ false
+    → is_before p (destination (composed b o)) ≡ false
+    → b ≡ a
+
+-- the stretch `a` of the adjustment moves q, and no other stretch gives a token up to where q is moved
+pub record IsMovedAlone (original adjustment : List RawToken) (a : Stretch) (q : ℕ × ℕ) : Type 0 where
+  pub stretch : Contains (stretches_by Adjustment adjustment) a
+  pub inside : LiesIn q a
+  pub on_line : ClosestIsOnLine original q
+  pub apart : HasDistinctDestinations original
+  pub alone : IsAloneUpTo (moved a q) a (stretches_by Adjustment adjustment) (stretches_by Original original)

@@ -1,0 +1,153 @@
+//! Composition of the tokens of two maps.
+ghost use Rattle.std.specs.Prelude.{◌≡◌, ◌≤◌, ◌+◌, ◌++◌, IfErr, IfOk, IsSortedByKey, OnOk, Err, Ok, cond, length, false, true};
+ghost use Rattle.std.specs.List.{list_any};
+ghost use Rattle.sourcemap_errors.specs.Answer.{Gives};
+ghost use Rattle.sourcemap_errors.specs.declared.errors.Error.TheVariants.{IncompatibleSourceMap};
+ghost use Rattle.sourcemap_tokens.specs.Tokens.{AreInOrder, destination, position_cmp};
+ghost use Rattle.sourcemap_compose.specs.Stretches.{source, stretches};
+ghost use Rattle.sourcemap_compose.specs.Composition.{StartsOnBothLines, FailsIf, shifted_column, composed, composed_all, composition, later_start, overlap, pair, overflows_column};
+
+use crate::block_sort::sort_stably;
+use crate::stretches::{Side, Stretch, copy_or, is_before, sorted_copy, stretch_at};
+use sourcemap_errors::errors::{Error, Result};
+use sourcemap_tokens::tokens::{NO_ID, RawToken};
+use std::alloc::Global;
+
+/// Returns the tokens of `original`, adjusted by those of `adjustment`. The generated text of the
+/// original is the source text of the adjustment.
+///
+/// Each part of that text which is covered by one token of each list gives a token: its generated
+/// position is where the adjustment moves the start of the part, and its original position, source
+/// and name are those of the original. The tokens are sorted by generated position, and there are
+/// at most as many as in both lists together. Sources and names of the adjustment are ignored.
+///
+/// The error is `IncompatibleSourceMap` if a column exceeds 4294967295, else out of memory.
+pub fn compose(
+    alloc: Global,
+    original: &[RawToken],
+    adjustment: &[RawToken],
+) -> Result<Vec<RawToken>>
+    ensures answer { Gives (λ tokens. tokens.items) result
+        (composition original.now adjustment.now) }
+    ensures in_order { IfOk result (λ tokens. AreInOrder tokens.items) }
+    ensures few { IfOk result (λ tokens. length tokens.items
+        ≤ length original.now + length adjustment.now) }
+{
+    let original_copy = sorted_copy(alloc, Side::Original, original)?;
+    let adjustment_copy = sorted_copy(alloc, Side::Adjustment, adjustment)?;
+    let originals = copy_or(original, &original_copy);
+    let adjustments = copy_or(adjustment, &adjustment_copy);
+    let walked = walk(alloc, adjustments, originals)?;
+    // prover: bound before it is returned
+    let tokens = sort_stably(Side::Original, walked)?;
+    Ok(tokens)
+}
+
+// The tokens of all overlapping pairs, by one walk along both sorted lists.
+fn walk(alloc: Global, adjustments: &[RawToken], originals: &[RawToken]) -> Result<Vec<RawToken>>
+    requires adjustments { IsSortedByKey source position_cmp adjustments.now }
+    requires originals { IsSortedByKey destination position_cmp originals.now }
+    ensures pairs { IfOk result (λ tokens. tokens.items
+        ≡ composed_all (stretches source adjustments.now) (stretches destination originals.now)) }
+    ensures within { OnOk result (list_any overflows_column
+        (composed_all (stretches source adjustments.now) (stretches destination originals.now))
+        ≡ false) }
+    ensures refused { IfErr result (FailsIf (list_any overflows_column
+        (composed_all (stretches source adjustments.now) (stretches destination originals.now)))) }
+    ensures few { IfOk result (λ tokens. length tokens.items
+        ≤ length originals.now + length adjustments.now) }
+{
+    // between the longer length and the sum, if both cover the same text: so this grows at most
+    // once
+    let mut tokens = Vec::with_capacity(alloc, adjustments.len().max(originals.len()))?;
+    let mut at_adjustment = 0;
+    let mut at_original = 0;
+    let mut adjustment = stretch_at(Side::Adjustment, adjustments, at_adjustment);
+    let mut original = stretch_at(Side::Original, originals, at_original);
+    while let (Some(a), Some(o)) = (adjustment, original) {
+        push_pair(&mut tokens, a, o)?;
+        // the next stretch of the original starts at the end of this one, or later
+        if is_before(o.end, a.end) {
+            at_original += 1;
+            original = stretch_at(Side::Original, originals, at_original);
+        } else if is_before(a.end, o.end) {
+            at_adjustment += 1;
+            adjustment = stretch_at(Side::Adjustment, adjustments, at_adjustment);
+        } else {
+            // the usual case: both end together, and each next stretch starts there or later
+            at_adjustment += 1;
+            at_original += 1;
+            adjustment = stretch_at(Side::Adjustment, adjustments, at_adjustment);
+            original = stretch_at(Side::Original, originals, at_original);
+        }
+    }
+    Ok(tokens)
+}
+
+// Appends the token of a pair, if it overlaps.
+fn push_pair(tokens: &mut Vec<RawToken>, a: Stretch, o: Stretch) -> Result<()>
+    requires { overlap a o ≡ true → StartsOnBothLines a o }
+    ensures pushed { OnOk result (tokens.new.items ≡ tokens.old.items ++ pair a o) }
+    ensures within { OnOk result (list_any overflows_column (pair a o) ≡ false) }
+    ensures refused { IfErr result (FailsIf (list_any overflows_column (pair a o))) }
+{
+    if overlap(a, o) {
+        // prover: bound before it is returned
+        let token = compose_pair(a, o)?;
+        tokens.push(token)?;
+    }
+    Ok(())
+}
+
+// Whether each stretch starts before the other ends.
+fn overlap(a: Stretch, o: Stretch) -> bool
+    ensures { result ≡ overlap a o }
+{
+    is_before(a.start, o.end) && is_before(o.start, a.end)
+}
+
+fn later_start(a: Stretch, o: Stretch) -> (u32, u32)
+    ensures { result ≡ later_start a o }
+{
+    if is_before(a.start, o.start) {
+        o.start
+    } else {
+        a.start
+    }
+}
+
+// The token of an overlapping pair: the original's token, at the position to which the adjustment
+// moves it.
+fn compose_pair(a: Stretch, o: Stretch) -> Result<RawToken>
+    requires { StartsOnBothLines a o }
+    ensures { result ≡ cond (overflows_column (composed a o)) (Err IncompatibleSourceMap)
+        (Ok (composed a o)) }
+{
+    let start = later_start(a, o);
+    let into_adjustment = start.1 - a.token.src_col;
+    match into_adjustment.checked_add(a.token.dst_col) {
+        None => Err(Error::IncompatibleSourceMap),
+        Some(dst_col) => Ok(RawToken {
+            dst_line: a.token.dst_line,
+            dst_col,
+            src_line: o.token.src_line,
+            src_col: shifted_column(o.token, start.1 - o.start.1),
+            src_id: o.token.src_id,
+            name_id: o.token.name_id,
+            is_range: o.token.is_range,
+        }),
+    }
+}
+
+// The source column of a token, moved by `columns` for a range token with a source.
+fn shifted_column(token: RawToken, columns: u32) -> u32
+    ensures { result ≡ shifted_column token columns }
+{
+    if !token.is_range {
+        return token.src_col;
+    }
+    if token.src_id == NO_ID {
+        return token.src_col;
+    }
+    token.src_col.saturating_add(columns)
+}

@@ -1,6 +1,0 @@
-mod StretchesLemmas
-mod ClosestLemmas
-mod CompositionLemmas
-mod CompositionRows
-mod SettlingLemmas
-pub mod MovedLemmas

@@ -1,9 +1,0 @@
--- What the search finds, so that a wrong body is refused fast.
-use Rattle.std.proofs.Common.{rules}
-use Rattle.sourcemap_composition.proofs.composition.composed.Goals as goal
-
-pub returns-in-None : goal.returns-in-None
-returns-in-None c = search rules
-
-pub returns-in-Some : goal.returns-in-Some
-returns-in-Some c = search rules

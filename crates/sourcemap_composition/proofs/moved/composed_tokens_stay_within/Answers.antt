@@ -1,5 +1,0 @@
-use Rattle.sourcemap_composition.proofs.MovedLemmas.{composed_within}
-use Rattle.sourcemap_composition.proofs.moved.composed_tokens_stay_within.Goals as goal
-
-pub returns : goal.returns
-returns c = composed_within

@@ -1,4 +1,0 @@
-pub mod Composition
-pub mod Moved
-pub mod Settling
-pub mod Stretches

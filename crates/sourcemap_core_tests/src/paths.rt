@@ -1,0 +1,113 @@
+//! Paths of files: to URLs and back, and relative paths.
+use crate::checks::check;
+use sourcemap_core::errors::{Error, Result};
+use sourcemap_core::places::{path_url, url_path};
+use sourcemap_core::utils::make_relative_path;
+use std::alloc::Global;
+use url::{ParseError, Url};
+
+// Path, whether it is a folder, URL.
+static URLS: [(&str, bool, &str); 17] = [
+    ("/a b/c.js", false, "file:///a%20b/c.js"),
+    ("c.js", false, "none"),
+    ("", true, "none"),
+    ("\\a\\c.js", false, "none"),
+    ("/a b", true, "file:///a%20b/"),
+    ("/a/c.js/", false, "file:///a/c.js"),
+    ("/", false, "file:///"),
+    ("/", true, "file:///"),
+    ("/.//", false, "file:///"),
+    ("//a/.//b/./c.js", false, "file:///a/b/c.js"),
+    ("/a/b/../c.js", false, "file:///a/c.js"),
+    ("/../a", true, "file:///a/"),
+    ("/a%20b/c?d#e.js", false, "file:///a%2520b/c%3Fd%23e.js"),
+    ("/é/a\\b:~_-.js", false, "file:///%C3%A9/a%5Cb%3A~_-.js"),
+    ("/C:/a.js", false, "file:///C%3A/a.js"),
+    ("/a\nb", false, "file:///a%0Ab"),
+    (
+        "/ !\"#$%&'()*+,-.0123456789:;<=>?@AMZ[\\]^_`amz{|}~\u{7f}\u{1}",
+        false,
+        "file:///%20%21%22%23%24%25%26%27%28%29%2A%2B%2C-.0123456789%3A%3B%3C%3D%3E%3F%40AMZ%5B%5C%5D%5E_%60amz%7B%7C%7D~%7F%01",
+    ),
+];
+
+// A URL, and its path.
+static PATHS: [(&str, &str); 11] = [
+    ("file:///a%20b/c.js", "/a b/c.js"),
+    ("file:///", "/"),
+    ("file:/a/../b/", "/b/"),
+    ("file:///%C3%A9%25.js", "/é%.js"),
+    ("file:///%zz%2", "/%zz%2"),
+    ("file:///a?b#c", "/a"),
+    ("file://localhost/a", "/a"),
+    ("file://host/a", "none"),
+    ("http://x.com/a", "none"),
+    ("file:///%ff", "none"),
+    ("data:a", "none"),
+];
+
+// Two files, and the path from the first to the second.
+static RELATIVE: [(&str, &str, &str); 14] = [
+    ("/foo/bar/baz.js", "/foo/baz.map", "../baz.map"),
+    ("/a/x.js", "/a/b/c.map", "b/c.map"),
+    ("/foo/bar/baz.js", "/foo/bar/baz.map", "baz.map"),
+    ("/foo/bar/.", "/foo/bar/baz.map", "baz.map"),
+    ("foo.txt", "foo.js", "foo.js"),
+    ("blah/foo.txt", "foo.js", "../foo.js"),
+    ("/a/b", "/", "../"),
+    ("/a/b", "/a", "."),
+    ("", "", "."),
+    ("/a/b/c/x.js", "/a/d/e/y.js", "../../d/e/y.js"),
+    ("C:\\a\\x.js", "C:/a\\é//y.js", "é/y.js"),
+    ("//a//b//", "a/c", "c"),
+    ("/ab/x", "/ac/x", "../ac/x"),
+    ("/a/b/c", "/a/b", "."),
+];
+
+fn url_of(alloc: Global, path: &str, folder: bool) -> Result<String> {
+    match path_url(alloc, path, folder)? {
+        None => Ok(String::from_str(alloc, "none")?),
+        Some(url) => Ok(String::from_str(alloc, url.as_str())?),
+    }
+}
+
+fn url_path_text(alloc: Global, url: &Url) -> Result<String> {
+    match url_path(alloc, url)? {
+        None => Ok(String::from_str(alloc, "none")?),
+        Some(path) => Ok(path),
+    }
+}
+
+fn path_of(alloc: Global, text: &str) -> Result<String> {
+    match Url::parse(alloc, text) {
+        Ok(url) => url_path_text(alloc, &url),
+        Err(ParseError::OutOfMemory) => Err(Error::OutOfMemory),
+        Err(_) => Ok(String::from_str(alloc, "no URL")?),
+    }
+}
+
+#[test]
+fn urls_of_paths(rt: HostRuntime) {
+    for (path, folder, want) in URLS.iter() {
+        check(&rt, path, url_of(rt.alloc(), path, *folder), want);
+    }
+}
+
+#[test]
+fn paths_of_urls(rt: HostRuntime) {
+    for (url, want) in PATHS.iter() {
+        check(&rt, url, path_of(rt.alloc(), url), want);
+    }
+}
+
+#[test]
+fn relative_paths(rt: HostRuntime) {
+    for (base, target, want) in RELATIVE.iter() {
+        check(
+            &rt,
+            target,
+            make_relative_path(rt.alloc(), base, target),
+            want,
+        );
+    }
+}

@@ -1,5 +1,0 @@
-use Rattle.sourcemap_digits.proofs.BitLemmas.{BitAnswers-same, IsBitText-same}
-use Rattle.sourcemap_digits.proofs.bits.bits_are_determined.Goals as goal
-
-pub returns : goal.returns
-returns c = record { one_answer = BitAnswers-same; one_text = IsBitText-same }

@@ -1,7 +1,0 @@
-use Rattle.std.proofs.Common.{◌%◌, ap, ◌∙◌}
-use Rattle.std.proofs.Math.Nat.{mod-eq_of_lt}
-use Rattle.sourcemap_digits.proofs.DigitLemmas.{glyph-ascii}
-use Rattle.sourcemap_digits.proofs.vlq.glyph_char.Goals as goal
-
-pub returns : goal.returns
-returns c = c.from.ensures ∙ ap (λ n. n % 128) c.glyph_of.ensures ∙ mod-eq_of_lt (glyph-ascii c.args.value c.requires)

@@ -1,0 +1,72 @@
+-- The URLs of absolute paths of files, and the paths of such URLs.
+use Rattle.std.specs.Prelude.{◌≡◌, ℕ, ◌+◌, ◌⊎◌, ◌==◌, Bool, not, ◌&&◌, ◌||◌, if◌then◌else◌, List, [], ◌++◌, length, slice_index, filter, flat_map, codes, bytes_eq, Option, Some, None, Result, Ok, Err}
+use Rattle.std.specs.Bool.{MatchBool}
+use Rattle.std.specs.Str.{is_utf8}
+use Rattle.std.specs.Result.{result_ok}
+use Rattle.std.specs.List.{slice_split}
+use Rattle.std.specs.Option.{option_and_then}
+use Rattle.percent_encoding.specs.Percent.{percent_encode, percent_decode}
+use Rattle.url.specs.Parts.{Parts, has_host, serialize}
+use Rattle.url.specs.Parser.{Parsed, and_then, parse_url}
+use Rattle.sourcemap_errors.specs.declared.errors.Error.{Error}
+use Rattle.sourcemap_errors.specs.declared.errors.Error.TheVariants.{OutOfMemory}
+use Rattle.sourcemap_file_urls.specs.declared.places.TheConstants.{ESCAPED}
+use Rattle.sourcemap_file_urls.specs.Urls.{IsLong, UrlOf}
+
+-- `/`
+abbrev pub is_slash : ℕ → Bool
+is_slash byte = byte == 47
+
+-- a path is absolute if it starts with `/`
+abbrev pub starts_at_root : List ℕ → Bool
+starts_at_root path = is_slash (slice_index path 0)
+
+-- neither empty nor `.`
+abbrev pub is_component : List ℕ → Bool
+is_component part = not (bytes_eq part []) && not (bytes_eq part (codes "."))
+
+-- the components between the slashes of a path
+abbrev pub components : List ℕ → List (List ℕ)
+components path = filter is_component (slice_split is_slash path)
+
+-- the slash at the end of a folder, and of a path without components
+abbrev pub end_text : Bool → List (List ℕ) → List ℕ
+end_text folder parts = if folder || (length parts == 0) then codes "/" else []
+
+-- each component after a slash, escaped
+abbrev pub escaped : List (List ℕ) → List ℕ
+escaped parts = flat_map (λ part. codes "/" ++ percent_encode ESCAPED part) parts
+
+-- the text of the URL of a path
+abbrev pub url_text : List ℕ → Bool → List ℕ
+url_text path folder = codes "file://" ++ escaped (components path) ++ end_text folder (components path)
+
+-- the result for a path: its URL, none if it is not absolute
+abbrev pub PathUrl : List ℕ → Bool → Result (Option Parts) Error → Type 0
+PathUrl path folder answer = MatchBool (starts_at_root path) (UrlOf (url_text path folder) answer) (answer ≡ Ok None)
+
+-- the bytes if they are UTF-8
+abbrev pub text_of : List ℕ → Option (List ℕ)
+text_of bytes = if is_utf8 bytes then Some bytes else None
+
+-- the path of a `file` URL without host, with escapes decoded
+abbrev pub path_of : Parts → Option (List ℕ)
+path_of url = if bytes_eq url.scheme (codes "file") && not (has_host url) then text_of (percent_decode url.path) else None
+
+-- the path of the file that a reference points to, relative to a URL
+abbrev pub named_path : Parts → List ℕ → Option (List ℕ)
+named_path base reference = option_and_then path_of (result_ok (parse_url (Some base) reference))
+
+-- the result is that path, or none if the texts are long
+abbrev pub NamesPath : Parts → List ℕ → Result (Option (List ℕ)) Error → Type 0
+NamesPath base reference (Ok None) = (named_path base reference ≡ None) ⊎ IsLong (length (serialize base) + length reference)
+NamesPath base reference (Ok (Some path)) = named_path base reference ≡ Some path
+NamesPath base reference (Err e) = e ≡ OutOfMemory
+
+-- the URL of a reference, relative to an absolute path
+abbrev pub joined : List ℕ → Bool → List ℕ → Parsed Parts
+joined path folder reference = and_then (parse_url None (url_text path folder)) (λ base. parse_url (Some base) reference)
+
+-- the path of the file that a reference points to, relative to a path: none if that is not absolute
+abbrev pub path_from : List ℕ → Bool → List ℕ → Option (List ℕ)
+path_from path folder reference = if starts_at_root path then option_and_then path_of (result_ok (joined path folder reference)) else None

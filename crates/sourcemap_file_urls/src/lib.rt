@@ -1,0 +1,6 @@
+//! Paths of files: as `file` URLs and back, and relative to another file.
+#![tactic(auto)]
+
+pub mod places;
+pub mod relative_paths;
+pub mod urls;

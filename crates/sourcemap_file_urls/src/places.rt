@@ -1,0 +1,114 @@
+//! Absolute paths of files as URLs, and back.
+ghost use Rattle.std.specs.Prelude.{◌≡◌, Ok, option_map, string_bytes, OnOk, IfErr, codes, if◌then◌else◌, [], ◌∷◌, ◌++◌};
+ghost use Rattle.sourcemap_errors.specs.Answer.{Gives, IsAnswer};
+ghost use Rattle.sourcemap_file_urls.specs.Places as spec;
+ghost use Rattle.sourcemap_file_urls.specs.Places.{PathUrl, NamesPath, path_of, text_of, escaped};
+ghost use Rattle.percent_encoding.specs.Percent as percent;
+ghost use Rattle.sourcemap_errors.specs.declared.errors.Error.TheVariants.{OutOfMemory};
+
+use crate::urls;
+use percent_encoding::{AsciiSet, NON_ALPHANUMERIC, ascii_set, percent_decode, percent_encode};
+use sourcemap_errors::errors::Result;
+use std::alloc::Global;
+use url::Url;
+
+/// The ASCII bytes that are escaped in a path's URL: all but letters, digits, `-`, `.`, `_` and
+/// `~`.
+pub const ESCAPED: AsciiSet = ascii_set!(
+    NON_ALPHANUMERIC
+        .remove(b'-')
+        .remove(b'.')
+        .remove(b'_')
+        .remove(b'~')
+);
+
+/// Returns the `file` URL of a path that starts with `/`, and `None` for any other path. Components
+/// are escaped, empty ones and `.` are dropped, and `..` is resolved. If `folder` is true, the URL
+/// ends with `/`.
+///
+/// Returns `None` too if the `url` crate rejects the URL, or possibly if its text has 2^28 bytes or
+/// more. The only error is `OutOfMemory`.
+pub fn path_url(alloc: Global, path: &str, folder: bool) -> Result<Option<Url>>
+    ensures { PathUrl path.now folder result }
+{
+    if !path.as_bytes().starts_with(b"/") {
+        return Ok(None);
+    }
+    let text = url_text(alloc, path, folder)?;
+    urls::parse(alloc, text.as_str())
+}
+
+/// Returns the path of a `file` URL without host, with its escapes decoded. Returns `None` for any
+/// other URL, and if the path is not UTF-8. The only error is `OutOfMemory`.
+pub fn url_path(alloc: Global, url: &Url) -> Result<Option<String>>
+    ensures { Gives (option_map string_bytes) result (Ok (path_of url.now)) }
+{
+    if url.scheme() == "file" && !url.has_host() {
+        return decode_text(alloc, url.path());
+    }
+    Ok(None)
+}
+
+// The text with its escapes decoded, `None` if that is not UTF-8.
+fn decode_text(alloc: Global, text: &str) -> Result<Option<String>>
+    ensures { Gives (option_map string_bytes) result (Ok (text_of (percent.percent_decode text.now))) }
+{
+    let mut bytes = Vec::new(alloc);
+    percent_decode(text.as_bytes()).append_to(&mut bytes)?;
+    match String::from_utf8(bytes) {
+        Ok(text) => Ok(Some(text)),
+        Err(_) => Ok(None),
+    }
+}
+
+/// Returns the path of the file that a reference points to, relative to `base`: `url_path` of both
+/// joined. The only error is `OutOfMemory`.
+pub fn named_path(alloc: Global, base: &Url, reference: &str) -> Result<Option<String>>
+    ensures { IsAnswer (option_map string_bytes) (NamesPath base.now reference.now) result }
+{
+    match urls::join(base, reference)? {
+        Some(url) => url_path(alloc, &url),
+        None => Ok(None),
+    }
+}
+
+// The text of a path's URL: `file://`, then each component escaped after a `/`.
+fn url_text(alloc: Global, path: &str, folder: bool) -> Result<String>
+    ensures { Gives string_bytes result (Ok (spec.url_text path.now folder)) }
+{
+    let mut text = String::from_str(alloc, "file://")?;
+    let mut is_bare = true;
+    for part in path.split('/') {
+        if is_component(part) {
+            push_component(&mut text, part)?;
+            is_bare = false;
+        }
+    }
+    text.push_str(end_of(folder || is_bare))?;
+    Ok(text)
+}
+
+// The end of a URL's text, with or without a slash.
+fn end_of(has_slash: bool) -> &'static str
+    ensures { result.now ≡ (if has_slash then codes "/" else []) }
+{
+    if has_slash { "/" } else { "" }
+}
+
+// Appends a slash and the escaped component.
+fn push_component(text: &mut String, part: &str) -> Result<()>
+    ensures adds { OnOk result (string_bytes text.new
+        ≡ string_bytes text.old ++ escaped (part.now ∷ [])) }
+    ensures refused { IfErr result (λ e. e ≡ OutOfMemory) }
+{
+    text.push_str("/")?;
+    percent_encode(part.as_bytes(), ESCAPED).append_to(text)?;
+    Ok(())
+}
+
+// Whether a part of a path is kept in its URL.
+fn is_component(part: &str) -> bool
+    ensures { result ≡ spec.is_component part.now }
+{
+    !part.is_empty() && part != "."
+}

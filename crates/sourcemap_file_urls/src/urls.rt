@@ -1,0 +1,45 @@
+//! Parsing of URLs that keeps out of memory apart from a rejected text.
+ghost use Rattle.std.specs.Prelude.{IsTrue, ◌↔◌};
+ghost use Rattle.url.specs.Parser.{Gives, Parsed};
+ghost use Rattle.url.specs.Parts.{Parts};
+ghost use Rattle.sourcemap_file_urls.specs.Urls.{IsLong as IsLongSize, ReadsAs, UrlOf, JoinedUrl};
+
+use sourcemap_errors::errors::{Error, Result};
+use std::alloc::Global;
+use url::{ParseError, ParseResult, Url};
+
+/// Parses a URL by the URL Standard. Returns `None` if it is rejected, or possibly if the text has
+/// 2^28 bytes or more. The only error is `OutOfMemory`.
+pub fn parse(alloc: Global, text: &str) -> Result<Option<Url>>
+    ensures { UrlOf text.now result }
+{
+    read(text.len(), Url::parse(alloc, text))
+}
+
+/// Resolves a reference against `base` by the URL Standard. Returns `None` if it is rejected, or
+/// possibly if both together have 2^28 bytes or more. The only error is `OutOfMemory`.
+pub fn join(base: &Url, reference: &str) -> Result<Option<Url>>
+    ensures { JoinedUrl base.now reference.now result }
+{
+    read(base.as_str().len() + reference.len(), base.join(reference))
+}
+
+// Whether a URL of texts of this size may exceed 4 GB.
+fn is_long(size: usize) -> bool
+    ensures { IsTrue result ↔ IsLongSize size }
+{
+    size >= 1 << 28
+}
+
+// Maps the result of `url` for texts of this size. Its contract allows `Overflow` for any text.
+// Short texts never reach 4 GB, so `Overflow` for them becomes out of memory.
+fn read(size: usize, parsed: ParseResult<Url>) -> Result<Option<Url>>
+    ensures { (due : Parsed Parts) → Gives parsed due → ReadsAs size due result }
+{
+    match parsed {
+        Ok(url) => Ok(Some(url)),
+        Err(ParseError::OutOfMemory) => Err(Error::OutOfMemory),
+        Err(ParseError::Overflow) if !is_long(size) => Err(Error::OutOfMemory),
+        Err(_) => Ok(None),
+    }
+}

@@ -1,7 +1,0 @@
-use Rattle.std.proofs.Common.{◌≡◌, map, take, string_bytes}
-use Rattle.sourcemap_flattening.specs.Table.{entry_values}
-use Rattle.sourcemap_flattening.specs.Entries.{entries_with}
-use Rattle.sourcemap_flattening.proofs.entries.sources_of.Given as goal
-
-abbrev pub invariant-loop-text : goal.invariant-loop-text
-invariant-loop-text l = entry_values l.entries.items ≡ entries_with l.contents (map string_bytes (take l.text-index l.sources))

@@ -1,7 +1,0 @@
-use Rattle.std.proofs.Common.{◌≡◌, map, take}
-use Rattle.sourcemap_texts.specs.Texts.{texts_of}
-use Rattle.sourcemap_flattening.specs.Table.{entry_values}
-use Rattle.sourcemap_flattening.proofs.entries.texts_of.Given as goal
-
-abbrev pub invariant-loop-entry : goal.invariant-loop-entry
-invariant-loop-entry l = texts_of l.texts ≡ map (λ e. e.0) (entry_values (take l.entry-index l.entries))

@@ -1,8 +1,0 @@
-use Rattle.std.proofs.Common.{◌≡◌, fold, take}
-use Rattle.std.specs.BTreeSet.{insert_key}
-use Rattle.std.specs.Ordering.{nat_cmp}
-use Rattle.sourcemap_flattening.specs.Moving.{passed_over}
-use Rattle.sourcemap_flattening.proofs.moving.pass_over.Given as goal
-
-abbrev pub invariant-loop-token : goal.invariant-loop-token
-invariant-loop-token l = l.all.keys ≡ fold (insert_key nat_cmp) l.fn.all.keys (passed_over l.ignored.keys l.sources (take l.token-index l.tokens))

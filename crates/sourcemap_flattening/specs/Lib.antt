@@ -1,5 +1,0 @@
-pub mod Faults
-pub mod Table
-pub mod Entries
-pub mod Moving
-pub mod Gathering

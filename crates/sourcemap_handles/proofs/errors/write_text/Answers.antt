@@ -1,7 +1,0 @@
-use Rattle.std.proofs.Common.{rules}
-use Rattle.sourcemap_handles.proofs.Texts.{written-over}
-use Rattle.sourcemap_handles.proofs.errors.write_text.Goals as goal
-
--- src/errors.rt:215:1
-pub returns : goal.returns
-returns c = written-over c.args.text.now c.args.to.now c.copy_from_slice.new.self c.split_at_mut-shown.result.1.now c.requires (search rules) (search rules)

@@ -1,0 +1,55 @@
+-- The scope mappings of a source, decoded: where its functions start. `;` separates lines, `,` the
+-- parts of a line. A part that is not empty is a segment of three deltas: of the column, of the
+-- index of the name and of the line.
+use Rattle.std.specs.Prelude.{◌≡◌, ◌≢◌, ℕ, ◌+◌, ◌%◌, ◌^◌, List, [], ◌∷◌, ◌++◌, Option, Some, None, Any}
+use Rattle.sourcemap_errors.specs.declared.errors.Error.{Error}
+use Rattle.sourcemap_vlq.specs.Vlq.{Reads, HasError}
+use Rattle.sourcemap_mappings.specs.Segment.{Segment, sum_at, parts_of}
+use Rattle.sourcemap_mappings.specs.Read.{lines_of}
+use Rattle.sourcemap_hermes_scopes.specs.declared.offsets.HermesScopeOffset.{HermesScopeOffset}
+
+-- the offset of a segment: `here` are the segments of its line up to and with it, `all` those of the text
+abbrev pub segment_offset : List Segment → List Segment → HermesScopeOffset
+segment_offset here all = record {
+  line = (1 + sum_at 2 all) % 2 ^ 32;
+  column = sum_at 0 here;
+  name_index = sum_at 1 all;
+}
+
+-- the offsets of some segments of a line, after `here` in the line and `before` in the text
+abbrev pub line_offsets : List Segment → List Segment → List Segment → List HermesScopeOffset
+line_offsets before here [] = []
+line_offsets before here (s ∷ later) =
+    let here' = here ++ s ∷ [] in
+    segment_offset here' (before ++ here') ∷ line_offsets before here' later
+
+-- the offsets of a page, whose lines are lists of segments, after the segments `before`
+abbrev pub page_offsets : List Segment → List (List Segment) → List HermesScopeOffset
+page_offsets before [] = []
+page_offsets before (line ∷ page) = line_offsets before [] line ++ page_offsets (before ++ line) page
+
+-- Texts and pages.
+
+-- the segments of some parts, empty parts skipped; the index of a segment in its line is set to 0
+abbrev pub SegmentsRead : List (List ℕ) → List Segment → Type 0
+SegmentsRead [] segments = segments ≡ []
+SegmentsRead ([] ∷ parts) segments = SegmentsRead parts segments
+SegmentsRead ((c ∷ cs) ∷ parts) [] = ⊥
+SegmentsRead ((c ∷ cs) ∷ parts) (s ∷ segments) =
+    (s.index ≡ 0) × Reads (c ∷ cs) s.numbers × SegmentsRead parts segments
+
+-- these lines decode to this page
+abbrev pub PageRead : List (List ℕ) → List (List Segment) → Type 0
+PageRead [] page = page ≡ []
+PageRead (line ∷ lines) [] = ⊥
+PageRead (line ∷ lines) (segments ∷ page) = SegmentsRead (parts_of line) segments × PageRead lines page
+
+-- a part whose digits are invalid
+abbrev pub IsUnreadable : List ℕ → Type 0
+IsUnreadable part = (part ≢ []) × ((e : Error) × HasError part e)
+
+-- what a text encodes: the offsets of its page, or none if a part of it is invalid
+abbrev pub StandsFor : List ℕ → Option (List HermesScopeOffset) → Type 0
+StandsFor text (Some offsets) =
+    (page : List (List Segment)) × PageRead (lines_of text) page × (offsets ≡ page_offsets [] page)
+StandsFor text None = Any (λ line. Any IsUnreadable (parts_of line)) (lines_of text)

@@ -1,0 +1,12 @@
+-- Items taken out of a list by their ids.
+use Rattle.std.specs.Prelude.{ℕ, List, [], ◌∷◌, map, slice_set, Option, None}
+use Rattle.sourcemap_tokens.specs.Items.{item_at}
+
+-- the items with these ids, in this order
+abbrev pub items_at : {X : Type 0} → List (Option X) → List ℕ → List (Option X)
+items_at items ids = map (item_at items) ids
+
+-- the same where each item is moved out: a repeated id has none
+abbrev pub moved_items : {X : Type 0} → List (Option X) → List ℕ → List (Option X)
+moved_items items [] = []
+moved_items items (id ∷ ids) = item_at items id ∷ moved_items (slice_set items id None) ids

@@ -1,0 +1,182 @@
+//! The scopes of the sources of a Hermes map, as decoded, with their function maps.
+ghost use Rattle.std.specs.Prelude.{◌≡◌, ℕ, List, Some, Ok, IfOk, IsOkUnless, nat_eq, option_map, slice_get};
+ghost use Rattle.std.specs.Bool.{Decides};
+ghost use Rattle.std.specs.Cmp.{partial_equiv_from_equiv};
+ghost use Rattle.std.specs.Cmp.Lexicographic.{pointwise};
+ghost use Rattle.std.specs.List.{IsDistinct};
+ghost use Rattle.std.specs.Option.{option_copied, option_eq};
+ghost use Rattle.sourcemap_errors.specs.Answer.{Gives};
+ghost use Rattle.sourcemap_errors.specs.declared.errors.Error.TheVariants.{OutOfMemory};
+ghost use Rattle.sourcemap_hermes_scopes.specs.FunctionMap.{same_offsets};
+ghost use Rattle.sourcemap_tokens.specs.Items.{item_at};
+ghost use Rattle.sourcemap_hermes_scopes.specs.ScopeLists.{entries_in, names_of};
+ghost use Rattle.sourcemap_hermes_scopes.specs.SourceScopes.{SourceScopesValue, AreOfEntries, IsInOrderAt, name_index, picked_scopes, same_source_scopes, same_source_scopes_equiv, scope_at};
+
+use crate::function_map::{HermesFunctionMap, copy_function_maps, same_function_maps};
+use crate::picks::take_items;
+use crate::scope_lists::{ScopeLists, copy_scope_lists, function_maps_of, same_scope_lists};
+use sourcemap_errors::errors::Result;
+use std::alloc::Global;
+use std::marker::Model;
+
+/// The scopes of sources by source id: the entry as decoded, and the function map that it encodes.
+/// A source may have neither.
+#[derive(Debug, Drop)]
+pub struct SourceScopes {
+    entries: ScopeLists,
+    function_maps: Vec<Option<HermesFunctionMap>>,
+}
+
+impl Model for SourceScopes {
+    ghost use Rattle.sourcemap_hermes_scopes.specs.SourceScopes.{SourceScopesValue};
+
+    ghost Value = { SourceScopesValue };
+
+    ghost use Rattle.sourcemap_hermes_scopes.specs.SourceScopesStored.{source_scopes_in, AreStored};
+
+    ghost view = { source_scopes_in };
+
+    ghost invariant = { AreStored };
+}
+
+impl SourceScopes {
+    /// The scopes of a record, with their function maps. A source's function map is that of the
+    /// first scopes of its list. A source with no list, an empty list or invalid mappings has no
+    /// function map. The only error is `OutOfMemory`.
+    pub fn new(alloc: Global, entries: ScopeLists) -> Result<SourceScopes>
+        ensures entries { IfOk result (λ scopes. scopes.entries ≡ entries_in entries) }
+        ensures function_maps { IfOk result AreOfEntries }
+        ensures memory { IsOkUnless result OutOfMemory }
+    {
+        let function_maps = function_maps_of(alloc, entries.as_slice())?;
+        Ok(SourceScopes {
+            entries,
+            function_maps,
+        })
+    }
+
+    fn name_index(&self, source: u32, line: u32, col: u32) -> Option<u32>
+        ensures { IsInOrderAt self.now source
+            → result ≡ name_index self.now source (line, col) }
+    {
+        match self.function_maps.get(source as usize) {
+            Some(Some(functions)) => functions.name_index(line, col),
+            _ => None,
+        }
+    }
+
+    fn name(&self, source: u32, index: u32) -> Option<&str>
+        ensures { option_copied result
+            ≡ slice_get (names_of (item_at self.now.entries source)) index }
+    {
+        let Some(Some(list)) = self.entries.get(source as usize) else {
+            return None;
+        };
+        let scopes = list.first()?;
+        let name = scopes.names.get(index as usize)?;
+        Some(name.as_str())
+    }
+
+    /// The name of the function that contains a position of the source with this id. Line and
+    /// column count from 0. That is the first function that starts at the position, else the last
+    /// one that starts before it. `None` where no function starts so early, the source has no
+    /// function map, or the function has no name. Requires functions sorted by where they start;
+    /// otherwise the result is unspecified.
+    pub fn scope(&self, source: u32, line: u32, col: u32) -> Option<&str>
+        ensures { IsInOrderAt self.now source
+            → option_copied result ≡ scope_at self.now source (line, col) }
+    {
+        let index = self.name_index(source, line, col)?;
+        self.name(source, index)
+    }
+
+    /// The scopes of the sources with these ids, in this order, moved and not copied. A source has
+    /// none if its id has none, or occurs earlier in `ids`. The only error is `OutOfMemory`.
+    pub fn select(self, alloc: Global, ids: &[u32]) -> Result<SourceScopes>
+        ensures select { IsDistinct nat_eq ids.now
+            → IfOk result (λ scopes. scopes ≡ picked_scopes self ids.now) }
+        ensures memory { IsOkUnless result OutOfMemory }
+    {
+        let SourceScopes {
+            entries,
+            function_maps,
+        } = self;
+        let entries = take_items(alloc, entries, ids)?;
+        let function_maps = take_items(alloc, function_maps, ids)?;
+        Ok(SourceScopes {
+            entries,
+            function_maps,
+        })
+    }
+
+    /// The scopes as decoded, moved and not copied.
+    pub fn into_entries(self) -> ScopeLists
+        ensures entries { entries_in result ≡ self.entries }
+        ensures function_maps { AreOfEntries self }
+    {
+        self.entries
+    }
+
+    /// A copy of the scopes as decoded. The only error is `OutOfMemory`.
+    pub fn copy_entries(&self) -> Result<ScopeLists>
+        ensures entries { Gives entries_in result (Ok self.now.entries) }
+        ensures function_maps { AreOfEntries self.now }
+    {
+        copy_scope_lists(*self.entries.allocator(), self.entries.as_slice())
+    }
+
+    /// A copy. The only error is `OutOfMemory`.
+    pub fn clone(&self) -> Result<SourceScopes>
+        ensures { Gives (λ scopes. scopes) result (Ok self.now) }
+    {
+        let entries = self.copy_entries()?;
+        let alloc = *self.entries.allocator();
+        let function_maps = copy_function_maps(alloc, self.function_maps.as_slice())?;
+        Ok(SourceScopes {
+            entries,
+            function_maps,
+        })
+    }
+}
+
+fn are_same(a: &SourceScopes, b: &SourceScopes) -> bool
+    ensures { result ≡ same_source_scopes a.now b.now }
+{
+    let entries = same_scope_lists(&a.entries, &b.entries);
+    let function_maps = same_function_maps(&a.function_maps, &b.function_maps);
+    // prover: no branch
+    entries & function_maps
+}
+
+/// Scopes of sources are equal exactly if their entries and their function maps are equal.
+impl PartialEq for SourceScopes {
+    ghost eq = { same_source_scopes };
+
+    ghost laws = { partial_equiv_from_equiv same_source_scopes_equiv };
+
+    fn eq(&self, other: &Self) -> bool
+        ensures value { result ≡ same_source_scopes self.now other.now }
+        ensures same { Decides result (self.now ≡ other.now) }
+    {
+        are_same(self, other)
+    }
+}
+
+/// A law: the function maps are determined by the entries.
+pub fn entries_determine_function_maps()
+    ensures { (a b : SourceScopesValue) → a.entries ≡ b.entries → AreOfEntries a → AreOfEntries b
+        → a.function_maps ≡ b.function_maps }
+{}
+
+/// A law: selecting scopes by id keeps the functions of each source and their order, and the
+/// function maps are still those of the entries.
+pub fn picked_scopes_answer_alike()
+    ensures of_entries { (scopes : SourceScopesValue) (ids : List ℕ)
+        → AreOfEntries scopes → AreOfEntries (picked_scopes scopes ids) }
+    ensures in_order { (scopes : SourceScopesValue) (ids : List ℕ) (index id : ℕ)
+        → slice_get ids index ≡ Some id → IsInOrderAt scopes id
+        → IsInOrderAt (picked_scopes scopes ids) index }
+    ensures scope { (scopes : SourceScopesValue) (ids : List ℕ) (index id : ℕ) (p : ℕ × ℕ)
+        → slice_get ids index ≡ Some id
+        → scope_at (picked_scopes scopes ids) index p ≡ scope_at scopes id p }
+{}

@@ -1,0 +1,6 @@
+-- What the search finds, so that a wrong body is refused fast.
+use Rattle.std.proofs.Common.{rules}
+use Rattle.sourcemap_index.proofs.lookup.relative_position.Goals as goal
+
+pub returns : goal.returns
+returns c = search rules

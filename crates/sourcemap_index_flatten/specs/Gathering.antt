@@ -1,0 +1,70 @@
+-- Concatenation of maps, piece by piece.
+use Rattle.std.specs.Prelude.{◌≡◌, ℕ, ◌≤◌, vec_len, List, ◌∷◌, [], ◌++◌, map, flat_map, None, Result, Ok, Err}
+use Rattle.sourcemap_tokens.specs.Tokens.{in_order}
+use Rattle.sourcemap_tokens.specs.declared.tokens.RawToken.{RawToken}
+use Rattle.sourcemap_errors.specs.declared.errors.Error.{Error}
+use Rattle.sourcemap_errors.specs.Answer.{UnlessMemory}
+use Rattle.sourcemap_map_conversions.specs.FromRecord.{rising}
+use Rattle.sourcemap_map_regular.specs.Map.{MapValue}
+use Rattle.sourcemap_index_model.specs.Flat.{Piece, source_entries, token_in, ignored_in, with_piece}
+use Rattle.sourcemap_index_flatten.specs.Errors.{GivesReason}
+use Rattle.sourcemap_index_flatten.specs.Table.{TextEntry, IsTable, entry_values, entries_kept}
+use Rattle.sourcemap_index_flatten.specs.declared.gathering.Gathering.{Gathering}
+use Rattle.sourcemap_index_flatten.specs.declared.gathering.Part.{Part}
+use Rattle.sourcemap_index_flatten.specs.declared.gathering.FlatMap.{FlatMap}
+
+-- the names of a map, without contents
+abbrev pub name_entries : MapValue → List TextEntry
+name_entries m = map (λ name. (name, None)) m.names
+
+-- the entries of all pieces
+abbrev pub sources_entered : List Piece → List TextEntry
+sources_entered pieces = flat_map (λ piece. source_entries piece.1) pieces
+
+abbrev pub names_entered : List Piece → List TextEntry
+names_entered pieces = flat_map (λ piece. name_entries piece.1) pieces
+
+abbrev pub tokens_moved : List Piece → List RawToken
+tokens_moved pieces = flat_map (λ piece. map (token_in pieces piece) piece.1.tokens) pieces
+
+abbrev pub ids_ignored : List Piece → List ℕ
+ids_ignored pieces = rising (flat_map (ignored_in pieces) pieces)
+
+-- exactly these pieces were added
+pub record Gathers (pieces : List Piece) (g : Gathering) : Type 0 where
+  pub sources : IsTable (sources_entered pieces) g.sources
+  pub names : IsTable (names_entered pieces) g.names
+  pub tokens : g.tokens.items ≡ tokens_moved pieces
+  pub ignored : g.ignored.keys ≡ ids_ignored pieces
+
+-- the lists of a map, with borrowed texts
+pub record IsPartOf (m : MapValue) (part : Part) : Type 0 where
+  pub tokens : part.tokens.now ≡ m.tokens
+  pub ignored : part.ignored.now.keys ≡ m.ignored
+  pub sources : entry_values part.sources.now ≡ source_entries m
+  pub names : entry_values part.names.now ≡ name_entries m
+
+-- the piece fits, and was added to those before it
+pub record GathersMore (before : List Piece) (piece : Piece) (g : Gathering) : Type 0 where
+  pub gathered : Gathers (before ++ piece ∷ []) g
+  pub due : with_piece before piece ≡ Ok (before ++ piece ∷ [])
+
+-- the error for the reason that is due, or out of memory
+abbrev pub RefusesFor : Result (List Piece) (List ℕ) → Error → Type 0
+RefusesFor due e = UnlessMemory e ((reason : List ℕ) × (due ≡ Err reason) × GivesReason reason e)
+
+abbrev pub RefusesPiece : List Piece → Piece → Error → Type 0
+RefusesPiece before piece e = RefusesFor (with_piece before piece) e
+
+-- each source and each name has an id
+pub record HasFewTexts (flat : FlatMap) : Type 0 where
+  pub sources : vec_len flat.sources ≤ 4294967295
+  pub names : vec_len flat.names ≤ 4294967295
+
+-- the concatenation of these pieces without a file name, with borrowed texts
+pub record IsFlat (pieces : List Piece) (flat : FlatMap) : Type 0 where
+  pub few : HasFewTexts flat
+  pub tokens : flat.tokens ≡ in_order (tokens_moved pieces)
+  pub ignored : flat.ignored.keys ≡ ids_ignored pieces
+  pub sources : entry_values flat.sources.items ≡ entries_kept (sources_entered pieces)
+  pub names : entry_values flat.names.items ≡ entries_kept (names_entered pieces)

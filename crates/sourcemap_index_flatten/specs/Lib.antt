@@ -1,0 +1,5 @@
+pub mod Errors
+pub mod Table
+pub mod Entries
+pub mod Moving
+pub mod Gathering

@@ -1,0 +1,115 @@
+//! Tokens moved to the offset of their map, with the ids of the whole.
+ghost use Rattle.std.specs.Prelude.{◌≡◌, ◌++◌, if◌then◌else◌, Some, None, IfErr, IfOk, OnOk, IsOkUnless, codes, map, unwrap_or, slice_get, fold, false};
+ghost use Rattle.std.specs.List.{list_any};
+ghost use Rattle.std.specs.BTreeSet.{insert_key};
+ghost use Rattle.std.specs.Ordering.{nat_cmp};
+ghost use Rattle.sourcemap_tokens.specs.Tokens.{destination};
+ghost use Rattle.sourcemap_errors.specs.declared.errors.Error.TheVariants.{OutOfMemory};
+ghost use Rattle.sourcemap_index_model.specs.Flat.{passes_the_end};
+ghost use Rattle.sourcemap_index_model.specs.FlatList.{absolute_position};
+ghost use Rattle.sourcemap_index_flatten.specs.Errors.{RefusesBy};
+ghost use Rattle.sourcemap_index_flatten.specs.Moving.{IsMoved, AreMoved, moved_by, new_number, ignored_numbers, is_past_end};
+
+use crate::errors::past_the_end;
+use sourcemap_errors::errors::Result;
+use sourcemap_tokens::tokens::{NO_ID, RawToken};
+use std::alloc::Global;
+use std::collections::BTreeSet;
+use std::mem;
+
+// The offset of a map, and the new ids of its sources and names.
+#[derive(Clone, Copy)]
+pub(crate) struct Move<'a> {
+    pub(crate) line: u32,
+    pub(crate) col: u32,
+    pub(crate) sources: &'a [u32],
+    pub(crate) names: &'a [u32],
+}
+
+// The new id, `NO_ID` for an id without a source or name.
+fn new_number(numbers: &[u32], id: u32) -> u32
+    ensures { result ≡ new_number numbers.now id }
+{
+    match numbers.get(id as usize) {
+        Some(number) => *number,
+        None => NO_ID,
+    }
+}
+
+// The generated position in the whole, if it fits 32 bits.
+fn absolute_position(line: u32, col: u32, token: RawToken) -> Option<(u32, u32)>
+    ensures { result ≡ (if passes_the_end (absolute_position (line, col) (destination token)) then None
+        else Some (absolute_position (line, col) (destination token))) }
+{
+    let raised_line = token.dst_line.checked_add(line)?;
+    if token.dst_line != 0 {
+        return Some((raised_line, token.dst_col));
+    }
+    let raised_col = token.dst_col.checked_add(col)?;
+    Some((raised_line, raised_col))
+}
+
+fn move_token(alloc: Global, token: RawToken, to: Move<'_>) -> Result<RawToken>
+    ensures ok { IfOk result (IsMoved to.entry token) }
+    ensures refused { IfErr result (RefusesBy (is_past_end to.entry token)
+        (codes "a position passes 4294967295")) }
+{
+    match absolute_position(to.line, to.col, token) {
+        None => Err(past_the_end(alloc)),
+        Some((line, col)) => Ok(RawToken {
+            dst_line: line,
+            dst_col: col,
+            src_line: token.src_line,
+            src_col: token.src_col,
+            src_id: new_number(to.sources, token.src_id),
+            name_id: new_number(to.names, token.name_id),
+            is_range: token.is_range,
+        }),
+    }
+}
+
+// Appends moved tokens to `all`. `all` is empty after an error.
+pub(crate) fn move_all(
+    alloc: Global,
+    all: &mut Vec<RawToken>,
+    tokens: &[RawToken],
+    to: Move<'_>,
+) -> Result<()>
+    ensures ok { OnOk result (AreMoved to.entry tokens.now all.old.items all.new.items) }
+    ensures refused { IfErr result (RefusesBy (list_any (is_past_end to.entry) tokens.now)
+        (codes "a position passes 4294967295")) }
+{
+    // owned while it grows: each push through a reference would load and store its length
+    let mut list = mem::replace(all, Vec::new(alloc));
+    list.reserve(tokens.len())?;
+    for token in tokens {
+        // prover: `?` on its own line
+        let token = move_token(alloc, *token, to)?;
+        list.push(token)?;
+    }
+    *all = list;
+    Ok(())
+}
+
+// Adds the new source id of each token whose source is ignored.
+pub(crate) fn add_ignored(
+    all: &mut BTreeSet<u32>,
+    tokens: &[RawToken],
+    ignored: &BTreeSet<u32>,
+    sources: &[u32],
+) -> Result<()>
+    ensures ok { OnOk result (all.new.keys
+        ≡ fold (insert_key nat_cmp) all.old.keys
+        (ignored_numbers ignored.now.keys sources.now tokens.now)) }
+    ensures memory { IsOkUnless result OutOfMemory }
+{
+    if ignored.is_empty() {
+        return Ok(());
+    }
+    for token in tokens {
+        if ignored.contains(&token.src_id) {
+            all.insert(new_number(sources, token.src_id))?;
+        }
+    }
+    Ok(())
+}

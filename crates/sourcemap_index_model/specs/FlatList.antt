@@ -1,0 +1,47 @@
+-- The meanings of the tokens of a map, each at its generated position in the whole, and orderly
+-- maps: those whose sections do not overlap.
+use Rattle.std.specs.Prelude.{◌≡◌, ℕ, ◌+◌, ◌==◌, if◌then◌else◌, List, [], ◌∷◌, ◌++◌, map, true}
+use Rattle.std.specs.List.{AllByRecursion}
+use Rattle.std.specs.Ordering.{is_lt}
+use Rattle.sourcemap_tokens.specs.Tokens.{position_cmp}
+use Rattle.sourcemap_map_regular.specs.Map.{Meaning}
+use Rattle.sourcemap_map_regular.specs.Rewrite.{token_meanings}
+use Rattle.sourcemap_index_model.specs.MapTree.{MapTree, leaf, index, held, MapSections, no_sections, hollow, filled, offset_of, AtEachLevel}
+
+-- a position relative to a section as a position in the whole; the column moves on the section's first line only
+abbrev pub absolute_position : (offset p : ℕ × ℕ) → ℕ × ℕ
+absolute_position offset p = (p.0 + offset.0, (if p.0 == 0 then p.1 + offset.1 else p.1))
+
+abbrev pub absolute_entry : (offset : ℕ × ℕ) → (ℕ × ℕ) × Meaning → (ℕ × ℕ) × Meaning
+absolute_entry offset entry = (absolute_position offset entry.0, entry.1)
+
+-- the meanings of the tokens, each with its position, section after section
+abbrev mutual
+  pub flat_list : MapTree → List ((ℕ × ℕ) × Meaning)
+  flat_list (leaf l) = token_meanings (held l)
+  flat_list (index parts ss) = flat_lists ss
+
+  pub flat_lists : MapSections → List ((ℕ × ℕ) × Meaning)
+  flat_lists no_sections = []
+  flat_lists (hollow head rest) = flat_lists rest
+  flat_lists (filled head t rest) = map (absolute_entry (offset_of head)) (flat_list t) ++ flat_lists rest
+
+-- each section's offset, with the positions of its tokens in the whole
+abbrev pub spans : MapSections → List ((ℕ × ℕ) × List (ℕ × ℕ))
+spans no_sections = []
+spans (hollow head rest) = (offset_of head, []) ∷ spans rest
+spans (filled head t rest) = (offset_of head, map (λ entry. absolute_position (offset_of head) entry.0) (flat_list t)) ∷ spans rest
+
+abbrev pub IsBefore : (p q : ℕ × ℕ) → Type 0
+IsBefore p q = is_lt (position_cmp p q) ≡ true
+
+-- the offset and each token of a section are before the offset of the next section
+abbrev pub AreApart : List ((ℕ × ℕ) × List (ℕ × ℕ)) → Type 0
+AreApart [] = Unit {0}
+AreApart (span ∷ []) = Unit {0}
+AreApart (span ∷ next ∷ rest) =
+    IsBefore span.0 next.0 × AllByRecursion (λ p. IsBefore p next.0) span.1 × AreApart (next ∷ rest)
+
+-- sections do not overlap, at every level
+abbrev pub IsOrderly : MapTree → Type 0
+IsOrderly t = AtEachLevel (λ l. Unit {0}) (λ ss. AreApart (spans ss)) t

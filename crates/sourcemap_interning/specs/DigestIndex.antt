@@ -1,0 +1,20 @@
+-- How the id of a string is found: by its digest, otherwise by the whole string.
+use Rattle.std.specs.Prelude.{◌≡◌, ℕ, cond, Bool, false, List, Option, Some, None, slice_get}
+use Rattle.std.specs.Option.{option_or}
+use Rattle.std.specs.Str.{bytes_eq}
+use Rattle.sourcemap_interning.specs.Digests.{digest}
+use Rattle.sourcemap_interning.specs.Interner.{id_of}
+
+-- there is a string, and it is equal to `text`
+abbrev pub is_text : List ℕ → Option (List ℕ) → Bool
+is_text text None = false
+is_text text (Some other) = bytes_eq text other
+
+-- the id, if its string is equal to `text`
+abbrev pub matching_id : List (List ℕ) → List ℕ → Option ℕ → Option ℕ
+matching_id texts text None = None
+matching_id texts text (Some id) = cond (is_text text (slice_get texts id)) (Some id) None
+
+-- ids by digest, and others by string, find exactly the ids of `texts`
+abbrev pub IsIndex : (ℕ → Option ℕ) → (List ℕ → Option ℕ) → List (List ℕ) → Type 0
+IsIndex firsts others texts = (text : List ℕ) → option_or (matching_id texts text (firsts (digest text))) (others text) ≡ id_of text texts

@@ -1,0 +1,10 @@
+mod Heads
+mod Lexemes
+mod Numerals
+mod Tokens
+mod EscapeLemmas
+pub mod ReadLemmas
+pub mod RunLemmas
+mod StringLemmas
+mod ValueLemmas
+mod Utf8Lemmas

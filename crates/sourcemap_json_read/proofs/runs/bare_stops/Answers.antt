@@ -1,0 +1,6 @@
+use Rattle.std.proofs.Common.{arith}
+use Rattle.sourcemap_json_read.proofs.RunLemmas.{mask_of_bare_stops}
+use Rattle.sourcemap_json_read.proofs.runs.bare_stops.Goals as goal
+
+pub returns : goal.returns
+returns c = mask_of_bare_stops 32 c.args.bytes c.fits-bytes.0 (omega arith)

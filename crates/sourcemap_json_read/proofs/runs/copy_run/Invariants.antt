@@ -1,0 +1,12 @@
+use Rattle.std.proofs.Common.{◌≡◌, ◌+◌, ◌-◌, ◌≤◌, ◌++◌, length, take, drop}
+use Rattle.std.specs.List.{prefix_len}
+use Rattle.sourcemap_json_read.specs.Runs.{is_plain}
+use Rattle.sourcemap_json_read.proofs.runs.copy_run.Given as goal
+
+abbrev pub invariant-loop-at : goal.invariant-loop-at
+invariant-loop-at l =
+    (l.from + prefix_len is_plain (drop l.from l.text) ≡ l.at + prefix_len is_plain (drop l.at l.text)) × (l.from ≤ l.at) × (l.at ≤ length l.text)
+    × (l.out.items ≡ l.initial.out.items ++ take (l.at - l.from) (drop l.from l.text))
+
+abbrev pub decreases-loop-at : goal.decreases-loop-at
+decreases-loop-at l = length l.text - l.at

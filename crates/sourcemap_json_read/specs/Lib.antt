@@ -1,0 +1,5 @@
+pub mod Words
+pub mod Cursor
+pub mod Runs
+pub mod Strings
+pub mod Values

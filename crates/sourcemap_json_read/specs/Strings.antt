@@ -1,0 +1,34 @@
+-- Parts of JSON strings, and the bytes that they decode to.
+use Rattle.std.specs.Prelude.{◌≡◌, ℕ, ◌+◌, ◌<◌, List, ◌++◌, drop, get_or, Some}
+use Rattle.std.specs.Str.{IsUtf8}
+use Rattle.json.specs.Ascii as ascii
+use Rattle.json.specs.Text.{code_unit, content, plain, prepend, short_escape}
+use Rattle.json.specs.Lex.{lex, in_string}
+
+-- If the text from `at` on is UTF-8, so is the text from `from` on.
+abbrev pub IsUtf8UpTo : List ℕ → ℕ → ℕ → Type 0
+IsUtf8UpTo text from at = IsUtf8 (drop at text) → IsUtf8 (drop from text)
+
+-- Within a string, the part of `before` that `after` no longer has decodes to `decoded`, and the string goes on with `after`.
+pub record IsDecodedBetween (before decoded after : List ℕ) : Type 0 where
+  pub bytes : content plain before ≡ prepend decoded (content plain after)
+  pub goes_on : lex in_string before ≡ lex in_string after
+
+-- The string from index `from` to index `at` was decoded and appended to `old`, which gives `new`. Either may end within
+-- a character: if `new` and the text after it are UTF-8 together, so are `old` and the text after it.
+pub record IsReadUpTo (old text : List ℕ) (from : ℕ) (new : List ℕ) (at : ℕ) : Type 0 where
+  pub bytes : prepend new (content plain (drop at text)) ≡ prepend old (content plain (drop from text))
+  pub goes_on : lex in_string (drop at text) ≡ lex in_string (drop from text)
+  pub utf8 : IsUtf8 (new ++ drop at text) → IsUtf8 (old ++ drop from text)
+
+-- The two bytes at `at` are an escape that decodes to `byte`.
+pub record SpellsByte (text : List ℕ) (at byte : ℕ) : Type 0 where
+  pub backslash : get_or text at 0 ≡ ascii.backslash
+  pub letter : short_escape (get_or text (at + 1) 0) ≡ Some byte
+  pub ascii : (byte < 128) × (get_or text (at + 1) 0 < 128)
+
+-- The six bytes at `at` are the `\u` escape of a UTF-16 code unit.
+pub record SpellsUnit (text : List ℕ) (at unit : ℕ) : Type 0 where
+  pub backslash : get_or text at 32 ≡ ascii.backslash
+  pub letter : get_or text (at + 1) 32 ≡ ascii.lower_u
+  pub digits : code_unit (get_or text (at + 2) 32) (get_or text (at + 3) 32) (get_or text (at + 4) 32) (get_or text (at + 5) 32) ≡ Some unit

@@ -1,0 +1,22 @@
+-- What a list of JSON tokens begins with, as the kit reads it.
+use Rattle.std.specs.Prelude.{◌≡◌, ℕ, List, Some}
+use Rattle.json.specs.Token.{Token}
+use Rattle.json.specs.Json as json
+use Rattle.serde_json.specs.Data.{Data, Items, Members}
+use Rattle.serde_json.specs.Read.{of_json, of_items, of_members}
+
+-- `old` begins with a value of at most `depth` levels, and goes on with `new`
+abbrev pub BeginsWithValue : ℕ → List Token → Data → List Token → Type 0
+BeginsWithValue depth old d new =
+    (j : json.Json) × (json.value depth old ≡ Some (j, new)) × (of_json j ≡ Some d)
+
+-- `old` begins with an array's items, fewer than `most` of at most `depth` levels each, and its end
+abbrev pub BeginsWithItems : ℕ → ℕ → List Token → Items → List Token → Type 0
+BeginsWithItems depth most old ds new =
+    (js : json.Items) × (json.items (json.value depth) most old ≡ Some (js, new)) × (of_items js ≡ Some ds)
+
+-- `old` begins with an object's members and its end; the members are put into `before` one after another
+abbrev pub BeginsWithMembers : ℕ → ℕ → List Token → Members → Members → List Token → Type 0
+BeginsWithMembers depth most old before after new =
+    (ms : json.Members) × (json.members (json.value depth) most old ≡ Some (ms, new))
+    × (of_members ms before ≡ Some after)

@@ -1,0 +1,16 @@
+-- Words of a JSON text: what is between punctuation and white space.
+use Rattle.std.specs.Prelude.{◌≡◌, ℕ, ◌+◌, List, ◌++◌, drop, length, true}
+use Rattle.std.specs.Str.Parse.{AllDigits, digits_value}
+use Rattle.json.specs.Word.{ends_word}
+
+-- the word is at `from` and ends at `end`
+abbrev pub IsWordAt : List ℕ → ℕ → List ℕ → ℕ → Type 0
+IsWordAt text from word end = (drop from text ≡ word ++ drop end text) × (ends_word (drop end text) ≡ true)
+
+-- the digits from `from` to `end` have this value
+pub record AreDigits (text : List ℕ) (from value end : ℕ) : Type 0 where
+  pub digits : List ℕ
+  pub split : drop from text ≡ digits ++ drop end text
+  pub all : AllDigits 10 digits
+  pub value_is : digits_value 10 digits ≡ value
+  pub size : end ≡ from + length digits

@@ -1,0 +1,27 @@
+//! Blocks of bytes stored into a buffer that has space for them.
+ghost use Rattle.std.specs.Prelude.{◌≡◌, ◌+◌, ◌<◌, ◌≤◌, [], ◌∷◌, length, take};
+ghost use Rattle.json.specs.Filled.{Placed};
+
+use std::simd::Simd;
+
+/// The zeros that a buffer is extended by at once.
+pub static ZEROS: [u8; 4096] = [0; 4096];
+
+/// Stores the first N bytes of `text` by one load and one store, whether all of them are needed or
+/// not.
+#[inline(always)]
+pub fn store_block<const N: usize>(buffer: &mut [u8], to: usize, text: &[u8])
+    requires { (N ≤ length text.now) × (to + N ≤ length buffer.old) }
+    ensures { Placed buffer.old buffer.new to (take N text.now) (to + N) }
+{
+    Simd::<u8, N>::from_slice(text).copy_to_slice(&mut buffer[to..]);
+}
+
+/// Stores one byte.
+#[inline(always)]
+pub fn store_byte(buffer: &mut [u8], to: usize, byte: u8)
+    requires { to < length buffer.old }
+    ensures { Placed buffer.old buffer.new to (byte ∷ []) (to + 1) }
+{
+    buffer[to] = byte;
+}

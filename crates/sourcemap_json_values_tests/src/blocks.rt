@@ -1,0 +1,96 @@
+// Strings with escapes, whose runs of plain bytes end at each index of a block that matters.
+use crate::answers::{answer, kit_answer};
+use crate::checks::check;
+use serde_json::Result;
+use std::alloc::Global;
+use std::process::Abort;
+
+static LENGTHS: [usize; 8] = [0, 1, 31, 32, 33, 63, 64, 65];
+
+// An escape, and its character in compact JSON.
+static ESCAPES: [(&str, &str); 13] = [
+    (r#"\""#, r#"\""#),
+    (r"\\", r"\\"),
+    (r"\/", "/"),
+    (r"\b", r"\b"),
+    (r"\f", r"\f"),
+    (r"\n", r"\n"),
+    (r"\r", r"\r"),
+    (r"\t", r"\t"),
+    (r"\u0041", "A"),
+    (r"\u00e9", "é"),
+    (r"\u20AC", "€"),
+    (r"\ud83d\ude00", "😀"),
+    (r#"\n\t\\\""#, r#"\n\t\\\""#),
+];
+
+// Characters of two, three and four bytes, with an escape before and after them.
+static WIDE: [(&str, &str); 3] = [
+    (r"\té\n", r"\té\n"),
+    (r"\t€\n", r"\t€\n"),
+    (r"\t😀\u0041", r"\t😀A"),
+];
+
+// Escapes that are invalid or do not end the string.
+static ERRORS: [&str; 7] = [
+    r"\n",
+    r"\",
+    r"\u004",
+    r"\n\",
+    "\\n\u{1f}\"",
+    r#"\x""#,
+    r#"\ud83d\n""#,
+];
+
+fn around(alloc: Global, before: usize, inner: &str, after: usize) -> Result<String> {
+    let first = "a".repeat(alloc, before)?;
+    let last = "b".repeat(alloc, after)?;
+    Ok(format!(in alloc; "\"{first}{inner}{last}\"")?)
+}
+
+fn check_row(rt: &impl Abort, alloc: Global, text: &str, want: &str) {
+    check(rt, text, answer(alloc, text.as_bytes()), want);
+    check(rt, text, kit_answer(alloc, text.as_bytes()), want);
+}
+
+#[test]
+fn escapes_among_plain_runs_are_read(rt: HostRuntime) -> Result<()> {
+    for (spelled, written) in ESCAPES.iter() {
+        for before in LENGTHS.iter() {
+            for after in LENGTHS.iter() {
+                let text = around(rt.alloc(), *before, spelled, *after)?;
+                let want = around(rt.alloc(), *before, written, *after)?;
+                check_row(&rt, rt.alloc(), text.as_str(), want.as_str());
+            }
+        }
+    }
+    Ok(())
+}
+
+#[test]
+fn wide_characters_between_escapes_are_read(rt: HostRuntime) -> Result<()> {
+    for (spelled, written) in WIDE.iter() {
+        for before in 0..40 {
+            let text = around(rt.alloc(), before, spelled, 3)?;
+            let want = around(rt.alloc(), before, written, 3)?;
+            check_row(&rt, rt.alloc(), text.as_str(), want.as_str());
+        }
+    }
+    Ok(())
+}
+
+fn without_end(alloc: Global, before: usize, inner: &str) -> Result<String> {
+    let first = "a".repeat(alloc, before)?;
+    Ok(format!(in alloc; "\"{first}{inner}")?)
+}
+
+#[test]
+fn invalid_escapes_after_plain_runs_are_refused(rt: HostRuntime) -> Result<()> {
+    for error in ERRORS.iter() {
+        for before in 0..70 {
+            let text = without_end(rt.alloc(), before, error)?;
+            check_row(&rt, rt.alloc(), text.as_str(), "none");
+        }
+    }
+    Ok(())
+}

@@ -1,0 +1,87 @@
+// Bytes that are UTF-8, and bytes that are not.
+use crate::answers::{answer, kit_answer};
+use crate::checks::check;
+use serde_json::Result;
+use std::alloc::{AllocError, Global};
+use std::result::Result as StdResult;
+
+static BYTES: [(&[u8], &str); 23] = [
+    (b"\"\xc3\xa9\"", "\"é\""),
+    (b"\"\xe2\x82\xac\"", "\"€\""),
+    (b"\"\xf0\x9f\x98\x80\"", "\"😀\""),
+    (b"{\"\xc3\xa9\":\"\xe2\x82\xac\"}", "{\"é\":\"€\"}"),
+    (b"[\"a\",\"\xc3\xa9\",\"b\"]", "[\"a\",\"é\",\"b\"]"),
+    (b"\"\xff\"", "none"),
+    (b"\"\xc3\"", "none"),
+    (b"\"\xc0\x80\"", "none"),
+    (b"\"\xed\xa0\x80\"", "none"),
+    (b"\"\xf0\x9f\x98\"", "none"),
+    (b"\"\xf4\x90\x80\x80\"", "none"),
+    (b"\xff", "none"),
+    (b"[1]\x80", "none"),
+    (b"[1\x00]", "none"),
+    // Outside of strings, and in a key that a duplicate replaces.
+    (b"\xef\xbb\xbf1", "none"),
+    (b"[\xc2\xa01]", "none"),
+    (b"[1,\xc3\xa9]", "none"),
+    (b"{\"a\":1\xc2\xa0,\"b\":2}", "none"),
+    (b"{\"\x80\":1}", "none"),
+    (b"{\"a\":\"\x80\",\"a\":\"b\"}", "none"),
+    // An escape within a character.
+    (b"\"\xc3\\n\xa9\"", "none"),
+    (b"\"\xe2\x82\\u00ac\"", "none"),
+    (b"\"\xc3\\u00e9\"", "none"),
+];
+
+#[test]
+fn only_bytes_of_utf8_are_read(rt: HostRuntime) {
+    for (bytes, want) in BYTES.iter() {
+        check(&rt, want, answer(rt.alloc(), bytes), want);
+        check(&rt, want, kit_answer(rt.alloc(), bytes), want);
+    }
+}
+
+// Bytes amid ASCII, and whether they are UTF-8 there.
+static AMID: [(&[u8], bool); 8] = [
+    (b"\xc3\xa9", true),
+    (b"\xf0\x9f\x98\x80", true),
+    (b"\\n\xc3\xa9\\n", true),
+    (b"\x80", false),
+    (b"\xc3", false),
+    (b"\\n\x80", false),
+    (b"\xc3\\n", false),
+    (b"\xe2\x82\\\"\xac", false),
+];
+
+// A string of `letters` letters, these bytes, and as many letters again.
+fn surround(alloc: Global, letters: usize, inner: &[u8]) -> StdResult<Vec<u8>, AllocError> {
+    let around = "a".repeat(alloc, letters)?;
+    let mut text = Vec::new(alloc);
+    text.push(b'"')?;
+    text.extend_from_slice(around.as_bytes())?;
+    text.extend_from_slice(inner)?;
+    text.extend_from_slice(around.as_bytes())?;
+    text.push(b'"')?;
+    Ok(text)
+}
+
+#[test]
+fn characters_at_each_index_of_a_block_are_tested(rt: HostRuntime) -> Result<()> {
+    for (inner, is_read) in AMID.iter() {
+        for letters in 0..140 {
+            let text = surround(rt.alloc(), letters, inner)?;
+            let found = answer(rt.alloc(), text.as_slice())?;
+            assert!(rt;
+                (found.as_str() != "none") == *is_read,
+                "{letters}: {found}"
+            );
+            check(
+                &rt,
+                "as the kit",
+                kit_answer(rt.alloc(), text.as_slice()),
+                found.as_str(),
+            );
+        }
+    }
+    Ok(())
+}

@@ -1,0 +1,52 @@
+// Texts with a few bytes changed, which our reader must read as the kit's does.
+use crate::answers::{answer, kit_answer};
+use crate::checks::check;
+use serde_json::Result;
+use std::alloc::Global;
+
+static TEXTS: [&str; 4] = [
+    r#"{"version":3,"sources":["a.js",null],"names":["x\n\"y"],"mappings":"AAAA;CACA","b":{"c":[]}}"#,
+    r#"["\u0041\ud83d\ude00",10,-1.5e+2,true,false,null,"é€😀",{"a" : 1 , "a":2}]"#,
+    r#"{"a":[[],{"\\":{}},[0,1,2]],"\/\b\f\n\r\t":"plain text of more than thirty-two bytes\n"}"#,
+    r#"[18446744073709551615,0,7,{},"",[[[["a"]]]]]"#,
+];
+
+// The bytes put in, one that is not UTF-8 among them.
+const BYTES: &[u8] = b"\"\\{}[]:, \n\x1f09-+.eEnulatrfsbd\xc3\xa9x";
+
+// The next pseudorandom number.
+fn next(number: u64) -> u64 {
+    number
+        .wrapping_mul(6364136223846793005)
+        .wrapping_add(1442695040888963407)
+}
+
+fn change_bytes(alloc: Global, text: &str, mut number: u64) -> Result<Vec<u8>> {
+    let mut bytes = Vec::from_slice(alloc, text.as_bytes())?;
+    for _ in 0..2 {
+        number = next(number);
+        let index = (number >> 40) as usize % (bytes.len() + 1);
+        let byte = BYTES[(number >> 20) as usize % BYTES.len()];
+        if let Some(old) = bytes.get_mut(index) {
+            *old = byte;
+        }
+    }
+    Ok(bytes)
+}
+
+#[test]
+fn changed_texts_are_read_as_the_kit_reads_them(rt: HostRuntime) -> Result<()> {
+    for text in TEXTS.iter() {
+        for number in 0..1000 {
+            let bytes = change_bytes(rt.alloc(), text, number)?;
+            let want = kit_answer(rt.alloc(), bytes.as_slice())?;
+            check(
+                &rt,
+                text,
+                answer(rt.alloc(), bytes.as_slice()),
+                want.as_str(),
+            );
+        }
+    }
+    Ok(())
+}

@@ -1,0 +1,103 @@
+// Strings with escapes far from the end of the JSON text, so that whole blocks are decoded, and strings
+// for which the buffer is short.
+use crate::answers::{answer, kit_answer};
+use crate::checks::check;
+use serde_json::Result;
+use std::alloc::Global;
+use std::process::Abort;
+
+// The inside of a string, and how it is written in compact JSON.
+static SPELLED: [(&str, &str); 11] = [
+    (r"\n", r"\n"),
+    (r"\\", r"\\"),
+    (r"\/", "/"),
+    (r#"\n\t\\\""#, r#"\n\t\\\""#),
+    (r#"\"a\"\n"#, r#"\"a\"\n"#),
+    (r"\\\\\\n", r"\\\\\\n"),
+    (r"\u0041", "A"),
+    (r"\n\u00e9\t", r"\né\t"),
+    (r"\ud83d\ude00\n\u20ac", r"😀\n€"),
+    (r"\té€😀\n", r"\té€😀\n"),
+    (r#"\b\f\r"#, r#"\b\f\r"#),
+];
+
+// What a string may not have.
+static ERRORS: [&str; 6] = ["\t", r"\x", r"\u00g0", r"\ud83d\n", "\\\u{1}", r#"",,""#];
+
+// Around the lengths of blocks and of their doubles, and those at which the first buffer ends.
+static OFFSETS: [(usize, usize); 2] = [(0, 140), (3900, 4110)];
+
+// A plain run, `inner` and a byte as a string, followed by a string of `rest` bytes.
+fn surround(alloc: Global, before: usize, inner: &str, rest: usize) -> Result<String> {
+    let first = "a".repeat(alloc, before)?;
+    let last = "z".repeat(alloc, rest)?;
+    Ok(format!(in alloc; "[\"{first}{inner}b\",\"{last}\"]")?)
+}
+
+fn check_row(rt: &impl Abort, alloc: Global, text: &str, want: &str) {
+    check(rt, text, answer(alloc, text.as_bytes()), want);
+    check(rt, text, kit_answer(alloc, text.as_bytes()), want);
+}
+
+#[test]
+fn escapes_at_each_index_of_a_block_are_read(rt: HostRuntime) -> Result<()> {
+    for (spelled, written) in SPELLED.iter() {
+        for (first, last) in OFFSETS.iter() {
+            for before in *first..*last {
+                let text = surround(rt.alloc(), before, spelled, 300)?;
+                let want = surround(rt.alloc(), before, written, 300)?;
+                check_row(&rt, rt.alloc(), text.as_str(), want.as_str());
+            }
+        }
+    }
+    Ok(())
+}
+
+// The rest is about as long as the last few bytes that are decoded one by one.
+#[test]
+fn escapes_before_each_length_of_rest_are_read(rt: HostRuntime) -> Result<()> {
+    for (spelled, written) in SPELLED.iter() {
+        for rest in 0..140 {
+            let text = surround(rt.alloc(), 70, spelled, rest)?;
+            let want = surround(rt.alloc(), 70, written, rest)?;
+            check_row(&rt, rt.alloc(), text.as_str(), want.as_str());
+        }
+    }
+    Ok(())
+}
+
+#[test]
+fn errors_at_each_index_of_a_block_are_refused(rt: HostRuntime) -> Result<()> {
+    for error in ERRORS.iter() {
+        for before in 0..140 {
+            let inner = format!(in rt.alloc(); "\\n{error}")?;
+            let text = surround(rt.alloc(), before, inner.as_str(), 300)?;
+            check_row(&rt, rt.alloc(), text.as_str(), "none");
+        }
+    }
+    Ok(())
+}
+
+#[test]
+fn texts_without_an_end_are_refused(rt: HostRuntime) -> Result<()> {
+    for after in 0..300 {
+        let last = "b".repeat(rt.alloc(), after)?;
+        let text = format!(in rt.alloc(); "\"a\\n{last}")?;
+        check_row(&rt, rt.alloc(), text.as_str(), "none");
+    }
+    Ok(())
+}
+
+// Strings longer than the buffer is at first, and shorter ones that find it used.
+#[test]
+fn strings_longer_than_the_first_buffer_are_read(rt: HostRuntime) -> Result<()> {
+    for before in 0..70 {
+        let first = "a".repeat(rt.alloc(), before)?;
+        let lines = r#"some line \"é\" with no end\n"#.repeat(rt.alloc(), 500)?;
+        let text = format!(in rt.alloc();
+            "[\"{first}{lines}\",\"\\n{first}\",\"{lines}{first}\",\"x\\t\"]"
+        )?;
+        check_row(&rt, rt.alloc(), text.as_str(), text.as_str());
+    }
+    Ok(())
+}

@@ -1,0 +1,84 @@
+// Levels of arrays and objects, and strings of each length.
+use crate::answers::{answer, kit_answer};
+use crate::checks::check;
+use serde_json::Result;
+use std::alloc::Global;
+
+// What opens and closes a level, the number of levels, and what the innermost holds.
+static LEVELS: [(&str, &str, usize, &str); 7] = [
+    ("[", "]", 1, "7"),
+    ("[", "]", 127, ""),
+    ("[", "]", 127, "7"),
+    (r#"{"a":"#, "}", 127, "7"),
+    (r#"[{"a":"#, "}]", 63, "[]"),
+    ("[", "]", 126, "{}"),
+    (r#"{"a":["#, "]}", 63, ""),
+];
+
+static TOO_MANY: [(&str, &str, usize, &str); 5] = [
+    ("[", "]", 128, ""),
+    ("[", "]", 127, "[]"),
+    ("[", "]", 127, "{}"),
+    (r#"{"a":"#, "}", 128, "7"),
+    (r#"[{"a":"#, "}]", 64, "7"),
+];
+
+fn nest(alloc: Global, row: &(&str, &str, usize, &str)) -> Result<String> {
+    let (open, close, levels, inner) = *row;
+    let before = open.repeat(alloc, levels)?;
+    let after = close.repeat(alloc, levels)?;
+    Ok(format!(in alloc; "{before}{inner}{after}")?)
+}
+
+#[test]
+fn values_are_read_up_to_127_levels_deep(rt: HostRuntime) -> Result<()> {
+    for row in LEVELS.iter() {
+        let text = nest(rt.alloc(), row)?;
+        check(
+            &rt,
+            text.as_str(),
+            answer(rt.alloc(), text.as_bytes()),
+            text.as_str(),
+        );
+    }
+    for row in TOO_MANY.iter() {
+        let text = nest(rt.alloc(), row)?;
+        check(
+            &rt,
+            text.as_str(),
+            answer(rt.alloc(), text.as_bytes()),
+            "none",
+        );
+        check(
+            &rt,
+            text.as_str(),
+            kit_answer(rt.alloc(), text.as_bytes()),
+            "none",
+        );
+    }
+    Ok(())
+}
+
+// The end of a string, after a run of plain bytes.
+static ENDS: [&str; 4] = ["", r"\n", r#"\"é"#, r"😀\\ab"];
+
+fn pad(alloc: Global, length: usize, end: &str) -> Result<String> {
+    let plain = "a".repeat(alloc, length)?;
+    Ok(format!(in alloc; "\"{plain}{end}\"")?)
+}
+
+#[test]
+fn texts_of_each_length_are_read(rt: HostRuntime) -> Result<()> {
+    for end in ENDS.iter() {
+        for length in 0..100 {
+            let text = pad(rt.alloc(), length, end)?;
+            check(
+                &rt,
+                text.as_str(),
+                answer(rt.alloc(), text.as_bytes()),
+                text.as_str(),
+            );
+        }
+    }
+    Ok(())
+}

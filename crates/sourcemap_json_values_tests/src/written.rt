@@ -1,0 +1,184 @@
+// Values written as compact JSON.
+use crate::checks::check;
+use serde_json::{Result, Value};
+use sourcemap_json_write::writing::value_to_vec;
+use std::alloc::{AllocError, Global};
+use std::process::Abort;
+use std::result::Result as StdResult;
+use std::str::from_utf8;
+
+// A string, and how it is written in JSON.
+static TEXTS: [(&str, &str); 14] = [
+    ("", r#""""#),
+    ("plain", r#""plain""#),
+    ("\"", r#""\"""#),
+    ("\\", r#""\\""#),
+    ("/'", r#""/'""#),
+    ("\u{8}\t\n\u{c}\r", r#""\b\t\n\f\r""#),
+    ("\u{0}\u{1}\u{7}", r#""\u0000\u0001\u0007""#),
+    (
+        "\u{b}\u{e}\u{10}\u{1a}\u{1f}",
+        r#""\u000b\u000e\u0010\u001a\u001f""#,
+    ),
+    (" \u{7f}", "\" \u{7f}\""),
+    ("é€😀", r#""é€😀""#),
+    ("\né\n€\n😀\n", r#""\né\n€\n😀\n""#),
+    ("a\"b\\c\nd", r#""a\"b\\c\nd""#),
+    (
+        "exactly thirty-two plain bytes..\t",
+        r#""exactly thirty-two plain bytes..\t""#,
+    ),
+    (
+        "thirty bytes, then three more €\"",
+        r#""thirty bytes, then three more €\"""#,
+    ),
+];
+
+// A JSON text, and how its value is written.
+static VALUES: [(&str, &str); 20] = [
+    ("null", "null"),
+    ("true", "true"),
+    ("false", "false"),
+    ("0", "0"),
+    ("18446744073709551615", "18446744073709551615"),
+    ("-1", "-1"),
+    ("-9223372036854775808", "-9223372036854775808"),
+    ("1.5", "1.5"),
+    ("-0", "-0.0"),
+    ("[ ]", "[]"),
+    ("{ }", "{}"),
+    ("[[], {}, [[]]]", "[[],{},[[]]]"),
+    ("[1, -2, 3]", "[1,-2,3]"),
+    (r#"[null, true, false, "a"]"#, r#"[null,true,false,"a"]"#),
+    (r#"{"a": 1}"#, r#"{"a":1}"#),
+    (
+        r#"{"b": [1, {"d": null}], "a\n": {"": {}}, "c": "x\ty"}"#,
+        r#"{"a\n":{"":{}},"b":[1,{"d":null}],"c":"x\ty"}"#,
+    ),
+    (
+        r#"["a\n", 0.25, {"b": "\""}]"#,
+        r#"["a\n",0.25,{"b":"\""}]"#,
+    ),
+    (r#"{"a": {"b": [1e300]}}"#, r#"{"a":{"b":[1e+300]}}"#),
+    ("[18446744073709551616]", "[1.8446744073709552e+19]"),
+    ("[[[[[[[[7]]]]]]]]", "[[[[[[[[7]]]]]]]]"),
+];
+
+// Around the lengths of the blocks that are copied.
+static LENGTHS: [usize; 11] = [0, 1, 15, 31, 32, 33, 63, 64, 65, 1100, 5000];
+
+fn compact_text(alloc: Global, value: &Value) -> Result<String> {
+    let bytes = value_to_vec(alloc, value)?;
+    match from_utf8(bytes.as_slice()) {
+        Ok(text) => Ok(String::from_str(alloc, text)?),
+        Err(_) => Ok(String::from_str(alloc, "no UTF-8")?),
+    }
+}
+
+fn pair(alloc: Global, first: Value, second: Value) -> StdResult<Value, AllocError> {
+    let mut items = Vec::new(alloc);
+    items.push(first)?;
+    items.push(second)?;
+    Ok(Value::Array(items))
+}
+
+// Checks how a value is written: alone, and next to a long string.
+fn check_written(rt: &impl Abort, alloc: Global, value: Value, want: &str) -> Result<()> {
+    check(rt, want, compact_text(alloc, &value), want);
+    let mut long = String::new(alloc);
+    for _ in 0..4096 {
+        long.push('x')?;
+    }
+    let mut wanted = String::from_str(alloc, "[")?;
+    for part in [want, ",\"", long.as_str(), "\"]"].iter() {
+        wanted.push_str(part)?;
+    }
+    let answer = compact_text(alloc, &pair(alloc, value, Value::String(long))?);
+    check(rt, want, answer, wanted.as_str());
+    Ok(())
+}
+
+// `run` repeated `len` times, then `between`, then as many again, with `around` at both ends.
+fn two_runs(alloc: Global, run: &str, len: usize, between: &str, around: &str) -> Result<String> {
+    let mut text = String::from_str(alloc, around)?;
+    for part in [run, between, run].iter() {
+        let times = if *part == between { 1 } else { len };
+        for _ in 0..times {
+            text.push_str(part)?;
+        }
+    }
+    text.push_str(around)?;
+    Ok(text)
+}
+
+// `len` letters in turn, with one that needs an escape at `index` if that is within.
+fn letters(alloc: Global, len: u8, index: u8) -> Result<String> {
+    let mut text = String::new(alloc);
+    for at in 0..len {
+        if at != index {
+            text.push(char::from(b'a' + at % 26))?;
+        } else if at % 3 == 0 {
+            text.push('"')?;
+        } else if at % 3 == 1 {
+            text.push('\\')?;
+        } else {
+            text.push('\u{1f}')?;
+        }
+    }
+    Ok(text)
+}
+
+#[test]
+fn strings_are_written_with_their_escapes(rt: HostRuntime) -> Result<()> {
+    for (text, want) in TEXTS.iter() {
+        let value = Value::String(String::from_str(rt.alloc(), text)?);
+        check_written(&rt, rt.alloc(), value, want)?;
+    }
+    Ok(())
+}
+
+#[test]
+fn values_are_written_compactly(rt: HostRuntime) -> Result<()> {
+    for (text, want) in VALUES.iter() {
+        let value = Value::from_str(rt.alloc(), text)?;
+        check_written(&rt, rt.alloc(), value, want)?;
+    }
+    Ok(())
+}
+
+#[test]
+fn escapes_between_runs_of_each_length_are_written(rt: HostRuntime) -> Result<()> {
+    for len in LENGTHS.iter() {
+        for (run, byte, escape) in [
+            ("a", "\n", "\\n"),
+            ("é", "\"", "\\\""),
+            ("€", "\\\t", "\\\\\\t"),
+            ("😀", "\u{1f}", "\\u001f"),
+        ]
+        .iter()
+        {
+            let text = two_runs(rt.alloc(), run, *len, byte, "")?;
+            let want = two_runs(rt.alloc(), run, *len, escape, "\"")?;
+            check_written(&rt, rt.alloc(), Value::String(text), want.as_str())?;
+        }
+    }
+    Ok(())
+}
+
+// Short strings are tested and copied by blocks that overlap, so each length and index matters.
+#[test]
+fn an_escape_at_each_index_of_a_short_string_is_written(rt: HostRuntime) -> Result<()> {
+    for len in 0..71u8 {
+        for index in 0..72u8 {
+            let value = Value::String(letters(rt.alloc(), len, index)?);
+            let want = value.to_string(rt.alloc())?;
+            check(
+                &rt,
+                want.as_str(),
+                compact_text(rt.alloc(), &value),
+                want.as_str(),
+            );
+        }
+    }
+    Ok(())
+}

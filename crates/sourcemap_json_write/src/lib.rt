@@ -1,0 +1,6 @@
+//! Writes JSON values as compact JSON texts.
+#![tactic(auto)]
+
+mod quoting;
+mod short;
+pub mod writing;

@@ -1,9 +1,0 @@
--- What the search finds, so that a wrong body is refused fast.
-use Rattle.std.proofs.Common.{rules}
-use Rattle.sourcemap_lists.proofs.interner.Interner.into_texts.Goals as goal
-
-pub returns-clause-texts : goal.returns-clause-texts
-returns-clause-texts c = search rules
-
-pub returns-clause-distinct : goal.returns-clause-distinct
-returns-clause-distinct c = search rules

@@ -1,9 +1,0 @@
-use Rattle.std.proofs.Common.{◌∙◌, sym, ap, option_map}
-use Rattle.sourcemap_lists.proofs.IndexLemmas.{confirmed-by}
-use Rattle.sourcemap_lists.proofs.interner.confirmed.Goals as goal
-
-pub returns-then-eq : goal.returns-then-eq
-returns-then-eq c = confirmed-by _ c.args.text.now c.in_ok-known.known.now c.args.id c.in_ok-id.id _ c.in_ok-id.was (sym c.text_at.ensures ∙ ap (option_map (λ text. text.now)) c.in_ok-known.was) (sym c.eq.ensures ∙ c.if-eq.true)
-
-pub returns-else-eq : goal.returns-else-eq
-returns-else-eq c = confirmed-by _ c.args.text.now c.in_ok-known.known.now c.args.id c.in_ok-id.id _ c.in_ok-id.was (sym c.text_at.ensures ∙ ap (option_map (λ text. text.now)) c.in_ok-known.was) (sym c.eq.ensures ∙ c.if-eq.false)

@@ -1,5 +1,0 @@
-use Rattle.sourcemap_lists.proofs.TokensLemmas.{stably_in_order}
-use Rattle.sourcemap_lists.proofs.tokens.one_stable_order.Goals as goal
-
-pub returns : goal.returns
-returns c = stably_in_order c.args.tokens.now c.args.sorted.now

@@ -1,5 +1,0 @@
-use Rattle.sourcemap_lists.proofs.TokensLemmas.{closest_item-reduced}
-use Rattle.sourcemap_lists.proofs.tokens.reduced_answers_alike.Goals as goal
-
-pub returns : goal.returns
-returns c = closest_item-reduced c.args.names c.args.tokens.now (c.args.line, c.args.col)

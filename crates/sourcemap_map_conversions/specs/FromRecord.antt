@@ -1,0 +1,74 @@
+-- Which parts a record is read as.
+use Rattle.std.specs.Prelude.{◌≡◌, ℕ, ◌≤◌, ◌⊎◌, List, [], length, map, fold, codes, Option, option_map, unwrap_or, Result, Ok, Err}
+use Rattle.std.specs.Ordering.{nat_cmp}
+use Rattle.std.specs.BTreeSet.{insert_key}
+use Rattle.std.specs.Fmt.{decimal, signed_decimal}
+use Rattle.serde_json.specs.Data.{Data, number, string, Num, unsigned, negative, float}
+use Rattle.sourcemap_tokens.specs.declared.tokens.RawToken.{RawToken}
+use Rattle.sourcemap_errors.specs.declared.errors.Error.{Error}
+use Rattle.sourcemap_errors.specs.declared.errors.Error.TheVariants.{IncompatibleSourceMap}
+use Rattle.sourcemap_mappings.specs.Read.{MappingsAnswer}
+use Rattle.sourcemap_records.specs.Jsontypes.{Fields}
+use Rattle.sourcemap_map_conversions.specs.Parts.{PartsValue}
+
+-- a list, empty if it is missing
+abbrev pub listed : {X : Type 0} → Option (List X) → List X
+listed xs = unwrap_or xs []
+
+-- the name for a number: its digits if it is whole, otherwise empty
+abbrev pub number_read : Num → List ℕ
+number_read (unsigned n) = decimal n
+number_read (negative z) = signed_decimal z
+number_read (float _) = []
+
+-- the name for a value that may be no string
+abbrev pub name_read : Data → List ℕ
+name_read (number n) = number_read n
+name_read (string s) = s
+name_read _ = []
+
+-- the file name for a value that may be no string
+abbrev pub file_read : Data → List ℕ
+file_read (string s) = s
+file_read _ = codes "<invalid>"
+
+-- a source, empty if it is null
+abbrev pub source_read : Option (List ℕ) → List ℕ
+source_read source = unwrap_or source []
+
+-- ids in increasing order without duplicates
+abbrev pub rising : List ℕ → List ℕ
+rising ids = fold (insert_key nat_cmp) [] ids
+
+-- no list has more than 4294967295 items
+pub record HasFewItems (r : Fields) : Type 0 where
+  pub sources : length (listed r.sources) ≤ 4294967295
+  pub names : length (listed r.names) ≤ 4294967295
+  pub contents : length (listed r.sources_content) ≤ 4294967295
+
+-- the tokens of a record's mappings, or their first error
+abbrev pub TokensAnswer : Fields → Result (List RawToken) Error → Type 0
+TokensAnswer r answer = MappingsAnswer (listed r.mappings) (listed r.range_mappings)
+    (record { sources = length (listed r.sources); names = length (listed r.names) }) answer
+
+-- the parts of a record with these tokens
+abbrev pub parts_from : Fields → List RawToken → PartsValue
+parts_from r tokens = record {
+  metadata = record {
+    file = option_map file_read r.file;
+    ignored = rising (listed r.ignore_list);
+    debug_id = r.debug_id;
+  };
+  tokens = tokens;
+  names = map name_read (listed r.names);
+  sources = record {
+    root = r.source_root;
+    texts = map source_read (listed r.sources);
+  };
+  contents = listed r.sources_content;
+}
+
+-- the result for a record: the error for a list that is too long comes first, then that of the mappings
+abbrev pub PartsAnswer : Fields → Result PartsValue Error → Type 0
+PartsAnswer r (Ok p) = HasFewItems r × TokensAnswer r (Ok p.tokens) × (p ≡ parts_from r p.tokens)
+PartsAnswer r (Err e) = ((¬ HasFewItems r) × (e ≡ IncompatibleSourceMap)) ⊎ (HasFewItems r × TokensAnswer r (Err e))

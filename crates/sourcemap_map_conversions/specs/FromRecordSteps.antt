@@ -1,0 +1,62 @@
+-- The fields of a record between the record and the parts of a map.
+use Rattle.std.specs.Prelude.{◌≡◌, ◌≤◌, vec_len, List, map, option_map, string_bytes}
+use Rattle.serde_json.specs.View.{view}
+use Rattle.sourcemap_tokens.specs.declared.tokens.RawToken.{RawToken}
+use Rattle.sourcemap_records.specs.Jsontypes.{Fields, text_view}
+use Rattle.sourcemap_map_conversions.specs.FromRecord.{listed, file_read, name_read, source_read, rising}
+use Rattle.sourcemap_map_parts.specs.MapMetadata.{MetadataValue}
+use Rattle.sourcemap_map_conversions.specs.Parts.{PartsValue}
+use Rattle.sourcemap_map_parts.specs.Sources.{SourcesValue}
+use Rattle.sourcemap_map_conversions.specs.declared.from_record.RecordTexts.{RecordTexts}
+use Rattle.sourcemap_map_conversions.specs.declared.from_record.RecordMetadata.{RecordMetadata}
+use Rattle.sourcemap_map_conversions.specs.declared.from_record.RecordLists.{RecordLists}
+use Rattle.sourcemap_map_conversions.specs.declared.from_record.RecordParts.{RecordParts}
+
+pub record AreTextsIn (r : Fields) (texts : RecordTexts) : Type 0 where
+  pub mappings : string_bytes texts.mappings ≡ listed r.mappings
+  pub ranges : string_bytes texts.ranges ≡ listed r.range_mappings
+
+pub record IsMetadataIn (r : Fields) (metadata : RecordMetadata) : Type 0 where
+  pub file : option_map view metadata.file ≡ r.file
+  pub ids : metadata.ids.items ≡ listed r.ignore_list
+  pub debug_id : metadata.debug_id ≡ r.debug_id
+
+pub record AreListsIn (r : Fields) (lists : RecordLists) : Type 0 where
+  pub names : map view lists.names.items ≡ listed r.names
+  pub root : text_view lists.root ≡ r.source_root
+  pub sources : map text_view lists.sources.items ≡ listed r.sources
+  pub contents : map text_view lists.contents.items ≡ listed r.sources_content
+
+pub record ArePartsIn (r : Fields) (parts : RecordParts) : Type 0 where
+  pub texts : AreTextsIn r parts.texts
+  pub metadata : IsMetadataIn r parts.metadata
+  pub lists : AreListsIn r parts.lists
+
+-- no list has more than 4294967295 items
+pub record HaveFewItems (lists : RecordLists) : Type 0 where
+  pub names : vec_len lists.names ≤ 4294967295
+  pub sources : vec_len lists.sources ≤ 4294967295
+  pub contents : vec_len lists.contents ≤ 4294967295
+
+-- what the fields are read as
+abbrev pub metadata_read : RecordMetadata → MetadataValue
+metadata_read metadata = record {
+  file = option_map file_read (option_map view metadata.file);
+  ignored = rising metadata.ids.items;
+  debug_id = metadata.debug_id;
+}
+
+abbrev pub sources_read : RecordLists → SourcesValue
+sources_read lists = record {
+  root = text_view lists.root;
+  texts = map source_read (map text_view lists.sources.items);
+}
+
+abbrev pub parts_read : RecordMetadata → RecordLists → List RawToken → PartsValue
+parts_read metadata lists tokens = record {
+  metadata = metadata_read metadata;
+  tokens = tokens;
+  names = map name_read (map view lists.names.items);
+  sources = sources_read lists;
+  contents = map text_view lists.contents.items;
+}

@@ -1,0 +1,60 @@
+-- The record that the parts of a map are written as.
+use Rattle.std.specs.Prelude.{◌≡◌, ℕ, ◌<◌, ◌^◌, List, length, map, is_some, Option, Some, None, option_map, if◌then◌else◌, ◌==◌, Result, Ok, Err}
+use Rattle.std.specs.List.{list_any}
+use Rattle.serde_json.specs.Data.{string}
+use Rattle.sourcemap_errors.specs.declared.errors.Error.{Error}
+use Rattle.sourcemap_tokens.specs.Tokens.{AllWithin, reduced}
+use Rattle.sourcemap_tokens.specs.declared.tokens.RawToken.{RawToken}
+use Rattle.sourcemap_mappings.specs.Read.{MappingsAnswer}
+use Rattle.sourcemap_mappings.specs.Write.{IsWritten, IsRangeText}
+use Rattle.sourcemap_records.specs.Jsontypes.{Fields, Tree, plain, IsFine}
+use Rattle.sourcemap_map_parts.specs.Contents.{fitted}
+use Rattle.sourcemap_map_conversions.specs.FromRecord.{listed}
+use Rattle.sourcemap_map_conversions.specs.Parts.{PartsValue}
+
+-- contents are written only if there are some, and then with one item for each source
+abbrev pub written_contents : ℕ → List (Option (List ℕ)) → Option (List (Option (List ℕ)))
+written_contents count contents =
+    let items = fitted count contents in
+    if list_any is_some items then Some items else None
+
+-- the ignore list is written only if it is not empty
+abbrev pub written_ids : List ℕ → Option (List ℕ)
+written_ids ids = if length ids == 0 then None else Some ids
+
+-- the texts of tokens in a map with so many names; they read back as the reduced list
+pub record AreTextsOf (names : ℕ) (tokens : List RawToken) (mappings : List ℕ) (ranges : Option (List ℕ)) : Type 0 where
+  pub text : IsWritten names tokens mappings
+  pub bits : IsRangeText tokens ranges
+  pub back : (sources : ℕ) → sources < 2 ^ 32 → AllWithin sources names tokens
+      → MappingsAnswer mappings (listed ranges) (record { sources = sources; names = names }) (Ok (reduced names tokens))
+
+-- the record of these parts, with these texts of mappings and of range bits
+abbrev pub record_with : PartsValue → List ℕ → Option (List ℕ) → Fields
+record_with p mappings ranges = record {
+  version = Some 3;
+  file = option_map string p.metadata.file;
+  sources = Some (map Some p.sources.texts);
+  source_root = p.sources.root;
+  sources_content = written_contents (length p.sources.texts) p.contents;
+  names = Some (map string p.names);
+  range_mappings = ranges;
+  mappings = Some mappings;
+  ignore_list = written_ids p.metadata.ignored;
+  x_facebook_offsets = None;
+  x_metro_module_paths = None;
+  x_facebook_sources = None;
+  debug_id = p.metadata.debug_id;
+}
+
+-- whether the parts are written as this record
+abbrev pub IsRecordOf : PartsValue → Tree → Type 0
+IsRecordOf p t =
+    (mappings : List ℕ) × (ranges : Option (List ℕ))
+    × AreTextsOf (length p.names) p.tokens mappings ranges
+    × (t ≡ plain (record_with p mappings ranges))
+
+-- the result of writing the parts: no error but out of memory
+abbrev pub RecordAnswer : PartsValue → Result Tree Error → Type 0
+RecordAnswer p (Ok t) = IsRecordOf p t × IsFine t
+RecordAnswer p (Err _) = ⊥

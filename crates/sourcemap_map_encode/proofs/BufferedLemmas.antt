@@ -1,0 +1,76 @@
+-- Composing consecutive writes.
+use Rattle.std.proofs.Common.{OnOk, Result, Ok, Err, ◌≡◌, ℕ, ◌+◌, suc, zero, List, [], ◌∷◌, ◌++◌, Option, Some, None, replicate, sym, ap, subst, ◌∙◌, append_assoc, append-nil, zero-add, refl, arith}
+use Rattle.std.specs.Io.KnownBytes.{Appends, append_known}
+use Rattle.sourcemap_map_encode.specs.Buffered.{Grows}
+
+-- appending nothing
+pub Appends-none : (known : Option (List ℕ)) → Appends known known []
+Appends-none None = tt
+Appends-none (Some xs) = sym (append-nil xs)
+
+pub Appends-join : (a b c : Option (List ℕ)) (s t : List ℕ) → Appends a b s → Appends b c t → Appends a c (s ++ t)
+Appends-join None b c s t x y = tt
+Appends-join (Some xs) None c s t x y = absurd x
+Appends-join (Some xs) (Some ys) None s t x y = absurd y
+Appends-join (Some xs) (Some ys) (Some zs) s t x y = y ∙ ap (λ r. r ++ t) x ∙ append_assoc xs s t
+
+pub append_known-none : (known : Option (List ℕ)) → append_known known [] ≡ known
+append_known-none None = refl
+append_known-none (Some xs) = ap Some (append-nil xs)
+
+pub Grows-none : (held : Option (List ℕ)) (gathered : List ℕ) → Grows held gathered held gathered []
+Grows-none held gathered = Appends-none (append_known held gathered)
+
+pub Grows-join : (h i j : Option (List ℕ)) (a b c s t : List ℕ) → Grows h a i b s → Grows i b j c t → Grows h a j c (s ++ t)
+Grows-join h i j a b c s t x y = Appends-join (append_known h a) (append_known i b) (append_known j c) s t x y
+
+-- appending to the buffer
+pub Grows-push : (held : Option (List ℕ)) (a text : List ℕ) → Grows held a held (a ++ text) text
+Grows-push None a text = tt
+Grows-push (Some xs) a text = sym (append_assoc xs a text)
+
+-- writing directly while the buffer is empty
+pub Grows-written : (h i : Option (List ℕ)) (text : List ℕ) → Appends h i text → Grows h [] i [] text
+Grows-written None i text x = tt
+Grows-written (Some xs) None text x = absurd x
+Grows-written (Some xs) (Some ys) text x = append-nil ys ∙ x ∙ ap (λ r. r ++ text) (sym (append-nil xs))
+
+next_of : (m n : ℕ) → suc (m + n) ≡ suc m + n
+next_of m n = omega arith
+
+pub more_copies : (m n x : ℕ) → replicate m x ++ replicate n x ≡ replicate (m + n) x
+more_copies zero n x = ap (λ (k : ℕ). replicate k x) (sym (zero-add n))
+more_copies (suc m) n x = ap (λ r. x ∷ r) (more_copies m n x) ∙ ap (λ (k : ℕ). replicate k x) (next_of m n)
+
+-- the end of a text is buffered, then the buffer is flushed
+pub OnOk-then : {T E : Type 0} (result : Result T E) (P Q : Type 0) → (P → Q) → OnOk result P → OnOk result Q
+OnOk-then (Ok x) P Q f p = f p
+OnOk-then (Err e) P Q f p = tt
+
+pub Grows-flushed : (h i j : Option (List ℕ)) (a b c text : List ℕ) → Grows h a i b text → Grows i b j c [] → Grows h a j c text
+Grows-flushed h i j a b c text x y = subst (λ (t : List ℕ). Grows h a j c t) (append-nil text) (Grows-join h i j a b c text [] x y)
+
+-- the same buffer under an equal name
+pub Grows-into : (held : Option (List ℕ)) (a b text : List ℕ) → b ≡ a ++ text → Grows held a held b text
+Grows-into held a b text is = subst (λ (r : List ℕ). Grows held a held r text) (sym is) (Grows-push held a text)
+
+pub OnOk-any : {T E : Type 0} (result : Result T E) (P : Type 0) → P → OnOk result P
+OnOk-any (Ok x) P p = p
+OnOk-any (Err e) P p = tt
+
+-- three consecutive texts, associated as in a list of parts
+pub Grows-three : (h i j k : Option (List ℕ)) (a b c d s t u : List ℕ) → Grows h a i b s → Grows i b j c t → Grows j c k d u → Grows h a k d (s ++ (t ++ (u ++ [])))
+Grows-three h i j k a b c d s t u x y z =
+    subst (λ (r : List ℕ). Grows h a k d (s ++ (t ++ r))) (sym (append-nil u))
+    (Grows-join h i k a b d s (t ++ u) x (Grows-join i j k b c d t u y z))
+
+-- if the buffer is empty before and after, the writer itself grew by the text
+pub Grows-bare : (h i : Option (List ℕ)) (b text : List ℕ) → b ≡ [] → Grows h [] i b text → Appends h i text
+Grows-bare h i b text empty x =
+    let none : Grows h [] i [] text = subst (λ (r : List ℕ). Grows h [] i r text) empty x in
+    subst (λ (known : Option (List ℕ)). Appends known i text) (append_known-none h)
+    (subst (λ (known : Option (List ℕ)). Appends (append_known h []) known text) (append_known-none i) none)
+
+pub OnOk-both : {T E : Type 0} (result : Result T E) (P Q R : Type 0) → (P → Q → R) → OnOk result P → OnOk result Q → OnOk result R
+OnOk-both (Ok x) P Q R f p q = f p q
+OnOk-both (Err e) P Q R f p q = tt

@@ -1,0 +1,72 @@
+-- The parts of a map's text are the text of its record, which reads back.
+use Rattle.std.proofs.Common.{◌≡◌, ◌≢◌, ℕ, ◌≤◌, ◌==◌, List, [], ◌∷◌, ◌++◌, length, Bool, true, false, if◌then◌else◌, Option, Some, None, option_map, IfSome, Ok, refl, sym, ap, subst, ◌∙◌, append_assoc, arith}
+use Rattle.std.specs.List.{AllByRecursion}
+use Rattle.serde_json.specs.Data.{null, string}
+use Rattle.sourcemap_map_conversions.specs.ToRecord.{AreTextsOf}
+use Rattle.sourcemap_map_conversions.proofs.ToRecordLemmas.{same_listed}
+use Rattle.sourcemap_tokens.specs.Tokens.{reduced}
+use Rattle.sourcemap_mappings.specs.Read.{MappingsAnswer}
+use Rattle.sourcemap_records.specs.Jsontypes.{Tree, plain, FitsU32, IsFine}
+use Rattle.sourcemap_map_regular.specs.Map.{MapValue}
+use Rattle.sourcemap_map_regular.specs.Encode.{RecordAnswer, record_with}
+use Rattle.sourcemap_map_regular.specs.Write.{IsEncoded}
+use Rattle.sourcemap_map_regular.proofs.EncodeLemmas.{answered}
+use Rattle.sourcemap_map_encode.specs.Members.{Entry, part, parts_text, later_after, IsPlainEntry, HasSoundLeadingMembers, IsTokensText, leading_entries, token_entries, source_entries, version_entry, map_entries}
+use Rattle.sourcemap_map_encode.proofs.MemberLemmas.{parts_joined, text_is}
+
+all_append : (xs ys : List Entry) → AllByRecursion IsPlainEntry xs → AllByRecursion IsPlainEntry ys → AllByRecursion IsPlainEntry (xs ++ ys)
+all_append [] ys p q = q
+all_append (x ∷ xs) ys p q = (p.0, all_append xs ys p.1 q)
+
+no_null : (file : Option (List ℕ)) → option_map string file ≢ Some null
+no_null None = λ e. absurd cc
+no_null (Some f) = λ e. absurd cc
+
+ids_fit : (b : Bool) (ids : List ℕ) → AllByRecursion FitsU32 ids → IfSome (if b then None else Some ids) (λ ids. AllByRecursion FitsU32 ids)
+ids_fit true ids small = tt
+ids_fit false ids small = small
+
+fine_record : (m : MapValue) (mappings : List ℕ) (ranges : Option (List ℕ)) → HasSoundLeadingMembers m → IsFine (plain (record_with m mappings ranges))
+fine_record m mappings ranges sound = (
+  record {
+    version = omega arith;
+    ignore_list = ids_fit (length m.ignored == 0) m.ignored sound.small;
+    x_facebook_offsets = tt;
+    debug_id = sound.id;
+  },
+  no_null m.file,
+)
+
+regrouped : (h t s v e : List ℕ) → h ++ (t ++ (s ++ (v ++ e))) ≡ (h ++ (t ++ (s ++ v))) ++ e
+regrouped h t s v e = sym (append_assoc h (t ++ (s ++ v)) e ∙ ap (λ r. h ++ r) (append_assoc t (s ++ v) e ∙ ap (λ r. t ++ r) (append_assoc s v e)))
+
+-- the whole text
+abbrev pub whole_of : MapValue → List ℕ → List ℕ
+whole_of m tokens = (123 ∷ []) ++ (parts_text false (leading_entries m) ++ (tokens ++ (parts_text true (source_entries m) ++ (part true version_entry ++ (125 ∷ [])))))
+
+pub encoded : (m : MapValue) (later : Bool) (tokens : List ℕ) → later ≡ later_after false (leading_entries m)
+    → AllByRecursion IsPlainEntry (leading_entries m) → HasSoundLeadingMembers m → IsTokensText later m tokens
+    → AllByRecursion IsPlainEntry (source_entries m) → length m.sources ≤ 4294967295 → IsPlainEntry version_entry
+    → IsEncoded (RecordAnswer m) (whole_of m tokens)
+encoded m later tokens is_later metadata sound of_tokens sources few_sources version =
+    let mappings = of_tokens.mappings in
+    let ranges = of_tokens.ranges in
+    let t : Tree = plain (record_with m mappings ranges) in
+    let texts : AreTextsOf (length m.names) m.tokens mappings ranges = record {
+      text = of_tokens.of_mappings.written;
+      bits = of_tokens.of_ranges;
+      back = λ sources small within.
+          subst (λ (rs : List ℕ). MappingsAnswer mappings rs (record { sources = sources; names = length m.names }) (Ok (reduced (length m.names) m.tokens))) (same_listed ranges)
+          (of_tokens.of_mappings.back sources small within ranges of_tokens.of_ranges);
+    } in
+    let answer = answered m of_tokens.few_names few_sources sound.rising t ((mappings, ranges, texts, refl), fine_record m mappings ranges sound) in
+    let fine = all_append (leading_entries m) (token_entries m mappings ranges ++ (source_entries m ++ version_entry ∷ [])) metadata
+    (all_append (token_entries m mappings ranges) (source_entries m ++ version_entry ∷ []) of_tokens.is_plain (all_append (source_entries m) (version_entry ∷ []) sources (version, tt))) in
+    let H = parts_text false (leading_entries m) in
+    let S = parts_text true (source_entries m) in
+    let V = part true version_entry in
+    let is : whole_of m tokens ≡ 123 ∷ (parts_text false (map_entries m mappings ranges) ++ 125 ∷ []) =
+    ap (λ t. 123 ∷ t) (regrouped H tokens S V (125 ∷ [])
+    ∙ ap (λ r. (H ++ (r ++ (S ++ V))) ++ 125 ∷ []) of_tokens.is
+    ∙ ap (λ r. r ++ 125 ∷ []) (parts_joined later m mappings ranges is_later)) in
+    (t, answer, text_is m mappings ranges (whole_of m tokens) fine is)

@@ -1,0 +1,109 @@
+-- The JSON text of a map's record, member by member, sorted by the bytes of the keys.
+use Rattle.std.specs.Prelude.{◌≡◌, ℕ, ◌≤◌, true, List, [], ◌∷◌, ◌++◌, length, codes, Bool, ◌||◌, is_some, Option, Some, None, option_map, IfSome}
+use Rattle.std.specs.List.{AllByRecursion}
+use Rattle.std.specs.List.Sorted.{IsStrictlySortedBy}
+use Rattle.std.specs.Ordering.{nat_cmp}
+use Rattle.json.specs.Print.{quoted}
+use Rattle.serde_json.specs.Data.{Data, string}
+use Rattle.serde_json.specs.Written.{comma_if, compact_text}
+use Rattle.sourcemap_headers.specs.DebugId.{IsId, debug_id_text}
+use Rattle.sourcemap_mappings.specs.Write.{IsRangeText}
+use Rattle.sourcemap_json_write.specs.Writing.{IsPlainValue}
+use Rattle.sourcemap_records.specs.Field.{written_list, written_number, written_or_null}
+use Rattle.sourcemap_records.specs.Jsontypes.{FitsU32}
+use Rattle.sourcemap_map_regular.specs.Map.{MapValue}
+use Rattle.sourcemap_map_regular.specs.Encode.{written_contents, written_ids}
+use Rattle.sourcemap_map_encode.specs.Segments.{IsMappingsText}
+
+-- a key, and its value if there is one
+abbrev pub Entry : Type 0
+Entry = List ℕ × Option Data
+
+-- a key and a colon, after a comma if a member precedes
+abbrev pub key_text : Bool → List ℕ → List ℕ
+key_text later key = comma_if later ++ (quoted key ++ 58 ∷ [])
+
+-- the text of a member, if there is one
+abbrev pub part : Bool → Entry → List ℕ
+part later (key, None) = []
+part later (key, Some d) = key_text later key ++ compact_text d
+
+-- whether a member precedes what follows these entries
+abbrev pub later_after : Bool → List Entry → Bool
+later_after later [] = later
+later_after later (e ∷ es) = later_after (later || is_some e.1) es
+
+abbrev pub parts_text : Bool → List Entry → List ℕ
+parts_text later [] = []
+parts_text later (e ∷ es) = part later e ++ parts_text (later || is_some e.1) es
+
+-- the text of an entry's value, if there is one, is UTF-8 and reads back
+abbrev pub IsPlainEntry : Entry → Type 0
+IsPlainEntry e = IfSome e.1 IsPlainValue
+
+abbrev pub debug_id_entry : Option (List ℕ) → Entry
+debug_id_entry id = (codes "debugId", option_map (λ id. string (debug_id_text id)) id)
+
+abbrev pub file_entry : Option (List ℕ) → Entry
+file_entry file = (codes "file", option_map string file)
+
+abbrev pub ids_entry : List ℕ → Entry
+ids_entry ids = (codes "ignoreList", option_map (written_list written_number) (written_ids ids))
+
+abbrev pub mappings_entry : List ℕ → Entry
+mappings_entry mappings = (codes "mappings", Some (string mappings))
+
+abbrev pub names_entry : List (List ℕ) → Entry
+names_entry names = (codes "names", Some (written_list string names))
+
+abbrev pub ranges_entry : Option (List ℕ) → Entry
+ranges_entry ranges = (codes "rangeMappings", option_map string ranges)
+
+abbrev pub root_entry : Option (List ℕ) → Entry
+root_entry root = (codes "sourceRoot", option_map string root)
+
+abbrev pub sources_entry : List (List ℕ) → Entry
+sources_entry sources = (codes "sources", Some (written_list string sources))
+
+abbrev pub contents_entry : ℕ → List (Option (List ℕ)) → Entry
+contents_entry count contents = (codes "sourcesContent", option_map (written_list (written_or_null string)) (written_contents count contents))
+
+abbrev pub version_entry : Entry
+version_entry = (codes "version", Some (written_number 3))
+
+-- the members before `mappings`; `mappings`, `names` and `rangeMappings`; the members of sources
+abbrev pub leading_entries : MapValue → List Entry
+leading_entries m = debug_id_entry m.debug_id ∷ file_entry m.file ∷ ids_entry m.ignored ∷ []
+
+abbrev pub token_entries : MapValue → List ℕ → Option (List ℕ) → List Entry
+token_entries m mappings ranges = mappings_entry mappings ∷ names_entry m.names ∷ ranges_entry ranges ∷ []
+
+abbrev pub source_entries : MapValue → List Entry
+source_entries m = root_entry m.root ∷ sources_entry m.sources ∷ contents_entry (length m.sources) m.contents ∷ []
+
+abbrev pub map_entries : MapValue → List ℕ → Option (List ℕ) → List Entry
+map_entries m mappings ranges = leading_entries m ++ (token_entries m mappings ranges ++ (source_entries m ++ version_entry ∷ []))
+
+-- an id of 16 bytes, sorted indices of 32 bits
+pub record HasSoundLeadingMembers (m : MapValue) : Type 0 where
+  pub id : IfSome m.debug_id IsId
+  pub small : AllByRecursion FitsU32 m.ignored
+  pub rising : IsStrictlySortedBy nat_cmp m.ignored
+
+-- the member `mappings`
+abbrev pub IsMappingsPart : Bool → MapValue → List ℕ → Type 0
+IsMappingsPart later m text = (mappings : List ℕ) × IsMappingsText (length m.names) m.tokens mappings × (text ≡ part later (mappings_entry mappings))
+
+-- the member `rangeMappings`, if there is one
+abbrev pub IsRangesPart : MapValue → List ℕ → Type 0
+IsRangesPart m text = (ranges : Option (List ℕ)) × IsRangeText m.tokens ranges × IsPlainEntry (ranges_entry ranges) × (text ≡ part true (ranges_entry ranges))
+
+-- the members `mappings`, `names` and `rangeMappings`
+pub record IsTokensText (later : Bool) (m : MapValue) (text : List ℕ) : Type 0 where
+  pub mappings : List ℕ
+  pub ranges : Option (List ℕ)
+  pub of_mappings : IsMappingsText (length m.names) m.tokens mappings
+  pub of_ranges : IsRangeText m.tokens ranges
+  pub is_plain : AllByRecursion IsPlainEntry (token_entries m mappings ranges)
+  pub few_names : length m.names ≤ 4294967295
+  pub is : text ≡ parts_text later (token_entries m mappings ranges)

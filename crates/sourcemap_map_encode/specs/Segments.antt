@@ -1,0 +1,34 @@
+-- Mappings and range bits as texts, which need no escapes in JSON.
+use Rattle.std.specs.Prelude.{◌≡◌, ℕ, ◌<◌, ◌^◌, List, [], ◌∷◌, ◌++◌, replicate, Bool, Option, Ok}
+use Rattle.std.specs.List.{AllByRecursion}
+use Rattle.std.specs.Option.{option_map_or}
+use Rattle.json.specs.Print.{escape_byte}
+use Rattle.sourcemap_vlq.specs.Bits.{IsBitText}
+use Rattle.sourcemap_tokens.specs.declared.tokens.RawToken.{RawToken}
+use Rattle.sourcemap_tokens.specs.Tokens.{AllWithin, reduced, without_repeats}
+use Rattle.sourcemap_mappings.specs.Read.{MappingsAnswer}
+use Rattle.sourcemap_mappings.specs.Segment.{semicolon}
+use Rattle.sourcemap_mappings.specs.Write.{IsWritten, LineByLine, IsRangeLine, IsRangeText}
+
+-- an ASCII byte that needs no escape in JSON
+abbrev pub IsPlainByte : ℕ → Type 0
+IsPlainByte c = (c < 128) × (escape_byte c ≡ c ∷ [])
+
+abbrev pub IsPlainText : List ℕ → Type 0
+IsPlainText text = AllByRecursion IsPlainByte text
+
+-- mappings of these tokens, which read back together with any range bits of theirs
+pub record IsMappingsText (names : ℕ) (tokens : List RawToken) (text : List ℕ) : Type 0 where
+  pub written : IsWritten names tokens text
+  pub is_plain : IsPlainText text
+  pub back : (sources : ℕ) → sources < 2 ^ 32 → AllWithin sources names tokens → (ranges : Option (List ℕ)) → IsRangeText tokens ranges
+      → MappingsAnswer text (option_map_or (λ bits. bits) ranges []) (record { sources = sources; names = names }) (Ok (reduced names tokens))
+
+-- the range bits of these tokens, also if no token is a range
+pub record IsBitsText (tokens : List RawToken) (text : List ℕ) : Type 0 where
+  pub written : LineByLine (IsRangeLine (without_repeats tokens)) tokens text
+  pub is_plain : IsPlainText text
+
+-- the bits of a line, then so many line ends
+abbrev pub IsLineOfBits : List Bool → ℕ → List ℕ → Type 0
+IsLineOfBits flags ends text = (bits : List ℕ) × IsBitText flags bits × (text ≡ bits ++ replicate ends semicolon)

@@ -1,0 +1,69 @@
+//! Writes `rangeMappings`, line by line.
+ghost use Rattle.std.specs.Prelude.{◌≡◌, OnOk, IfErr, string_bytes};
+ghost use Rattle.std.specs.List.{list_any};
+ghost use Rattle.sourcemap_errors.specs.Answer.{UnlessMemory};
+ghost use Rattle.sourcemap_tokens.specs.Tokens.{AreInOrder};
+ghost use Rattle.sourcemap_map_regular.specs.Write.{IsIo};
+ghost use Rattle.sourcemap_map_encode.specs.Buffered.{GrowsBy};
+ghost use Rattle.sourcemap_map_encode.specs.Segments.{IsBitsText, IsLineOfBits};
+
+use crate::buffered::put_line_ends;
+use crate::segments::is_repeat;
+use sourcemap_errors::errors::Result;
+use sourcemap_tokens::tokens::RawToken;
+use sourcemap_vlq::bits::push_bits;
+use std::alloc::Global;
+use std::io::Write;
+
+pub(crate) fn has_range(tokens: &[RawToken]) -> bool
+    ensures { result ≡ list_any (λ t. t.is_range) tokens.now }
+{
+    tokens.iter().any(|token| token.is_range)
+}
+
+// Writes the range bits of a line, then `line_ends` times `;`.
+fn put_line<W: Write>(
+    writer: &mut W,
+    buffer: &mut String,
+    flags: &[bool],
+    line_ends: u32,
+) -> Result<()>
+    ensures text { OnOk result (GrowsBy (IsLineOfBits flags.now line_ends)
+        (W.contents writer.old) (string_bytes buffer.old)
+        (W.contents writer.new) (string_bytes buffer.new)) }
+    ensures error { IfErr result (λ e. UnlessMemory e (IsIo e)) }
+{
+    push_bits(buffer, flags)?;
+    put_line_ends(writer, buffer, line_ends)
+}
+
+/// Writes the range bits of sorted tokens. The flags of one line are in memory at a time.
+pub(crate) fn put_ranges<W: Write>(
+    alloc: Global,
+    writer: &mut W,
+    buffer: &mut String,
+    tokens: &[RawToken],
+) -> Result<()>
+    requires { AreInOrder tokens.now }
+    ensures text { OnOk result (GrowsBy (IsBitsText tokens.now)
+        (W.contents writer.old) (string_bytes buffer.old)
+        (W.contents writer.new) (string_bytes buffer.new)) }
+    ensures error { IfErr result (λ e. UnlessMemory e (IsIo e)) }
+{
+    let mut flags = Vec::new(alloc);
+    let mut line = 0;
+    let mut before = None;
+    for token in tokens {
+        if line != token.dst_line {
+            let line_ends = token.dst_line.saturating_sub(line);
+            put_line(writer, buffer, flags.as_slice(), line_ends)?;
+            flags.clear();
+            line = token.dst_line;
+        }
+        if !is_repeat(before, token) {
+            flags.push(token.is_range)?;
+        }
+        before = Some(token);
+    }
+    put_line(writer, buffer, flags.as_slice(), 0)
+}

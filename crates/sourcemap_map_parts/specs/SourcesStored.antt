@@ -1,0 +1,16 @@
+-- The invariant of stored sources.
+use Rattle.std.specs.Prelude.{◌≡◌, ◌≤◌, length, option_map, unwrap_or, string_bytes}
+use Rattle.sourcemap_texts.specs.Texts.{texts_of}
+use Rattle.sourcemap_map_parts.specs.Sources.{SourcesValue, resolved_texts}
+use Rattle.sourcemap_map_parts.specs.declared.sources.Sources.TheInside.{Inside}
+
+abbrev pub sources_in : Inside → SourcesValue
+sources_in a = record {
+  root = option_map string_bytes a.root;
+  texts = texts_of a.texts;
+}
+
+-- 4294967295 is no source's id, and the stored resolved list is right
+pub record AreStored (a : Inside) : Type 0 where
+  pub few : length (texts_of a.texts) ≤ 4294967295
+  pub resolved : texts_of (unwrap_or a.resolved a.texts) ≡ resolved_texts (sources_in a)

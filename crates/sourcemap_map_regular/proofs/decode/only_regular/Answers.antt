@@ -1,0 +1,9 @@
+-- prover: explicit search
+use Rattle.std.proofs.Common.{rules}
+use Rattle.sourcemap_map_regular.proofs.decode.only_regular.Goals as goal
+
+pub returns-then-is_some-clause-well_formed : goal.returns-then-is_some-clause-well_formed
+returns-then-is_some-clause-well_formed c = search rules
+
+pub returns-clause-well_formed : goal.returns-clause-well_formed
+returns-clause-well_formed c = search rules

@@ -1,0 +1,9 @@
+-- prover: explicit search
+use Rattle.std.proofs.Common.{rules}
+use Rattle.sourcemap_map_regular.proofs.iterators.IgnoreListIterIterator.next.Goals as goal
+
+pub returns-clause-steps : goal.returns-clause-steps
+returns-clause-steps c = search rules
+
+pub returns-clause-goes : goal.returns-clause-goes
+returns-clause-goes c = search rules

@@ -1,0 +1,9 @@
+-- prover: explicit search
+use Rattle.std.proofs.Common.{rules}
+use Rattle.sourcemap_map_regular.proofs.iterators.TokenIter.seek.Goals as goal
+
+pub returns-in-None : goal.returns-in-None
+returns-in-None c = search rules
+
+pub returns-in-Some : goal.returns-in-Some
+returns-in-Some c = search rules

@@ -1,0 +1,9 @@
+-- prover: explicit search
+use Rattle.std.proofs.Common.{rules}
+use Rattle.sourcemap_map_regular.proofs.map.SourceMap.lookup_token.Goals as goal
+
+pub returns-clause-value : goal.returns-clause-value
+returns-clause-value c = search rules
+
+pub returns-clause-meaning : goal.returns-clause-meaning
+returns-clause-meaning c = search rules

@@ -1,0 +1,9 @@
+-- prover: explicit search
+use Rattle.std.proofs.Common.{rules}
+use Rattle.sourcemap_map_regular.proofs.write.encode_to.Goals as goal
+
+pub returns-clause-written : goal.returns-clause-written
+returns-clause-written g c = search rules
+
+pub returns-clause-error : goal.returns-clause-error
+returns-clause-error g c = search rules

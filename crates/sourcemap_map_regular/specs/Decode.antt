@@ -1,0 +1,32 @@
+-- The regular map of a record.
+use Rattle.std.specs.Prelude.{◌≡◌, ◌⊎◌, List, Bool, false, is_none, Result, Ok, Err}
+use Rattle.std.specs.Bool.{MatchBool}
+use Rattle.sourcemap_tokens.specs.declared.tokens.RawToken.{RawToken}
+use Rattle.sourcemap_errors.specs.declared.errors.Error.{Error}
+use Rattle.sourcemap_errors.specs.declared.errors.Error.TheVariants.{IncompatibleSourceMap}
+use Rattle.sourcemap_records.specs.Jsontypes.{Fields, Tree, plain, indexed, flat}
+use Rattle.sourcemap_map_conversions.specs.FromRecord.{parts_from}
+use Rattle.sourcemap_map_regular.specs.Map.{MapValue}
+use Rattle.sourcemap_map_regular.specs.MapStored.{map_in}
+pub use Rattle.sourcemap_map_conversions.specs.FromRecord.{listed, number_read, name_read, file_read, source_read, rising}
+pub use Rattle.sourcemap_map_conversions.specs.FromRecord.{HasFewItems, TokensAnswer}
+
+-- the map of a record with these tokens
+abbrev pub map_of : Fields → List RawToken → MapValue
+map_of r tokens = map_in (parts_from r tokens)
+
+-- the result of decoding a record: the error of a list that is too long precedes the first error of the mappings
+abbrev pub RecordDecodes : Fields → Result MapValue Error → Type 0
+RecordDecodes r (Ok m) = HasFewItems r × TokensAnswer r (Ok m.tokens) × (m ≡ map_of r m.tokens)
+RecordDecodes r (Err e) = ((¬ HasFewItems r) × (e ≡ IncompatibleSourceMap)) ⊎ (HasFewItems r × TokensAnswer r (Err e))
+
+-- The records of regular maps.
+
+-- a record with sections is an index map, and one with function names is a Hermes map
+abbrev pub is_regular : Tree → Bool
+is_regular (plain fields) = is_none fields.x_facebook_sources
+is_regular (indexed _ _) = false
+
+-- the result of decoding a record as a regular map; records of other kinds are `IncompatibleSourceMap`
+abbrev pub RegularDecodes : Tree → Result MapValue Error → Type 0
+RegularDecodes t answer = MatchBool (is_regular t) (RecordDecodes (flat t) answer) (answer ≡ Err IncompatibleSourceMap)

@@ -1,0 +1,114 @@
+-- The rewritten map: without the sources and names that no token uses, without root and ignore list, and
+-- without what the options remove. Sources without contents may get those of files.
+use Rattle.std.specs.Prelude.{length, ◌≤◌, ◌≡◌, ℕ, true, cond, MatchBool, List, [], map, slice_get, Option, None, option_map, option_and_then, Result, Ok, Err}
+use Rattle.std.specs.Str.{bytes_eq}
+use Rattle.sourcemap_errors.specs.declared.errors.Error.{Error}
+use Rattle.sourcemap_tokens.specs.declared.tokens.RawToken.{RawToken}
+use Rattle.sourcemap_tokens.specs.Tokens.{destination}
+use Rattle.sourcemap_texts.specs.Prefixes.{without_prefix}
+use Rattle.sourcemap_map_rewrite.specs.declared.options.RewriteOptions.{RewriteOptions}
+use Rattle.sourcemap_map_regular.specs.Map.{MapValue, Meaning, resolved_sources, source_of, name_of, contents_of, meaning, meaning_of}
+pub use Rattle.sourcemap_map_rewrite.specs.CutSources.{common_if, all_prefixes}
+pub use Rattle.sourcemap_map_rewrite.specs.FirstIds.{firsts_of}
+pub use Rattle.sourcemap_map_rewrite.specs.Kept.{present, kept_once, number_in}
+pub use Rattle.sourcemap_map_rewrite.specs.Loaded.{AreLoaded, LacksFolder}
+pub use Rattle.sourcemap_map_rewrite.specs.Options.{Removal, removal_of, IsDefault, no_removal, options_folder}
+
+-- The parts of the result.
+
+-- the resolved sources and the names that tokens use
+abbrev pub used_sources : MapValue → List (List ℕ)
+used_sources m = kept_once (present (map (λ t. source_of m t.src_id) m.tokens))
+
+abbrev pub used_names : MapValue → List (List ℕ)
+used_names m = kept_once (present (map (λ t. name_of m t.name_id) m.tokens))
+
+-- the old id of each source in use: the one by which a token first uses it
+abbrev pub first_ids : MapValue → List ℕ
+first_ids m = firsts_of (resolved_sources m) (map (λ t. t.src_id) m.tokens)
+
+abbrev pub kept_names : Removal → MapValue → List (List ℕ)
+kept_names removal m = cond removal.with_names (used_names m) []
+
+-- the contents of the token's source, if that source is this text
+abbrev pub contents_if : MapValue → List ℕ → RawToken → Option (List ℕ)
+contents_if m text t =
+    option_and_then (λ source. cond (bytes_eq source text) (contents_of m t.src_id) None) (source_of m t.src_id)
+
+-- the contents of the first token whose source is this text and has contents
+abbrev pub contents_for : MapValue → List ℕ → Option (List ℕ)
+contents_for m text = slice_get (present (map (contents_if m text) m.tokens)) 0
+
+-- the prefixes to cut; `~` means the common prefix of the sources without the root
+abbrev pub cuts : Removal → MapValue → List (List ℕ)
+cuts removal m = all_prefixes removal.prefixes m.sources
+
+-- the token with the new ids of its source and its name
+abbrev pub renumbered : Removal → MapValue → RawToken → RawToken
+renumbered removal m t = record t {
+  src_id = number_in (used_sources m) (source_of m t.src_id);
+  name_id = number_in (kept_names removal m) (name_of m t.name_id);
+}
+
+-- the rewritten map, with one token for each old one
+abbrev pub rewritten : Removal → MapValue → MapValue
+rewritten removal m = record {
+  file = m.file;
+  root = None;
+  tokens = map (renumbered removal m) m.tokens;
+  names = kept_names removal m;
+  sources = map (without_prefix (cuts removal m)) (used_sources m);
+  contents = cond removal.with_contents (map (contents_for m) (used_sources m)) [];
+  ignored = [];
+  debug_id = m.debug_id;
+}
+
+-- The result of the call.
+
+-- the maps differ at most in their contents
+abbrev pub SameButContents : (m n : MapValue) → Type 0
+SameButContents m n = record m { contents = n.contents } ≡ n
+
+-- the contents of the sources in use before loading
+abbrev pub contents_before : Removal → MapValue → List (Option (List ℕ))
+contents_before removal m = map (λ text. cond removal.with_contents (contents_for m text) None) (used_sources m)
+
+-- the rewritten map, where only sources without contents may have loaded ones
+pub record IsLoaded (options : RewriteOptions) (m new : MapValue) : Type 0 where
+  pub others : SameButContents new (rewritten (removal_of options) m)
+  pub contents : AreLoaded options (used_sources m) (contents_before (removal_of options) m) new.contents
+
+-- the rewritten map, with contents loaded if the options say so; the error is that of a folder that is not absolute
+abbrev pub Rewrites : RewriteOptions → MapValue → Result MapValue Error → Type 0
+Rewrites options m (Ok new) =
+    MatchBool options.load_local_source_contents (IsLoaded options m new) (new ≡ rewritten (removal_of options) m)
+Rewrites options m (Err e) = LacksFolder options e
+
+-- Meaning.
+
+-- a meaning without what the options remove
+abbrev pub without_removed : Removal → MapValue → Meaning → Meaning
+without_removed removal m says = record says {
+  source = option_map (without_prefix (cuts removal m)) says.source;
+  name = cond removal.with_names says.name None;
+}
+
+-- the options leave every meaning unchanged: names are kept, and no prefix is cut
+abbrev pub LeavesMeaning : Removal → Type 0
+LeavesMeaning removal = (removal.with_names ≡ true) × (removal.prefixes ≡ [])
+
+-- the new map gives each position the meaning that the old one does, without what is removed
+abbrev pub MeansLess : Removal → (old new : MapValue) → Type 0
+MeansLess removal old new = (p : ℕ × ℕ) → meaning new p ≡ option_map (without_removed removal old) (meaning old p)
+
+-- the generated position and the meaning of each token
+abbrev pub token_meanings : MapValue → List ((ℕ × ℕ) × Meaning)
+token_meanings m = map (λ t. (destination t, meaning_of m t 0)) m.tokens
+
+-- each token has its old generated position and its old meaning, without what is removed
+abbrev pub TokensMeanLess : Removal → (old new : MapValue) → Type 0
+TokensMeanLess removal old new = token_meanings new ≡ map (λ entry. (entry.0, without_removed removal old entry.1)) (token_meanings old)
+
+-- rewriting a second time by default options changes nothing
+abbrev pub IsFinal : MapValue → Type 0
+IsFinal m = length m.sources ≤ 4294967295 → length m.names ≤ 4294967295 → rewritten no_removal (rewritten no_removal m) ≡ rewritten no_removal m

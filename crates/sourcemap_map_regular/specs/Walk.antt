@@ -1,0 +1,30 @@
+-- The tokens before a token, and the function names that are guessed from them.
+use Rattle.std.specs.Prelude.{ℕ, suc, zero, List, [], ◌∷◌, Option, Some, None, option_and_then}
+use Rattle.sourcemap_map_regular.specs.Map.{MapValue, TokenValue, says, lookup}
+use Rattle.sourcemap_map_regular.specs.Token.{token_at}
+use Rattle.sourcemap_source_views.specs.Walk.{guessed_name}
+
+-- an optional token before others; without it there are none
+abbrev pub in_front : Option TokenValue → List TokenValue → List TokenValue
+in_front None tokens = []
+in_front (Some token) tokens = token ∷ tokens
+
+-- the tokens below an index, the closest first
+abbrev pub tokens_before : MapValue → ℕ → List TokenValue
+tokens_before m zero = []
+tokens_before m (suc index) = in_front (token_at m index) (tokens_before m index)
+
+-- the generated position of a token
+abbrev pub position_of : TokenValue → ℕ × ℕ
+position_of t = (t.raw.dst_line, t.raw.dst_col)
+
+abbrev pub name_of : TokenValue → Option (List ℕ)
+name_of t = (says t).name
+
+-- the original name of the function with this minified name, guessed from a token and those before it
+abbrev pub guessed_from : (source minified : List ℕ) → TokenValue → Option (List ℕ)
+guessed_from source minified t = guessed_name position_of name_of source minified (t ∷ tokens_before t.map_of t.index)
+
+-- the same from the token closest to a position
+abbrev pub function_name : MapValue → (source minified : List ℕ) → ℕ × ℕ → Option (List ℕ)
+function_name m source minified p = option_and_then (guessed_from source minified) (lookup m p)

@@ -1,0 +1,31 @@
+-- The JSON text of a map.
+use Rattle.std.specs.Prelude.{◌≡◌, ◌≤◌, ℕ, List, false, Result, Ok}
+use Rattle.serde_json.specs.Data.{depth}
+use Rattle.serde_json.specs.Read.{max_depth}
+use Rattle.serde_json.specs.Written.{compact_text, has_float}
+use Rattle.sourcemap_errors.specs.Errors.{FromIo}
+use Rattle.sourcemap_errors.specs.declared.errors.Error.{Error}
+use Rattle.sourcemap_errors.specs.declared.errors.Error.TheVariants.{Io}
+use Rattle.sourcemap_records.specs.Jsontypes.{Tree, written}
+use Rattle.sourcemap_map_regular.specs.Map.{MapValue}
+use Rattle.sourcemap_map_regular.specs.Encode.{IsRecordOf}
+use Rattle.sourcemap_records.specs.Bytes.{IsJson}
+
+-- the compact JSON text of the record's value; the digits of fractions are not specified. A text of at most
+-- 127 levels parses to the value
+pub record IsText (t : Tree) (text : List ℕ) : Type 0 where
+  pub compact : has_float (written t) ≡ false → text ≡ compact_text (written t)
+  pub reads_back : depth (written t) ≤ max_depth → IsJson text (written t)
+
+-- the text of a record that `Encodes` allows
+abbrev pub IsEncoded : (Result Tree Error → Type 0) → List ℕ → Type 0
+IsEncoded Encodes text = (t : Tree) × Encodes (Ok t) × IsText t text
+
+-- the compact JSON text of the record of the map
+abbrev pub IsCompactTextOf : MapValue → List ℕ → Type 0
+IsCompactTextOf m text = (t : Tree) × IsRecordOf m t × (text ≡ compact_text (written t))
+
+-- an `Io` error of a write; if its kind is `OutOfMemory`, the error is `OutOfMemory` instead
+abbrev pub IsIo : Error → Type 0
+IsIo (Io cause) = FromIo cause (Io cause)
+IsIo _ = ⊥

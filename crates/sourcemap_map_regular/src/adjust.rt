@@ -1,0 +1,43 @@
+//! `adjust_mappings`.
+ghost use Rattle.std.specs.Prelude.{◌≡◌, ℕ, ◌≤◌, ◌+◌, OnErr, OnOk, length};
+ghost use Rattle.sourcemap_errors.specs.Answer.{Gives};
+ghost use Rattle.sourcemap_compose.specs.declared.stretches.Stretch.{Stretch};
+ghost use Rattle.sourcemap_compose.specs.Composition.{moved};
+ghost use Rattle.sourcemap_compose.specs.Moved.{IsMovedAlone};
+ghost use Rattle.sourcemap_map_regular.specs.Adjust.{adjusted};
+ghost use Rattle.sourcemap_map_regular.specs.Map.{IsWellFormed, meaning};
+
+use crate::map::SourceMap;
+use sourcemap_compose::composition::compose;
+use sourcemap_errors::errors::Result;
+use sourcemap_line_index::token_list::TokenList;
+
+impl SourceMap {
+    /// Adjusts the map to a later version of its generated text: `adjustment` maps the later text to
+    /// the text that this map describes. The new tokens have generated positions in the later text.
+    /// All other parts are unchanged, and sources and names of `adjustment` are ignored. The errors
+    /// are `IncompatibleSourceMap` if a token moves beyond column 4294967295, and `OutOfMemory`; they
+    /// leave the map unchanged.
+    ///
+    /// A position that is moved keeps its meaning if the map is well-formed, its tokens have distinct
+    /// generated positions, the token closest to the position is on its line, and no other pair of
+    /// tokens of both maps leads to the new position.
+    pub fn adjust_mappings(&mut self, adjustment: &SourceMap) -> Result<()>
+        ensures value { Gives (λ _. self.new) result (adjusted self.old adjustment.now) }
+        ensures unchanged { OnErr result (self.new ≡ self.old) }
+        ensures well_formed { IsWellFormed self.old → IsWellFormed self.new }
+        ensures few { OnOk result (length self.new.tokens
+            ≤ length self.old.tokens + length adjustment.now.tokens) }
+        ensures meaning { (a : Stretch) (q : ℕ × ℕ) → IsWellFormed self.old
+            → IsMovedAlone self.old.tokens adjustment.now.tokens a q
+            → OnOk result (meaning self.new (moved a q) ≡ meaning self.old q) }
+    {
+        // prover: there are at most 4294967295 sources
+        let _ = self.sources.len();
+        let alloc = self.allocator();
+        let tokens = compose(alloc, self.tokens.as_slice(), adjustment.tokens.as_slice())?;
+        let list = TokenList::of_sorted(tokens)?;
+        self.tokens = list;
+        Ok(())
+    }
+}

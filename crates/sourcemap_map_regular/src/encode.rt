@@ -1,0 +1,81 @@
+//! Encodes maps as records.
+ghost use Rattle.std.specs.Prelude.{◌≡◌, ◌≤◌, IfOk, vec_len};
+ghost use Rattle.sourcemap_errors.specs.Answer.{IsAnswer};
+ghost use Rattle.sourcemap_map_conversions.specs.Parts.{parts_view};
+ghost use Rattle.sourcemap_records.specs.Jsontypes.{tree, flat, Tree, IsFine};
+ghost use Rattle.sourcemap_map_regular.specs.Map.{MapValue};
+ghost use Rattle.sourcemap_map_regular.specs.Encode.{IsRecordOf};
+
+use crate::map::SourceMap;
+use sourcemap_errors::errors::Result;
+use sourcemap_map_conversions::parts::Parts;
+use sourcemap_map_conversions::to_record::{into_record, record_of};
+use sourcemap_records::jsontypes::RawSourceMap;
+
+/// A map that can be encoded as a record.
+pub trait Encodable {
+    ghost use Rattle.std.specs.Prelude.{Result};
+    ghost use Rattle.sourcemap_errors.specs.declared.errors.Error.{Error};
+    ghost use Rattle.sourcemap_records.specs.Jsontypes.{Tree};
+
+    // The results that encoding a value may have.
+    ghost encodes: { Self → Result Tree Error → Type 0 };
+
+    /// The record of the map.
+    fn as_raw_sourcemap(&self) -> Result<RawSourceMap>
+        ensures { IsAnswer tree (encodes self.now) result };
+}
+
+impl Encodable for SourceMap {
+    ghost use Rattle.sourcemap_map_regular.specs.Map.{IsWellFormed};
+    ghost use Rattle.sourcemap_map_regular.specs.Decode.{RecordDecodes};
+    ghost use Rattle.sourcemap_map_regular.specs.Encode.{RecordAnswer, ReadsBack, Restores};
+
+    ghost encodes = { RecordAnswer };
+
+    /// The record of the map. It always has version 3, sources without the root, names and mappings.
+    /// It has file, root, `rangeMappings`, debug id and ignore list if the map does, and contents,
+    /// one item for each source, if a source has contents. The only error is `OutOfMemory`.
+    fn as_raw_sourcemap(&self) -> Result<RawSourceMap>
+        ensures answer { IsAnswer tree (RecordAnswer self.now) result }
+        ensures fine { IfOk result (λ r. IsFine (tree r)) }
+        // A well-formed map decodes to one with the same parts and the same meaning everywhere.
+        ensures reads_back { IfOk result (λ r. IsWellFormed self.now
+            → ReadsBack (RecordDecodes (flat (tree r))) (Restores self.now)) }
+    {
+        // prover: there are at most 4294967295 sources
+        let _ = self.sources.len();
+        let alloc = self.allocator();
+        let names = self.names.as_slice();
+        record_of(
+            alloc,
+            &self.metadata,
+            &self.tokens,
+            names,
+            &self.sources,
+            &self.contents,
+        )
+    }
+}
+
+impl SourceMap {
+    ghost use Rattle.sourcemap_map_regular.specs.Encode.{RecordAnswer};
+    ghost use Rattle.sourcemap_map_regular.specs.MapStored.{parts_in};
+
+    /// The same record; consumes the map. Texts are moved, and tokens are dropped as soon as they are
+    /// encoded. The only error is `OutOfMemory`.
+    pub fn into_raw_sourcemap(self) -> Result<RawSourceMap>
+        ensures { IsAnswer tree (RecordAnswer self) result }
+    {
+        // prover: there are at most 4294967295 sources, and the ignore list is sorted
+        let _ = self.sources.len();
+        let _ = self.metadata.ignored();
+        let alloc = self.allocator();
+        into_record(alloc, self.into_parts())
+    }
+}
+
+/// A law: a map has one record.
+pub fn written_records_are_determined()
+    ensures { (m : MapValue) (a b : Tree) → IsRecordOf m a → IsRecordOf m b → a ≡ b }
+{}

@@ -1,0 +1,40 @@
+//! Borrows all lists of a map for bulk iteration.
+
+use crate::map::SourceMap;
+use sourcemap_source_views::sourceview::SourceView;
+use sourcemap_tokens::tokens::RawToken;
+use std::collections::BTreeSet;
+
+/// The lists of a map. Ids are indices of them.
+#[derive(Clone, Copy)]
+pub struct MapLists<'a> {
+    /// The tokens, in order of generated position.
+    pub tokens: &'a [RawToken],
+    /// The names.
+    pub names: &'a [String],
+    /// The sources, resolved against `sourceRoot`.
+    pub sources: &'a [String],
+    /// Views of the contents of sources, for each that has contents.
+    pub contents: &'a [Option<SourceView>],
+    /// The source ids of the ignore list.
+    pub ignored: &'a BTreeSet<u32>,
+}
+
+impl SourceMap {
+    ghost use Rattle.sourcemap_tokens.specs.Tokens.{AreInOrder};
+    ghost use Rattle.sourcemap_map_regular.specs.Lists.{AreListsOf};
+
+    /// Borrows the lists of the map.
+    pub fn lists(&self) -> MapLists<'_>
+        ensures lists { AreListsOf self.now result }
+        ensures in_order { AreInOrder self.now.tokens }
+    {
+        MapLists {
+            tokens: self.tokens.as_slice(),
+            names: self.names.as_slice(),
+            sources: self.sources.resolved(),
+            contents: self.contents.as_slice(),
+            ignored: self.metadata.ignored(),
+        }
+    }
+}

@@ -1,0 +1,109 @@
+//! `rewrite`: reduces a map to what its tokens use.
+ghost use Rattle.std.specs.Prelude.{◌≡◌, IfOk, nat_eq};
+ghost use Rattle.std.specs.List.{IsDistinct};
+ghost use Rattle.sourcemap_errors.specs.Answer.{IsAnswer};
+ghost use Rattle.sourcemap_map_rewrite.specs.Options.{IsDefault, no_removal, removal_of};
+ghost use Rattle.sourcemap_map_rewrite.specs.declared.options.RewriteOptions.{RewriteOptions};
+ghost use Rattle.sourcemap_map_regular.specs.Map.{MapValue};
+ghost use Rattle.sourcemap_map_regular.specs.Rewrite.{IsFinal};
+
+use crate::map::SourceMap;
+use sourcemap_errors::errors::Result;
+use sourcemap_map_conversions::parts::Parts;
+use sourcemap_map_parts::contents::Contents;
+use sourcemap_map_parts::sources::Sources;
+pub use sourcemap_map_rewrite::options::RewriteOptions;
+use sourcemap_map_rewrite::rewritten::{RewrittenParts, names_if, rewritten_parts};
+use std::rt::Files;
+
+impl SourceMap {
+    ghost use Rattle.sourcemap_map_regular.specs.Map.{IsWellFormed, MeansTheSame};
+    ghost use Rattle.sourcemap_map_regular.specs.Rewrite.{first_ids, LeavesMeaning, MeansLess, Rewrites, TokensMeanLess};
+
+    /// Reduces the map to the sources and names that tokens use, each once, in the order of first use.
+    /// Sources are resolved against `sourceRoot`, and the result has no root. If several sources are
+    /// equal, the contents are those of the first token whose source has contents. File and debug id
+    /// are kept, and the ignore list is cleared. As the options say, names and contents are dropped
+    /// and prefixes are cut from sources.
+    ///
+    /// With `load_local_source_contents`, sources without contents are read from files. The source,
+    /// before any prefix is cut, is resolved against the URL of the folder, which is `base_path`
+    /// resolved against `current_dir`. Files that cannot be read or are not UTF-8 are skipped. The
+    /// errors are `Io` of kind `InvalidInput` if the folder is not absolute, and `OutOfMemory`.
+    pub fn rewrite<F: Files>(self, rt: &F, options: &RewriteOptions<'_>) -> Result<SourceMap>
+        ensures value { IsAnswer (λ m. m) (Rewrites options.now self) result }
+        // Each position keeps its meaning, without what the options remove.
+        ensures meaning { IfOk result (λ m. MeansLess (removal_of options.now) self m) }
+        ensures tokens { IfOk result (λ m. TokensMeanLess (removal_of options.now) self m) }
+        // If names are kept and no prefix is cut, the meaning is the same.
+        ensures same { LeavesMeaning (removal_of options.now)
+            → IfOk result (λ m. MeansTheSame m self) }
+        ensures well_formed { IfOk result (λ m. IsWellFormed self → IsWellFormed m) }
+    {
+        // prover: `?` on its own line
+        let (map, _) = self.rewrite_with_ids(rt, options)?;
+        Ok(map)
+    }
+
+    /// The same map, and for each of its sources the old id: the one by which a token first uses it.
+    /// The errors are those of `rewrite`.
+    pub fn rewrite_with_ids<F: Files>(
+        self,
+        rt: &F,
+        options: &RewriteOptions<'_>,
+    ) -> Result<(SourceMap, Vec<u32>)>
+        ensures value { IsAnswer (λ new. new.0) (Rewrites options.now self) result }
+        ensures ids { IfOk result (λ new. new.1.items ≡ first_ids self) }
+        ensures distinct { IfOk result (λ new. IsDistinct nat_eq new.1.items) }
+        ensures meaning { IfOk result (λ new. MeansLess (removal_of options.now) self new.0) }
+        ensures tokens { IfOk result (λ new. TokensMeanLess (removal_of options.now) self new.0) }
+        ensures same { LeavesMeaning (removal_of options.now)
+            → IfOk result (λ new. MeansTheSame new.0 self) }
+        ensures well_formed { IfOk result (λ new. IsWellFormed self → IsWellFormed new.0) }
+    {
+        // prover: there are at most 4294967295 sources
+        let _ = self.sources.len();
+        // prover: `?` on its own line
+        let new = self.reduce(rt, options)?;
+        Ok(new)
+    }
+
+    fn reduce<F: Files>(self, rt: &F, options: &RewriteOptions<'_>) -> Result<(SourceMap, Vec<u32>)>
+        ensures value { IsAnswer (λ new. new.0) (Rewrites options.now self) result }
+        ensures ids { IfOk result (λ new. new.1.items ≡ first_ids self) }
+    {
+        let alloc = self.allocator();
+        let Parts {
+            metadata,
+            tokens,
+            names,
+            sources,
+            contents,
+        } = self.into_parts();
+        let names = names_if(alloc, names, options.with_names);
+        let (sources, resolved) = sources.into_lists();
+        let contents = contents.into_views();
+        let parts = rewritten_parts(
+            rt, alloc, tokens, sources, resolved, names, contents, options,
+        )?;
+        let RewrittenParts {
+            tokens,
+            names,
+            sources,
+            contents,
+            first_ids,
+        } = parts;
+        let metadata = metadata.without_ignored(alloc);
+        let sources = Sources::new(sources);
+        let contents = Contents::of_views(contents);
+        let map = SourceMap::of_parts(metadata, tokens, names, sources, contents);
+        Ok((map, first_ids))
+    }
+}
+
+/// A law: the default options remove nothing, and rewriting a second time changes nothing.
+pub fn default_rewriting_is_final()
+    ensures default { (options : RewriteOptions)
+        → IsDefault options → removal_of options ≡ no_removal }
+    ensures twice { (m : MapValue) → IsFinal m }
+{}

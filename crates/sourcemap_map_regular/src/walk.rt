@@ -1,0 +1,65 @@
+//! Guesses the original name of a function from the tokens before a position.
+ghost use Rattle.std.specs.Prelude.{◌≡◌};
+ghost use Rattle.std.specs.Option.{option_copied};
+
+use crate::map::SourceMap;
+use crate::token::Token;
+use sourcemap_source_views::sourceview::SourceView;
+use sourcemap_source_views::walk::WalkedToken;
+
+/// The previous token is the one before it in the map.
+impl<'a> WalkedToken for Token<'a> {
+    type Name = &'a str;
+
+    ghost use Rattle.sourcemap_map_regular.specs.Token.{TokenValue, token_value};
+    ghost use Rattle.sourcemap_map_regular.specs.Walk.{name_of, position_of, tokens_before};
+
+    ghost Seen = { TokenValue };
+
+    ghost seen = { token_value };
+
+    ghost place_of = { position_of };
+
+    ghost name_of = { name_of };
+
+    ghost text_of = { λ name. name.now };
+
+    ghost before = { λ token. tokens_before (token_value token).map_of (token_value token).index };
+
+    fn place(&self) -> (u32, u32) {
+        self.get_dst()
+    }
+
+    fn name(&self) -> Option<&'a str> {
+        self.get_name()
+    }
+
+    fn previous(&self) -> Option<Self> {
+        let index = self.index.checked_sub(1)?;
+        self.map.get_token(index)
+    }
+}
+
+impl SourceMap {
+    ghost use Rattle.sourcemap_map_regular.specs.Walk.{function_name};
+
+    /// Guesses the original name of the function at a generated position. `view` is a view of the
+    /// generated text. The search starts at the token closest to the position and goes back over at
+    /// most 128 tokens, to the first token at which the generated text has `minified_name` while it
+    /// has `function` at the token before. Returns the name of the token that was found; `None` if
+    /// there is no such token, if it has no name, or if `minified_name` is no identifier. It allocates
+    /// no memory.
+    pub fn get_original_function_name(
+        &self,
+        line: u32,
+        col: u32,
+        minified_name: &str,
+        view: &SourceView,
+    ) -> Option<&str>
+        ensures { option_copied result
+            ≡ function_name self.now view.now minified_name.now (line, col) }
+    {
+        let token = self.lookup_token(line, col)?;
+        view.get_original_function_name(token, minified_name)
+    }
+}

@@ -1,0 +1,16 @@
+-- The prefixes that `rewrite` cuts from sources.
+use Rattle.std.specs.Prelude.{ℕ, cond, not, List, [], ◌∷◌, ◌++◌, filter, codes, Option, None}
+use Rattle.std.specs.List.{list_any}
+use Rattle.std.specs.Str.{bytes_eq}
+use Rattle.sourcemap_texts.specs.Paths.{common_prefix}
+use Rattle.sourcemap_map_rewrite.specs.Kept.{present}
+
+-- the common prefix of the absolute paths among the texts, if `~` is one of the prefixes and there is one
+abbrev pub common_if : (prefixes texts : List (List ℕ)) → Option (List ℕ)
+common_if prefixes texts =
+    cond (list_any (λ prefix. bytes_eq prefix (codes "~")) prefixes) (common_prefix texts) None
+
+-- the prefixes other than `~`, then the common prefix that `~` means
+abbrev pub all_prefixes : (prefixes texts : List (List ℕ)) → List (List ℕ)
+all_prefixes prefixes texts =
+    filter (λ prefix. not (bytes_eq prefix (codes "~"))) prefixes ++ present (common_if prefixes texts ∷ [])

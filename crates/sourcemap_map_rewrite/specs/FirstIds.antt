@@ -1,0 +1,19 @@
+-- The first old number of each text that is kept.
+use Rattle.std.specs.Prelude.{ℕ, Bool, false, List, map, slice_get, unwrap_or}
+use Rattle.std.specs.List.{find}
+use Rattle.std.specs.Option.{option_map_or}
+use Rattle.std.specs.Str.{bytes_eq}
+use Rattle.sourcemap_tokens.specs.Tokens.{no_id}
+use Rattle.sourcemap_map_rewrite.specs.Numbering.{kept_of}
+
+-- the number is the index of this text
+abbrev pub names_text : List (List ℕ) → List ℕ → ℕ → Bool
+names_text texts text id = option_map_or (bytes_eq text) (slice_get texts id) false
+
+-- the first of these numbers that is an index of the text; `no_id` if none is
+abbrev pub first_of : List (List ℕ) → List ℕ → List ℕ → ℕ
+first_of texts ids text = unwrap_or (find (names_text texts text) ids) no_id
+
+-- the first number of each text that these numbers name, in the order of first use
+abbrev pub firsts_of : List (List ℕ) → List ℕ → List ℕ
+firsts_of texts ids = map (first_of texts ids) (kept_of texts ids)

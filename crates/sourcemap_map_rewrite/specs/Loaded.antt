@@ -1,0 +1,31 @@
+-- Contents that `rewrite` loads from files.
+use Rattle.std.specs.Prelude.{◌≡◌, ℕ, Bool, true, MatchBool, List, Option, None, replicate}
+use Rattle.std.specs.Option.{IsSomeAnd}
+use Rattle.sourcemap_errors.specs.declared.errors.Error.{Error}
+use Rattle.sourcemap_source_files.specs.Loading.{Fills, IsNoFolder}
+use Rattle.sourcemap_map_rewrite.specs.KeptContents.{AreKept}
+use Rattle.sourcemap_map_rewrite.specs.Options.{options_folder}
+use Rattle.sourcemap_map_rewrite.specs.declared.options.RewriteOptions.{RewriteOptions}
+
+-- the contents of these sources after loading: the options name a folder, and only a source without contents may have
+-- the contents of a file in it
+abbrev pub AreLoaded : RewriteOptions → List (List ℕ) → (before after : List (Option (List ℕ))) → Type 0
+AreLoaded options sources before after = IsSomeAnd (options_folder options) (λ folder. Fills folder sources before after)
+
+-- the error if contents are to be loaded and the folder is not absolute
+pub record LacksFolder (options : RewriteOptions) (e : Error) : Type 0 where
+  pub loads : options.load_local_source_contents ≡ true
+  pub none : options_folder options ≡ None
+  pub error : IsNoFolder e
+
+-- the contents of `count` sources before loading: kept, or none
+abbrev pub AreKeptOrNone : Bool → (numbers order : List ℕ) → (contents : List (Option (List ℕ))) → ℕ → (unloaded : List (Option (List ℕ))) → Type 0
+AreKeptOrNone with_contents numbers order contents count unloaded =
+    MatchBool with_contents (AreKept numbers order contents count unloaded) (unloaded ≡ replicate count None)
+
+-- the contents of these sources: kept ones first, then loaded ones
+pub record AreKeptAndLoaded (options : RewriteOptions) (sources : List (List ℕ)) (numbers order : List ℕ)
+    (contents : List (Option (List ℕ))) (count : ℕ) (after : List (Option (List ℕ))) : Type 0 where
+  pub before : List (Option (List ℕ))
+  pub unloaded : AreKeptOrNone options.with_source_contents numbers order contents count before
+  pub loaded : AreLoaded options sources before after

@@ -1,0 +1,87 @@
+-- New numbers of texts, assigned in the order of first use.
+use Rattle.std.specs.Prelude.{◌≡◌, ℕ, ◌⊎◌, List, [], ◌∷◌, ◌++◌, length, map, slice_get, slice_set, Option, Some, None}
+use Rattle.std.specs.Option.{option_or}
+use Rattle.std.specs.List.{AllByRecursion}
+use Rattle.sourcemap_interning.specs.Interner.{id_of, with_text}
+use Rattle.sourcemap_tokens.specs.Tokens.{no_id}
+use Rattle.sourcemap_tokens.specs.declared.tokens.RawToken.{RawToken}
+use Rattle.sourcemap_map_rewrite.specs.Kept.{present, kept_once, number_in}
+use Rattle.sourcemap_map_rewrite.specs.declared.numbering.NewNumbers.{NewNumbers}
+use Rattle.sourcemap_map_rewrite.specs.declared.numbering.Numbering.{Numbering}
+
+-- the texts with an optional one appended, unless they contain it
+abbrev pub with_text_if : List (List ℕ) → Option (List ℕ) → List (List ℕ)
+with_text_if texts None = texts
+with_text_if texts (Some text) = with_text texts text
+
+-- the first result of `f` along the list that is not `None`
+abbrev pub first_some : {X Y : Type 0} → (X → Option Y) → List X → Option Y
+first_some f [] = None
+first_some f (x ∷ xs) = option_or (f x) (first_some f xs)
+
+-- the text is one of these, if there is a text
+abbrev pub HasNumberIfAny : List (List ℕ) → Option (List ℕ) → Type 0
+HasNumberIfAny texts None = Unit {0}
+HasNumberIfAny texts (Some text) = (n : ℕ) × (id_of text texts ≡ Some n)
+
+-- the texts that these numbers name, each once, in the order of first use
+abbrev pub kept_of : List (List ℕ) → List ℕ → List (List ℕ)
+kept_of texts ids = kept_once (present (map (slice_get texts) ids))
+
+-- the texts that have a new number, by that number
+abbrev pub seen_texts : List (List ℕ) → NewNumbers → List (List ℕ)
+seen_texts texts n = kept_of texts n.order.items
+
+-- the old number has a new one, which is the index of its text in `seen_texts`
+pub record IsSeen (texts : List (List ℕ)) (n : NewNumbers) (id : ℕ) : Type 0 where
+  pub text : List ℕ
+  pub number : ℕ
+  pub named : slice_get texts id ≡ Some text
+  pub numbered : slice_get n.numbers.items id ≡ Some number
+  pub interned : id_of text (seen_texts texts n) ≡ Some number
+
+-- the old number has no new one, or was seen
+abbrev pub IsSeenOrNot : (texts : List (List ℕ)) → NewNumbers → ℕ → Type 0
+IsSeenOrNot texts n id =
+    (slice_get n.numbers.items id ≡ Some no_id) ⊎ ((k : ℕ) × (slice_get n.order.items k ≡ Some id))
+
+-- all old numbers that were seen have new ones, and no others
+pub record AreNumbered (texts : List (List ℕ)) (n : NewNumbers) : Type 0 where
+  pub many : length n.numbers.items ≡ length texts
+  pub seen : AllByRecursion (IsSeen texts n) n.order.items
+  pub others : (id : ℕ) (text : List ℕ) → slice_get texts id ≡ Some text → IsSeenOrNot texts n id
+
+-- the numbers after one more old number was seen
+pub record NumbersMore (texts : List (List ℕ)) (id : ℕ) (old new : NewNumbers) : Type 0 where
+  pub kept : seen_texts texts new ≡ with_text_if (seen_texts texts old) (slice_get texts id)
+  pub seen : (f : ℕ → Option (List ℕ)) → (slice_get texts id ≡ None → f id ≡ None)
+      → first_some f new.order.items ≡ option_or (first_some f old.order.items) (f id)
+
+pub record IsNumbering (texts : List (List ℕ)) (n : Numbering) : Type 0 where
+  pub numbered : AreNumbered texts n.seen
+  pub index : n.ids ≡ seen_texts texts n.seen
+
+-- the numbering after an old number got its new one
+pub record Assigns (text : List ℕ) (id number : ℕ) (old new : Numbering) : Type 0 where
+  pub numbered : id_of text new.ids ≡ Some number
+  pub index : new.ids ≡ with_text old.ids text
+  pub order : new.seen.order.items ≡ old.seen.order.items ++ id ∷ []
+  pub numbers : new.seen.numbers.items ≡ slice_set old.seen.numbers.items id number
+
+-- exactly the source and name numbers of the tokens were seen
+pub record AreSeen (sources names : List (List ℕ)) (tokens : List RawToken) (s n : NewNumbers) : Type 0 where
+  pub kept_sources : seen_texts sources s ≡ kept_of sources (map (λ t. t.src_id) tokens)
+  pub kept_names : seen_texts names n ≡ kept_of names (map (λ t. t.name_id) tokens)
+  pub first : (f : ℕ → Option (List ℕ)) → ((id : ℕ) → slice_get sources id ≡ None → f id ≡ None)
+      → first_some f s.order.items ≡ first_some f (map (λ t. t.src_id) tokens)
+
+-- the token with the numbers of its source and its name in the kept lists
+abbrev pub numbered_by : (sources names kept_sources kept_names : List (List ℕ)) → RawToken → RawToken
+numbered_by sources names kept_sources kept_names t = record t {
+  src_id = number_in kept_sources (slice_get sources t.src_id);
+  name_id = number_in kept_names (slice_get names t.name_id);
+}
+
+-- the token with the new numbers of its source and its name
+abbrev pub numbered_with : (sources names : List (List ℕ)) → NewNumbers → NewNumbers → RawToken → RawToken
+numbered_with sources names s n = numbered_by sources names (seen_texts sources s) (seen_texts names n)

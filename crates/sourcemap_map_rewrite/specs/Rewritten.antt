@@ -1,0 +1,64 @@
+-- The parts of a map that `rewrite` changes, as functions of the old parts.
+use Rattle.std.specs.Prelude.{◌≡◌, ◌≤◌, ℕ, cond, MatchBool, List, [], map, slice_get, Option, None, option_and_then, vec_len}
+use Rattle.std.specs.Str.{bytes_eq}
+use Rattle.sourcemap_tokens.specs.Items.{item_at}
+use Rattle.sourcemap_tokens.specs.declared.tokens.RawToken.{RawToken}
+use Rattle.sourcemap_texts.specs.Texts.{texts_of}
+use Rattle.sourcemap_texts.specs.Prefixes.{without_prefix}
+use Rattle.sourcemap_map_rewrite.specs.Loaded.{AreLoaded}
+use Rattle.sourcemap_map_rewrite.specs.Options.{Removal, removal_of}
+use Rattle.sourcemap_map_rewrite.specs.CutSources.{all_prefixes}
+use Rattle.sourcemap_map_rewrite.specs.FirstIds.{firsts_of}
+use Rattle.sourcemap_map_rewrite.specs.Kept.{present}
+use Rattle.sourcemap_map_rewrite.specs.Numbering.{kept_of, numbered_by}
+use Rattle.sourcemap_map_rewrite.specs.declared.options.RewriteOptions.{RewriteOptions}
+use Rattle.sourcemap_map_rewrite.specs.declared.rewritten.RewrittenParts.{RewrittenParts}
+
+-- the contents of the token's source, if that source is this text
+abbrev pub contents_among : List (List ℕ) → List (Option (List ℕ)) → List ℕ → RawToken → Option (List ℕ)
+contents_among sources contents text t =
+    option_and_then (λ source. cond (bytes_eq source text) (item_at contents t.src_id) None) (slice_get sources t.src_id)
+
+-- the contents of the first token whose source is this text and has contents
+abbrev pub resulting_contents : List (List ℕ) → List (Option (List ℕ)) → List RawToken → List ℕ → Option (List ℕ)
+resulting_contents sources contents tokens text =
+    slice_get (present (map (contents_among sources contents text) tokens)) 0
+
+-- the sources and the names that tokens use
+abbrev pub sources_used : List (List ℕ) → List RawToken → List (List ℕ)
+sources_used sources tokens = kept_of sources (map (λ t. t.src_id) tokens)
+
+abbrev pub names_used : List (List ℕ) → List RawToken → List (List ℕ)
+names_used names tokens = kept_of names (map (λ t. t.name_id) tokens)
+
+-- the old number of each source in use: the one by which a token first uses it
+abbrev pub first_ids_used : List (List ℕ) → List RawToken → List ℕ
+first_ids_used sources tokens = firsts_of sources (map (λ t. t.src_id) tokens)
+
+-- the contents of the sources in use before loading
+abbrev pub contents_before : Removal → List (List ℕ) → List (Option (List ℕ)) → List RawToken → List (Option (List ℕ))
+contents_before removal sources contents tokens =
+    map (λ text. cond removal.with_contents (resulting_contents sources contents tokens text) None) (sources_used sources tokens)
+
+-- the contents of the result: also loaded ones if the options ask for loading
+abbrev pub AreResultingContents : RewriteOptions → List (List ℕ) → (contents : List (Option (List ℕ))) → List RawToken → (after : List (Option (List ℕ))) → Type 0
+AreResultingContents options sources contents tokens after =
+    MatchBool options.load_local_source_contents
+    (AreLoaded options (sources_used sources tokens) (contents_before (removal_of options) sources contents tokens) after)
+    (after ≡ cond options.with_source_contents (map (resulting_contents sources contents tokens) (sources_used sources tokens)) [])
+
+pub record AreRewritten (sources names paths : List (List ℕ)) (contents : List (Option (List ℕ)))
+    (options : RewriteOptions) (tokens : List RawToken) (p : RewrittenParts) : Type 0 where
+  pub tokens_are : p.tokens
+      ≡ map (numbered_by sources names (sources_used sources tokens) (names_used names tokens)) tokens
+  pub names_are : texts_of p.names ≡ names_used names tokens
+  pub sources_are : texts_of p.sources
+      ≡ map (without_prefix (all_prefixes (removal_of options).prefixes paths)) (sources_used sources tokens)
+  pub first_ids_are : p.first_ids.items ≡ first_ids_used sources tokens
+  pub contents_are : AreResultingContents options sources contents tokens p.contents.items
+
+-- at most 4294967295 names, sources and contents, so that each has an id
+pub record AreFew (p : RewrittenParts) : Type 0 where
+  pub names : vec_len p.names ≤ 4294967295
+  pub sources : vec_len p.sources ≤ 4294967295
+  pub contents : vec_len p.contents ≤ 4294967295

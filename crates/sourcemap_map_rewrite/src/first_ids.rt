@@ -1,0 +1,27 @@
+//! The first old number of each text that is kept.
+ghost use Rattle.std.specs.Prelude.{◌≡◌, ℕ, List, IfOk, IsOkUnless};
+ghost use Rattle.std.specs.List.{AllByRecursion};
+ghost use Rattle.sourcemap_errors.specs.declared.errors.Error.TheVariants.{OutOfMemory};
+ghost use Rattle.sourcemap_map_rewrite.specs.FirstIds.{firsts_of};
+ghost use Rattle.sourcemap_map_rewrite.specs.KeptContents.{HasNewNumber};
+ghost use Rattle.sourcemap_map_rewrite.specs.Numbering.{AreNumbered};
+
+use crate::numbering::NewNumbers;
+use sourcemap_errors::errors::Result;
+use std::alloc::Global;
+
+// For each new number the first of its old ones.
+pub(crate) fn first_ids(alloc: Global, numbers: &NewNumbers, count: usize) -> Result<Vec<u32>>
+    requires { AllByRecursion (HasNewNumber numbers.now.numbers.items count) numbers.now.order.items }
+    ensures ok { (texts : List (List ℕ)) → AreNumbered texts numbers.now
+        → IfOk result (λ ids. ids.items ≡ firsts_of texts numbers.now.order.items) }
+    ensures memory { IsOkUnless result OutOfMemory }
+{
+    let mut ids = Vec::with_capacity(alloc, count)?;
+    for id in &numbers.order {
+        if numbers.numbers[*id as usize] as usize == ids.len() {
+            ids.push(*id)?;
+        }
+    }
+    Ok(ids)
+}

@@ -1,5 +1,0 @@
-use Rattle.std.proofs.Common.{◌≡◌, map, option_map, string_bytes}
-use Rattle.sourcemap_parts.proofs.contents.all_viewed.Given as goal
-
-abbrev pub invariant-loop-text : goal.invariant-loop-text
-invariant-loop-text l = l.views.items ≡ map (option_map string_bytes) l.yielded

@@ -1,5 +1,0 @@
-pub mod TextLists
-pub mod Contents
-pub mod Sources
-pub mod SourcesStored
-pub mod Heading

@@ -1,7 +1,0 @@
--- Texts that are the same.
-use Rattle.std.specs.Prelude.{ℕ, List, Bool, nat_eq}
-use Rattle.std.specs.Cmp.Lexicographic.{pointwise}
-
--- the same bytes
-abbrev pub same_text : List ℕ → List ℕ → Bool
-same_text = pointwise nat_eq

@@ -1,8 +1,0 @@
-use Rattle.std.proofs.Common.{rules, ◌∙◌, sym}
-use Rattle.sourcemap_places.proofs.RelativePathsLemmas.{parts-next}
-use Rattle.sourcemap_places.proofs.relative_paths.next_part.Goals as goal
-
-pub returns-then-not-is_empty-clause-next : goal.returns-then-not-is_empty-clause-next
-returns-then-not-is_empty-clause-next c =
-    sym c.loop-rest.invariant.1
-    ∙ parts-next c.loop-rest.rest.now c.cut.result.0.now c.cut.result.1.now c.cut.ensures.before c.cut.ensures.after (search rules)

@@ -1,3 +1,0 @@
-mod PlaceLemmas
-mod QuoteLemmas
-mod WritingLemmas

@@ -1,6 +1,0 @@
-use Rattle.std.proofs.Common.{rules}
-use Rattle.json.proofs.Printed.Plain.{escape_on_plain}
-use Rattle.sourcemap_printing.proofs.short.are_thirds_plain.Goals as goal
-
-pub returns : goal.returns
-returns g c = escape_on_plain _ c.args.text.now (search rules)

@@ -1,0 +1,13 @@
+use Rattle.std.proofs.Common.{◌≡◌, map, ◌++◌}
+use Rattle.std.specs.Vec.Iter.{into_iter_items}
+use Rattle.std.specs.List.{AllByRecursion}
+use Rattle.serde_json.specs.View.{view}
+use Rattle.sourcemap_records.proofs.field.items_to_json.Given as goal
+
+-- what was written, followed by what is left; all are in range where what is left is
+abbrev pub invariant-loop-field : goal.invariant-loop-field
+invariant-loop-field g l =
+    (map view l.items.items ++ map g.T.Field.writing (map g.T.Field.see (into_iter_items l.field-iterator))
+    ≡ map g.T.Field.writing (map g.T.Field.see l.fn.fields.items))
+    × (AllByRecursion g.T.Field.in_range (map g.T.Field.see (into_iter_items l.field-iterator))
+    → AllByRecursion g.T.Field.in_range (map g.T.Field.see l.fn.fields.items))

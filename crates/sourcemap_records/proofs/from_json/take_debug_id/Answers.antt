@@ -1,6 +1,0 @@
--- The first spelling wins.
-use Rattle.std.proofs.Common.{rules}
-use Rattle.sourcemap_records.proofs.from_json.take_debug_id.Goals as goal
-
-pub returns-clause-value : goal.returns-clause-value
-returns-clause-value c = search rules

@@ -1,9 +1,0 @@
--- What the search finds, so that a wrong body is refused fast.
-use Rattle.std.proofs.Common.{rules}
-use Rattle.sourcemap_regular.proofs.decode.only_regular.Goals as goal
-
-pub returns-then-is_some-clause-well_formed : goal.returns-then-is_some-clause-well_formed
-returns-then-is_some-clause-well_formed c = search rules
-
-pub returns-clause-well_formed : goal.returns-clause-well_formed
-returns-clause-well_formed c = search rules

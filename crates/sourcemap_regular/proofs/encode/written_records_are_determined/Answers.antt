@@ -1,5 +1,0 @@
-use Rattle.sourcemap_regular.proofs.WriteLemmas.{record_once}
-use Rattle.sourcemap_regular.proofs.encode.written_records_are_determined.Goals as goal
-
-pub returns : goal.returns
-returns c = record_once

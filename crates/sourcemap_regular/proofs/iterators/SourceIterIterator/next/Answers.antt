@@ -1,9 +1,0 @@
--- What the search finds, so that a wrong body is refused fast.
-use Rattle.std.proofs.Common.{rules}
-use Rattle.sourcemap_regular.proofs.iterators.SourceIterIterator.next.Goals as goal
-
-pub returns-clause-steps : goal.returns-clause-steps
-returns-clause-steps c = search rules
-
-pub returns-clause-goes : goal.returns-clause-goes
-returns-clause-goes c = search rules

@@ -1,9 +1,0 @@
--- Bytes have one answer.
-use Rattle.sourcemap_regular.specs.Decode.{RegularDecodes}
-use Rattle.sourcemap_records.proofs.BytesLemmas.{bytes_only}
-use Rattle.sourcemap_regular.proofs.DecodeLemmas.{regular_decodes_once}
-use Rattle.sourcemap_regular.proofs.map.SourceMap.from_slice.Goals as goal
-
-pub returns-clause-only : goal.returns-clause-only
-returns-clause-only c =
-    bytes_only (λ m. m) RegularDecodes regular_decodes_once c.args.bytes.now c.regular_in.result c.regular_in.ensures.answer

@@ -1,9 +1,0 @@
--- What the search finds, so that a wrong body is refused fast.
-use Rattle.std.proofs.Common.{rules}
-use Rattle.sourcemap_regular.proofs.map.SourceMap.lookup_token_among_many.Goals as goal
-
-pub returns-clause-value : goal.returns-clause-value
-returns-clause-value c = search rules
-
-pub returns-clause-meaning : goal.returns-clause-meaning
-returns-clause-meaning c = search rules

@@ -1,5 +1,0 @@
-use Rattle.sourcemap_regular.proofs.WriteLemmas.{encoded-compact}
-use Rattle.sourcemap_regular.proofs.write.written_maps_are_compact.Goals as goal
-
-pub returns : goal.returns
-returns c = encoded-compact

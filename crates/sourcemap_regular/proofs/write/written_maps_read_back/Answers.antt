@@ -1,5 +1,0 @@
-use Rattle.sourcemap_regular.proofs.WriteLemmas.{encoded-back}
-use Rattle.sourcemap_regular.proofs.write.written_maps_read_back.Goals as goal
-
-pub returns : goal.returns
-returns c = encoded-back

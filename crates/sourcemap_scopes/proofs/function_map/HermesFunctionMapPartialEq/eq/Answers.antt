@@ -1,6 +1,0 @@
--- Function maps test equal exactly if they are.
-use Rattle.sourcemap_scopes.proofs.FunctionMapLemmas.{offsets_decide}
-use Rattle.sourcemap_scopes.proofs.function_map.HermesFunctionMapPartialEq.eq.Goals as goal
-
-pub returns-clause-same : goal.returns-clause-same
-returns-clause-same c = rw c.same_items.ensures (rw (c.self.view_is, c.other.view_is) (offsets_decide c.args.self.now c.args.other.now))

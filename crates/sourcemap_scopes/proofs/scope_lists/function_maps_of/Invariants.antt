@@ -1,8 +1,0 @@
--- The entries so far have their function maps.
-use Rattle.std.proofs.Common.{map, take}
-use Rattle.std.specs.List.{AllZip}
-use Rattle.sourcemap_scopes.specs.ScopeLists.{EntryStandsFor, entry_in}
-use Rattle.sourcemap_scopes.proofs.scope_lists.function_maps_of.Given as goal
-
-abbrev pub invariant-loop-entry : goal.invariant-loop-entry
-invariant-loop-entry l = AllZip EntryStandsFor (map entry_in (take l.entry-index l.entries)) l.maps.items

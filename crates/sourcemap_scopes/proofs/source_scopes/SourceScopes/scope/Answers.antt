@@ -1,9 +1,0 @@
--- What the search finds, so that a wrong body is refused fast.
-use Rattle.std.proofs.Common.{rules}
-use Rattle.sourcemap_scopes.proofs.source_scopes.SourceScopes.scope.Goals as goal
-
-pub returns-in_err-index : goal.returns-in_err-index
-returns-in_err-index c = search rules
-
-pub returns : goal.returns
-returns c = search rules

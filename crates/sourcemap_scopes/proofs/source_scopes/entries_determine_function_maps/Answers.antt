@@ -1,6 +1,0 @@
--- Entries have one list of function maps.
-use Rattle.sourcemap_scopes.proofs.SourceScopesLemmas.{function_maps_same}
-use Rattle.sourcemap_scopes.proofs.source_scopes.entries_determine_function_maps.Goals as goal
-
-pub returns : goal.returns
-returns c = function_maps_same

@@ -1,0 +1,37 @@
+-- Contents of sources that are read from files: where the files are, and what may change.
+use Rattle.std.specs.Prelude.{◌≡◌, ℕ, zero, suc, ◌+◌, true, ◌&&◌, if◌then◌else◌, List, [], ◌++◌, length, codes, slice_get, Option, Some, None, is_none, is_some, IsSome, option_and_then, unwrap_or}
+use Rattle.std.specs.IoError.{error_kind}
+use Rattle.std.specs.declared.io.ErrorKind.TheVariants.{InvalidInput}
+use Rattle.sourcemap_errors.specs.declared.errors.Error.{Error}
+use Rattle.sourcemap_errors.specs.declared.errors.Error.TheVariants.{Io}
+use Rattle.sourcemap_tokens.specs.Items.{item_at}
+use Rattle.sourcemap_file_urls.specs.Places.{starts_at_root, path_from}
+
+-- the folder whose files are read: the base path if it is absolute, else joined to the current directory if that is absolute
+abbrev pub folder_of : (current : List ℕ) (base : Option (List ℕ)) → Option (List ℕ)
+folder_of current base =
+    let path = unwrap_or base [] in
+    if starts_at_root path then Some path
+    else (if starts_at_root current then Some (current ++ codes "/" ++ path) else None)
+
+-- the path of a source's file: its text resolved against the URL of the folder, if that is a `file` URL without host
+abbrev pub file_of : (folder source : List ℕ) → Option (List ℕ)
+file_of folder source = path_from folder true source
+
+-- the number of ids below n without an item before and with one after
+abbrev pub newly : {X : Type 0} → ℕ → (before after : List (Option X)) → ℕ
+newly zero before after = 0
+newly (suc n) before after =
+    newly n before after + (if is_none (item_at before n) && is_some (item_at after n) then 1 else 0)
+
+-- contents were loaded: none that existed changed, and each new one has a file, by the source's path below the folder
+pub record Fills (folder : List ℕ) (sources : List (List ℕ)) (before after : List (Option (List ℕ))) : Type 0 where
+  pub many : length after ≡ length before
+  pub kept : (id : ℕ) → IsSome (item_at before id) → item_at after id ≡ item_at before id
+  pub from_file : (id : ℕ) → item_at before id ≡ None → IsSome (item_at after id)
+      → IsSome (option_and_then (file_of folder) (slice_get sources id))
+
+-- the error for a folder that is not absolute
+abbrev pub IsNoFolder : Error → Type 0
+IsNoFolder (Io cause) = error_kind cause ≡ InvalidInput
+IsNoFolder _ = ⊥

@@ -1,0 +1,178 @@
+//! Contents of sources that are read from files.
+ghost use Rattle.std.specs.Prelude.{◌≡◌, ◌≤◌, ◌⊎◌, ◌&&◌, Ok, None, List, ℕ, map, length, vec_len, string_bytes, is_none, is_some, IsSome, IfSome, IfNone, IfOk, IfErr, OnOk, OnErr, option_map};
+ghost use Rattle.std.specs.Option.{option_copied};
+ghost use Rattle.sourcemap_errors.specs.declared.errors.Error.TheVariants.{OutOfMemory};
+ghost use Rattle.sourcemap_errors.specs.Answer.{Gives};
+ghost use Rattle.sourcemap_file_urls.specs.Places.{named_path, starts_at_root};
+ghost use Rattle.sourcemap_source_files.specs.Loading.{folder_of, file_of, newly, Fills, IsNoFolder};
+
+use sourcemap_errors::errors::{Error, Result};
+use sourcemap_file_urls::places::{named_path, path_url};
+use sourcemap_source_views::sourceview::SourceView;
+use std::alloc::Global;
+use std::fs::OpenFile;
+use std::io::Read;
+use std::rt::Files;
+use std::{fs, io};
+use url::Url;
+
+/// Reads the contents of each source that has none from its file, and returns how many were read.
+///
+/// A source is resolved against the folder `base_path`, which is joined to `current_dir` if it is
+/// not absolute. Without a `base_path` the folder is `current_dir`. A source without such a file is
+/// skipped, and so is one whose file cannot be read or is not UTF-8. The error is `Io` of kind
+/// `InvalidInput` if neither path is absolute, and then nothing has changed; else `OutOfMemory`,
+/// and then what was read before stays.
+pub fn load_contents<F: Files>(
+    rt: &F,
+    alloc: Global,
+    current_dir: &str,
+    base_path: Option<&str>,
+    sources: &[String],
+    contents: &mut Vec<Option<SourceView>>,
+) -> Result<usize>
+    requires { length sources.now ≤ vec_len contents.old }
+    ensures fills { IfSome (folder_of current_dir.now (option_copied base_path.entry)) (λ folder.
+        Fills folder (map string_bytes sources.now) contents.old.items contents.new.items) }
+    ensures unchanged { IfNone (folder_of current_dir.now (option_copied base_path.entry))
+        (contents.new.items ≡ contents.old.items) }
+    ensures count { IfOk result (λ n.
+        n ≡ newly (length sources.now) contents.old.items contents.new.items) }
+    ensures folder { OnOk result
+        (IsSome (folder_of current_dir.now (option_copied base_path.entry))) }
+    ensures err { IfErr result (λ e. (e ≡ OutOfMemory)
+        ⊎ (IsNoFolder e × (contents.new.items ≡ contents.old.items)
+        × (folder_of current_dir.now (option_copied base_path.entry) ≡ None))) }
+{
+    let Some(folder) = folder(alloc, current_dir, base_path)? else {
+        return Err(no_folder());
+    };
+    match path_url(alloc, folder.as_str(), true)? {
+        Some(base) => load_all(rt, alloc, &base, sources, contents),
+        None => Ok(0),
+    }
+}
+
+/// Returns `Io` of kind `InvalidInput` if neither path is absolute, so that there is no folder to
+/// read from. There is no other error.
+pub fn check_folder(current_dir: &str, base_path: Option<&str>) -> Result<()>
+    ensures folder { OnOk result
+        (IsSome (folder_of current_dir.now (option_copied base_path.entry))) }
+    ensures err { IfErr result (λ e. IsNoFolder e
+        × (folder_of current_dir.now (option_copied base_path.entry) ≡ None)) }
+{
+    if is_absolute(base_path.unwrap_or("")) || is_absolute(current_dir) {
+        return Ok(());
+    }
+    Err(no_folder())
+}
+
+fn no_folder() -> Error
+    ensures { IsNoFolder result }
+{
+    Error::Io(io::Error::from(io::ErrorKind::InvalidInput))
+}
+
+fn is_absolute(path: &str) -> bool
+    ensures { result ≡ starts_at_root path.now }
+{
+    path.as_bytes().starts_with(b"/")
+}
+
+// The folder whose files are read, `None` if neither path is absolute.
+fn folder(alloc: Global, current: &str, base: Option<&str>) -> Result<Option<String>>
+    ensures { Gives (option_map string_bytes) result
+        (Ok (folder_of current.now (option_copied base.entry))) }
+{
+    let path = base.unwrap_or("");
+    if is_absolute(path) {
+        return Ok(Some(String::from_str(alloc, path)?));
+    }
+    if is_absolute(current) {
+        return Ok(Some(format!(in alloc; "{current}/{path}")?));
+    }
+    Ok(None)
+}
+
+// Loads each source that has no contents, and returns how many were loaded.
+fn load_all<F: Files>(
+    rt: &F,
+    alloc: Global,
+    base: &Url,
+    sources: &[String],
+    contents: &mut Vec<Option<SourceView>>,
+) -> Result<usize>
+    requires { length sources.now ≤ vec_len contents.old }
+    ensures fills { (folder : List ℕ)
+        → ((source : List ℕ) → file_of folder source ≡ named_path base.now source)
+        → Fills folder (map string_bytes sources.now) contents.old.items contents.new.items }
+    ensures count { IfOk result (λ n.
+        n ≡ newly (length sources.now) contents.old.items contents.new.items) }
+    ensures err { IfErr result (λ e. e ≡ OutOfMemory) }
+{
+    let mut loaded = 0;
+    for id in 0..sources.len() {
+        let source = sources[id].as_str();
+        if load(rt, alloc, base, source, &mut contents[id])? {
+            loaded += 1;
+        }
+    }
+    Ok(loaded)
+}
+
+// Loads the contents of a source that has none, and returns whether they were loaded.
+fn load<F: Files>(
+    rt: &F,
+    alloc: Global,
+    base: &Url,
+    source: &str,
+    contents: &mut Option<SourceView>,
+) -> Result<bool>
+    ensures kept { IsSome contents.old → contents.new ≡ contents.old }
+    ensures from_file { contents.old ≡ None → IsSome contents.new
+        → IsSome (named_path base.now source.now) }
+    ensures loaded { IfOk result (λ loaded. loaded ≡ is_none contents.old && is_some contents.new) }
+    ensures unchanged { OnErr result (contents.new ≡ contents.old) }
+    ensures err { IfErr result (λ e. e ≡ OutOfMemory) }
+{
+    if contents.is_some() {
+        return Ok(false);
+    }
+    *contents = view_of(rt, alloc, base, source)?;
+    Ok(contents.is_some())
+}
+
+// A view of a source's file, `None` if there is no such file, it cannot be read, or it is not
+// UTF-8.
+fn view_of<F: Files>(rt: &F, alloc: Global, base: &Url, source: &str) -> Result<Option<SourceView>>
+    ensures from_file { IfOk result (λ view. IsSome view → IsSome (named_path base.now source.now)) }
+    ensures err { IfErr result (λ e. e ≡ OutOfMemory) }
+{
+    let Some(path) = named_path(alloc, base, source)? else {
+        return Ok(None);
+    };
+    match text_of(rt, alloc, path.as_str())? {
+        Some(text) => Ok(Some(SourceView::from_string(alloc, text)?)),
+        None => Ok(None),
+    }
+}
+
+// The text of a file, `None` if it cannot be read or is not UTF-8.
+fn text_of<F: Files>(rt: &F, alloc: Global, path: &str) -> Result<Option<String>>
+    ensures { IfErr result (λ e. e ≡ OutOfMemory) }
+{
+    match bytes_of(rt, alloc, path) {
+        Ok(bytes) => Ok(String::from_utf8(bytes).ok()),
+        Err(cause) if cause.kind() == io::ErrorKind::OutOfMemory => Err(Error::OutOfMemory),
+        Err(_) => Ok(None),
+    }
+}
+
+fn bytes_of<F: Files>(rt: &F, alloc: Global, path: &str) -> io::Result<Vec<u8>> {
+    let mut file = fs::open(rt, path)?;
+    let size = file.metadata().map_or(0, |about| about.len());
+    // one byte more, so that the last read, which returns nothing, does not grow the buffer
+    let mut bytes = Vec::with_capacity(alloc, size.saturating_add(1) as usize)?;
+    file.read_to_end(&mut bytes)?;
+    Ok(bytes)
+}

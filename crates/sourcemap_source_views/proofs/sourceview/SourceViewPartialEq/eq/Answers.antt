@@ -1,0 +1,9 @@
+-- prover: wrong bodies refused fast
+use Rattle.std.proofs.Common.{rules}
+use Rattle.sourcemap_source_views.proofs.sourceview.SourceViewPartialEq.eq.Goals as goal
+
+pub returns-clause-value : goal.returns-clause-value
+returns-clause-value c = search rules
+
+pub returns-clause-same : goal.returns-clause-same
+returns-clause-same c = search rules

@@ -1,0 +1,56 @@
+-- The walk back along the tokens of a map, with the identifier at each token's position, and the name that it guesses.
+use Rattle.std.specs.Prelude.{◌≡◌, ℕ, List, [], ◌∷◌, Option, None, Some, ◌+◌, ◌&&◌, cond, take, drop, length, slice_get, option_map, codes}
+use Rattle.std.specs.Option.{option_and_then}
+use Rattle.std.specs.List.{take_while}
+use Rattle.std.specs.Str.{IsCharBoundary, chars, encode_utf8_all, skip_leading_whitespace}
+use Rattle.std.proofs.Props.{props}
+use Rattle.sourcemap_source_views.specs.Columns.{column_offset, reached_offset}
+use Rattle.sourcemap_source_views.specs.Identifiers.{is_identifier, is_part, is_text, token_at_start}
+use Rattle.sourcemap_source_views.specs.Lines.{line_bodies}
+
+-- a text has this line at this number
+abbrev pub HasLine : List ℕ → ℕ → List ℕ → Type 0
+HasLine source number line = slice_get (line_bodies source) number ≡ Some line
+
+pub HasLine-prop : (source : List ℕ) (number : ℕ) (line : List ℕ) → IsProp (HasLine source number line)
+HasLine-prop source number line = hlevel props
+
+pub ruleset sets = (props, HasLine-prop)
+
+-- a position in a text: the line and the offset in it, if the text has both
+abbrev pub position_in : List ℕ → ℕ × ℕ → Option (List ℕ × ℕ)
+position_in source position =
+    option_and_then (λ body. option_map (λ at. (body, at)) (column_offset body position.1)) (slice_get (line_bodies source) position.0)
+
+-- the identifier at a position: the one at the start of the rest of its line
+abbrev pub identifier_at : List ℕ → ℕ × ℕ → Option (List ℕ)
+identifier_at source position = option_and_then (λ found. token_at_start (drop found.1 found.0)) (position_in source position)
+
+-- the identifier at a column of a line, by an offset that is that of the column if it reaches it
+abbrev pub identifier_from : List ℕ → (col offset units : ℕ) → Option (List ℕ)
+identifier_from line col offset units = option_and_then (λ at. token_at_start (drop at line)) (reached_offset col offset units)
+
+-- the offset of the first word at or after an offset of a line
+abbrev pub IsWord : List ℕ → (offset word : ℕ) → Type 0
+IsWord line offset word = IsCharBoundary line word × (chars (drop word line) ≡ skip_leading_whitespace (chars (drop offset line)))
+
+-- the end of the characters from an offset on that can continue an identifier
+abbrev pub IsWordEnd : List ℕ → (word end : ℕ) → Type 0
+IsWordEnd line word end = IsCharBoundary line end × (end ≡ word + length (encode_utf8_all (take_while is_part (chars (drop word line)))))
+
+-- tokens, each with the identifier at its position
+abbrev pub walked : {S : Type 0} → (S → ℕ × ℕ) → List ℕ → List S → List (S × Option (List ℕ))
+walked place_of source [] = []
+walked place_of source (token ∷ tokens) = (token, identifier_at source (place_of token)) ∷ walked place_of source tokens
+
+-- the first of the tokens that has this identifier, if the one after it has `function`
+abbrev pub function_token : {S : Type 0} → List ℕ → List (S × Option (List ℕ)) → Option S
+function_token name [] = None
+function_token name (item ∷ []) = None
+function_token name (item ∷ next ∷ items) =
+    cond (is_text name item.1 && is_text (codes "function") next.1) (Some item.0) (function_token name (next ∷ items))
+
+-- the name of that token among 128, if the given name is an identifier
+abbrev pub guessed_name : {S : Type 0} → (S → ℕ × ℕ) → (S → Option (List ℕ)) → List ℕ → List ℕ → List S → Option (List ℕ)
+guessed_name place_of name_of source name tokens =
+    cond (is_identifier (chars name)) (option_and_then name_of (function_token name (take 128 (walked place_of source tokens)))) None

@@ -1,0 +1,8 @@
+//! Views of source texts: lines, UTF-16 columns, and the identifiers at positions.
+#![tactic(auto)]
+
+mod columns;
+pub mod js_identifiers;
+pub mod lines;
+pub mod sourceview;
+pub mod walk;

@@ -1,9 +1,0 @@
-use Rattle.std.proofs.Common.{option_copied, take, string_bytes}
-use Rattle.sourcemap_streaming.specs.Buffered.{GrowsBy}
-use Rattle.sourcemap_streaming.proofs.SegmentLemmas.{Written}
-use Rattle.sourcemap_streaming.proofs.segments.put_mappings.Given as goal
-
-abbrev pub invariant-loop-token : goal.invariant-loop-token
-invariant-loop-token g l =
-    GrowsBy (Written l.names (take l.token-index l.tokens) (option_copied l.previous) l.against)
-    (g.W.Write.contents l.fn.writer) (string_bytes l.fn.buffer) (g.W.Write.contents l.writer) (string_bytes l.buffer)

@@ -1,0 +1,66 @@
+//! Files of file systems that tests make up.
+ghost use Rattle.std.specs.Prelude.{IsErr};
+
+use crate::readers::NarrowReader;
+use std::fs::{Metadata, OpenFile};
+use std::io;
+use std::io::{ErrorKind, Read, Seek, SeekFrom, Write};
+
+/// The result of an operation that no test uses.
+pub fn unsupported<T>() -> io::Result<T>
+    ensures { IsErr result }
+{
+    Err(io::Error::from(ErrorKind::Unsupported))
+}
+
+/// A file that is only read.
+#[derive(Drop)]
+pub struct FakeFile<'a> {
+    /// What reads return.
+    pub reader: NarrowReader<'a>,
+    /// The size in its metadata. `None` has no metadata.
+    pub size: Option<u64>,
+}
+
+impl Read for FakeFile<'_> {
+    fn read(&mut self, buf: &mut [u8]) -> io::Result<usize> {
+        self.reader.read(buf)
+    }
+}
+
+impl Write for FakeFile<'_> {
+    fn write(&mut self, _buf: &[u8]) -> io::Result<usize> {
+        unsupported()
+    }
+
+    fn flush(&mut self) -> io::Result<()> {
+        unsupported()
+    }
+}
+
+impl Seek for FakeFile<'_> {
+    fn seek(&mut self, _to: SeekFrom) -> io::Result<u64> {
+        unsupported()
+    }
+}
+
+impl OpenFile for FakeFile<'_> {
+    fn metadata(&self) -> io::Result<Metadata> {
+        match self.size {
+            Some(size) => Ok(Metadata::of_file(size)),
+            None => unsupported(),
+        }
+    }
+
+    fn set_len(&self, _size: u64) -> io::Result<()> {
+        unsupported()
+    }
+
+    fn sync_all(&self) -> io::Result<()> {
+        unsupported()
+    }
+
+    fn sync_data(&self) -> io::Result<()> {
+        unsupported()
+    }
+}

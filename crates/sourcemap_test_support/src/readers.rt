@@ -1,0 +1,78 @@
+//! Readers that return one byte a read, are interrupted, and fail.
+use std::io;
+use std::io::{ErrorKind, Read};
+
+/// Returns one byte a read, and fails with `kind` after `left` reads. `None` never fails.
+#[derive(Drop)]
+pub struct NarrowReader<'a> {
+    /// The bytes not read yet.
+    pub rest: &'a [u8],
+    /// How many more reads succeed.
+    pub left: Option<usize>,
+    /// The kind of the error.
+    pub kind: ErrorKind,
+}
+
+impl Read for NarrowReader<'_> {
+    fn read(&mut self, buf: &mut [u8]) -> io::Result<usize> {
+        if self.left == Some(0) {
+            return Err(io::Error::from(self.kind));
+        }
+        self.left = self.left.map(|left| left.saturating_sub(1));
+        match (self.rest, buf.first_mut()) {
+            ([byte, rest @ ..], Some(first)) => {
+                *first = *byte;
+                self.rest = rest;
+                Ok(1)
+            }
+            _ => Ok(0),
+        }
+    }
+}
+
+/// Returns one byte a read and is interrupted before each. Fails with `kind` after `reads` reads that
+/// were not interrupted.
+#[derive(Drop)]
+pub struct HaltingReader<'a> {
+    /// The bytes not read yet.
+    pub rest: &'a [u8],
+    /// How many more reads succeed.
+    pub reads: usize,
+    /// The kind of the error.
+    pub kind: ErrorKind,
+    /// Whether the last read was interrupted.
+    pub is_interrupted: bool,
+}
+
+impl<'a> HaltingReader<'a> {
+    /// A reader of these bytes.
+    pub fn new(bytes: &'a [u8], reads: usize, kind: ErrorKind) -> Self {
+        HaltingReader {
+            rest: bytes,
+            reads,
+            kind,
+            is_interrupted: false,
+        }
+    }
+}
+
+impl Read for HaltingReader<'_> {
+    fn read(&mut self, buf: &mut [u8]) -> io::Result<usize> {
+        self.is_interrupted = !self.is_interrupted;
+        if self.is_interrupted {
+            return Err(io::Error::from(ErrorKind::Interrupted));
+        }
+        if self.reads == 0 {
+            return Err(io::Error::from(self.kind));
+        }
+        self.reads -= 1;
+        match (self.rest, buf.first_mut()) {
+            ([byte, rest @ ..], Some(first)) => {
+                *first = *byte;
+                self.rest = rest;
+                Ok(1)
+            }
+            _ => Ok(0),
+        }
+    }
+}

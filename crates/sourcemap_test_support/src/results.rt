@@ -1,0 +1,56 @@
+//! Results as texts, which a suite compares with its rows. Out of memory stays an error, so that a
+//! sweep of refused allocations sees it.
+use sourcemap_errors::errors::{Error, Result};
+use std::alloc::Global;
+
+/// Calls a second time if the first call is out of memory.
+pub fn again<F: Fn() -> Result<String>>(call: F) -> Result<String>
+    requires { F.IsAlwaysCallable call }
+{
+    match call() {
+        Err(Error::OutOfMemory) => call(),
+        other => other,
+    }
+}
+
+/// The text of an error. Out of memory stays an error.
+pub fn error_text(alloc: Global, error: &Error) -> Result<String> {
+    match error {
+        Error::OutOfMemory => Err(Error::OutOfMemory),
+        error => Ok(format!(in alloc; "{error}")?),
+    }
+}
+
+/// The text of the error of a result, or `no fault`.
+pub fn error_of<T: Drop>(alloc: Global, got: Result<T>) -> Result<String> {
+    match got {
+        Ok(_) => Ok(String::from_str(alloc, "no fault")?),
+        Err(error) => error_text(alloc, &error),
+    }
+}
+
+/// Moves a value to a box. prover: one drop
+pub fn boxed<T: Drop>(alloc: Global, made: Result<T>) -> Result<Box<T>> {
+    Ok(Box::new(alloc, made?)?)
+}
+
+/// An optional text: in brackets, or `none`.
+pub fn optional_text(alloc: Global, text: Option<&str>) -> Result<String> {
+    match text {
+        None => Ok(String::from_str(alloc, "none")?),
+        Some(text) => Ok(format!(in alloc; "[{text}]")?),
+    }
+}
+
+/// Appends a space and an optional text, as `optional_text` prints it.
+pub fn push_optional(out: &mut String, text: Option<&str>) -> Result<()> {
+    match text {
+        None => out.push_str(" none")?,
+        Some(text) => {
+            out.push_str(" [")?;
+            out.push_str(text)?;
+            out.push_str("]")?;
+        }
+    }
+    Ok(())
+}

@@ -1,0 +1,81 @@
+-- Lists of tokens: their order, their bounds, and the reduced list that encoding keeps.
+use Rattle.std.specs.Prelude.{◌≡◌, ℕ, ◌≤◌, Bool, ◌&&◌, cond, List, [], ◌∷◌, map, Option, ◌==◌, nat_lt, if◌then◌else◌, IsSortedByKey}
+use Rattle.std.specs.List.{AllByRecursion}
+use Rattle.std.specs.Ordering.{nat_cmp, ordering_then, is_lt}
+use Rattle.std.specs.declared.cmp.Ordering.{Ordering}
+use mathlib.Core.Bool.{beq}
+use Rattle.sourcemap_tokens.specs.declared.tokens.RawToken.{RawToken}
+use Rattle.sourcemap_tokens.specs.Search.{closest}
+
+-- the id for no source and for no name; a token without a source has it as original line and column too
+abbrev pub no_id : ℕ
+no_id = 4294967295
+
+-- the order of positions, which are pairs of line and column
+abbrev pub position_cmp : ℕ × ℕ → ℕ × ℕ → Ordering
+position_cmp p q = ordering_then (nat_cmp p.0 q.0) (nat_cmp p.1 q.1)
+
+-- the generated position of a token
+abbrev pub destination : RawToken → ℕ × ℕ
+destination token = (token.dst_line, token.dst_col)
+
+-- the tokens are sorted by generated position
+abbrev pub AreInOrder : List RawToken → Type 0
+AreInOrder tokens = IsSortedByKey destination position_cmp tokens
+
+-- inserts x into a sorted list, before the items with an equal key
+abbrev pub insert_by : {X K : Type 0} → (X → K) → (K → K → Ordering) → X → List X → List X
+insert_by key cmp x [] = x ∷ []
+insert_by key cmp x (y ∷ ys) = cond (is_lt (cmp (key y) (key x))) (y ∷ insert_by key cmp x ys) (x ∷ y ∷ ys)
+
+-- the stable sort of a list by key
+abbrev pub sorted_by : {X K : Type 0} → (X → K) → (K → K → Ordering) → List X → List X
+sorted_by key cmp [] = []
+sorted_by key cmp (x ∷ xs) = insert_by key cmp x (sorted_by key cmp xs)
+
+-- the stable sort of tokens by generated position
+abbrev pub in_order : List RawToken → List RawToken
+in_order tokens = sorted_by destination position_cmp tokens
+
+-- the token closest to a position, with its index
+abbrev pub closest_token : List RawToken → ℕ × ℕ → Option (ℕ × RawToken)
+closest_token tokens p = closest destination position_cmp tokens p
+
+-- the source id is below `sources`; or the token has no source, no original position, and no name id below `names`
+abbrev pub IsWithin : (sources names : ℕ) → RawToken → Type 0
+IsWithin sources names token =
+    sources ≤ token.src_id
+    → (token.src_id ≡ no_id) × (token.src_line ≡ no_id) × (token.src_col ≡ no_id)
+    × (names ≤ token.name_id)
+
+abbrev pub AllWithin : (sources names : ℕ) → List RawToken → Type 0
+AllWithin sources names tokens = AllByRecursion (IsWithin sources names) tokens
+
+-- equal in all fields
+abbrev pub are_same : RawToken → RawToken → Bool
+are_same s t =
+    (s.dst_line == t.dst_line)
+    && ((s.dst_col == t.dst_col)
+    && ((s.src_line == t.src_line)
+    && ((s.src_col == t.src_col)
+    && ((s.src_id == t.src_id)
+    && ((s.name_id == t.name_id)
+    && beq s.is_range t.is_range)))))
+
+-- the tokens that differ from the token before them, where `previous` comes before the first
+abbrev pub changes_after : RawToken → List RawToken → List RawToken
+changes_after previous [] = []
+changes_after previous (token ∷ rest) = cond (are_same token previous) (changes_after token rest) (token ∷ changes_after token rest)
+
+-- the tokens that differ from the token before them in some field
+abbrev pub without_repeats : List RawToken → List RawToken
+without_repeats [] = []
+without_repeats (token ∷ rest) = token ∷ changes_after token rest
+
+-- the token with `no_id` for a name id that is not below `names`
+abbrev pub with_valid_name : (names : ℕ) → RawToken → RawToken
+with_valid_name names token = record token { name_id = (if nat_lt token.name_id names then token.name_id else no_id) }
+
+-- the tokens that encoding and decoding give back: no repeats, and no name id that is not below `names`
+abbrev pub reduced : (names : ℕ) → List RawToken → List RawToken
+reduced names tokens = map (with_valid_name names) (without_repeats tokens)

@@ -1,0 +1,28 @@
+//! Lists of items by id, of which some are missing.
+ghost use Rattle.std.specs.Prelude.{◌≡◌, None, slice_set};
+ghost use Rattle.std.specs.Option.{option_copied};
+ghost use Rattle.sourcemap_tokens.specs.Items.{item_at};
+
+/// The item with this id, or `None`.
+#[inline]
+pub fn item_at<T>(items: &[Option<T>], id: usize) -> Option<&T>
+    ensures { option_copied result ≡ item_at items.now id }
+{
+    match items.get(id) {
+        Some(Some(item)) => Some(item),
+        _ => None,
+    }
+}
+
+/// Removes and returns the item with this id, or returns `None`. Other items keep their ids.
+#[inline]
+pub fn take_item<T: Drop>(items: &mut Vec<Option<T>>, id: usize) -> Option<T>
+    ensures taken { result ≡ item_at items.old.items id }
+    ensures left { items.new.items ≡ slice_set items.old.items id None }
+{
+    if id < items.len() {
+        items[id].take()
+    } else {
+        None
+    }
+}

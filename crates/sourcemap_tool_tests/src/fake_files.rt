@@ -1,0 +1,80 @@
+// A fake file system of one file, whose reads may fail. Records whether the file was opened.
+use sourcemap_test_support::files::{FakeFile, unsupported};
+use sourcemap_test_support::readers::NarrowReader;
+use std::alloc::Allocator;
+use std::cell::Cell;
+use std::fs::{Metadata, OpenOptions};
+use std::io;
+use std::io::ErrorKind;
+use std::rt::Files;
+
+// The only file fails with `kind` after `left` bytes, or already when it is opened.
+#[derive(Drop)]
+pub struct FakeFiles<'a> {
+    pub path: &'a str,
+    pub bytes: &'a [u8],
+    pub left: Option<usize>,
+    pub kind: ErrorKind,
+    pub fails_on_open: bool,
+    pub is_opened: Cell<bool>,
+}
+
+impl<'a> Files for FakeFiles<'a> {
+    type File = FakeFile<'a>;
+
+    type Dir = FakeFile<'a>;
+
+    fn open_file(&self, _how: &OpenOptions, path: &str) -> io::Result<FakeFile<'a>> {
+        self.is_opened.set(true);
+        if path != self.path {
+            return Err(io::Error::from(ErrorKind::NotFound));
+        }
+        if self.fails_on_open {
+            return Err(io::Error::from(self.kind));
+        }
+        Ok(FakeFile {
+            reader: NarrowReader {
+                rest: self.bytes,
+                left: self.left,
+                kind: self.kind,
+            },
+            size: None,
+        })
+    }
+
+    fn open_dir(&self, _path: &str) -> io::Result<FakeFile<'a>> {
+        unsupported()
+    }
+
+    fn metadata(&self, _path: &str) -> io::Result<Metadata> {
+        unsupported()
+    }
+
+    fn symlink_metadata(&self, _path: &str) -> io::Result<Metadata> {
+        unsupported()
+    }
+
+    fn copy(&self, _from: &str, _to: &str) -> io::Result<u64> {
+        unsupported()
+    }
+
+    fn rename(&self, _from: &str, _to: &str) -> io::Result<()> {
+        unsupported()
+    }
+
+    fn remove_file(&self, _path: &str) -> io::Result<()> {
+        unsupported()
+    }
+
+    fn create_dir(&self, _path: &str) -> io::Result<()> {
+        unsupported()
+    }
+
+    fn remove_dir(&self, _path: &str) -> io::Result<()> {
+        unsupported()
+    }
+
+    fn remove_dir_all<B: Allocator>(&self, _alloc: B, _path: &str) -> io::Result<()> {
+        unsupported()
+    }
+}

@@ -1,0 +1,115 @@
+// Failing readers and writers, and errors on standard error.
+use crate::memory::{unless_cut_out, unless_out};
+use crate::runs::{MAP, USAGE, words_of};
+use sourcemap::{Error, decode};
+use sourcemap_cli::program::run;
+use sourcemap_cli::system::report_error;
+use sourcemap_test_support::readers::NarrowReader;
+use sourcemap_test_support::writers::NarrowWriter;
+use std::io;
+use std::io::ErrorKind;
+use std::test::Fail;
+
+// A writer that accepts `left` bytes.
+fn narrow(rt: &HostRuntime, left: Option<usize>) -> NarrowWriter {
+    NarrowWriter {
+        held: Vec::new(rt.alloc()),
+        left,
+    }
+}
+
+// A reader of the first `left` bytes of the map.
+fn slow(left: Option<usize>) -> NarrowReader<'static> {
+    NarrowReader {
+        rest: MAP.as_bytes(),
+        left,
+        kind: ErrorKind::BrokenPipe,
+    }
+}
+
+// Whether a run prints the error of a reader that fails after `left` bytes, with status 1.
+fn is_refused(rt: &HostRuntime, words: &[String], left: usize) -> Result<bool, Fail> {
+    let mut output = Vec::new(rt.alloc());
+    let status = run(rt, rt.alloc(), words, &mut slow(Some(left)), &mut output)?;
+    unless_out(status, output.as_slice())?;
+    Ok(status == 1 && output.as_slice() == "broken pipe\n".as_bytes())
+}
+
+#[test]
+fn a_run_on_a_reader_that_fails_is_refused(rt: HostRuntime) -> Result<(), Fail> {
+    let words = words_of(rt.alloc(), "lookup 0 5")?;
+    for left in 0..=MAP.len() {
+        assert!(rt;
+            is_refused(&rt, words.as_slice(), left)?,
+            "after {left} bytes"
+        );
+    }
+    Ok(())
+}
+
+// Whether decoding returns the error of a reader that fails after `left` bytes.
+fn is_read_error(rt: &HostRuntime, left: usize) -> Result<bool, Error> {
+    match decode(rt.alloc(), slow(Some(left))) {
+        Err(Error::OutOfMemory) => Err(Error::OutOfMemory),
+        decoded => Ok(matches!(decoded, Err(Error::Io(_)))),
+    }
+}
+
+#[test]
+fn a_reader_that_fails_is_not_decoded(rt: HostRuntime) -> Result<(), Fail> {
+    for left in 0..=MAP.len() {
+        assert!(rt; is_read_error(&rt, left)?, "after {left} bytes");
+    }
+    Ok(())
+}
+
+// Whether a run prints `want` on a writer that accepts one byte at a time, and fails on each writer
+// that accepts fewer bytes; that writer then holds a prefix of `want`.
+fn is_written(rt: &HostRuntime, words: &[String], want: &[u8]) -> Result<bool, Fail> {
+    let mut output = narrow(rt, None);
+    let status = run(rt, rt.alloc(), words, &mut slow(None), &mut output)?;
+    unless_out(status, output.held.as_slice())?;
+    let mut is_so = output.held.as_slice() == want;
+    for left in 0..=want.len() {
+        let mut output = narrow(rt, Some(left));
+        let ended = run(rt, rt.alloc(), words, &mut slow(None), &mut output);
+        unless_cut_out(&ended, output.held.as_slice())?;
+        is_so &= matches!(ended, Err(Error::Io(_))) & (output.held.as_slice() == &want[..left]);
+    }
+    Ok(is_so)
+}
+
+#[test]
+fn a_writer_that_fails_ends_the_run(rt: HostRuntime) -> Result<(), Fail> {
+    let lookup = words_of(rt.alloc(), "lookup 0 5")?;
+    let other = words_of(rt.alloc(), "lookup 0")?;
+    assert!(rt; is_written(&rt, lookup.as_slice(), b"coolstuff.js:0:4 name=x\n")?);
+    assert!(rt; is_written(&rt, other.as_slice(), USAGE.as_bytes())?);
+    Ok(())
+}
+
+// Whether the report of an error is `want`, and on each writer that accepts fewer bytes a prefix.
+fn is_reported_as(rt: &HostRuntime, error: &Error, want: &[u8]) -> Result<bool, Fail> {
+    let mut output = narrow(rt, None);
+    report_error(error, &mut output)?;
+    let mut is_so = output.held.as_slice() == want;
+    for left in 0..want.len() {
+        let mut output = narrow(rt, Some(left));
+        let reported = report_error(error, &mut output);
+        if matches!(reported, Err(Error::OutOfMemory)) {
+            return Err(Error::OutOfMemory.into());
+        }
+        is_so &= reported.is_err() & (output.held.as_slice() == &want[..left]);
+    }
+    Ok(is_so)
+}
+
+#[test]
+fn errors_are_reported_unless_the_reader_is_gone(rt: HostRuntime) -> Result<(), Fail> {
+    let gone = Error::from(io::Error::from(ErrorKind::BrokenPipe));
+    let full = Error::from(io::Error::from(ErrorKind::StorageFull));
+    assert!(rt; is_reported_as(&rt, &gone, b"")?);
+    assert!(rt; is_reported_as(&rt, &full, b"no storage space\n")?);
+    assert!(rt; is_reported_as(&rt, &Error::OutOfMemory, b"out of memory\n")?);
+    Ok(())
+}

@@ -1,5 +1,0 @@
-use Rattle.sourcemap_trees.proofs.FlatLemmas.{flat_answers}
-use Rattle.sourcemap_trees.proofs.laws.flat_maps_answer_alike.Goals as goal
-
-pub returns : goal.returns
-returns c = flat_answers

@@ -1,5 +1,0 @@
-use Rattle.sourcemap_trees.proofs.FlatLemmas.{flat_says}
-use Rattle.sourcemap_trees.proofs.laws.flat_maps_say_the_flat_list.Goals as goal
-
-pub returns : goal.returns
-returns c = flat_says

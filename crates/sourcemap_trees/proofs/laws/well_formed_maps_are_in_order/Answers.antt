@@ -1,5 +1,0 @@
-use Rattle.sourcemap_trees.proofs.WellFormedLemmas.{well_formed_in_order}
-use Rattle.sourcemap_trees.proofs.laws.well_formed_maps_are_in_order.Goals as goal
-
-pub returns : goal.returns
-returns c = well_formed_in_order

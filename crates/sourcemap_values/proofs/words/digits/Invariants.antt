@@ -1,9 +1,0 @@
-use Rattle.std.proofs.Common.{◌-◌, length}
-use Rattle.sourcemap_values.specs.Words.{AreDigits}
-use Rattle.sourcemap_values.proofs.words.digits.Given as goal
-
-abbrev pub invariant-loop-digit : goal.invariant-loop-digit
-invariant-loop-digit l = AreDigits l.text l.from l.value l.at
-
-abbrev pub decreases-loop-digit : goal.decreases-loop-digit
-decreases-loop-digit l = length l.text - l.at

@@ -1,6 +1,0 @@
-use Rattle.std.proofs.Common.{arith}
-use Rattle.sourcemap_views.proofs.ColumnsLemmas.{place-start}
-use Rattle.sourcemap_views.proofs.columns.skip_blocks.Goals as goal
-
-pub loop-next-init : goal.loop-next-init
-loop-next-init c = record { place = place-start c.args.line.now c.utf8.line; before = omega arith }

@@ -1,6 +1,0 @@
-use Rattle.std.specs.Str.Iter.{chars_rest}
-use Rattle.sourcemap_views.proofs.ColumnsLemmas.{Counted}
-use Rattle.sourcemap_views.proofs.columns.units_in.Given as goal
-
-abbrev pub invariant-loop-character : goal.invariant-loop-character
-invariant-loop-character l = Counted l.text (chars_rest l.character-iterator) l.total

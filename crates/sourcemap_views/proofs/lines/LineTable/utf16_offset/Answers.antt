@@ -1,9 +1,0 @@
--- What the search finds, so that a wrong body is refused fast.
-use Rattle.std.proofs.Common.{rules}
-use Rattle.sourcemap_views.proofs.lines.LineTable.utf16_offset.Goals as goal
-
-pub returns-in_err-reach : goal.returns-in_err-reach
-returns-in_err-reach c = search rules
-
-pub returns : goal.returns
-returns c = search rules
