@@ -76,10 +76,10 @@ fn tell_slices<W: io::Write>(alloc: Global, view: &SourceView, questions: &[Valu
     Ok(writeln!(output, "{}", view.line_count())?)
 }
 
-fn tell_fault<T: Drop, W: io::Write>(answer: Result<T>, output: &mut W) -> Result<()> {
+fn write_error<T: Drop, W: io::Write>(answer: Result<T>, output: &mut W) -> Result<()> {
     match answer {
         Ok(_) => Ok(writeln!(output, "none")?),
-        Err(fault) => Ok(writeln!(output, "{fault}")?),
+        Err(error) => Ok(writeln!(output, "{error}")?),
     }
 }
 
@@ -106,7 +106,7 @@ impl Write for Refusing {
 fn tell_contents<F: Files, W: io::Write>(rt: &F, map: SourceMap, output: &mut W) -> Result<()> {
     let mut options = RewriteOptions::default();
     options.load_local_source_contents = true;
-    tell_fault(map.rewrite(rt, &options), output)
+    write_error(map.rewrite(rt, &options), output)
 }
 
 fn tell_built<W: io::Write>(alloc: Global, case: &Value, output: &mut W) -> Result<()> {
@@ -145,15 +145,15 @@ fn tell_answers<W: io::Write>(alloc: Global, case: &Value, map: Option<&str>, te
     }
 }
 
-fn tell<F: Files, W: io::Write>(rt: &F, alloc: Global, case: &Value, output: &mut W) -> Result<()> {
+fn write_answer<F: Files, W: io::Write>(rt: &F, alloc: Global, case: &Value, output: &mut W) -> Result<()> {
     let (map, text) = (part(case, "map"), part(case, "text"));
     let bytes = map.unwrap_or("").as_bytes();
     match part(case, "word").unwrap_or("") {
-        "regular" => tell_fault(SourceMap::from_slice(alloc, bytes), output),
-        "url" => tell_fault(decode_data_url(alloc, text.unwrap_or("")), output),
+        "regular" => write_error(SourceMap::from_slice(alloc, bytes), output),
+        "url" => write_error(decode_data_url(alloc, text.unwrap_or("")), output),
         "equal" => tell_equal(&SourceMap::from_slice(alloc, bytes)?, output),
-        "sections" => tell_fault(SourceMapIndex::from_slice(alloc, bytes), output),
-        "refused" => tell_fault(SourceMap::from_slice(alloc, bytes)?.to_writer(Refusing), output),
+        "sections" => write_error(SourceMapIndex::from_slice(alloc, bytes), output),
+        "refused" => write_error(SourceMap::from_slice(alloc, bytes)?.to_writer(Refusing), output),
         "contents" => tell_contents(rt, SourceMap::from_slice(alloc, bytes)?, output),
         "built" => tell_built(alloc, case, output),
         "references" => put_answers(rt, alloc, case, output),
@@ -169,7 +169,7 @@ fn main(rt: HostRuntime) -> Result<()> {
     let cases = Value::from_slice(alloc, input.as_slice())?;
     if let Some(cases) = cases.as_array() {
         for case in cases.as_slice() {
-            tell(&rt, alloc, case, &mut io::writer(&rt))?;
+            write_answer(&rt, alloc, case, &mut io::writer(&rt))?;
         }
     }
     Ok(())
@@ -193,7 +193,7 @@ def data_of(case):
 
 
 def is_too_long(case):
-    """Whether a case cannot be asked here, since the program does not get all of it."""
+    """Whether a case is too long for the program's input."""
     return len(data_of(case)) + 2 > MOST
 
 
@@ -231,7 +231,7 @@ def printed_here(inputs, folder):
     return RUN.split(ended.stdout.decode())[1:]
 
 
-def asked_here(cases):
+def answers_here(cases):
     """The lines that this library answers to each case, by a program that is built for it."""
     inputs = list(inputs_of(cases))
     with tempfile.TemporaryDirectory() as folder:
@@ -244,15 +244,15 @@ def asked_here(cases):
     return answers
 
 
-def asked_there(reference, case):
+def answers_there(reference, case):
     """The lines that the reference program answers to a case."""
-    with tempfile.TemporaryDirectory() as room:
-        questions, text = pathlib.Path(room, 'questions'), pathlib.Path(room, 'text')
+    with tempfile.TemporaryDirectory() as work:
+        questions, text = pathlib.Path(work, 'questions'), pathlib.Path(work, 'text')
         questions.write_text(json.dumps(case.questions))
         text.write_bytes((case.text or '').encode())
         alone = dict.fromkeys(('regular', 'equal', 'sections', 'refused', 'contents'), [])
         more = {**alone, 'url': [case.text]}.get(case.word, [str(questions)])
         if case.word in ('names', 'slices') and case.text is not None:
             more.append(str(text))
-        status, told = answer([reference, case.word, *more], json.dumps(case.record).encode())
-        return told.decode().split('\n')[:-1]
+        status, output = answer([reference, case.word, *more], json.dumps(case.record).encode())
+        return output.decode().split('\n')[:-1]

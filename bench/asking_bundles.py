@@ -1,4 +1,4 @@
-"""What is asked of the library, and of the reference program, about RAM bundles. A question is a list of a word and what
+"""Questions to the library, and to the reference program, about RAM bundles. A question is a list of a word and what
 it asks with; each answer is a line of JSON, or `panic` of the reference:
 
     modules BYTES NUMBERS   whether bytes are a bundle, and its type, how many modules it may have, its startup code, the

@@ -1,11 +1,11 @@
-"""What is asked of the library, and of the reference program, about references to maps, paths, texts of maps and
+"""Questions to the library, and to the reference program, about references to maps, paths, texts of maps and
 contents from files. A question is a list of a word and what it asks with; each answer is a line of JSON, or `panic` of
 the reference:
 
     locate BYTES            the reference in a text, by a slice and by a reader: its kind and URL, null without one, or
                             what is wrong
     view TEXT               the same by a view of the text
-    resolve URL BASE        the URL that a reference stands for, or null
+    resolve URL BASE        the URL that a reference resolves to, or null
     path URL PATH           the same of paths
     embedded URL            the kind of the map in a data URL, null for another URL, or what is wrong
     relative BASE TARGET    the way from one path to another

@@ -3,7 +3,7 @@ stated here anew, by the rules of the format, and takes nothing from the program
 of the reference's own, as compare-bundles.py names them."""
 import os, re, struct
 from composing import tokens_of_record
-from index_maps import LAST, in_order, is_index, offset_of, raised
+from index_maps import LAST, in_order, is_index, offset_of, absolute_position
 
 MAGIC = 0xFB0BD1E5
 LAST_ID = 2**64 - 1
@@ -120,7 +120,7 @@ def modules_in_turn(bundle, most):
     return found
 
 
-def shown_module(number, text):
+def module_text(number, text):
     return [number, byte_text(text)] if isinstance(text, bytes) else text
 
 
@@ -129,11 +129,11 @@ def parts_of(make, given, numbers, ways):
     bundle = make(given, ways)
     code = answered(bundle.startup)
     return [bundle.kind, bundle.count, [byte_text(code)] if isinstance(code, bytes) else code,
-            [shown_module(number, answered(bundle.module, number)) for number in numbers],
-            [shown_module(*found) for found in modules_in_turn(bundle, MOST_MODULES)]]
+            [module_text(number, answered(bundle.module, number)) for number in numbers],
+            [module_text(*found) for found in modules_in_turn(bundle, MOST_MODULES)]]
 
 
-def shown_source(root, source):
+def source_text(root, source):
     """A source as a map shows it."""
     if not root or source and (source[0] == '/' or source.startswith(('http:', 'https:'))):
         return source
@@ -153,7 +153,7 @@ class Flat:
             self.take(record)
 
     def take(self, record):
-        sources = [shown_source(record.get('sourceRoot'), source or '') for source in record.get('sources') or []]
+        sources = [source_text(record.get('sourceRoot'), source or '') for source in record.get('sources') or []]
         names = [*(record.get('names') or []), None]
         for token in tokens_of_record(record):
             source = None if token.source == LAST else sources[token.source]
@@ -169,7 +169,7 @@ class Flat:
             raise Refused(CANNOT + 'Section has an unresolved sourcemap: ' + (section.get('url') or '<unknown url>'))
         flat = Flat(section['map'], ways)
         for line, column, *rest in flat.tokens:
-            line, column = raised(offset_of(section), (line, column))
+            line, column = absolute_position(offset_of(section), (line, column))
             if max(line, column) > LAST and 'past' not in ways:
                 raise Refused(CANNOT + 'a position passes 4294967295')
             self.tokens.append((line % 2**32, column % 2**32, *rest))

@@ -5,18 +5,18 @@
 
 REFERENCE    bench/reference, which is then built, or a program over the Rust crate that knows this program's
              words, and also `stat`, `positions N SEED [wild]`, `batch FILE` and `dst FILE` (an answer for
-             each position of a file; the second with the token's place in the generated text)
+             each position of a file; the second with the token's generated position)
 MAPS         a folder with *.map files, at any depth
 --positions  positions of each map that are looked up (20): half of them beside tokens, half anywhere
 
 The programs of this repository are built where they are missing; SOURCEMAP_TOOL and SOURCEMAP_BENCH in the
-environment name others in their place. Each difference is printed with its reason, or as UNEXPLAINED, and
+environment name others instead. Each difference is printed with its reason, or as UNEXPLAINED, and
 then the status is 1. A reason is given only where what was printed bears it out:
 
 - stable sort, range bits, panic: of records, see `reason_of_record` in comparing.py
-- stable sort: of `tokens`, the same tokens at the same places, in another order among those of one place; of
-  a lookup, the same tokens at the place that was found, in another order, and the right one of those here
-- distance of columns: a range token that stands on another line than the position, where the reference adds
+- stable sort: of `tokens`, the same tokens at the same positions, those of one position in another order; of
+  a lookup, the same tokens at the position that was found, in another order, and the right one of those here
+- distance of columns: a range token that is on another line than the position, where the reference adds
   the distance of columns to the source column and nothing else differs
 - of a lookup in an index: both answer as they do in the map that the position leads to, and differ there for
   one of these two reasons
@@ -26,28 +26,28 @@ then the status is 1. A reason is given only where what was printed bears it out
   no section without a map comes before that
 - digits: this program refuses a byte, named as a character, or a number that mappings have, where the byte is
   no digit or the number has more than 63 bits; the reference takes them, or refuses what comes later
-- fault: both refuse the text as JSON, with another of its faults
+- fault: both report an error of the JSON text, but different ones
 - not there: this program does not know the word yet
 
 Positions in an index are drawn here, beside tokens of the flat map, beside starts of sections and anywhere.
 """
 import argparse, random, re, tempfile
-from comparing import (TOOL, answer, build_missing, compare_all, is_reordered, noted, placed_tokens,
+from comparing import (TOOL, answer, build_missing, compare_all, is_reordered, noted, tokens_with_positions,
                        reason_of_index, reason_of_record, reason_of_rewritten_hermes, reference_program, tokens_of,
                        without_mark)
 from hermes_maps import KEY
-from index_maps import (LAST, PAST_THE_END, bytes_of, fault_of_flattening, flat_tokens, innermost, is_index, offset_of,
+from index_maps import (LAST, PAST_THE_END, bytes_of, flattening_error, flat_tokens, innermost, is_index, offset_of,
                         pieces, record_of)
 
 WORDS = [['tokens'], ['rewrite'], ['flatten'], ['shift', '7'], ['shift', str(LAST)]]
 REFUSED_PAST_THE_END = (1, b'cannot flatten the indexed sourcemap: a position passes 4294967295\n')
-JSON_FAULT = b'bad json: '
+JSON_ERROR = b'bad json: '
 OVERFLOW = b'vlq decode caused an overflow\n'
 FOREIGN = re.compile(r'invalid base64 character: (.)\n', re.DOTALL)
 DIGIT = re.compile('[A-Za-z0-9+/]')
 TOO_GREAT = re.compile('[g-z0-9+/]{12}[I-Zg-z0-9+/]')
 ANSWER = re.compile(rb'(.*):(\d+):(\d+)((?: name=.*)?)', re.DOTALL)
-PLACE = re.compile(rb' \((\d+):(\d+)\)( \(range\))?$')
+POSITION = re.compile(rb' \((\d+):(\d+)\)( \(range\))?$')
 
 
 def is_refused_digit(data, here):
@@ -61,8 +61,8 @@ def is_refused_digit(data, here):
     return bool(TOO_GREAT.search(mappings))
 
 
-def are_json_faults(*answers):
-    return all(status == 1 and text.startswith(JSON_FAULT) for status, text in answers)
+def are_json_errors(*answers):
+    return all(status == 1 and text.startswith(JSON_ERROR) for status, text in answers)
 
 
 def reason(word, data, here, there):
@@ -72,9 +72,9 @@ def reason(word, data, here, there):
     if is_refused_digit(data, here):
         return 'digits'
     if here == REFUSED_PAST_THE_END:
-        return PAST_THE_END if fault_of_flattening(record_of(data), placed_tokens) == PAST_THE_END else None
+        return PAST_THE_END if flattening_error(record_of(data), tokens_with_positions) == PAST_THE_END else None
     if here[0] == 1 and there[0] == 1:
-        return 'fault' if are_json_faults(here, there) else None
+        return 'fault' if are_json_errors(here, there) else None
     if word == 'tokens':
         return None if here[0] or there[0] or not is_reordered(here[1], there[1]) else 'stable sort'
     if word == 'rewrite' and KEY.encode() in data and record_of(data).get(KEY) is not None:
@@ -82,66 +82,66 @@ def reason(word, data, here, there):
     return (reason_of_index if word == 'shift' else reason_of_record)(data, here, there)
 
 
-def is_moved(here, told, distance):
+def is_moved(here, theirs, distance):
     """Whether two tokens' texts differ only by the distance that the second one's source column is moved."""
-    own, other = ANSWER.fullmatch(here), ANSWER.fullmatch(told)
+    own, other = ANSWER.fullmatch(here), ANSWER.fullmatch(theirs)
     if not own or not other or (own[1], own[2], own[4]) != (other[1], other[2], other[4]):
         return False
     return int(other[3]) == min(int(own[3]) + distance, 2**32 - 1)
 
 
-def is_among_equals(reference, data, position, place, here):
-    """Whether both programs have the same tokens at a place, in another order, and the answer given here is
-    the right one of those: the first if the position is that place, else the last."""
-    own, other = ([text for stands, text in tokens_of(answer([program, 'tokens'], data)[1]) if stands == place]
+def is_among_equals(reference, data, position, found_at, here):
+    """Whether both programs have the same tokens at a position, in another order, and the answer given here is
+    the right one of those: the first if the position looked up is that one, else the last."""
+    own, other = ([text for match, text in tokens_of(answer([program, 'tokens'], data)[1]) if match == found_at]
                   for program in (TOOL, reference))
     if own == other or sorted(own) != sorted(other):
         return False
-    return here == without_mark(own[0 if place == position.replace(' ', ':').encode() else -1])
+    return here == without_mark(own[0 if found_at == position.replace(' ', ':').encode() else -1])
 
 
-def reason_within(reference, data, position, here, told):
+def reason_within(reference, data, position, here, theirs):
     """The bytes of the map that a position in an index leads to, and the position there, where both programs
     answer there as they do in the index; else None."""
     found = innermost(record_of(data), tuple(map(int, position.split())))
     if found is None:
         return None
-    inner, place = bytes_of(found[0]), '%d %d' % found[1]
-    answers = [answer([program, 'lookup', *place.split()], inner) for program in (TOOL, reference)]
-    return (inner, place) if answers == [here, (0, told + b'\n')] else None
+    inner, found_at = bytes_of(found[0]), '%d %d' % found[1]
+    answers = [answer([program, 'lookup', *found_at.split()], inner) for program in (TOOL, reference)]
+    return (inner, found_at) if answers == [here, (0, theirs + b'\n')] else None
 
 
-def reason_of_lookup(reference, data, position, here, told, placed):
-    """Why two answers to a lookup differ. `placed` is the reference's with the token's place in its map, as
+def reason_of_lookup(reference, data, position, here, theirs, with_position):
+    """Why two answers to a lookup differ. `with_position` is the reference's with the token's position in its map, as
     `a.js:0:7 (0:0) (range)`; both are its refusal where it refuses."""
     if is_refused_digit(data, here):
         return 'digits'
-    if are_json_faults(here, (1, told)):
+    if are_json_errors(here, (1, theirs)):
         return 'fault'
-    stands = PLACE.search(placed)
-    if here[0] or not stands:
+    match = POSITION.search(with_position)
+    if here[0] or not match:
         return None
     if is_index(record_of(data)):
-        inner = reason_within(reference, data, position, here, told)
-        return inner and reason_of_lookup(reference, *inner, here, told, placed)
+        inner = reason_within(reference, data, position, here, theirs)
+        return inner and reason_of_lookup(reference, *inner, here, theirs, with_position)
     text, (line, column) = here[1][:-1], map(int, position.split())
-    if stands[3] and int(stands[1]) != line and is_moved(text, told, (column - int(stands[2])) % 2**32):
+    if match[3] and int(match[1]) != line and is_moved(text, theirs, (column - int(match[2])) % 2**32):
         return 'distance of columns'
-    place = stands[1] + b':' + stands[2]
-    return 'stable sort' if is_among_equals(reference, data, position, place, text) else None
+    found_at = match[1] + b':' + match[2]
+    return 'stable sort' if is_among_equals(reference, data, position, found_at, text) else None
 
 
 def positions_in_index(record, count):
     """Positions in an index: beside tokens of the flat map, beside starts of sections, and anywhere."""
     draws = random.Random(count)
-    places = [place for place, _ in flat_tokens(record, placed_tokens)] + [(0, 0)]
+    starting = [found_at for found_at, _ in flat_tokens(record, tokens_with_positions)] + [(0, 0)]
     starts = list(map(offset_of, record['sections'])) + [(0, 0)]
-    last = max(places)[0]
+    last = max(starting)[0]
 
     def drawn(number):
         if number % 4 == 3:
             return draws.randrange(last + 3), draws.randrange(1 << draws.randrange(33))
-        line, column = draws.choice(starts if number % 4 == 2 else places)
+        line, column = draws.choice(starts if number % 4 == 2 else starting)
         return line + (draws.randrange(-1, 2) if number % 4 == 2 else 0), column + draws.randrange(-2, 4)
 
     bounded = ([max(0, min(LAST, part)) for part in drawn(number)] for number in range(count))
@@ -164,12 +164,12 @@ def compare_lookups(reference, count, name, data):
     with tempfile.NamedTemporaryFile() as file:
         file.write(positions)
         file.flush()
-        (status, text), (_, places) = (answer([reference, word, file.name], data) for word in ('batch', 'dst'))
+        (status, text), (_, starting) = (answer([reference, word, file.name], data) for word in ('batch', 'dst'))
     for i, position in enumerate(positions.decode().splitlines()):
         here = answer([TOOL, 'lookup', *position.split()], data)
-        told, placed = (text if status else both.split(b'\n')[i] for both in (text, places))
-        yield noted(f'{name}, lookup {position}', here, (status, text if status else told + b'\n'),
-                    lambda: reason_of_lookup(reference, data, position, here, told, placed))
+        theirs, with_position = (text if status else both.split(b'\n')[i] for both in (text, starting))
+        yield noted(f'{name}, lookup {position}', here, (status, text if status else theirs + b'\n'),
+                    lambda: reason_of_lookup(reference, data, position, here, theirs, with_position))
 
 
 def compare_words(reference, words, name, data):

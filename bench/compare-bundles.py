@@ -22,7 +22,7 @@ excuses an answer that is not that of the rules. The ways of the reference are
 - scroll: a range that passes the bytes is refused in words of the library `scroll`
 - first: the first token of a module is dropped
 - column: a module ends at the first token, on any line, past the width of its last line
-- line: the line behind its last one wraps
+- line: the line after its last one wraps
 - flags: no token of a module is a range token
 - past: positions of the flat map wrap
 - sign: a file's name may begin with a plus sign
@@ -50,12 +50,12 @@ NAMES = ['0.js', '1.js', '2.js', '5.js', '007.js', '01.js', '00.js', '+1.js', '-
 
 def bundle_bytes(draws, texts):
     """The bytes of a bundle of these modules, with a table that may lie."""
-    startup, table, place = draws.choice(STARTUPS), [], 0
+    startup, table, start = draws.choice(STARTUPS), [], 0
     body = startup + b''.join(text + b'\0' for text in texts)
     is_lying = draws.randrange(3) == 0
     for text in texts:
-        table.append(lying_entry(draws, body) if is_lying and draws.randrange(3) == 0 else (len(startup) + place, len(text) + 1))
-        place += len(text) + 1
+        table.append(lying_entry(draws, body) if is_lying and draws.randrange(3) == 0 else (len(startup) + start, len(text) + 1))
+        start += len(text) + 1
     count, size = len(texts), len(startup)
     if is_lying and draws.randrange(6) == 0:
         count = draws.choice([count + 1, max(count - 1, 0), 2**32 - 1])
@@ -67,9 +67,9 @@ def bundle_bytes(draws, texts):
 
 def lying_entry(draws, body):
     """An offset and a length that are not those of a module."""
-    place = draws.randrange(len(body) + 2)
-    return draws.choice([(0, 0), (0, 0), (place, 0), (place, draws.randrange(len(body) + 3)), (len(body), 1), (len(body) - 1, 1), (2**32 - 1, 2),
-                         (place, 2**32 - 1), (2**32 - 1, 2**32 - 1), (0, 1)])
+    start = draws.randrange(len(body) + 2)
+    return draws.choice([(0, 0), (0, 0), (start, 0), (start, draws.randrange(len(body) + 3)), (len(body), 1), (len(body) - 1, 1), (2**32 - 1, 2),
+                         (start, 2**32 - 1), (2**32 - 1, 2**32 - 1), (0, 1)])
 
 
 def height(text):
@@ -94,11 +94,11 @@ def drawn_offsets(draws, texts, first):
 def drawn_map(draws, count):
     """A regular map of so many tokens on up to seven lines, with sources and names of its own and shared ones."""
     sources, names = draws.sample(SOURCES, draws.randrange(1, 4)), draws.sample(['n', 'm', 'o', ''], draws.randrange(3))
-    places = sorted((draws.randrange(7), draws.randrange(9)) for _ in range(count))
+    offsets = sorted((draws.randrange(7), draws.randrange(9)) for _ in range(count))
     if draws.randrange(2):
-        places = sorted({(line, column) for line, column in [*places, *((line, 0) for line in range(6))]})[:count + 4]
+        offsets = sorted({(line, column) for line, column in [*offsets, *((line, 0) for line in range(6))]})[:count + 4]
     is_ranged, tokens = draws.randrange(3) == 0, []
-    for line, column in places:
+    for line, column in offsets:
         source = (draws.randrange(9), draws.randrange(9), draws.randrange(len(sources))) if draws.randrange(8) else (LAST, LAST, LAST)
         name = draws.randrange(len(names)) if names and source[2] != LAST and draws.randrange(2) else LAST
         tokens.append(Token(line, column, *source, name, is_ranged and draws.randrange(2) == 0))

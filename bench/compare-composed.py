@@ -9,15 +9,15 @@ PAIRS      a folder with pairs of regular maps, NAME.original.map and NAME.adjus
            bench/make-pairs.py makes them, or of a tool's own
 
 The program of this repository is built where it is missing; SOURCEMAP_TOOL in the environment names another in
-its place. What this program answers has to be what the rules say, whatever the reference answers. Where the two
-programs differ, the reason is told; without one the pair is told as UNEXPLAINED, and then the status is 1:
+instead. This program's answer has to be what the rules say, whatever the reference answers. If the two
+programs differ, the reason is printed; without one the pair is UNEXPLAINED, and then the status is 1:
 
 - past the line: by the rules a token would pass column 4294967295, so this program refuses; the reference goes
   on at the line's start
 - cut range: the reference has the tokens of the rules, but for range tokens that are cut, which lead there to
   where they did whole
 - stable sort: the reference has the tokens of the rules for another order of those tokens of the adjustment
-  that come from one place, of which the last one counts; here they stay as they stood
+  that have one original position, of which the last one counts; here their order is unchanged
 - range bits: the tokens differ in which of them are range tokens, and in nothing else
 - panic: the reference panicked, and there are range tokens
 """
@@ -62,18 +62,18 @@ class Pair:
         own, other = json.loads(here[1]), json.loads(there[1])
         if parts_of(own) != parts_of(other):
             return None
-        told = without_marks(tokens_of_record(other))
-        if told == without_marks(self.due):
+        theirs = without_marks(tokens_of_record(other))
+        if theirs == without_marks(self.due):
             return 'range bits' if is_ranged else None
         whole = composed(self.original, self.adjustment, takes_cut=False)
-        if told == without_marks(whole):
+        if theirs == without_marks(whole):
             return 'cut range' if is_ranged else None
-        return 'stable sort' if not is_ranged and self.is_reordered(told) else None
+        return 'stable sort' if not is_ranged and self.is_reordered(theirs) else None
 
-    def is_reordered(self, told):
+    def is_reordered(self, theirs):
         """Whether tokens without range tokens are what the rules say for another order of the adjustment's."""
-        due = composed(self.original, with_others_last(self.original, self.adjustment, told))
-        return due is not None and set(told) == set(due)
+        due = composed(self.original, with_others_last(self.original, self.adjustment, theirs))
+        return due is not None and set(theirs) == set(due)
 
 
 def compare_pair(reference, path, name, data):

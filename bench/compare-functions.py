@@ -6,10 +6,10 @@ walks.py and hermes_maps.py state them.
 
 REFERENCE    bench/reference, which is then built, or a program over the Rust crate that knows `names QUESTIONS
              [TEXT]` and `slices QUESTIONS TEXT` (an answer, as JSON, for each list in a file of questions)
-MAPS         a folder with maps, at any depth. Where a.js stands beside a.js.map, or beside a.map, it is the generated
-             text: its lines and slices are asked for, and names of functions in it, of the map and, unless that is an
-             index already or has more than 1 MB, of an index in which it stands twice. In a map with function maps
-             names are asked for by columns of line 0
+MAPS         a folder with maps, at any depth. A file a.js beside a.js.map, or beside a.map, is the generated
+             text: its lines and slices are read, and names of functions in it, of the map and, unless that is an
+             index already or has more than 1 MB, of an index that holds it twice. In a map with function maps
+             names are looked up by columns of line 0
 --questions  of each kind and map (120)
 
 Neither program of this repository has words for this, so a small one is built that has (asking.py); nothing of it
@@ -23,14 +23,14 @@ no map has a text or functions. No reason excuses an answer that is not that of 
 - token twice: the reference's walk comes to its first token twice, since that token's index is one too high where it
   stands before the position
 - pairs: the text has characters of two UTF-16 units, where the reference counts on from the middle of one
-- no order: functions of a source stand in no order, so that any name of one of them, or none, is right
+- no order: functions of a source are unsorted, so that any name of one of them, or none, is right
 """
 import argparse, collections, json, pathlib, random, re, sys
-from asking import Case, asked_here, asked_there, is_too_long
+from asking import Case, answers_here, answers_there, is_too_long
 from comparing import noted, reference_program, report, text_beside
 from composing import tokens_of_record
 from hermes_maps import KEY, closest, function_name, is_in_order
-from index_maps import LAST, is_index, offset_of, raised, record_of, resolved
+from index_maps import LAST, is_index, offset_of, absolute_position, record_of, resolved
 from walks import Guesses, identifier_at, lines_of, slice_of
 
 WORD = re.compile(r'[A-Za-z_$][A-Za-z0-9_$]*')
@@ -42,11 +42,11 @@ OPEN = object()
 
 
 def names_to_ask(lines, tokens, words, draws):
-    """The name to ask for at the last of these tokens: most often one that stands at a token of the walk, and then
-    half of the time one behind `function`, where there is one."""
-    behind = [token for last, token in zip(tokens, tokens[1:]) if identifier_at(lines, last) == 'function']
-    stands = identifier_at(lines, draws.choice(behind if behind and draws.randrange(2) else tokens))
-    return stands if stands and draws.randrange(8) else draws.choice(words)
+    """The name to look up at the last of these tokens: mostly one at a token of the walk, and half of those after
+    `function`, if there is one."""
+    after_function = [token for last, token in zip(tokens, tokens[1:]) if identifier_at(lines, last) == 'function']
+    identifier = identifier_at(lines, draws.choice(after_function if after_function and draws.randrange(2) else tokens))
+    return identifier if identifier and draws.randrange(8) else draws.choice(words)
 
 
 def named_positions(record, text, draws, count):
@@ -61,14 +61,14 @@ def named_positions(record, text, draws, count):
 
 
 def positions_of(record, text, draws, count):
-    """The same for a map of any kind: for an index those of its sections' maps, where these stand in the whole."""
+    """The same for a map of any kind: for an index those of its sections' maps, as positions of the whole."""
     if not is_index(record):
         yield from named_positions(record, text, draws, count)
         return
     sections = resolved(record)
     for section in sections:
-        for *place, name in positions_of(section['map'], text, draws, -(-count // len(sections))):
-            yield [*(min(LAST, part) for part in raised(offset_of(section), place)), name]
+        for *position, name in positions_of(section['map'], text, draws, -(-count // len(sections))):
+            yield [*(min(LAST, part) for part in absolute_position(offset_of(section), position)), name]
 
 
 def slices_of(text, draws, count):
@@ -80,7 +80,7 @@ def slices_of(text, draws, count):
 
 
 def in_an_index(record):
-    """An index in which a map stands from the start on, and once more from its middle token on."""
+    """An index with a map as a section at the start, and again as a section at its middle token."""
     tokens = tokens_of_record(record)
     line, column = tokens[len(tokens) // 2][:2] if tokens else (1, 0)
     return {'version': 3, 'sections': [{'offset': {'line': 0, 'column': 0}, 'map': record},
@@ -175,15 +175,15 @@ def notes_of(case, here, there):
     rules = rules_of(case)
     for question, own, other in zip([*case.questions, COUNT], here, there):
         what, due = f'{case.name}, {question}', rules.due(question)
-        told = own if due is OPEN else json.dumps(due, ensure_ascii=False)
+        expected = own if due is OPEN else json.dumps(due, ensure_ascii=False)
 
         def reason():
-            if own != told:
+            if own != expected:
                 return None
             return 'panic' if other == 'panic' and due is not OPEN else rules.reason(question, other)
 
         if due is not OPEN:
-            yield noted(f'{what}, by the rules', (0, own.encode()), (0, told.encode()), lambda: None)
+            yield noted(f'{what}, by the rules', (0, own.encode()), (0, expected.encode()), lambda: None)
         yield noted(what, (0, own.encode()), (0, other.encode()), reason)
 
 
@@ -201,8 +201,8 @@ def main():
     if not cases:
         sys.exit(f'{given.maps}: no map has its text beside it, or functions')
     counts, asked = collections.Counter(), collections.Counter()
-    for case, here in zip(cases, asked_here(cases)):
-        there = asked_there(reference, case)
+    for case, here in zip(cases, answers_here(cases)):
+        there = answers_there(reference, case)
         if len(there) != case.lines:
             sys.exit(f'{case.name}: the reference answers {there[:3]}')
         asked['slices' if case.word == 'slices' else 'names of functions' if case.text is None else 'names in texts'] += case.lines

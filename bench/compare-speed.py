@@ -25,7 +25,7 @@ MAP             maps to take, as files, index maps too; without any, those that 
 --instructions  counts instructions with valgrind too, which is slow
 
 The programs of this repository are built where they are missing. SOURCEMAP_TOOL, SOURCEMAP_BENCH and, for views and
-bundles, SOURCEMAP_BENCH_VIEWS and SOURCEMAP_BENCH_BUNDLES in the environment name others in their place.
+bundles, SOURCEMAP_BENCH_VIEWS and SOURCEMAP_BENCH_BUNDLES in the environment name others instead.
 
 An operation's time is that of a process that repeats it often, less that of one that does it once, by the
 number of repetitions between: so process start, the reading of the map, its first decoding and the drawing
@@ -34,7 +34,7 @@ counts, in processor time (user and system). Memory is the most that a process h
 
 The reference is taken at its strongest: its time is that of `slice`, which reads all input before it decodes
 it, and its memory is that of `stream`, which holds no more of the input than it decodes at a time. A checksum
-that the two programs do not share is told on standard error, and the status is then 1. Rows are told there too
+that the two programs do not share is printed on standard error, and the status is then 1. Rows are printed there too
 as they come; a cell has the ratio and, in brackets, the figure here.
 """
 import argparse, json, os, pathlib, shutil, subprocess, sys, tempfile
@@ -86,10 +86,10 @@ def run(command, path):
 
 def peak(command, path):
     """The most memory of a run, in MB."""
-    with open(path, 'rb') as source, tempfile.NamedTemporaryFile('r') as told:
-        subprocess.run(['/usr/bin/time', '-o', told.name, '-f', '%M', *command], stdin=source,
+    with open(path, 'rb') as source, tempfile.NamedTemporaryFile('r') as result:
+        subprocess.run(['/usr/bin/time', '-o', result.name, '-f', '%M', *command], stdin=source,
                        stdout=subprocess.DEVNULL, check=True)
-        return int(told.read().split()[-1]) / 1024
+        return int(result.read().split()[-1]) / 1024
 
 
 def instructions(command, path):
@@ -97,9 +97,9 @@ def instructions(command, path):
     if not shutil.which('valgrind'):
         return None
     with open(path, 'rb') as source, tempfile.NamedTemporaryFile() as log:
-        told = subprocess.run(['valgrind', '--tool=callgrind', f'--callgrind-out-file={log.name}', *command],
+        result = subprocess.run(['valgrind', '--tool=callgrind', f'--callgrind-out-file={log.name}', *command],
                               stdin=source, stdout=subprocess.DEVNULL, stderr=subprocess.PIPE, text=True)
-    return int(told.stderr.split('Collected :')[1].split()[0]) / 1e6
+    return int(result.stderr.split('Collected :')[1].split()[0]) / 1e6
 
 
 def repetitions(path, operation):
@@ -135,11 +135,11 @@ class Pair:
         for _ in range(rounds):
             for name, command in self.commands.items():
                 for n in (1, 1 + more):
-                    told = run(command(operation, n), path)
-                    if told is None:
+                    result = run(command(operation, n), path)
+                    if result is None:
                         return None
-                    least[name, n] = min(least.get((name, n), told[0]), told[0])
-                    sums.add((n, told[1]))
+                    least[name, n] = min(least.get((name, n), result[0]), result[0])
+                    sums.add((n, result[1]))
         self.compare_sums(path, operation, {text for n, text in sums if n > 1})
         return tuple((least[name, 1 + more] - least[name, 1]) / more for name in self.commands)
 
@@ -153,10 +153,10 @@ class Pair:
         least = [9e9, 9e9]
         for _ in range(rounds):
             for i, command in enumerate(([TOOL, *words], [self.reference, 'slice', *words])):
-                told = run(command, path)
-                if told is None:
+                result = run(command, path)
+                if result is None:
                     return None
-                least[i] = min(least[i], told[0])
+                least[i] = min(least[i], result[0])
         return tuple(least)
 
     def memory(self, path, words):
@@ -179,10 +179,10 @@ def made_map(words, folder, name):
     return path
 
 
-def shown(figure):
+def rounded(figure):
     """A figure with three digits that count, or more before the point."""
-    places = next((n for n, least in enumerate((100, 10, 1, 0.1)) if figure >= least), 4)
-    return f'{figure:.{places}f}'
+    decimals = next((n for n, least in enumerate((100, 10, 1, 0.1)) if figure >= least), 4)
+    return f'{figure:.{decimals}f}'
 
 
 def cell(pair, unit, scale):
@@ -190,7 +190,7 @@ def cell(pair, unit, scale):
     if pair is None:
         return 'not there'
     here, there = pair
-    return f'{here / there:.2f} ({shown(here * scale)} {unit})'
+    return f'{here / there:.2f} ({rounded(here * scale)} {unit})'
 
 
 class Table:
@@ -334,7 +334,7 @@ def growth_row(title, programs, figures):
         return
     for i, name in enumerate(programs.commands):
         growth = ' | '.join(f'{f[i] / figures[0][i]:.2f}' for f in figures[1:])
-        print(f'| {title} | {name} | {shown(figures[0][i] * 1e3)} ms | {growth} |', flush=True)
+        print(f'| {title} | {name} | {rounded(figures[0][i] * 1e3)} ms | {growth} |', flush=True)
 
 
 def growth_table(programs, smallest, rounds):
@@ -350,7 +350,7 @@ def growth_table(programs, smallest, rounds):
         figures = [programs.memory(path, RUNS[0]) for path in paths]
         for i, name in enumerate(programs.commands):
             growth = ' | '.join(f'{f[i] / figures[0][i]:.2f}' for f in figures[1:])
-            print(f'| most memory | {name} | {shown(figures[0][i])} MB | {growth} |', flush=True)
+            print(f'| most memory | {name} | {rounded(figures[0][i])} MB | {growth} |', flush=True)
 
 
 def main():

@@ -9,13 +9,13 @@ REFERENCE    bench/reference, which is then built, or a program over the Rust cr
 MAPS         a folder with *.map files, at any depth
 
 The programs of this repository are built where they are missing; SOURCEMAP_TOOL and SOURCEMAP_BENCH in the
-environment name others in their place. Each map that the reference calls regular is written by
+environment name others instead. Each map that the reference calls regular is written by
 `sourcemap_bench write`. The reference's `tokens` of that text must be its `tokens` of the map, and its own
 record of the map must be that text. Each difference is printed with its reason, or as UNEXPLAINED, and then
 the status is 1. A reason is given only where what was printed bears it out. Of tokens:
 
 - repeats: the same tokens, but that those which repeat the one before are left out
-- stable sort: the reference reads the map's own tokens in another order among those of one place, and the
+- stable sort: the reference reads the map's own tokens in another order among those of one position, and the
   text as the tokens in the order in which they are read here
 - range bits: the same tokens but for which of them are range tokens, and read here they are the same
 

@@ -11,7 +11,7 @@ BENCH_BUNDLES = os.environ.get('SOURCEMAP_BENCH_BUNDLES', str(CRATES / 'sourcema
 BENCH_VIEWS = os.environ.get('SOURCEMAP_BENCH_VIEWS', str(CRATES / 'sourcemap_bench_views/out/sourcemap_bench_views'))
 MAPS_AT_ONCE = 3
 MARK = b' range'
-# a token's place and text, in which a line may end
+# a token's position and text, in which a line may end
 TOKEN = re.compile(rb'(\d+):(\d+) (.*?)\n(?=\d+:\d+ |\Z)', re.DOTALL)
 PANICKED = 101
 
@@ -26,8 +26,8 @@ def text_beside(path):
 
 def answer(command, data):
     """The status of a program that is given these bytes, and what it prints."""
-    told = subprocess.run(command, input=data, stdout=subprocess.PIPE, stderr=subprocess.DEVNULL)
-    return told.returncode, told.stdout
+    output = subprocess.run(command, input=data, stdout=subprocess.PIPE, stderr=subprocess.DEVNULL)
+    return output.returncode, output.stdout
 
 
 def build_missing(programs=(TOOL, BENCH)):
@@ -57,8 +57,8 @@ def kind_of(reference, data):
 
 
 def tokens_of(text):
-    """The place and the text of each token in what `tokens` said; of a refusal, that alone."""
-    return [(b'%b:%b' % told[:2], told[2]) for told in TOKEN.findall(text)] or [(b'', text)]
+    """The position and the text of each token in the output of `tokens`; of an error, its text."""
+    return [(b'%b:%b' % output[:2], output[2]) for output in TOKEN.findall(text)] or [(b'', text)]
 
 
 def without_repeats(text):
@@ -66,32 +66,32 @@ def without_repeats(text):
     return [token for i, token in enumerate(tokens) if i == 0 or tokens[i - 1] != token]
 
 
-def without_mark(told):
-    return told[:-len(MARK)] if told.endswith(MARK) else told
+def without_mark(output):
+    return output[:-len(MARK)] if output.endswith(MARK) else output
 
 
 def without_marks(text):
-    return [(place, without_mark(told)) for place, told in without_repeats(text)]
+    return [(position, without_mark(output)) for position, output in without_repeats(text)]
 
 
 def is_reordered(here, there):
-    """Whether two texts have the same tokens at the same places, in another order among those of one place."""
+    """Whether two texts have the same tokens at the same positions, those of one position in another order."""
     here, there = tokens_of(here), tokens_of(there)
-    return [place for place, _ in here] == [place for place, _ in there] and sorted(here) == sorted(there)
+    return [position for position, _ in here] == [position for position, _ in there] and sorted(here) == sorted(there)
 
 
-def placed_tokens(record):
-    """The places and the texts of the tokens of a map, of an index those of the flat map."""
-    told = TOKEN.findall(answer([TOOL, 'tokens'], bytes_of(record))[1])
-    return [((int(line), int(column)), text) for line, column, text in told]
+def tokens_with_positions(record):
+    """The positions and the texts of the tokens of a map, of an index those of the flattened map."""
+    output = TOKEN.findall(answer([TOOL, 'tokens'], bytes_of(record))[1])
+    return [((int(line), int(column)), text) for line, column, text in output]
 
 
 def tokens_here(data):
     """What `tokens` of this program says of a map; of an index, what it has to say of the flat map, by what it
     says of the maps of its sections."""
     if b'"sections"' in data and is_index(record := record_of(data)):
-        tokens = flat_tokens(record, placed_tokens)
-        return b''.join(b'%d:%d %b\n' % (*place, text) for place, text in tokens)
+        tokens = flat_tokens(record, tokens_with_positions)
+        return b''.join(b'%d:%d %b\n' % (*position, text) for position, text in tokens)
     return answer([TOOL, 'tokens'], data)[1]
 
 
@@ -116,7 +116,7 @@ def reason_of_record(data, here, there):
       tokens of the map, less those that repeat the one before
     - panic: the reference panicked, what is written here has range bits, and it reads back as above
     - stable sort: the same sources with the same contents and the same names, in whatever order; the same tokens
-      at the same places, in another order among those of one place, so that not the same ones repeat the one
+      at the same positions, those of one position in another order, so that not the same ones repeat the one
       before; and what is written here reads back as above
     - stable sort, range bits: the same where there are range bits, but for which of them are range tokens
     """
@@ -137,11 +137,11 @@ def reason_of_record(data, here, there):
     return 'stable sort, range bits' if ranges else 'stable sort'
 
 
-def without_scopes(told):
+def without_scopes(output):
     """An answer that is a record, without the scopes of its sources, and these."""
-    record = json.loads(told[1])
+    record = json.loads(output[1])
     scopes = record.pop(KEY, None)
-    return (told[0], bytes_of(record)), scopes
+    return (output[0], bytes_of(record)), scopes
 
 
 def reason_of_rewritten_hermes(data, here, there):

@@ -1,17 +1,17 @@
-"""What compare-references.py, compare-loading.py and compare-bundles.py share: questions that are asked of the library,
+"""What compare-references.py, compare-loading.py and compare-bundles.py share: questions to the library,
 of the reference program and of the rules, and reasons for differences, each of which has to lead to the reference's
 answer."""
 import collections, itertools, json, pathlib, sys, tempfile
-from asking import Case, asked_here
+from asking import Case, answers_here
 from comparing import answer, noted, report
 
-MOST_SHOWN = 10
+MOST_PRINTED = 10
 # what is due where the rules leave it open
 OPEN = object()
 
 
 def answered_there(reference, questions, word):
-    """The answer of the reference program to each question, which it is asked by a word."""
+    """The answer of the reference program to each question of a command."""
     with tempfile.TemporaryDirectory() as folder:
         file = pathlib.Path(folder, 'questions')
         file.write_text(json.dumps(questions))
@@ -54,12 +54,12 @@ def compare_answers(reference, questions, due, ways_of, word='references'):
     """Asks all questions, prints unexplained differences, the first of each reason and all counts, and ends the run.
     `due` says what is due for a question if the reference goes some ways, and `ways_of` which it may go."""
     there = answered_there(reference, questions, word)
-    here = asked_here([Case(question[0], word, None, None, [question], 1) for question in questions])
+    here = answers_here([Case(question[0], word, None, None, [question], 1) for question in questions])
     counts, asked = collections.Counter(), collections.Counter(question[0] for question in questions)
     for question, (own,), other in zip(questions, here, there):
         for note in notes_of(question, own, other, due, ways_of(question)):
             counts[note.why] += 1
-            if note.why == 'UNEXPLAINED' or counts[note.why] <= MOST_SHOWN:
+            if note.why == 'UNEXPLAINED' or counts[note.why] <= MOST_PRINTED:
                 report(note)
     same, unexplained = counts.pop('same', 0), counts.pop('UNEXPLAINED', 0)
     meant = '; '.join(f'{n} {why}' for why, n in sorted(counts.items())) or 'none meant to differ'

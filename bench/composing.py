@@ -5,7 +5,7 @@ from index_maps import LAST
 
 DIGITS = 'ABCDEFGHIJKLMNOPQRSTUVWXYZabcdefghijklmnopqrstuvwxyz0123456789+/'
 
-# where a token stands, where it leads, by which ids, and whether it is a range token; LAST where it has none
+# a token's generated and original position, its ids, and whether it is a range token; LAST for a missing id
 Token = collections.namedtuple('Token', 'line column source_line source_column source name is_range')
 Stretch = collections.namedtuple('Stretch', 'token start end')
 
@@ -28,19 +28,19 @@ def digits_of(number):
     return text + DIGITS[raw]
 
 
-def is_marked(bits, place):
-    """Whether the bits of a line mark the segment of this place, empty ones counted."""
-    return place // 6 < len(bits) and bool(DIGITS.index(bits[place // 6]) >> place % 6 & 1)
+def is_marked(bits, at):
+    """Whether the bits of a line mark the segment of this index, empty ones counted."""
+    return at // 6 < len(bits) and bool(DIGITS.index(bits[at // 6]) >> at % 6 & 1)
 
 
 def tokens_of_record(record):
-    """The tokens of a regular map that has no faults, in its order."""
+    """The tokens of a valid regular map, in its order."""
     lines = (record.get('mappings') or '').split(';')
     marks = (record.get('rangeMappings') or '').split(';')
     tokens, there = [], [0, 0, 0, 0]
     for line, (text, bits) in enumerate(itertools.zip_longest(lines, marks[:len(lines)], fillvalue='')):
         column = 0
-        for place, segment in enumerate(text.split(',')):
+        for at, segment in enumerate(text.split(',')):
             if not segment:
                 continue
             first, *rest = numbers_of(segment)
@@ -48,15 +48,15 @@ def tokens_of_record(record):
             there = [(part + step) % 2**32 for part, step in itertools.zip_longest(there, rest, fillvalue=0)]
             source, source_line, source_column, name = there if rest else [LAST] * 4
             tokens.append(Token(line, column, source_line, source_column, source,
-                                name if len(rest) == 4 else LAST, is_marked(bits, place)))
+                                name if len(rest) == 4 else LAST, is_marked(bits, at)))
     return sorted(tokens, key=lambda token: token[:2])
 
 
-def stretches(tokens, place):
-    """The tokens in the order of a place, and what each covers: up to the next one, or to the end of its line."""
-    ordered = sorted(tokens, key=place)
-    ends = [place(token) for token in ordered[1:]] + [(2**33, 0)]
-    return [Stretch(token, place(token), min(end, (place(token)[0], LAST))) for token, end in zip(ordered, ends)]
+def stretches(tokens, at):
+    """The tokens sorted by one of their positions, and what each covers: up to the next one, or to the end of its line."""
+    ordered = sorted(tokens, key=at)
+    ends = [at(token) for token in ordered[1:]] + [(2**33, 0)]
+    return [Stretch(token, at(token), min(end, (at(token)[0], LAST))) for token, end in zip(ordered, ends)]
 
 
 def pair_token(adjustment, original, takes_cut):
@@ -97,15 +97,15 @@ def composed(original, adjustment, takes_cut=True):
     return sorted(tokens, key=lambda token: token[:2])
 
 
-def with_others_last(original, adjustment, told):
-    """The tokens of an adjustment in an order in which, of those that come from one place, one stands last of which
-    all tokens are told, where there is one. The last one covers what follows that place, the others nothing."""
-    originals, told, ordered = Originals(original), set(told), []
+def with_others_last(original, adjustment, theirs):
+    """The tokens of an adjustment, ordered so that of those with one original position the last is one all of whose
+    moved tokens are in `theirs`, if there is one. The last one covers what follows that position, the others nothing."""
+    originals, theirs, ordered = Originals(original), set(theirs), []
     for _, group in itertools.groupby(stretches(adjustment, source_of), key=lambda stretch: stretch.start):
         group = list(group)
         end = group[-1].end
         fits = [stretch.token for stretch in reversed(group)
-                if told.issuperset(originals.pairs(stretch._replace(end=end), False))]
+                if theirs.issuperset(originals.pairs(stretch._replace(end=end), False))]
         tokens = [stretch.token for stretch in group]
         if fits:
             tokens.remove(fits[0])
@@ -120,20 +120,20 @@ def without_repeats(tokens):
 
 
 def written(tokens):
-    """The mappings and the range mappings of tokens that stand in any order within their lines."""
+    """The mappings and the range mappings of tokens in any order within their lines."""
     lines, marks, there, by_line = [], [], [0, 0, 0, 0], collections.defaultdict(list)
     for token in tokens:
         by_line[token.line].append(token)
     for line in range(max(by_line, default=0) + 1):
         segments, bits, column = [], [0] * (len(by_line[line]) // 6 + 1), 0
-        for place, token in enumerate(by_line[line]):
+        for at, token in enumerate(by_line[line]):
             segment, column = digits_of(token.column - column), token.column
             if token.source != LAST:
                 here = [token.source, token.source_line, token.source_column] + [token.name] * (token.name != LAST)
                 segment += ''.join(digits_of(part - old) for part, old in zip(here, there))
                 there = here + there[len(here):]
             segments.append(segment)
-            bits[place // 6] |= token.is_range << place % 6
+            bits[at // 6] |= token.is_range << at % 6
         lines.append(','.join(segments))
         marks.append(''.join(DIGITS[six] for six in bits).rstrip('A'))
     return ';'.join(lines), ';'.join(marks).rstrip(';')

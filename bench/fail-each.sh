@@ -8,7 +8,7 @@
 # crate's `out`, or with --build proves and builds those that are missing first. CRATE is a crate with
 # tests, or `sourcemap_tool` for the program; none are all of them. `failing.py` says how a run may end.
 # Each call of a test fails in turn, unless that took more than N milliseconds (2000) for one way to fail; of a
-# longer test some calls do, spread over all, and how many were left out is told.
+# longer test some calls do, spread over all, and the number of the others is printed.
 #
 # Its last line is `N passed, M failed`, of runs, and the status is 1 if M is not 0.
 #

@@ -2,8 +2,8 @@
  * turn. The program is started once; before its own start it is forked for each call that is to fail.
  *
  *   FAILING_CALL     allocation, read or write
- *   FAILING_HOW      fails: this call alone. onward: this call and all behind it.
- *                    interrupted: this call alone. ends: this call and all behind it move nothing.
+ *   FAILING_HOW      fails: this call alone. onward: this call and all after it.
+ *                    interrupted: this call alone. ends: this call and all after it move nothing.
  *                    each_interrupted: every second call, in one run. nothing: none, in one run.
  *   FAILING_SHORT    if it is set, each read or write moves one byte at most
  *   FAILING_INPUT    the file that is the standard input of each run
@@ -13,7 +13,7 @@
  *
  * Prints a line with the count of calls that a run has where nothing fails, and then for each way in
  * which runs ended the status (128 and the signal's number, where one ended it), what stood on standard
- * output and on standard error, as hexadecimal digits behind an `x`, and which calls failed in these
+ * output and on standard error, as hexadecimal digits after an `x`, and which calls failed in these
  * runs, with 0 for the run in which none did.
  */
 #define _GNU_SOURCE
@@ -89,9 +89,9 @@ void *realloc(void *old, size_t size) {
     return is_failing(ALLOCATION) ? none() : next_realloc(old, size);
 }
 
-int posix_memalign(void **place, size_t alignment, size_t size) {
+int posix_memalign(void **memory, size_t alignment, size_t size) {
     look_up();
-    return is_failing(ALLOCATION) ? ENOMEM : next_memalign(place, alignment, size);
+    return is_failing(ALLOCATION) ? ENOMEM : next_memalign(memory, alignment, size);
 }
 
 void *aligned_alloc(size_t alignment, size_t size) {
@@ -116,9 +116,9 @@ ssize_t read(int file, void *to, size_t size) {
     return most <= 0 && size > 0 ? most : syscall(SYS_read, file, to, most);
 }
 
-ssize_t pread(int file, void *to, size_t size, off_t place) {
+ssize_t pread(int file, void *to, size_t size, off_t offset) {
     ssize_t most = size == 0 ? 0 : allowed(READ, size);
-    return most <= 0 && size > 0 ? most : syscall(SYS_pread64, file, to, most, place);
+    return most <= 0 && size > 0 ? most : syscall(SYS_pread64, file, to, most, offset);
 }
 
 ssize_t write(int file, const void *from, size_t size) {
@@ -127,7 +127,7 @@ ssize_t write(int file, const void *from, size_t size) {
 }
 
 ssize_t __read(int file, void *to, size_t size) __attribute__((alias("read")));
-ssize_t pread64(int file, void *to, size_t size, off_t place) __attribute__((alias("pread")));
+ssize_t pread64(int file, void *to, size_t size, off_t offset) __attribute__((alias("pread")));
 ssize_t __write(int file, const void *from, size_t size) __attribute__((alias("write")));
 
 /* The first part that is not empty. */
@@ -181,25 +181,25 @@ static int is_same(const struct ending *one, const struct ending *other) {
 static void note(long call, int status, int const files[2]) {
     struct ending found = {0, NULL, status, {0, 0}, {NULL, NULL}, NULL};
     for (int i = 0; i < 2; i++) found.texts[i] = text_of(files[i], &found.sizes[i]);
-    struct ending **place = &endings;
-    while (*place && !is_same(*place, &found)) place = &(*place)->next;
-    if (*place) {
+    struct ending **slot = &endings;
+    while (*slot && !is_same(*slot, &found)) slot = &(*slot)->next;
+    if (*slot) {
         free(found.texts[0]);
         free(found.texts[1]);
     } else {
-        if (!(*place = next_malloc(sizeof found))) give_up("no memory");
-        **place = found;
+        if (!(*slot = next_malloc(sizeof found))) give_up("no memory");
+        **slot = found;
     }
-    struct ending *one = *place;
-    /* room for so many runs, which doubles */
+    struct ending *one = *slot;
+    /* the capacity doubles */
     if ((one->runs & (one->runs - 1)) == 0) {
-        size_t room = one->runs ? 2 * one->runs : 1;
-        if (!(one->failed = next_realloc(one->failed, room * sizeof *one->failed))) give_up("no memory");
+        size_t capacity = one->runs ? 2 * one->runs : 1;
+        if (!(one->failed = next_realloc(one->failed, capacity * sizeof *one->failed))) give_up("no memory");
     }
     one->failed[one->runs++] = call;
 }
 
-static void tell(long count) {
+static void report(long count) {
     printf("%ld\n", count);
     for (struct ending *one = endings; one; one = one->next) {
         printf("%d", one->status);
@@ -275,6 +275,6 @@ __attribute__((constructor)) static void begin(void) {
     long whole = how == EACH_INTERRUPTED || how == NOTHING ? 1 : count, runs = whole < most ? whole : (long)most;
     for (long i = 0; i < runs; i++)
         if (run(call, 1 + i * (whole / runs) + (i < whole % runs ? i : whole % runs), input, seconds, files)) return;
-    tell(count);
+    report(count);
     _exit(0);
 }

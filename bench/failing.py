@@ -13,7 +13,7 @@ alone where the run had not begun. A read that is interrupted or short changes n
 refused, with status 1 and the text of the error; where one says that nothing is left, the answer is that for
 the beginning of the input, or of the file, that was read. A write that is interrupted or short changes nothing.
 Where one fails or takes nothing, the status is 1, standard output holds what was written before, and standard
-error tells the error, if it can be written.
+error has the error, if it can be written.
 """
 import argparse, collections, concurrent.futures, os, pathlib, re, subprocess, sys, tempfile
 
@@ -174,7 +174,7 @@ class Tally:
 
     def __init__(self):
         self.passed = self.failed = self.left_out = 0
-        self.shown = collections.Counter()
+        self.printed = collections.Counter()
 
     def add(self, about, way, calls, found, is_well):
         call, how, is_short = way
@@ -184,8 +184,8 @@ class Tally:
                 self.passed += 1
                 continue
             self.failed += 1
-            self.shown[about] += 1
-            if self.shown[about] <= 4:
+            self.printed[about] += 1
+            if self.printed[about] <= 4:
                 text = (ending.output + b' ' + ending.errors).decode(errors='replace').strip()
                 print(f'{about}: {call} {number} of {calls}, {how}{", a byte each" if is_short else ""}: '
                       f'status {ending.status}, {text[-300:]!r}', flush=True)

@@ -4,7 +4,7 @@ import bisect, collections
 from composing import DIGITS, numbers_of, tokens_of_record
 from index_maps import LAST
 
-# where a function begins in a source: the line counts from 1, and the name by its place in the list of names
+# where a function begins in a source: the line counts from 1, and the name by its index in the list of names
 Offset = collections.namedtuple('Offset', 'line column name')
 KEY = 'x_facebook_sources'
 
@@ -37,10 +37,10 @@ def offsets_of(mappings):
     return offsets
 
 
-def closest(items, key, place):
-    """The first item at a place, else the last before it, else None; the items rise by `key`."""
-    at = bisect.bisect_left(items, place, key=key)
-    if at < len(items) and key(items[at]) == place:
+def closest(items, key, position):
+    """The first item at a position, else the last before it, else None; the items are sorted by `key`."""
+    at = bisect.bisect_left(items, position, key=key)
+    if at < len(items) and key(items[at]) == position:
         return items[at]
     return items[at - 1] if at else None
 
@@ -56,7 +56,7 @@ def entry_at(record, source):
 
 
 def scope(record, source, line, column):
-    """The name of the function that a place in a source stands in, None where it has none."""
+    """The name of the function that contains an original position, None if there is none."""
     entry = entry_at(record, source)
     if not entry:
         return None
@@ -66,7 +66,7 @@ def scope(record, source, line, column):
 
 
 def function_name(record, offset, tokens=None):
-    """The name of the function that a place in the bytecode, a column of line 0, stands in. Who asks often hands in
+    """The name of the function that contains a bytecode offset, a column of line 0. Who asks often hands in
     the map's tokens."""
     token = closest(tokens or tokens_of_record(record), lambda token: token[:2], (0, offset))
     if token is None:
@@ -76,13 +76,13 @@ def function_name(record, offset, tokens=None):
 
 
 def is_in_order(record):
-    """Whether functions stand in order of their beginnings, in every source."""
+    """Whether functions are sorted by their starts, in every source."""
     lists = [offsets_of(entry[0]['mappings']) or [] for entry in record[KEY] if entry]
     return all(list(map(begins, offsets)) == sorted(map(begins, offsets)) for offsets in lists)
 
 
-def shown_sources(record):
-    """The texts of sources behind their root, for roots and texts that need nothing between them but a slash."""
+def resolved_sources(record):
+    """The sources resolved against their root, for roots and texts that need nothing between them but a slash."""
     root = (record.get('sourceRoot') or '').rstrip('/')
     return [f'{root}/{source}' if root and source else source or '' for source in record['sources']]
 
@@ -90,7 +90,7 @@ def shown_sources(record):
 def kept_entries(record):
     """The scopes of each source that a rewritten map has: those of the first source, by the order of tokens, that
     gave it its text."""
-    texts, firsts = shown_sources(record), {}
+    texts, firsts = resolved_sources(record), {}
     for token in tokens_of_record(record):
         if token.source < len(texts):
             firsts.setdefault(texts[token.source], token.source)

@@ -46,7 +46,7 @@ Kind = collections.namedtuple('Kind', 'name make size runs memory count')
 KINDS = []
 
 
-def kind(name, size, runs, memory, count=lambda size, given, told: given):
+def kind(name, size, runs, memory, count=lambda size, given, written: given):
     def added(make):
         KINDS.append(Kind(name, make, size, runs, memory, count))
         return make
@@ -70,8 +70,8 @@ INDEX = of_tool(*INDEX_COMMANDS) + of_bench(*INDEX_WORDS)
 DECODES = of_tool('lookup 0 5', 'tokens') + of_bench('decode 1', 'decode-reader 1') + of_calls('detect', 'detect-reader')
 
 
-def with_output(size, given, told):
-    return given + told
+def with_output(size, given, written):
+    return given + written
 
 
 def text_of(record):
@@ -245,7 +245,7 @@ def _(size):
 
 # products that the rules ask for
 
-@kind('sourceRoot times sources', 2_000, FLAT, 4, lambda size, given, told: size * size + given)
+@kind('sourceRoot times sources', 2_000, FLAT, 4, lambda size, given, written: size * size + given)
 def _(size):
     return text_of({'version': 3, 'sourceRoot': 'r' * size, 'sources': ['a'] * size, 'names': [], 'mappings': 'AAAA'})
 
@@ -255,7 +255,7 @@ def _(size):
     return text_of({'version': 3, 'sources': ['s' * size], 'names': [], 'mappings': 'AAAA,' + 'CAAA,' * size + 'C'})
 
 
-@kind('a far line', 4_000_000, of_tool('flatten') + of_bench('flatten 1', 'encode 1'), 4, lambda size, given, told: size)
+@kind('a far line', 4_000_000, of_tool('flatten') + of_bench('flatten 1', 'encode 1'), 4, lambda size, given, written: size)
 def _(size):
     return index([(0, 0, small()), (size, 0, small())])
 
@@ -338,7 +338,7 @@ def map_and_text(columns, text):
     return flat('AAAA,' + 'CAAC,' * (columns - 1) + 'CAAC') + b'\n' + text
 
 
-def calls_times_line(size, given, told):
+def calls_times_line(size, given, written):
     return size * size
 
 
@@ -440,14 +440,14 @@ def _(size):
     return split_of([*range(size)], 'AAAA;' * size, b'x;\0' * size, [(3 * number, 3) for number in range(size)])
 
 
-@kind('modules that all stand on one line', 500, SPLITS, 60, lambda size, given, told: size * size + given)
+@kind('modules that all stand on one line', 500, SPLITS, 60, lambda size, given, written: size * size + given)
 def _(size):
     return split_of([0] * size, 'CAAC,' * size + 'C', b'x' * (2 * size) + b'\0', [(0, 2 * size)] * size)
 
 
 # maps that are built in memory
 
-@kind('indexes in one another', 100, [Run(CALLS, ['nest'], lambda size: 10_240 * size)], 20_000, lambda size, given, told: size)
+@kind('indexes in one another', 100, [Run(CALLS, ['nest'], lambda size: 10_240 * size)], 20_000, lambda size, given, written: size)
 def _(size):
     return str(size).encode()
 
@@ -485,11 +485,11 @@ def measured(run, folder, counts, size=None):
                                    preexec_fn=with_stack(run.stack and size and run.stack(size)))
         _, status, usage = os.wait4(process.pid, 0)
         process.returncode = os.waitstatus_to_exitcode(status)
-        told = sink.seek(0, os.SEEK_END)
+        written = sink.seek(0, os.SEEK_END)
     cost = usage.ru_utime + usage.ru_stime
     if counts:
         cost = int(re.search(r'^summary: (\d+)', counted.read_text(), re.MULTILINE)[1])
-    return cost, int(peak.read_text().split()[-1]) * 1024, told, process.returncode
+    return cost, int(peak.read_text().split()[-1]) * 1024, written, process.returncode
 
 
 def tried(each, run, base, scale, counts):
@@ -499,17 +499,17 @@ def tried(each, run, base, scale, counts):
         size = max(1, int(each.size * scale)) * factor
         with tempfile.TemporaryDirectory() as folder:
             given = inputs_of(each.make(size), folder)
-            cost, memory, told, status = measured(run, folder, counts, size)
-        count = each.count(size, given, told)
-        steps = run.count(size, given, told) if run.count else count
-        rows.append((count, steps, given, told, cost, max(0, memory - base[1]), status))
+            cost, memory, written, status = measured(run, folder, counts, size)
+        count = each.count(size, given, written)
+        steps = run.count(size, given, written) if run.count else count
+        rows.append((count, steps, given, written, cost, max(0, memory - base[1]), status))
     # a run that is refused at once may cost less than that of a small input
     spent = base[0] if all(row[4] > base[0] for row in rows) else 0
     rows = [(*row[:4], row[4] - spent, *row[5:]) for row in rows]
-    return rows, faults_of(each, rows, counts)
+    return rows, failures_of(each, rows, counts)
 
 
-def faults_of(each, rows, counts):
+def failures_of(each, rows, counts):
     (_, least, _, _, first, _, _), (count, most, _, _, last, memory, _) = rows[0], rows[-1]
     grown = most * math.log(most + 2) / (least * math.log(least + 2))
     floor = LEAST_COUNT if counts else LEAST_TIME
@@ -527,12 +527,12 @@ def growth(rows):
     return math.log(last / first) / math.log(most / least) if first > 0 and last > 0 and most > least else 0
 
 
-def printed(each, run, rows, faults, counts):
-    count, _, given, told, cost, memory, status = rows[-1]
-    shown = f'{cost / 1e6:.1f} M' if counts else f'{cost * 1e3:.0f} ms'
+def printed(each, run, rows, failures, counts):
+    count, _, given, written, cost, memory, status = rows[-1]
+    figure = f'{cost / 1e6:.1f} M' if counts else f'{cost * 1e3:.0f} ms'
     name = pathlib.Path(run.program).name.removeprefix('sourcemap_')
-    print(f'| {each.name} | {name} {" ".join(run.words)} | {given:,} | {told:,} | {shown} | {growth(rows):.2f} '
-          f'| {memory / 1e6:.1f} MB | {memory / count:.1f} | {status} | {"; ".join(faults) or "ok"} |', flush=True)
+    print(f'| {each.name} | {name} {" ".join(run.words)} | {given:,} | {written:,} | {figure} | {growth(rows):.2f} '
+          f'| {memory / 1e6:.1f} MB | {memory / count:.1f} | {status} | {"; ".join(failures) or "ok"} |', flush=True)
 
 
 def base_of(run, counts):
@@ -561,12 +561,13 @@ def main():
         for run in each.runs:
             key = run.program, *run.words
             bases[key] = bases.get(key) or base_of(run, given.instructions)
-            rows, faults = tried(each, run, bases[key], given.scale, given.instructions)
-            faults = list(faults)
-            printed(each, run, rows, faults, given.instructions)
-            passed, failed = passed + (not faults), failed + bool(faults)
+            rows, failures = tried(each, run, bases[key], given.scale, given.instructions)
+            failures = list(failures)
+            printed(each, run, rows, failures, given.instructions)
+            passed, failed = passed + (not failures), failed + bool(failures)
     print(f'{passed} passed, {failed} failed')
     sys.exit(failed > 0)
 
 
-main()
+if __name__ == '__main__':
+    main()

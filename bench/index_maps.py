@@ -1,5 +1,5 @@
 """What the scripts know of index maps as JSON records: the order of their sections, where a position leads,
-and where tokens stand in the whole. Each is stated here anew, by the rules of the format, and takes nothing
+and the positions of tokens in the whole. Each is stated here anew, by the rules of the format, and takes nothing
 from the programs that are compared."""
 import json
 
@@ -9,7 +9,7 @@ NO_MAP, PAST_THE_END = 'no map', 'past the end'
 
 
 def record_of(data):
-    """The record in a map's bytes, behind a junk header."""
+    """The record in a map's bytes, after a junk header."""
     return json.loads(data[data.index(b'{'):])
 
 
@@ -43,15 +43,15 @@ def pieces(record):
     return [{**record, 'sections': bare}] + [piece for section in resolved(record) for piece in pieces(section['map'])]
 
 
-def lowered(offset, position):
+def relative_position(offset, position):
     """A position as the section with this offset counts it."""
     line, column = position
     return line - offset[0], column - offset[1] if line == offset[0] else column
 
 
-def raised(offset, place):
-    """A place in the section with this offset as the whole counts it."""
-    line, column = place
+def absolute_position(offset, where):
+    """The position in the whole of a position in the section with this offset."""
+    line, column = where
     return line + offset[0], column + offset[1] if line == 0 else column
 
 
@@ -68,34 +68,34 @@ def innermost(record, position):
         section = closest(record['sections'], position)
         if section is None or section.get('map') is None:
             return None
-        record, position = section['map'], lowered(offset_of(section), position)
+        record, position = section['map'], relative_position(offset_of(section), position)
     return record, position
 
 
 def flat_tokens(record, tokens_of):
-    """The places and the texts of the tokens of all sections' maps, each where it stands in the whole, in order,
-    those of one place as their sections stand. No place has an end. `tokens_of` gives those of a map without
+    """The positions in the whole and the texts of the tokens of all sections' maps, sorted; those of one position in
+    the order of their sections. Positions are not bounded. `tokens_of` gives those of a map without
     sections."""
     if not is_index(record):
         return tokens_of(record)
-    tokens = [(raised(offset_of(section), place), text) for section in resolved(record)
-              for place, text in flat_tokens(section['map'], tokens_of)]
+    tokens = [(absolute_position(offset_of(section), where), text) for section in resolved(record)
+              for where, text in flat_tokens(section['map'], tokens_of)]
     return sorted(tokens, key=lambda token: token[0])
 
 
-def fault_of_section(section, tokens_of):
-    """Why a section can't be a part of a flat map, None if it can: its map is made flat first, and then its tokens
+def section_error(section, tokens_of):
+    """Why a section can't be a part of a flat map, None if it can: its map is flattened first, and then its tokens
     are moved."""
     if section.get('map') is None:
         return NO_MAP
-    fault = fault_of_flattening(section['map'], tokens_of)
-    if fault is not None:
-        return fault
-    places = (raised(offset_of(section), place) for place, _ in flat_tokens(section['map'], tokens_of))
-    return PAST_THE_END if any(max(place) > LAST for place in places) else None
+    error = flattening_error(section['map'], tokens_of)
+    if error is not None:
+        return error
+    positions = (absolute_position(offset_of(section), where) for where, _ in flat_tokens(section['map'], tokens_of))
+    return PAST_THE_END if any(max(where) > LAST for where in positions) else None
 
 
-def fault_of_flattening(record, tokens_of):
-    """Why a map can't be made flat, None if it can: the fault of the first section, in order, that has one."""
+def flattening_error(record, tokens_of):
+    """Why a map can't be flattened, None if it can: the error of the first section, in order, that has one."""
     sections = in_order(record['sections']) if is_index(record) else []
-    return next(filter(None, (fault_of_section(section, tokens_of) for section in sections)), None)
+    return next(filter(None, (section_error(section, tokens_of) for section in sections)), None)

@@ -1,5 +1,5 @@
 #!/usr/bin/env python3
-"""Writes a RAM bundle behind its index map, the same on every run: the map is the first line, and all bytes after it
+"""Writes a RAM bundle after its index map, the same on every run: the map is the first line, and all bytes after it
 are the indexed bundle.
 
     bench/make-bundle.py MODULES TOKENS [--sections N] [--contents BYTES] > FILE
@@ -53,11 +53,11 @@ def made_section(bits, numbers, counts, size):
 
 def bundle_bytes(lengths):
     """The bundle of modules with lines of these lengths."""
-    table, place = b'', len(STARTUP)
+    table, offset = b'', len(STARTUP)
     for number, length in enumerate(lengths):
         is_missing = number % 200 == 199
-        table += struct.pack('<2I', *((0, 0) if is_missing else (place, length + 1)))
-        place += 0 if is_missing else length + 1
+        table += struct.pack('<2I', *((0, 0) if is_missing else (offset, length + 1)))
+        offset += 0 if is_missing else length + 1
     texts = b''.join(b'x' * length + b'\0' for number, length in enumerate(lengths) if number % 200 != 199)
     return struct.pack('<3I', MAGIC, len(lengths), len(STARTUP)) + table + STARTUP + texts
 

@@ -9,7 +9,7 @@ FOLDER   where NAME.map are written
 
 A map has up to twelve tokens, most on line 0, and up to four sources, of which two may have one text. Its list of
 scopes is as long as that of sources, shorter or longer; an entry is missing, empty, or has one or two records. Of
-the texts of scope mappings some cannot be read, some stand in no order, and some have names that are not there.
+the texts of scope mappings some cannot be read, some are unsorted, and some have names that are not there.
 """
 import argparse, json, pathlib, random
 from composing import Token, digits_of, written
@@ -29,12 +29,12 @@ def drawn_token(draws, sources, is_ranged):
 
 
 def drawn_mappings(draws, names):
-    """A text of scope mappings: places in order, or in none."""
-    places = [(draws.randrange(1, 8), draws.randrange(12)) for _ in range(draws.randrange(9))]
+    """A text of scope mappings, sorted or not."""
+    positions = [(draws.randrange(1, 8), draws.randrange(12)) for _ in range(draws.randrange(9))]
     if draws.randrange(8):
-        places.sort()
+        positions.sort()
     text, last = '', (0, 1, 0)
-    for line, column in places:
+    for line, column in positions:
         is_new = draws.randrange(3) == 0
         name = draws.randrange(names + (draws.randrange(6) == 0))
         steps = [column - (0 if is_new else last[2]), name - last[0], line - last[1]]

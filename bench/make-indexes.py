@@ -10,9 +10,9 @@ FOLDER   where the index maps are written
 --most   the size of the longest map that is taken, in bytes (100000)
 
 Each index has two to five sections, a quarter of them with an index of their own, down to four levels. At each
-level offsets stand in one of five ways: below one another; the next section on the last line of the one before;
-anywhere; the first two at one place; the last at the end of its line. In a third of the indexes the sections
-stand in no order. In a sixth a section has a URL only, or nothing. A twelfth have faults in two of their maps.
+level offsets are laid out in one of five ways: below one another; the next section on the last line of the one before;
+anywhere; the first two at one position; the last at the end of its line. In a third of the indexes the sections
+are unsorted. In a sixth a section has a URL only, or nothing. A twelfth have errors in two of their maps.
 Some have lists of a bundle, a file and a debug id; some maps have contents, which are not the same where a map
 is taken twice, an ignore list, of which some ids name nothing, or range tokens.
 """
@@ -20,11 +20,11 @@ import argparse, json, pathlib, random
 from index_maps import LAST, is_index, record_of
 
 DEPTH = 4
-FAULTS = ['AAAAAA', 'A9999A', 'AAAAg']
+ERRORS = ['AAAAAA', 'A9999A', 'AAAAg']
 
 
 def regular_maps(folder, most):
-    """The records of the regular maps that are no longer than that, by the folders that they stand in."""
+    """The records of the regular maps that are no longer than that, by the folders that they are in."""
     groups = {}
     for path in sorted(pathlib.Path(folder).rglob('*.map')):
         data = path.read_bytes()
@@ -72,7 +72,7 @@ def changed(draws, record):
     return record
 
 
-def heading(draws):
+def metadata(draws):
     """Keys beside the sections of an index."""
     record = {'version': 3}
     if draws.randrange(3):
@@ -100,11 +100,11 @@ def index_of(draws, groups, depth):
                 for (line, column), each in zip(offsets(draws, maps), maps)]
     if draws.randrange(3) == 0:
         draws.shuffle(sections)
-    return {**heading(draws), 'sections': sections}
+    return {**metadata(draws), 'sections': sections}
 
 
 def spoil(draws, record):
-    """Takes the map of a section away, or puts faults into the mappings of two maps."""
+    """Removes the map of a section, or puts errors into the mappings of two maps."""
     if draws.randrange(6) == 0:
         section = draws.choice(record['sections'])
         del section['map']
@@ -112,7 +112,7 @@ def spoil(draws, record):
     elif draws.randrange(10) == 0:
         for section in draws.sample(record['sections'], 2):
             if not is_index(section['map']):
-                section['map']['mappings'] = draws.choice(FAULTS)
+                section['map']['mappings'] = draws.choice(ERRORS)
 
 
 def within(record, levels):

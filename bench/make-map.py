@@ -8,7 +8,7 @@
 --functions so many functions of each source, in a function map as Metro writes it
 --sections  an index map of so many sections below one another, each with its part of the tokens and with
             sources of its own; their names are shared
---within    the map in so many indexes, one in another, each one line and two columns behind the one around it
+--within    the map in so many indexes, one in another, each one line and two columns after the one around it
 
 There are 50 sources and 2,000 names, and fewer for less than 8,000 tokens; a token in four has a name. The
 steps between tokens are those of a bundle: mostly small, in the source forward by a line now and then.
@@ -36,7 +36,7 @@ def contents(sources, size):
 
 
 def scopes(sources, count):
-    """A function map for each source: functions by their places, with a name each."""
+    """A function map for each source: functions by their positions, with a name each."""
     def entry(source):
         names = json.dumps(['<global>', *(f'function{source}_{n}' for n in range(1, count))])
         rows = [digits(n % 7 * 4) + digits(1) + digits(1 + n % 5) for n in range(1, count)]
@@ -52,7 +52,7 @@ def drawn_bits(state):
 
 
 def leads_to(bits, here, source_count, name_count):
-    """The source, the line and the column in it, and the name of a token behind one that leads here, and whether
+    """The source, the line and the column in it, and the name of a token after one with this original position, and whether
     it has a name."""
     there = here[:]
     if bits >> 12 & 1023 == 0:

@@ -7,15 +7,15 @@
 FOLDER    where NAME.original.map and NAME.adjustment.map are written
 --count   how many pairs (5000)
 --seed    another one gives other maps (1)
---tokens  large pairs in their place, to be timed: one for each number, with an original of so many tokens
+--tokens  large pairs instead, to be timed: one for each number, with an original of so many tokens
 
-A map has up to sixteen tokens on up to three lines, so few places that many stand at one, lead to one, or cover
-nothing. Their columns are small, with some at the end of a line. In half of the maps tokens stand in no order
+A map has up to sixteen tokens on up to three lines, so few positions that many tokens share a generated or an original one, or cover
+nothing. Their columns are small, with some at the end of a line. In half of the maps tokens are unsorted
 within a line; some have no source, some are range tokens. No two maps have the same sources or names.
 
 The original of a large pair has ten tokens a line. Its adjustment is that of a step that writes the text shorter
-in lines of forty tokens: it has nine in ten of the tokens, in blocks of two hundred, of which one in twenty stands
-behind the next one and one in four hundred at the end of the text.
+in lines of forty tokens: it has nine in ten of the tokens, in blocks of two hundred, of which one in twenty comes
+after the next one and one in four hundred at the end of the text.
 """
 import argparse, json, pathlib, random
 from composing import Token, written
@@ -47,7 +47,7 @@ def drawn_map(draws, kind):
 
 
 def steps_on(draws, count, tokens_a_line, farthest):
-    """Places of so many tokens, each behind the last."""
+    """Positions of so many tokens, each after the last."""
     column = 0
     for index in range(count):
         column = 0 if index % tokens_a_line == 0 else column + draws.randrange(1, farthest)
@@ -55,7 +55,7 @@ def steps_on(draws, count, tokens_a_line, farthest):
 
 
 def reordered(draws, tokens):
-    """The tokens in blocks, some of which change places with the next and a few of which come last."""
+    """The tokens in blocks, some of which are swapped with the next and a few of which come last."""
     blocks = [tokens[at:at + 200] for at in range(0, len(tokens), 200)]
     late = [block for block in blocks if draws.randrange(400) == 0]
     blocks = [block for block in blocks if block not in late]
@@ -70,9 +70,9 @@ def large_pair(draws, count):
     originals = [Token(line, column, index // 7, column % 60, index * 50 // count, index % 2, False)
                  for index, (line, column) in enumerate(steps_on(draws, count, 10, 13))]
     kept = reordered(draws, [token for token in originals if draws.randrange(10)])
-    places = steps_on(draws, len(kept), 40, 8)
+    positions = steps_on(draws, len(kept), 40, 8)
     return originals, [Token(line, column, token.line, token.column, 0, LAST, False)
-                       for token, (line, column) in zip(kept, places)]
+                       for token, (line, column) in zip(kept, positions)]
 
 
 def large_map(tokens, kind):

@@ -8,7 +8,7 @@ rules of the formats say.
 Each case has words for the program, standard input and the file that the words name. A run has to end with the
 status and the text that `rules.py` says, and nothing on standard error. An answer of more lines than that can make
 may be `out of memory` too, with status 1: a run has 256 MB. With --reference, a program over the crate (`reference/`,
-built), each case is asked of that too, and each difference has to have a reason among those of
+built), each case runs on that too, and each difference has to have a reason among those of
 `docs/DIFFERENCES.md`; it is printed as UNEXPLAINED where it has none.
 
 What is contradicted is printed with its number; `--only CASE` makes that case alone again, and prints all of it.
@@ -53,13 +53,13 @@ def tokens(chance, sources, names):
     """Tokens of a map of so many sources and names, in order."""
     made = []
     for _ in range(chance.choice([0, 1, 1, 2, 3, 5, 12, 30])):
-        place = chance.choice([0, 0, 0, 1, 2, 7]), edge(chance) % 2**32
+        position = chance.choice([0, 0, 0, 1, 2, 7]), edge(chance) % 2**32
         is_range = chance.random() < 0.15
         if sources and chance.random() < 0.85:
             name = chance.randrange(names) if names and chance.random() < 0.4 else LAST
-            made.append(Token(*place, edge(chance) % 2**32, edge(chance) % 2**32, chance.randrange(sources), name, is_range))
+            made.append(Token(*position, edge(chance) % 2**32, edge(chance) % 2**32, chance.randrange(sources), name, is_range))
         else:
-            made.append(Token(*place, LAST, LAST, LAST, LAST, is_range))
+            made.append(Token(*position, LAST, LAST, LAST, LAST, is_range))
         if chance.random() < 0.1:
             made.append(made[-1])
     return sorted(made, key=lambda token: token[:2])
@@ -335,7 +335,7 @@ class Job:
 
     def chunk(self, first, count):
         """What so many cases came to."""
-        told, kinds = [], collections.Counter()
+        failures, kinds = [], collections.Counter()
         for at in range(first, first + count):
             case = case_of(self.seed, at, self.path)
             if case.words[0] in ('compose', 'trace'):
@@ -344,13 +344,13 @@ class Job:
             kinds[f'{case.words[0] or "no word"} {ended[0]}'] += 1
             why = contradiction(case, ended)
             if why:
-                told.append((at, f'{why}; it says {ended}'))
+                failures.append((at, f'{why}; it says {ended}'))
             if self.reference and ended[0] < 2:
                 agreement = self.compared(case, ended)
                 kinds[f'reference: {agreement}'] += 1
                 if agreement == UNEXPLAINED:
-                    told.append((at, f'{UNEXPLAINED}: it says {ended[:2]}, the reference {self.asked[:2]}'))
-        return told, kinds
+                    failures.append((at, f'{UNEXPLAINED}: it says {ended[:2]}, the reference {self.asked[:2]}'))
+        return failures, kinds
 
     def compared(self, case, ended):
         if case.words[0] == 'trace':
@@ -388,7 +388,7 @@ def is_doubled(data):
         return True
     pairs = []
     json.JSONDecoder(object_pairs_hook=lambda found: pairs.append(len(found))).decode(
-        rules.behind_header(data).decode().strip(' \t\n\r'))
+        rules.after_header(data).decode().strip(' \t\n\r'))
     return sorted(pairs) != sorted(keys)
 
 
@@ -433,13 +433,13 @@ def work(given):
     """A process's part: chunks by turns."""
     library, reference, seed, firsts, runs = given
     job = Job(library, reference, seed)
-    told, kinds = [], collections.Counter()
+    failures, kinds = [], collections.Counter()
     for first in firsts:
         more, counted = job.chunk(first, min(CHUNK, runs - first))
-        told += more
+        failures += more
         kinds += counted
     job.end()
-    return told, kinds
+    return failures, kinds
 
 
 def show(seed, at, library):
@@ -470,16 +470,16 @@ def main():
             return show(given.seed, given.only, library)
         begun, firsts = time.time(), range(0, given.runs, CHUNK)
         parts = [(library, given.reference, given.seed, firsts[at::given.jobs], given.runs) for at in range(given.jobs)]
-        told, kinds = [], collections.Counter()
+        failures, kinds = [], collections.Counter()
         with multiprocessing.Pool(given.jobs) as pool:
             for more, counted in pool.imap_unordered(work, parts):
-                told += more
+                failures += more
                 kinds += counted
-    for at, why in sorted(told)[:50]:
+    for at, why in sorted(failures)[:50]:
         print(f'case {at}: {why[:600]}')
     for kind, count in sorted(kinds.items()):
         print(f'{count:8} {kind}')
-    failed = len({at for at, _ in told})
+    failed = len({at for at, _ in failures})
     print(f'seed {given.seed}, {given.runs / (time.time() - begun):.0f} cases a second')
     print(f'{given.runs - failed} passed, {failed} failed')
     return failed > 0

@@ -12,15 +12,15 @@ difference is borne out by the answer that it leads to:
 - url: its library for URLs goes other ways than the URL Standard: `^` is no byte that a path escapes; three slashes
   before what is relative are refused; a backslash before what is relative counts as a slash where no scheme gives it
   that meaning; the path of a file begins with no empty segments, and a host before the letter of a drive falls away
-- old url: in version 2.3.1 of it each segment `C|` of the path of a file becomes `C:`, and no `/.` stands before a path
+- old url: in version 2.3.1 of it each segment `C|` of the path of a file becomes `C:`, and no `/.` is put before a path
   that begins with `//`
 - new url: in version 2.5.4 of it the drive of `file:///C|/` keeps its bar, and what begins like a drive and goes on past
   ASCII is cut there
 - nothing: relative paths are joined by nothing
 - forgotten: of the paths that have something in common, those count alone that stand, by the number of their parts,
   after the last that shares nothing with the shortest
-- array: a JSON array may stand for the keys of a map, in their order
-- twice: a key that stands twice makes no map
+- array: a JSON array may replace the keys of a map, in their order
+- twice: a text with a key twice is no map
 - skipped: of a value that is not looked at, only the JSON outline counts
 """
 import itertools, json, os, re
@@ -81,7 +81,7 @@ def joined(reference, base, ways):
 
 
 def resolved(reference, base, ways=()):
-    """The URL that a reference stands for, seen from that of its text."""
+    """The URL that a reference resolves to, against that of its text."""
     if reference.startswith('data:'):
         return None
     try:
@@ -115,7 +115,7 @@ def path_by(url, ways):
 
 
 def resolved_path(reference, path, ways=()):
-    """The path that a reference stands for, seen from that of its text, a character for each byte."""
+    """The path that a reference resolves to, against that of its text, a character for each byte."""
     base = base_by(path, ways)
     if reference.startswith('data:') or base is None:
         return None
@@ -164,7 +164,7 @@ class NoMap(Exception):
 
 
 class Twice(dict):
-    """An object in which a key of a map stands twice."""
+    """An object that has a key of a map twice."""
 
 
 def number(text):

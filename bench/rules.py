@@ -1,10 +1,9 @@
-"""What each command of the program says, by the rules of the formats alone: from the bytes of a map, and of a
-file where one is named, to a status and a text. Stated here anew; takes nothing from the programs that are
-compared."""
+"""The output of each command of the program, by the rules of the formats alone: from the bytes of a map, and of a
+file if one is named, to a status and a text. Stated here anew; takes nothing from the compared programs."""
 import json, re
 from composing import DIGITS, Token, composed, digits_of, without_repeats
 from hermes_maps import closest
-from index_maps import LAST, in_order, offset_of, raised
+from index_maps import LAST, in_order, offset_of, absolute_position
 
 USAGE = ('usage: lookup LINE COL | tokens | rewrite | flatten | compose FILE | shift ROWS | trace FILE\n')
 NUMBER = re.compile(rb'[0-9]+\Z')
@@ -16,7 +15,7 @@ MOST_LINES = 10**5
 
 
 class Refusal(Exception):
-    """A command is refused with this text."""
+    """A command fails with this text."""
 
 
 def parse():
@@ -36,7 +35,7 @@ class TooLong(Exception):
 
 
 class Fraction:
-    """A number that is no whole one of 64 bits."""
+    """A number that is not an integer of 64 bits."""
 
 
 def fraction(text):
@@ -90,8 +89,8 @@ def check_levels(value, left=LEVELS):
             check_levels(part, left - 1)
 
 
-def behind_header(data):
-    """The bytes behind a junk header."""
+def after_header(data):
+    """The bytes after a junk header."""
     if data[:1] not in (b')', b']', b'}', b"'"):
         return data
     end = data.find(b'\n')
@@ -106,8 +105,8 @@ def behind_header(data):
 
 def json_of(data):
     try:
-        text = behind_header(data).decode('utf-8')
-        # what stands before and behind the value
+        text = after_header(data).decode('utf-8')
+        # what precedes and follows the value
         value, end = DECODER.raw_decode(text, len(text) - len(text.lstrip(' \t\n\r')))
         if text[end:].strip(' \t\n\r'):
             raise parse()
@@ -195,7 +194,7 @@ def digit(byte):
 
 
 def numbers(segment):
-    """The numbers of a segment, or its first fault."""
+    """The numbers of a segment, or its first error."""
     found, raw, length = [], 0, 0
     for byte in segment:
         six = digit(byte)
@@ -231,7 +230,7 @@ class Map:
                 continue
             bits = [digit(byte) for byte in marks[line]] if line < len(marks) else []
             column = 0
-            for place, segment in enumerate(row.split(b',')):
+            for index, segment in enumerate(row.split(b',')):
                 if not segment:
                     continue
                 first, *rest = numbers(segment)
@@ -245,13 +244,13 @@ class Map:
                 if len(rest) == 4 and there[3] >= len(self.names):
                     raise Refusal(f'bad reference to name #{there[3]}')
                 source, source_line, source_column = there[:3] if rest else (LAST, LAST, LAST)
-                is_range = place // 6 < len(bits) and bool(bits[place // 6] >> place % 6 & 1)
+                is_range = index // 6 < len(bits) and bool(bits[index // 6] >> index % 6 & 1)
                 tokens.append(Token(line, column, source_line, source_column, source,
                                     there[3] if len(rest) == 4 else LAST, is_range))
         return sorted(tokens, key=lambda token: token[:2])
 
-    def shown(self, source):
-        """A source's text behind its root."""
+    def resolved(self, source):
+        """A source resolved against its root."""
         text = self.texts[source]
         if not self.root or text.startswith(('/', 'http:', 'https:')):
             return text
@@ -262,7 +261,7 @@ class Map:
         return self.names[token.name] if token.name < len(self.names) else None
 
     def printed(self, token, distance=0):
-        source = self.shown(token.source) if token.source < len(self.texts) else '<unknown>'
+        source = self.resolved(token.source) if token.source < len(self.texts) else '<unknown>'
         name = self.named(token)
         return (f'{source}:{token.source_line}:{min(token.source_column + distance, LAST)}'
                 + ('' if name is None else f' name={name}'))
@@ -313,7 +312,7 @@ class Map:
         for token in self.tokens:
             source = name = LAST
             if token.source < len(self.texts):
-                text = self.shown(token.source)
+                text = self.resolved(token.source)
                 source = sources.setdefault(text, len(sources))
                 if source == len(firsts):
                     firsts.append(token.source)
@@ -334,7 +333,7 @@ class Index:
         self.file = None if found['file'] is None else found['file'] if is_text(found['file']) else '<invalid>'
         self.debug_id, self.offsets, self.paths = (
             found['debugId'], found['x_facebook_offsets'], found['x_metro_module_paths'])
-        # in the order of the text, in which the first fault counts
+        # in the order of the text: the first error is reported
         sections = [{**it, 'map': None if it['map'] is None else map_of(it['map'])} for it in found['sections']]
         self.sections = in_order(sections)
 
@@ -356,12 +355,12 @@ class Index:
             inner = each['map'].flat() if isinstance(each['map'], Index) else each['map']
             ids = []
             for source in range(len(inner.texts)):
-                ids.append(sources.setdefault(inner.shown(source), len(sources)))
+                ids.append(sources.setdefault(inner.resolved(source), len(sources)))
                 if inner.contents[source] is not None:
                     contents[ids[-1]] = inner.contents[source]
             name_ids = [names.setdefault(name, len(names)) for name in inner.names]
             for token in inner.tokens:
-                line, column = raised(offset_of(each), token[:2])
+                line, column = absolute_position(offset_of(each), token[:2])
                 if max(line, column) > LAST:
                     raise Refusal('cannot flatten the indexed sourcemap: a position passes 4294967295')
                 source = ids[token.source] if token.source < len(ids) else LAST
@@ -405,7 +404,7 @@ def is_regular(found):
     return isinstance(found, Map) and found.scopes is None
 
 
-def tokens_told(found):
+def tokens_text(found):
     if isinstance(found, Index):
         raise incompatible()
     return ''.join(f'{token.line}:{token.column} {found.printed(token)}{" range" if token.is_range else ""}\n'
@@ -421,7 +420,7 @@ def adjusted(found, other):
     return found
 
 
-def position_told(found, line):
+def position_text(found, line):
     numbers = line.split(b':')
     if len(numbers) != 2 or not all(NUMBER.match(number) and len(number.lstrip(b'0')) <= 10
                                     and int(number) <= LAST for number in numbers):
@@ -431,7 +430,7 @@ def position_told(found, line):
 
 def traced(found, positions):
     lines = positions.split(b'\n')
-    return ''.join(position_told(found, line) + '\n' for line in (lines if lines[-1] else lines[:-1]))
+    return ''.join(position_text(found, line) + '\n' for line in (lines if lines[-1] else lines[:-1]))
 
 
 def number_of(word):
@@ -439,7 +438,7 @@ def number_of(word):
     return int(word) if NUMBER.match(word) and len(word.lstrip(b'0')) <= 10 and int(word) <= LAST else None
 
 
-def said(words, data, file):
+def output_of(words, data, file):
     """What the command of these words says, None if they are no command's."""
     numbers = [number_of(word) for word in words[1:]]
     verb = words[0] if words else None
@@ -450,7 +449,7 @@ def said(words, data, file):
     if verb == 'lookup':
         return found.looked_up(*numbers) + '\n'
     if verb == 'tokens':
-        return tokens_told(found)
+        return tokens_text(found)
     if verb == 'compose':
         return line_of(adjusted(found, decoded(file)))
     if verb == 'trace':
@@ -466,7 +465,7 @@ def said(words, data, file):
 def ended(words, data, file=b''):
     """The status and the text of a run."""
     try:
-        told = said(words, data, file)
+        output = output_of(words, data, file)
     except Refusal as refused:
         return 1, f'{refused}\n'.encode()
-    return (2, USAGE.encode()) if told is None else (0, told.encode())
+    return (2, USAGE.encode()) if output is None else (0, output.encode())

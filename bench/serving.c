@@ -38,7 +38,7 @@ static void give(int to, const void *from, size_t size) {
     }
 }
 
-/* The next text, with a zero byte behind it, NULL where no request comes. */
+/* The next text, with a zero byte after it, NULL if no request comes. */
 static char *text(uint32_t *size) {
     if (!take(size, sizeof *size)) return NULL;
     char *made = malloc((size_t)*size + 1);
@@ -54,7 +54,7 @@ static int file_of(const char *name) {
     return made;
 }
 
-/* Copies a file to the replies, behind the count of its bytes. */
+/* Copies a file to the replies, after the count of its bytes. */
 static void give_file(int file) {
     char part[65536];
     uint32_t size = lseek(file, 0, SEEK_END);

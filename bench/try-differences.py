@@ -5,16 +5,16 @@
 
 REFERENCE    bench/reference, which is then built, or a program over the Rust crate that knows the words
              `lookup`, `tokens`, `rewrite` and `stream rewrite`, `flatten`, `compose`, `shift`,
-             `roundtrip`, which writes a map as it is, and those that asking.py tells of
+             `roundtrip`, which writes a map as it is, and those of asking.py
 
 The programs of this repository are built where they are missing; SOURCEMAP_TOOL and SOURCEMAP_BENCH in the
-environment name others in their place. For words that neither of them has, asking.py builds a third one. A
+environment name others instead. For words that neither of them has, asking.py builds a third one. A
 row of the document whose last column names a word has a trial below, under the text of its first column;
-`none` there says that the row has no trial. A row that is not as it is told, a row without its trial and a
+`none` there says that the row has no trial. A row that does not behave as described, a row without its trial and a
 trial without its row are printed, and then the status is 1.
 """
 import argparse, collections, json, os, pathlib, pty, struct, subprocess, sys, tempfile, tty
-from asking import Case, asked_here, asked_there
+from asking import Case, answers_here, answers_there
 from bundles import MAGIC, NO_INDEX, byte_text
 from comparing import BENCH, CRATES, TOOL, build_missing, is_reordered, reference_program
 from composing import tokens_of_record
@@ -50,13 +50,13 @@ def has_the_same_steps(here, there):
 
 
 def is_covered_by_others(here, there):
-    """Whether two written maps have a token each for the same places of a source, at some other column."""
+    """Whether two written maps have tokens for the same original positions, at some other column."""
     here, there = (sorted((token.source_column, token.column) for token in tokens_of_record(json.loads(text)))
                    for text in (here, there))
-    return here != there and [place for place, _ in here] == [place for place, _ in there]
+    return here != there and [original for original, _ in here] == [original for original, _ in there]
 
 
-def fails_behind(data):
+def fails_after(data):
     """A reader that gives these bytes and then fails: a terminal that was hung up."""
     ours, theirs = pty.openpty()
     tty.setraw(theirs)
@@ -145,7 +145,7 @@ TRIALS = {
     SORTED: Trial(
         'tokens', record('CAAA' + ',DAAC,CAAC' * 16), (0, '0:1 a.js:0:0\n0:1 a.js:0:2\n0:1 a.js:0:4'), (0, is_reordered)),
     PARTLY_READ: Trial(
-        'tokens', lambda: fails_behind(b'{"version":3'), (1, 'Input/output error'), (1, 'bad json: Input/output error')),
+        'tokens', lambda: fails_after(b'{"version":3'), (1, 'Input/output error'), (1, 'bad json: Input/output error')),
     '`)]}x\\rA` as header': Trial(
         'tokens', b')]}x\rA', (1, 'invalid data'), (1, 'bad json: expected newline')),
     '`{"names":[1.5,-0,1e2,18446744073709551616],"mappings":""}`': Trial(
@@ -208,7 +208,7 @@ TRIALS = {
         (0, '{"version":3,"sources":["a.js"],"names":[],"mappings":"AAAA"}\n')),
 }
 
-FAULTY_SECTION = {'sections': [{'offset': {'line': 0, 'column': 0}, 'map': {'mappings': 'A!'}}]}
+INVALID_SECTION = {'sections': [{'offset': {'line': 0, 'column': 0}, 'map': {'mappings': 'A!'}}]}
 TWO_TEXTS = 'a data URL of `e30=IA==` (two texts in base64, put end to end)'
 ASKED = {
     'the function at 0 of `{"mappings":"AADA","sources":["a.js"],"x_facebook_sources":[[{"mappings":"AAA","names":["f"]}]]}`': Asked(
@@ -223,7 +223,7 @@ ASKED = {
     'view `abc`, slice (0,1,4294967295)': Asked(
         asked('slices', None, 'abc', [0, 1, 2**32 - 1]), 'null', '""'),
     '`SourceMap::from_slice` of `{"sections":[{"offset":{"line":0,"column":0},"map":{"mappings":"A!"}}]}`': Asked(
-        asked('regular', FAULTY_SECTION), 'encountered incompatible sourcemap format', 'leftover cur/shift in vlq decode'),
+        asked('regular', INVALID_SECTION), 'encountered incompatible sourcemap format', 'leftover cur/shift in vlq decode'),
     TWO_TEXTS: Asked(
         asked('url', None, 'data:application/json;base64,e30=IA=='), 'the provided data URL is invalid', 'none'),
     'sources `a.js`, `a.js`, mappings `AAAA,ACAA`, the two tokens compared by `==`': Asked(
@@ -280,8 +280,8 @@ ASKED = {
     'the module of two lines `xyz` and `xyz` at line 4294967295, by mappings `AAAA,CAAC` at that line': Asked(
         split('xyz\nxyz', 'AAAA,CAAC', 2**32 - 1, 2**32 - 1), split_into('xyz\nxyz', (0, 0), (0, 1)), split_into('xyz\nxyz')),
     BUILT: Asked(
-        Case('built', 'built', None, None, [[1, 0], *([column, place] for place in range(1, 33, 2) for column in (0, 1))], 1),
-        ' '.join([*(f'0:{place}' for place in range(1, 33, 2)), '1:0', *(f'1:{place}' for place in range(1, 33, 2))]) + ' ', is_shuffled),
+        Case('built', 'built', None, None, [[1, 0], *([column, original] for original in range(1, 33, 2) for column in (0, 1))], 1),
+        ' '.join([*(f'0:{original}' for original in range(1, 33, 2)), '1:0', *(f'1:{original}' for original in range(1, 33, 2))]) + ' ', is_shuffled),
 }
 
 
@@ -308,7 +308,7 @@ def commands(word, title, reference):
 
 
 def with_file(commands, text):
-    """Both programs' words, and behind them the path of a file of this text, if there is one."""
+    """Both programs' words, and after them the path of a file of this text, if there is one."""
     with tempfile.NamedTemporaryFile() as file:
         file.write(text or b'')
         file.flush()
@@ -317,32 +317,32 @@ def with_file(commands, text):
 
 def answer(command, data):
     given = {'stdin': data()} if callable(data) else {'input': data}
-    told = subprocess.run(command, stdout=subprocess.PIPE, stderr=subprocess.DEVNULL, **given)
+    described = subprocess.run(command, stdout=subprocess.PIPE, stderr=subprocess.DEVNULL, **given)
     if 'stdin' in given:
         os.close(given['stdin'])
-    return told.returncode, told.stdout
+    return described.returncode, described.stdout
 
 
-def is_told(due, status, text, other):
+def is_described(due, status, text, other):
     if callable(due[1]):
         return status == due[0] and text != other and due[1](other, text)
     return status == due[0] and due[1].encode() in text
 
 
 def wrong(title, trial, reference):
-    """What is not as the row tells, None if all is."""
+    """What differs from the row's description, None if nothing does."""
     both = with_file(commands(trial.word, title, reference), trial.file)
     here, there = (answer(command, trial.data) for command in both)
-    if is_told(trial.here, *here, b'') and is_told(trial.there, *there, here[1]):
+    if is_described(trial.here, *here, b'') and is_described(trial.there, *there, here[1]):
         return None
     return f'{title}\n    here  {here}\n    there {there}'
 
 
 def wrong_answers(reference):
-    """Of what the library is asked, all that is not as its row tells."""
-    told_here = asked_here([row.case for row in ASKED.values()])
-    for (title, row), here in zip(ASKED.items(), told_here):
-        there = asked_there(reference, row.case)
+    """All answers of the library that differ from their rows."""
+    described_here = answers_here([row.case for row in ASKED.values()])
+    for (title, row), here in zip(ASKED.items(), described_here):
+        there = answers_there(reference, row.case)
         is_so = row.there(here[0], there[0]) if callable(row.there) else there[:1] == [row.there]
         if here[0] != row.here or not is_so:
             yield f'{title}\n    here  {here}\n    there {there}'
@@ -354,18 +354,18 @@ def main():
     given = words.parse_args()
     build_missing()
     reference = reference_program(given.reference)
-    told = dict(rows())
+    described = dict(rows())
     tried = {title: trial.word.split()[0] for title, trial in TRIALS.items()}
     tried.update((title, row.case.word) for title, row in ASKED.items())
-    faults = [f'no trial by {word}: {title}' for title, word in told.items()
+    failures = [f'no trial by {word}: {title}' for title, word in described.items()
               if word != 'none' and tried.get(title) != word]
-    faults += [f'no row: {title}' for title in tried if told.get(title, 'none') == 'none']
-    faults += filter(None, (wrong(title, trial, reference) for title, trial in TRIALS.items()))
-    faults += wrong_answers(reference)
-    for fault in faults:
-        print(fault)
-    print(f'{len(told)} rows, {len(tried)} tried, {len(faults)} faults')
-    sys.exit(1 if faults else 0)
+    failures += [f'no row: {title}' for title in tried if described.get(title, 'none') == 'none']
+    failures += filter(None, (wrong(title, trial, reference) for title, trial in TRIALS.items()))
+    failures += wrong_answers(reference)
+    for failure in failures:
+        print(failure)
+    print(f'{len(described)} rows, {len(tried)} tried, {len(failures)} faults')
+    sys.exit(1 if failures else 0)
 
 
 main()

@@ -1,11 +1,11 @@
 #!/usr/bin/env python3
 """Tries how the program meets its surroundings: words that are no text, a reader of its output that goes
-away, outputs and inputs that fail, want of memory before it has read its words, and the wrapper `sourcemap`:
-through a link, from another folder, and asked for its words where nothing is built.
+away, outputs and inputs that fail, out of memory before it has read its words, and the wrapper `sourcemap`:
+through a link, from another folder, and its usage where nothing is built.
 
     bench/try-program.py
 
-The program is built where it is missing; SOURCEMAP_TOOL in the environment names another in its place,
+The program is built where it is missing; SOURCEMAP_TOOL in the environment names another instead,
 which the wrapper does not know. Each trial that does not end as it should is printed, and then the status is 1.
 """
 import os, pathlib, resource, shutil, subprocess, sys, tempfile
@@ -22,11 +22,11 @@ COMPOSED = b'{"mappings":"","names":["x","alert"],"sources":["coolstuff.js"],"ve
 
 
 def ended(command, **more):
-    """The status of a run on the map, what it printed, and what it told of faults."""
+    """The status of a run on the map, its output, and its standard error."""
     with open(MAP, 'rb') as given:
         streams = {'stdin': given, 'stdout': subprocess.PIPE, 'stderr': subprocess.PIPE, **more}
-        told = subprocess.run(command, timeout=600, **streams)
-    return told.returncode, told.stdout or b'', told.stderr or b''
+        result = subprocess.run(command, timeout=600, **streams)
+    return result.returncode, result.stdout or b'', result.stderr or b''
 
 
 def without_reader(words):
@@ -69,15 +69,15 @@ def unbuilt(words):
             copy = pathlib.Path(folder, name)
             copy.parent.mkdir(parents=True, exist_ok=True)
             shutil.copy(HOME / name, copy)
-        status, printed, told = ended([f'{folder}/sourcemap', *words])
-    return status, printed.split(b'\n')[0], told
+        status, printed, result = ended([f'{folder}/sourcemap', *words])
+    return status, printed.split(b'\n')[0], result
 
 
 def answered_unproved(words):
     """The same of words that the program answers: the status, the line, how many lines standard error got, and
     whether they name the command that proves and builds."""
-    status, printed, told = unbuilt(words)
-    return status, printed, len(told.splitlines()), b'/sourcemap --build\'' in told
+    status, printed, result = unbuilt(words)
+    return status, printed, len(result.splitlines()), b'/sourcemap --build\'' in result
 
 
 def within(kilobytes):
@@ -118,20 +118,20 @@ TRIALS = [
     ('no words where nothing is built', lambda: unbuilt([]), (2, WRAPPER_USAGE, b'')),
     ('an answer where nothing is built', lambda: answered_unproved(LOOKUP), (0, ANSWER.strip(), 1, True)),
     ('other words where nothing is built', lambda: answered_unproved([b'lookup', b'0']), (2, USAGE.strip(), 1, True)),
-    ('want of memory before the run begins', short_of_memory, (1, b'', b'out of memory\n')),
+    ('out of memory before the run begins', short_of_memory, (1, b'', b'out of memory\n')),
 ]
 
 
 def main():
     build_missing([TOOL])
-    faults = 0
+    failures = 0
     for name, run, want in TRIALS:
-        told = run()
-        if told != want:
-            faults += 1
-            print(f'{name}: {told}, and not {want}')
-    print(f'{len(TRIALS) - faults} as they should be, {faults} not')
-    return 1 if faults else 0
+        result = run()
+        if result != want:
+            failures += 1
+            print(f'{name}: {result}, and not {want}')
+    print(f'{len(TRIALS) - failures} as they should be, {failures} not')
+    return 1 if failures else 0
 
 
 if __name__ == '__main__':

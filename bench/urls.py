@@ -1,7 +1,7 @@
 """What the scripts know of URLs, after the URL Standard, and of paths as URLs. Stated here anew; nothing of it is
 taken from the programs that are compared.
 
-Hosts are ASCII domains without a number at the end; of others nothing is said here, which is `Open`.
+Hosts are ASCII domains without a number at the end; the result for others is unspecified, `Open`.
 """
 import collections, re
 from urllib.parse import unquote_to_bytes
@@ -32,7 +32,7 @@ class Refused(Exception):
 
 
 class Open(Exception):
-    """Nothing is said here of such a host."""
+    """The result for such a host is unspecified."""
 
 
 def escaped(text, escapes):

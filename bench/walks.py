@@ -22,11 +22,11 @@ def units_of(letter):
 
 @functools.lru_cache(maxsize=4)
 def units_before(line):
-    """How many UTF-16 units stand before each character of a line, and at its end."""
+    """How many UTF-16 units precede each character of a line, and its end."""
     return array.array('L', itertools.accumulate(map(units_of, line), initial=0))
 
 
-def place_of(line, column):
+def position_of(line, column):
     """How many characters the shortest prefix of a line has that is so many units long or longer, None if none is."""
     units = range(len(line) + 1) if line.isascii() else units_before(line)
     at = bisect.bisect_left(units, column)
@@ -38,7 +38,7 @@ def slice_of(text, line, column, span):
     lines = lines_of(text)
     if line >= len(lines):
         return None
-    start, end = place_of(lines[line], column), place_of(lines[line], column + span)
+    start, end = position_of(lines[line], column), position_of(lines[line], column + span)
     return None if end is None else lines[line][start:end]
 
 
@@ -51,7 +51,7 @@ def continues(letter):
 
 
 def identifier(text, at=0):
-    """The longest identifier that the first word of a text from a place on starts with, None if there is none."""
+    """The longest identifier at the start of the first word from an index on, None if there is none."""
     start = SPACE.match(text, at).end()
     if start == len(text) or not starts(text[start]):
         return None
@@ -59,10 +59,10 @@ def identifier(text, at=0):
 
 
 def identifier_at(lines, token):
-    """The identifier at a token's place, the columns in UTF-16 units."""
+    """The identifier at a token's position, the columns in UTF-16 units."""
     if token.line >= len(lines):
         return None
-    at = place_of(lines[token.line], token.column)
+    at = position_of(lines[token.line], token.column)
     return None if at is None else identifier(lines[token.line], at)
 
 
@@ -71,13 +71,13 @@ class Walks:
 
     def __init__(self, record, text):
         self.tokens, self.names, self.lines = tokens_of_record(record), record.get('names') or [], lines_of(text)
-        self.places = [token[:2] for token in self.tokens]
+        self.positions = [token[:2] for token in self.tokens]
 
     def walk(self, position, is_doubled):
         """The closest token to a position and those before it. With `is_doubled` the walk comes to a closest token
-        that stands before the position twice."""
-        at = bisect.bisect_right(self.places, position)
-        first = bisect.bisect_left(self.places, position)
+        before the position twice."""
+        at = bisect.bisect_right(self.positions, position)
+        first = bisect.bisect_left(self.positions, position)
         end = min(at, first + 1)
         tokens = self.tokens[max(0, end - TOKENS):end][::-1]
         return (tokens[:1] * (is_doubled and at == first) + tokens)[:TOKENS]
@@ -104,7 +104,7 @@ class Guesses:
         found = innermost(self.record, position)
         if found is None:
             return None
-        record, place = found
+        record, where = found
         if id(record) not in self.walks:
             self.walks[id(record)] = Walks(record, self.text)
-        return self.walks[id(record)].guessed_name(place, minified, is_doubled)
+        return self.walks[id(record)].guessed_name(where, minified, is_doubled)

@@ -1,5 +1,5 @@
 // answers.mjs MAP POSITIONS: for each line LINE:COLUMN of POSITIONS, which a tab may end, the original position; none where
-// the closest token has no source or stands on another line.
+// the closest token has no source or is on another line.
 import { readFileSync } from 'node:fs';
 import { FlattenMap, originalPositionFor } from '../node/lib/index.mjs';
 

@@ -17,7 +17,7 @@ const MOST_MODULES: usize = 12;
 const MOST_ITEMS: usize = 20;
 
 /// An error by its text, one of `scroll` by its name.
-fn fault(error: &Error) -> Value {
+fn error_value(error: &Error) -> Value {
     match error {
         Error::Scroll(_) => json!("Scroll"),
         error => json!(named(error)),
@@ -27,17 +27,17 @@ fn fault(error: &Error) -> Value {
 fn module(found: Result<Option<RamBundleModule<'_>>>) -> Value {
     match found {
         Ok(found) => json!(found.map(|found| json!([found.id(), text_of(found.data())]))),
-        Err(error) => fault(&error),
+        Err(error) => error_value(&error),
     }
 }
 
 fn bundle_parts(parsed: Result<RamBundle<'_>>, numbers: &Value) -> Value {
     let bundle = match parsed {
         Ok(bundle) => bundle,
-        Err(error) => return fault(&error),
+        Err(error) => return error_value(&error),
     };
     let numbers = numbers.as_array().map_or(&[][..], Vec::as_slice);
-    let asked = numbers.iter().map(|number| {
+    let answers = numbers.iter().map(|number| {
         module(bundle.get_module(number.as_u64().unwrap_or_default() as usize))
     });
     let items = bundle.iter_modules().take(MOST_MODULES).map(|item| module(item.map(Some)));
@@ -46,9 +46,9 @@ fn bundle_parts(parsed: Result<RamBundle<'_>>, numbers: &Value) -> Value {
         bundle.module_count(),
         match bundle.startup_code() {
             Ok(code) => json!([text_of(code)]),
-            Err(error) => fault(&error),
+            Err(error) => error_value(&error),
         },
-        asked.collect::<Value>(),
+        answers.collect::<Value>(),
         items.collect::<Value>(),
     ])
 }
@@ -76,7 +76,7 @@ fn item(found: Result<(String, SourceView, SourceMap)>) -> Value {
             map.names().collect::<Vec<_>>(),
             map.tokens().map(token_parts).collect::<Vec<_>>(),
         ]),
-        Err(error) => fault(&error),
+        Err(error) => error_value(&error),
     }
 }
 
@@ -87,7 +87,7 @@ fn items(parsed: Result<RamBundle<'_>>, index: &str) -> Value {
     };
     match parsed.and_then(|bundle| split(&bundle)) {
         Ok(items) => items,
-        Err(error) => fault(&error),
+        Err(error) => error_value(&error),
     }
 }
 

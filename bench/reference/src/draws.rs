@@ -20,23 +20,23 @@ impl Draws {
         third ^ (third >> 31)
     }
 
-    /// A position at a token, or up to three columns behind it. The origin for a map without tokens.
+    /// A position at a token, or up to three columns after it. (0, 0) for a map without tokens.
     pub fn beside_token(&mut self, map: &SourceMap) -> (u32, u32) {
-        let place = self.next();
-        let behind = (self.next() % 4) as u32;
-        let index = place
+        let drawn = self.next();
+        let columns = (self.next() % 4) as u32;
+        let index = drawn
             .checked_rem(u64::from(map.get_token_count()))
             .unwrap_or(0);
         match map.get_token(index as usize) {
             Some(token) => (
                 token.get_dst_line(),
-                token.get_dst_col().saturating_add(behind),
+                token.get_dst_col().saturating_add(columns),
             ),
             None => (0, 0),
         }
     }
 
-    /// A position on a line of the map or on one of two behind them, at a column of any length.
+    /// A position on a line of the map or on one of the two after them, at any column.
     pub fn anywhere(&mut self, map: &SourceMap) -> (u32, u32) {
         let last = map
             .tokens()

@@ -139,10 +139,10 @@ fn write_tokens(map: &SourceMap, output: &mut Output) -> io::Result<()> {
     Ok(())
 }
 
-/// A line of an answer to a lookup, with the token's place in the generated text if that is asked.
-fn write_answer(token: Option<Token<'_>>, is_placed: bool, output: &mut Output) -> io::Result<()> {
+/// A line of an answer to a lookup, with the token's generated position on request.
+fn write_answer(token: Option<Token<'_>>, is_absolute_source: bool, output: &mut Output) -> io::Result<()> {
     match token {
-        Some(token) if is_placed => writeln!(output, "{token:#}"),
+        Some(token) if is_absolute_source => writeln!(output, "{token:#}"),
         Some(token) => writeln!(output, "{token}"),
         None => writeln!(output, "none"),
     }
@@ -151,14 +151,14 @@ fn write_answer(token: Option<Token<'_>>, is_placed: bool, output: &mut Output) 
 fn write_answers(
     map: &DecodedMap,
     positions: &str,
-    is_placed: bool,
+    is_absolute_source: bool,
     output: &mut Output,
 ) -> Result<()> {
     for position in positions.lines() {
         let (line, column) = position.split_once(' ').unwrap_or_default();
         match (line.parse(), column.parse()) {
             (Ok(line), Ok(column)) => {
-                write_answer(map.lookup_token(line, column), is_placed, output)?
+                write_answer(map.lookup_token(line, column), is_absolute_source, output)?
             }
             _ => return Err(io::Error::other(format!("no position: {position}")).into()),
         }
@@ -198,7 +198,7 @@ fn write_stat(map: DecodedMap, output: &mut Output) -> io::Result<()> {
 fn write_fault<T>(read: Result<T>, output: &mut Output) -> Result<()> {
     match read {
         Ok(_) => Ok(writeln!(output, "none")?),
-        Err(fault) => Ok(writeln!(output, "{fault}")?),
+        Err(error) => Ok(writeln!(output, "{error}")?),
     }
 }
 

@@ -14,7 +14,7 @@ use std::os::unix::ffi::OsStrExt;
 use std::panic;
 use std::path::Path;
 
-/// The bytes that a text stands for, each character for the byte of its number.
+/// The bytes of a text, one for each character, by its code.
 pub fn bytes_of(text: &str) -> Vec<u8> {
     text.chars().map(|letter| letter as u8).collect()
 }

@@ -64,7 +64,7 @@ fn drawn_positions(map: &SourceMap) -> Vec<(u32, u32)> {
     (0..POSITIONS).map(|_| draws.beside_token(map)).collect()
 }
 
-/// Where every 128th token stands, from the last one down.
+/// The position of every 128th token, from the last one down.
 fn walk_starts(map: &SourceMap) -> Vec<(u32, u32)> {
     (0..map.get_token_count() as usize)
         .rev()

@@ -13,7 +13,7 @@ fn number(question: &Value, at: usize) -> u32 {
 /// An answer as JSON text, or `panic`.
 pub fn as_line(answer: impl FnOnce() -> Value) -> String {
     panic::catch_unwind(AssertUnwindSafe(answer))
-        .map_or_else(|_| "panic".to_owned(), |told| told.to_string())
+        .map_or_else(|_| "panic".to_owned(), |answer| answer.to_string())
 }
 
 /// The name of the function at a line, a column and a minified name.
@@ -26,8 +26,8 @@ pub fn write_names(
     panic::set_hook(Box::new(|_| ()));
     for question in questions {
         let (line, column, name) = (number(question, 0), number(question, 1), question[2].as_str());
-        let told = || json!(map.get_original_function_name(line, column, name, view));
-        writeln!(output, "{}", as_line(told))?;
+        let answer = || json!(map.get_original_function_name(line, column, name, view));
+        writeln!(output, "{}", as_line(answer))?;
     }
     Ok(())
 }
@@ -47,11 +47,11 @@ pub fn write_slices(view: &SourceView, questions: &[Value], output: &mut Output)
     for question in questions {
         let (line, column, span) = (number(question, 0), number(question, 1), number(question, 2));
         let is_line = question.as_array().is_some_and(|parts| parts.len() == 1);
-        let told = || match is_line {
+        let answer = || match is_line {
             true => json!(view.get_line(line).map(summed)),
             false => json!(view.get_line_slice(line, column, span)),
         };
-        writeln!(output, "{}", as_line(told))?;
+        writeln!(output, "{}", as_line(answer))?;
     }
     writeln!(output, "{}", view.line_count())
 }

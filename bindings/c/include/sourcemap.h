@@ -22,7 +22,7 @@
 ** writes nothing but its sm_error. Where several errors apply, it names one.
 **
 ** A text that a call writes to an sm_text is not copied. It points into the
-** handle that it was asked of (the name that sm_function_name() writes into its
+** handle that it was read from (for sm_function_name(), into its
 ** map), and is valid until a call changes, fills or closes that handle. Calls
 ** whose comment says "changes" change their first handle; all others leave it as
 ** it is.
@@ -69,7 +69,7 @@ extern "C" {
 typedef uint32_t sm_code;
 
 #define SM_OK 0u
-#define SM_IO 1u                    /* a junk header is faulty, or a line before a reference is not UTF-8 */
+#define SM_IO 1u                    /* a junk header is invalid, or a line before a reference is not UTF-8 */
 #define SM_UTF8 2u                  /* bytes that should be text are not UTF-8 */
 #define SM_RANGE 3u                 /* a range passes the end of a bundle: start, size, length */
 #define SM_BAD_JSON 4u              /* number 0: not JSON; 1: a field has the wrong type */
@@ -84,7 +84,7 @@ typedef uint32_t sm_code;
 #define SM_CANNOT_FLATTEN 13u       /* an index map can't become one regular map; the text says why */
 #define SM_INVALID_BUNDLE_MAGIC 14u /* a bundle does not begin with its magic number */
 #define SM_INVALID_BUNDLE_INDEX 15u /* a bundle has no module of that number */
-#define SM_INVALID_BUNDLE_ENTRY 16u /* a bundle's entry of a module is faulty */
+#define SM_INVALID_BUNDLE_ENTRY 16u /* a bundle's entry of a module is invalid */
 #define SM_NOT_A_BUNDLE 17u         /* there is no bundle */
 #define SM_INVALID_RANGE_INDEX 18u  /* kept; no call returns it */
 #define SM_INVALID_BASE64 19u       /* `number` is the character that is no digit */
@@ -170,8 +170,8 @@ typedef struct sm_token {
 } sm_token;
 
 /* The answer to a position: `found` says whether there is a closest token, at
-** the position or before it. The token is as it stands in its map, but that the
-** `original_column` of a range token on the line asked counts on to the position.
+** the position or before it. The token is as in its map, but the `original_column`
+** of a range token on the line looked up counts on to the position.
 ** Of an index map, `line` and `column` count from where the section that answered
 ** begins, and `source` and `name` are ids in its map. Where sm_lookup_many()
 ** finds nothing, all else is 0. */
@@ -181,7 +181,7 @@ typedef struct sm_found {
 } sm_found;
 
 /* How many items a map has. An index map has sections alone; the others have
-** no sections. 4294967295 stands for more, too. */
+** no sections. 4294967295 also means more. */
 typedef struct sm_counts {
     uint32_t tokens;
     uint32_t sources;
@@ -278,7 +278,7 @@ sm_code sm_module_path(sm_map *map, uint32_t id, sm_text *text);
 ** LOOK UP
 **
 ** The closest token to a position is the first one at the position, or else the
-** last one before it, whichever line it stands on. In a map without sections, a
+** last one before it, whichever line it is on. In a map without sections, a
 ** caller who wants a token of the same line compares `token.line`. In an index
 ** map the section that begins last at the position or before it answers, of
 ** several at the very position the first; a section without a map answers
@@ -290,7 +290,7 @@ sm_code sm_module_path(sm_map *map, uint32_t id, sm_text *text);
 ** earlier call: look at the code. */
 sm_code sm_lookup(sm_map *map, uint32_t line, uint32_t column, sm_found *found);
 
-/* Answers each position in turn, as many as stand in both arrays. Returns how
+/* Answers each position in turn, as many as both arrays have. Returns how
 ** many it answered: 0 if the handle holds no map. */
 size_t sm_lookup_many(sm_map *map, const sm_position *positions, size_t count, sm_found *found, size_t length);
 
@@ -306,12 +306,12 @@ sm_code sm_lookup_name(sm_map *map, uint32_t line, uint32_t column, sm_text *tex
 ** map that was opened. */
 sm_code sm_trace(sm_map *map, const uint8_t *positions, size_t length, sm_bytes *text, sm_error *error);
 
-/* The name of the function that a position stands in. A Hermes map has it
+/* The name of the function that contains a position. A Hermes map has it
 ** itself, for line 0; of other maps it is guessed from the generated text in
 ** `view` and the minified name of the function. SM_ABSENT where there is none;
 ** SM_WRONG_KIND of a map that needs a view where `view` holds none; SM_UTF8 if
 ** the minified name is not UTF-8. A Hermes map looks at neither `minified` nor
-** `view`; of one whose functions stand out of order some name or none comes. An
+** `view`; if its functions are unsorted, the name is unspecified. An
 ** index map guesses along the section that answers, also where that is a Hermes
 ** map. */
 sm_code sm_function_name(sm_map *map, uint32_t line, uint32_t column, const uint8_t *minified, size_t length,
@@ -332,16 +332,16 @@ sm_code sm_hermes_function_name(sm_map *map, uint32_t offset, sm_text *text);
 ** their first use, resolved against `sourceRoot`, which goes, as does the ignore
 ** list. Removes the names if `with_names` is false, the contents if
 ** `with_contents` is. From each source the first of `prefixes` that it begins with
-** is cut, completed by `/`. The prefix `~` stands for the longest folder that all
+** is cut, completed by `/`. The prefix `~` means the longest folder that all
 ** sources which are absolute paths have in common, before `sourceRoot`, and is
 ** tried last. Hermes maps keep their scopes; of sources with one text those of the
 ** one used first. SM_WRONG_KIND of an index map. */
 sm_code sm_rewrite(sm_map *map, bool with_names, bool with_contents, const sm_text *prefixes, size_t count,
                    sm_error *error);
 
-/* Makes an index map one regular map. Where each section, with its tokens, stands
-** before the next section, that answers wherever the index map does, and the
-** same. SM_CANNOT_FLATTEN if a section has no map, there are too many sources or
+/* Flattens an index map to a regular map. If each section and all of its tokens
+** come before the next section, the regular map answers wherever the index map
+** does, and the same. SM_CANNOT_FLATTEN if a section has no map, there are too many sources or
 ** names, or a position would pass 4294967295; SM_WRONG_KIND of other maps. */
 sm_code sm_flatten(sm_map *map, sm_error *error);
 
@@ -435,7 +435,7 @@ sm_code sm_view_text(sm_view *view, sm_text *text);
 sm_code sm_view_count(sm_view *view, size_t *lines);
 
 /* A line without its end, and a slice of one: `span` UTF-16 units from column
-** `column` on. A column inside of a pair of units stands for the one after the
+** `column` on. A column inside of a pair of units counts as the one after the
 ** pair. SM_ABSENT if there is no such line or slice. */
 sm_code sm_view_line(sm_view *view, uint32_t line, sm_text *text);
 sm_code sm_view_slice(sm_view *view, uint32_t line, uint32_t column, uint32_t span, sm_text *text);
@@ -474,14 +474,14 @@ sm_code sm_bundle_startup(sm_bundle *bundle, sm_text *bytes, sm_error *error);
 
 /* The bytes of a module. SM_ABSENT if the module of that number is missing,
 ** SM_INVALID_BUNDLE_INDEX if the number is past the last, SM_RANGE past the end,
-** SM_INVALID_BUNDLE_ENTRY of a faulty entry. The bytes need not be UTF-8. */
+** SM_INVALID_BUNDLE_ENTRY of an invalid entry. The bytes need not be UTF-8. */
 sm_code sm_bundle_module(sm_bundle *bundle, size_t id, sm_text *bytes, sm_error *error);
 
 /* Fills `split` with the modules of a bundle, each with its name, its text and
 ** its map, by the index map of the bundle. Items count from 0, and are not
 ** numbered as modules are: a missing module, and one with no line in the index
 ** map, has none. SM_NOT_A_BUNDLE if the index map has no list of lines,
-** SM_CANNOT_FLATTEN as sm_flatten(). A faulty module is an item too, which fails
+** SM_CANNOT_FLATTEN as sm_flatten(). An invalid module is an item too, which fails
 ** with SM_INVALID_BUNDLE_ENTRY. Twelve bytes may claim 4294967295 modules: look at
 ** sm_bundle_count() before a bundle of a stranger is split. */
 sm_code sm_bundle_split(sm_bundle *bundle, sm_map *index, sm_split *split, sm_error *error);

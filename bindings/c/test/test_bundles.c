@@ -91,7 +91,7 @@ static void test_splitting(void)
     CHECK_NUMBER(sm_kind(&split), SM_KIND_SPLIT);
     CHECK_HOLDS(&bundle, "a bundle of 1");
     CHECK_NUMBER(sm_kind(&index), SM_KIND_INDEX);
-    /* the split stands alone */
+    /* the split is independent of its inputs */
     sm_close(&bundle);
     sm_close(&index);
     CHECK_NUMBER(sm_split_count(&split, &items), SM_OK);

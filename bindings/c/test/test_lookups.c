@@ -41,7 +41,7 @@ static void test_index(void)
     sm_map map = SM_EMPTY;
     sm_error error = { 0 };
     OPEN(&map, INDEX_MAP);
-    /* the token stands where it stands in the map of its section */
+    /* the token has its position in the map of its section */
     CHECK_FOUND(&map, 10, 4, 0, 0, 0, 0, 0, SM_NONE, false);
     CHECK_FOUND(&map, 10, 9, 0, 0, 0, 0, 0, SM_NONE, false);
     CHECK_NUMBER(sm_flatten(&map, &error), SM_OK);

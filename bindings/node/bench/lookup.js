@@ -8,7 +8,7 @@
 // milliseconds of processor time in which each way opens the map and answers a
 // million positions: the best of some rounds, in which all ways take turns.
 // `each by addon` asks the library by a call into the addon for each position;
-// it is not offered, and stands here to show why.
+// it is not offered; it is here to show why.
 
 const { readFileSync } = require('node:fs');
 const sourcemap = require('..');

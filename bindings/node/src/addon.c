@@ -418,7 +418,7 @@ static napi_value write_json(napi_env env, napi_callback_info info) {
 /* An answer has four words: source, original line from 1, original column, name. */
 #define ANSWER_WORDS 4
 
-/* Writes what the closest token says, if it stands on the line asked and has a
+/* Writes the closest token's fields, if it is on the line looked up and has a
 ** source. Otherwise there is no source, and no name. */
 static void write_answer(const sm_found *found, uint32_t line, uint32_t *answer) {
     const sm_token *token = &found->token;
@@ -451,15 +451,15 @@ static napi_value lookup(napi_env env, napi_callback_info info) {
 
 /* Answers up to CHUNK positions, each a line from 1 and a column from 0. */
 static void lookup_chunk(held_map *held, const uint32_t *positions, size_t count, uint32_t *answers) {
-    sm_position asked[CHUNK];
+    sm_position queries[CHUNK];
     sm_found found[CHUNK] = {0};
     for (size_t i = 0; i < count; i++) {
-        asked[i].line = positions[2 * i] - 1;
-        asked[i].column = positions[2 * i + 1];
+        queries[i].line = positions[2 * i] - 1;
+        queries[i].column = positions[2 * i + 1];
     }
-    sm_lookup_many(&held->map, asked, count, found, CHUNK);
+    sm_lookup_many(&held->map, queries, count, found, CHUNK);
     for (size_t i = 0; i < count; i++) {
-        write_answer(&found[i], asked[i].line, answers + ANSWER_WORDS * i);
+        write_answer(&found[i], queries[i].line, answers + ANSWER_WORDS * i);
     }
 }
 

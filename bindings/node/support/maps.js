@@ -12,11 +12,16 @@ function* filesBelow(folder) {
   }
 }
 
-/** Folders with real maps: those of the package's own files, and a corpus if there is one. */
+/** A corpus, if there is one. Its made variants are left out: the peer reads an empty segment as a token. */
+const CORPUS = process.env.SOURCEMAP_CORPUS
+  ? [process.env.SOURCEMAP_CORPUS]
+  : ['real', 'gen', 'chain'].map((folder) => path.join('/tmp/corpus/maps', folder));
+
+/** Folders with real maps: those of the package's own files, and of the corpus. */
 const FOLDERS = [
   peerFolder && path.join(peerFolder, '@jridgewell'),
   peerFolder && path.join(peerFolder, '@ampproject'),
-  process.env.SOURCEMAP_CORPUS ?? '/tmp/corpus/maps',
+  ...CORPUS,
 ].filter((folder) => folder && existsSync(folder));
 
 /** Each real map, at most so many, as its file and its text without a junk header. */

@@ -58,10 +58,10 @@ test('the memory of a map is reported to the collector', async () => {
 function inWorker(source, data) {
   return new Promise((resolve, reject) => {
     const worker = new Worker(source, { eval: true, workerData: data });
-    let said;
-    worker.on('message', (message) => (said = message));
+    let answer;
+    worker.on('message', (message) => (answer = message));
     worker.on('error', reject);
-    worker.on('exit', (code) => (code === 0 ? resolve(said) : reject(new Error(`the worker ended with ${code}`))));
+    worker.on('exit', (code) => (code === 0 ? resolve(answer) : reject(new Error(`the worker ended with ${code}`))));
   });
 }
 
@@ -82,8 +82,8 @@ test('workers load the addon side by side, and close their maps when they end', 
   // columns 0, 1, then 2 for 2 to 8: 15 of 9 in turn
   const expected = { sum: 22222 * 15 + 0 + 1, error: 'INCOMPATIBLE' };
   for (let round = 0; round < 3; round++) {
-    const said = await Promise.all([1, 2, 3].map(() => inWorker(WORK, data)));
-    assert.deepEqual(said, [expected, expected, expected]);
+    const answer = await Promise.all([1, 2, 3].map(() => inWorker(WORK, data)));
+    assert.deepEqual(answer, [expected, expected, expected]);
   }
   assert.ok(native.openCount() <= before);
 });

@@ -49,7 +49,7 @@ test('is required and imported by its name', () => {
   });
 });
 
-test('has the calls of the package that it stands for', async (t) => {
+test('has the calls of the package that it replaces', async (t) => {
   const { peer } = require('../support/peer.js');
   if (peer === null) return t.skip('no @jridgewell/trace-mapping');
   const ours = await import('../lib/index.mjs');

@@ -1,7 +1,7 @@
 """Frames of JavaScript stack traces.
 
 A trace is text that a program printed, not data of a fixed form, so each line is read on its own: it is a frame with a
-position, or it is kept as it stands.
+position, or it is kept unchanged.
 
 What the engines count from, in the text of a trace:
 
@@ -112,7 +112,7 @@ def _parse_at(text: str, at: re.Match[str]) -> Optional[Frame]:
 
 
 def _evaluated_script(evaluated: re.Match[str]) -> Optional[Span]:
-    """Where the location of evaluated code stands, if it names a script."""
+    """The location of evaluated code, if it names a script."""
     if evaluated['own'] is None or evaluated['own'].startswith('<anonymous>'):
         return None
     return Span(*evaluated.span('own'))

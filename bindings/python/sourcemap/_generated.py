@@ -26,7 +26,7 @@ class Generated(NamedTuple):
 
 
 def open_map(path: Path) -> Map:
-    """Reads a map from a file. An index map is made flat, so that its sources and contents have ids."""
+    """Reads a map from a file. An index map is flattened, so that its sources and contents have ids."""
     return _flat(Map.load(path))
 
 
@@ -52,7 +52,7 @@ def _referenced(url: str, path: Path, root: Optional[Path]) -> Optional[Path]:
 
 
 def map_beside(path: Path) -> Path:
-    """The path of the map that stands beside a generated file."""
+    """The path of the map beside a generated file."""
     return Path(f'{path}.map')
 
 

@@ -17,7 +17,7 @@ if TYPE_CHECKING:
 
 Self = TypeVar('Self', bound='HandleOwner')
 
-# Bytes, or a text that stands for its UTF-8 bytes. Any other buffer does too, but type checkers know these alone.
+# Bytes, or a text, of which the UTF-8 bytes are taken. Any other buffer does too, but type checkers know these alone.
 Data = Union[str, bytes, bytearray, memoryview, 'mmap', 'array[int]']
 
 _EMPTY = create_string_buffer(1)
@@ -153,7 +153,7 @@ class HandleOwner:
             raise
 
     def _read(self, call: library.Call, *arguments: Any) -> bool:
-        """Makes a call that writes no text of its failure. Returns whether there is what was asked for."""
+        """Makes a call that writes no text of its failure. Returns whether it found something."""
         with self._lock:
             code = call(self._at, *arguments)
             if code == library.WRONG_KIND:

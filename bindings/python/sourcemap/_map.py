@@ -32,7 +32,7 @@ _unpack_found = FOUND.unpack
 
 
 class _Cached(Dict[int, Optional[str]]):
-    """Texts of a map by id, read when they are first asked for. Used under the map's lock."""
+    """Texts of a map by id, read on first use. Used under the map's lock."""
 
     def __init__(self, call: library.Call, at: Any) -> None:
         super().__init__({library.NONE: None})
@@ -66,7 +66,7 @@ class Section:
 
     @property
     def map(self) -> Optional[Map]:
-        """A copy of the map of the section, made when it is first asked for; None where it holds none."""
+        """A copy of the map of the section, made on first use; None if the section has no map."""
         if self.has_map and self._map is None:
             copied = Map._empty()
             self._index._run(library.section, self._id, copied._at)
@@ -134,8 +134,8 @@ class Map(HandleOwner):
     def _begin(self) -> None:
         super()._begin()
         # what one lookup asks and finds
-        self._asked = bytearray(POSITION.size)
-        self._asked_at = byref((c_char * POSITION.size).from_buffer(self._asked))
+        self._position = bytearray(POSITION.size)
+        self._position_at = byref((c_char * POSITION.size).from_buffer(self._position))
         self._found = bytearray(FOUND.size)
         self._found_at = byref((c_char * FOUND.size).from_buffer(self._found))
 
@@ -207,7 +207,7 @@ class Map(HandleOwner):
 
     @property
     def sources(self) -> Sequence[str]:
-        """The sources by id, resolved against `source_root`. Each is read when it is asked for.
+        """The sources by id, resolved against `source_root`. Each is read on first use.
 
         Like `names`, `contents`, `ignore_list` and the tokens, an index map has none of its own, and raises
         `WrongKind`: look at its sections, or flatten it.
@@ -216,12 +216,12 @@ class Map(HandleOwner):
 
     @property
     def names(self) -> Sequence[str]:
-        """The names by id. Each is read when it is asked for."""
+        """The names by id. Each is read on first use."""
         return LazySequence(lambda: self._counted('names'), self._name)
 
     @property
     def contents(self) -> Sequence[Optional[str]]:
-        """The contents of each source, by its id; None where the map has none. Each is read when it is asked for."""
+        """The contents of each source, by its id; None if the map has none. Each is read on first use."""
         return LazySequence(lambda: self._counted('sources'), lambda id: self._text(library.contents, id))
 
     def _source(self, id: int) -> str:
@@ -320,9 +320,9 @@ class Map(HandleOwner):
         with self._lock:
             return list(starmap(self._token, rows))
 
-    def _section_tokens_of(self, asked: Iterable[Tuple[Any, ...]], rows: Iterable[Tuple[Any, ...]]) -> List[Any]:
+    def _section_tokens_of(self, positions: Iterable[Tuple[Any, ...]], rows: Iterable[Tuple[Any, ...]]) -> List[Any]:
         with self._lock:
-            return [self._section_token(*position, *row) for position, row in zip(asked, rows)]
+            return [self._section_token(*position, *row) for position, row in zip(positions, rows)]
 
     def _token(self, line: int, column: int, original_line: int, original_column: int, source: int, name: int,
                is_range: bool, found: bool = True) -> Optional[Token]:
@@ -336,7 +336,7 @@ class Map(HandleOwner):
 
     def _section_token(self, asked_line: int, asked_column: int, line: int, column: int, original_line: int,
                        original_column: int, source: int, name: int, is_range: bool, found: bool) -> Optional[Token]:
-        """A token of an index map. Its ids are those of the section's map, so its texts are asked for by position."""
+        """A token of an index map. Its ids are those of the section's map, so its texts are read by position."""
         if not found:
             return None
         name_bytes = read_text(library.lookup_name, self._at, asked_line, asked_column)
@@ -349,7 +349,7 @@ class Map(HandleOwner):
 
     def lookup(self, line: int, column: int) -> Optional[Token]:
         """The closest token to a generated position: the first one at the position, or else the last one before it,
-        whichever line that stands on. None where there is none. In an index map the section answers that begins last
+        whichever line that is on. None if there is none. In an index map the section answers that begins last
         at the position or before it.
 
         >>> import sourcemap
@@ -357,16 +357,16 @@ class Map(HandleOwner):
         >>> token = map.lookup(0, 5)
         >>> token.source, token.line, token.column, token.name
         ('coolstuff.js', 0, 4, 'x')
-        >>> map.lookup(1000, 0).generated_line  # compare it where only tokens of the asked line count
+        >>> map.lookup(1000, 0).generated_line  # compare it if only tokens of the same line count
         0
         """
         with self._lock:
             try:
-                _pack_position(self._asked, 0, line, column)
+                _pack_position(self._position, 0, line, column)
             except struct.error:
                 uint32('line', line), uint32('column', column)
                 raise
-            if not _lookup_one(self._at, self._asked_at, _ONE, self._found_at, _ONE):
+            if not _lookup_one(self._at, self._position_at, _ONE, self._found_at, _ONE):
                 raise self._closed_error()
             if self._kind == 'index':
                 return self._section_token(line, column, *_unpack_found(self._found))
@@ -393,11 +393,11 @@ class Map(HandleOwner):
         at = (c_char * 0).from_buffer(found)
         with self._lock:
             self._check_open()
-            asked = words.tobytes() if self._kind == 'index' else None
+            copied = words.tobytes() if self._kind == 'index' else None
             shared = self._empty()
             run(library.share, self._at, shared._at)
             library.lookup_many(self._at, pointer_to_words(words), count, at, count)
-        return Answers(shared._opened(), asked, memoryview(found)[:count * FOUND.size])
+        return Answers(shared._opened(), copied, memoryview(found)[:count * FOUND.size])
 
     def trace(self, positions: str) -> str:
         """The answers to a list of positions, LINE:COLUMN on each line: for each a line SOURCE:LINE:COLUMN, with
@@ -414,7 +414,7 @@ class Map(HandleOwner):
             return text.read().decode()
 
     def function_name(self, line: int, column: int, minified: str = '', view: Optional[View] = None) -> Optional[str]:
-        """The name of the function that a generated position stands in; None where it is not known.
+        """The name of the function that contains a generated position; None if it is not known.
 
         A Hermes map has it itself, for line 0. Of other maps it is guessed from the generated text in `view` and the
         minified name of the function.
@@ -439,8 +439,8 @@ class Map(HandleOwner):
 
     def rewrite(self, *, names: bool = True, contents: bool = True, strip_prefixes: Iterable[str] = ()) -> None:
         """Keeps only the sources, names and contents that tokens use, in the order of their first use; the root and
-        the ignore list go. Names or contents go too if asked. From each source it cuts the first of the prefixes that
-        the source begins with; `'~'` stands for the prefix that all sources have in common, and comes last.
+        the ignore list go. Names or contents go too on request. From each source it cuts the first of the prefixes that
+        the source begins with; `'~'` means the prefix that all sources have in common, and comes last.
 
         >>> import sourcemap
         >>> map = sourcemap.Map.loads('{"version":3,"sources":["/x/a.js","/x/b.js"],"names":[],"mappings":"ACAA"}')

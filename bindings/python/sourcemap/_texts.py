@@ -1,4 +1,4 @@
-"""Texts of an object by number, read when they are asked for."""
+"""Texts of an object by number, read on first use."""
 from __future__ import annotations
 
 import operator
@@ -8,7 +8,7 @@ Item = TypeVar('Item')
 
 
 class LazySequence(Sequence[Item]):
-    """A sequence whose items are read when they are asked for. It compares equal to any sequence of equal items."""
+    """A sequence whose items are read on first use. It compares equal to any sequence of equal items."""
 
     def __init__(self, count: Callable[[], int], read: Callable[[int], Item]) -> None:
         self._count = count

@@ -28,12 +28,12 @@ class Token(NamedTuple):
     """What a generated position maps to. Lines and columns count from 0, columns in UTF-16 units.
 
     `source`, `line` and `column` are the original position; all are None of a token without a source. The source is
-    resolved against `source_root`. `name` is the name that stands there in the source, or None. A token with
+    resolved against `source_root`. `name` is the name there in the source, or None. A token with
     `is_range` maps what follows it too, column by column.
 
-    `generated_line` and `generated_column` are where the token itself stands, which may be before the position that
-    was asked. `source_id` and `name_id` are the numbers in `Map.sources` and `Map.names`, or None; of an index map
-    they are None, since it has no sources of its own.
+    `generated_line` and `generated_column` are the generated position of the token itself, which may be before the
+    position looked up. `source_id` and `name_id` are the numbers in `Map.sources` and `Map.names`, or None; of an
+    index map they are None, since it has no sources of its own.
 
     >>> import sourcemap
     >>> with sourcemap.Map.load('bundle.js.map') as map:
@@ -95,7 +95,7 @@ def _packed(positions: Iterable[Position]) -> 'array[int]':
 
 class Answers(Sequence[Optional[Token]]):
     """The answers to many positions, in their order: a sequence of `Optional[Token]`, whose items are made when they
-    are asked for. They stay as they are when the map is changed or closed.
+    are read. They stay as they are when the map is changed or closed.
 
     The columns of all answers are there without a copy, as memoryviews, for those who compute with them. Where
     `found` is false, the other columns are 0; a source or name that is missing is `NONE`, 4294967295, and so are the
@@ -110,10 +110,10 @@ class Answers(Sequence[Optional[Token]]):
     ([0, 2], [4, 2])
     """
 
-    def __init__(self, map: Map, asked: Optional[bytes], found: memoryview) -> None:
+    def __init__(self, map: Map, positions: Optional[bytes], found: memoryview) -> None:
         """Made by `Map.lookup_many`. An index map needs the positions again, for the texts of their tokens."""
         self._map = map
-        self._asked = asked
+        self._positions = positions
         self._found = found.toreadonly()
 
     def _numbers(self, offset: int) -> memoryview:
@@ -183,9 +183,9 @@ class Answers(Sequence[Optional[Token]]):
 
     def _block(self, first: int, end: int) -> List[Optional[Token]]:
         found = FOUND.iter_unpack(self._found[first * FOUND.size:end * FOUND.size])
-        if self._asked is None:
+        if self._positions is None:
             return self._map._tokens_of(found)
-        return self._map._section_tokens_of(POSITION.iter_unpack(self._asked[first * POSITION.size:]), found)
+        return self._map._section_tokens_of(POSITION.iter_unpack(self._positions[first * POSITION.size:]), found)
 
     def __repr__(self) -> str:
         return f'<sourcemap.Answers to {len(self)} positions>'

@@ -63,7 +63,7 @@ class View(HandleOwner, Sequence[str]):
 
 
 class Reference(NamedTuple):
-    """The reference to its map that a generated text carries: the URL as it stands there, and whether its comment
+    """The reference to its map that a generated text carries: the URL as written there, and whether its comment
     begins with `//@`."""
 
     url: str

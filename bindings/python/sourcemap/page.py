@@ -25,7 +25,7 @@ LAST_LINE = 10_000_000
 def page_text(name: str, generated: str, map: Map) -> str:
     """The HTML of a page of a generated text, and of a map that is no index map. `name` is its title."""
     before, _, rest = TEMPLATE.read_text('utf-8').replace('{{TITLE}}', html.escape(name)).partition('{{DATA}}')
-    # In a script element `<` begins what may end it; in JSON it stands in strings alone.
+    # In a script element `<` begins what may end it; in JSON it occurs only in strings.
     data = json.dumps(_page_data(generated, map), ensure_ascii=False, separators=(',', ':')).replace('<', '\\u003c')
     return f'{before}{data}{rest}'
 
@@ -76,7 +76,7 @@ def add_arguments(parser: argparse.ArgumentParser) -> None:
 
 
 def run(arguments: argparse.Namespace) -> int:
-    """Writes the page. Returns the exit status; errors are raised."""
+    """Writes the page. Returns the exit status; errors are absolute_position."""
     text = arguments.generated.read_bytes()
     with _map_for(arguments.generated, text, arguments.map) as map:
         page = page_text(arguments.generated.name, text.decode('utf-8'), map)

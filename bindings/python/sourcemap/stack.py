@@ -1,7 +1,7 @@
 """`python -m sourcemap stack`: a JavaScript stack trace with original positions.
 
 The name of a frame's function is that of the function, where the library can tell it from the generated text. The
-name of the token at the position would be another one: that of what stands there, mostly of what is called.
+name of the token at the position would be another one: that of the expression there, mostly of what is called.
 """
 
 from __future__ import annotations

@@ -1,4 +1,4 @@
-/* A library that stands between the package and the real one. It stops the
+/* A library between the package and the real one. It stops the
 ** program where a call breaks what the header asks of its callers. calls.h,
 ** which owed.py writes, has all functions of the header. */
 #include <dlfcn.h>
@@ -39,7 +39,7 @@ static bool are_apart(const void *one, size_t size, const void *other, size_t ot
     return (const char *)one + size <= (const char *)other || (const char *)other + other_size <= (const char *)one;
 }
 
-/* Puts `to` where `from` stands in the list of handles in use, if it does. */
+/* Replaces `from` by `to` in the list of handles in use, if it is there. */
 static bool replace(const void *from, const void *to) {
     for (int i = 0; i < HANDLES; i++) {
         if (in_use[i] == from) {

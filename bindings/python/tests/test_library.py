@@ -39,7 +39,7 @@ def functions():
 class Declared(unittest.TestCase):
     def test_functions(self):
         header = declared()
-        # one position is asked of sm_lookup_many
+        # sm_lookup_many looks up one position
         self.assertEqual(set(header) - {'sm_lookup'}, {name for name, _ in functions()})
         for name, types in functions():
             with self.subTest(name):
@@ -140,7 +140,7 @@ class Installed(unittest.TestCase):
     @unittest.skipUnless(find_spec('pip') and find_spec('setuptools') and find_spec('wheel'),
                          'pip, setuptools or wheel is not installed')
     def test_by_pip_without_network(self):
-        """From a copy, since pip builds where the package stands."""
+        """From a copy, since pip builds in the package's folder."""
         shutil.copytree(FOLDER, f'{self.folder}/from', ignore=shutil.ignore_patterns('tests', '__pycache__'))
         run = subprocess.run([sys.executable, '-m', 'pip', 'install', '--no-build-isolation', '--no-index', '--no-deps',
                               '--disable-pip-version-check', '--target', f'{self.folder}/to', f'{self.folder}/from'],

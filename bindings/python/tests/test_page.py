@@ -296,7 +296,7 @@ class InBrowser(InFolder):
         self.assertEqual(self.status(), second)
         self.browser.move((5, 5))
         self.browser.move(self.middle('source', tag))
-        time.sleep(0.5)  # the mouse rests on the piece, which else stands for its first token
+        time.sleep(0.5)  # the mouse rests on the piece, which otherwise means its first token
         self.assertEqual(self.status(), second)
         self.browser.press('Enter')
         self.assertEqual(self.status(), first)
@@ -430,7 +430,7 @@ class InBrowser(InFolder):
             self.browser.use_colours(scheme)
             self.open(example.GENERATED, example.MAP)
             self.browser.click(self.middle('generated', 'Error('))
-            parts = '.token, .number, #status, h1, .heading'
+            parts = '.token, .number, #status, h1, .metadata'
             colours = self.ask(f'''Array.from(document.querySelectorAll("{parts}"), (each) => {{
                 let below = each;
                 while (getComputedStyle(below).backgroundColor === "rgba(0, 0, 0, 0)") below = below.parentElement;

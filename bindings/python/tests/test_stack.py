@@ -252,7 +252,7 @@ class Traces(unittest.TestCase):
         self.assertEqual(self.translated(trace, map=map), expected)
 
     def test_without_a_column(self) -> None:
-        """The line alone tells the original line only where all of its tokens agree."""
+        """The line alone determines the original line only if all of its tokens agree."""
         lines = self.root / 'dist' / 'lines.js'
         lines.write_text('a();b();\nc();\nd();\n', 'utf-8')
         # 0:0 and 0:4 -> 7:0 and 7:9; 1:0 -> 8:0; 1:2 -> 9:0; 2:0 has no source
@@ -297,7 +297,7 @@ class Traces(unittest.TestCase):
         self.assertEqual(translator.translate('a@dist/app.min.js:1:21')[0], 'readAll@../src/app.js:2:9')
 
     def test_without_a_root(self) -> None:
-        """A path is taken as it stands, and then by its ends below the current folder."""
+        """A path is taken unchanged, and then by its ends below the current folder."""
         rows = [
             f'@{self.generated}:1:21',
             f'@{self.generated.as_uri()}:1:21',

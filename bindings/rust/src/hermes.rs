@@ -54,7 +54,7 @@ impl SourceMapHermes {
     /// Returns the name of the function of a token of line 0, where Hermes maps
     /// have their tokens.
     pub fn get_scope_for_token(&self, token: Token<'_>) -> Option<&str> {
-        match token.asked() {
+        match token.looked_up() {
             (0, offset) => self.get_original_function_name(offset),
             _ => None,
         }

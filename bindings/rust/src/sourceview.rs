@@ -67,7 +67,7 @@ impl SourceView {
         self.handle.source()
     }
 
-    /// Returns the original name of the function that a token stands in, by its
+    /// Returns the original name of the function that contains a token, by its
     /// minified name. This view is the generated text of the token's map.
     pub fn get_original_function_name<'map>(
         &self,
@@ -75,7 +75,7 @@ impl SourceView {
         minified_name: &str,
     ) -> Option<&'map str> {
         let map = token.sourcemap().regular_handle();
-        map.function_name(token.asked(), minified_name, &self.handle)
+        map.function_name(token.looked_up(), minified_name, &self.handle)
     }
 
     /// Returns how many lines there are.

@@ -1,6 +1,6 @@
 //! The declarations of `sourcemap.h`, in its order.
 //!
-//! What a caller owes stands there, and the module `handle` keeps it.
+//! It lists what a caller owes, and the module `handle` keeps to it.
 
 // The header is declared whole, so that a test can compare both.
 #![allow(dead_code)]

@@ -143,7 +143,7 @@ impl MapHandle {
         unsafe { self.0.text(|map, text| ffi::sm_module_path(map, id, text)) }
     }
 
-    /// The closest token, with the source column of the position asked.
+    /// The closest token, with the original column of the position looked up.
     #[inline]
     pub fn lookup(&self, line: u32, column: u32) -> Option<RawToken> {
         let mut found = ffi::Found::NONE;

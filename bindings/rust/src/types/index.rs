@@ -29,7 +29,7 @@ pub struct SourceMapSectionIter<'a> {
 /// An index map: a list of sections with a map each.
 pub struct SourceMapIndex {
     handle: MapHandle,
-    // What follows is read from the handle when it is first asked for.
+    // What follows is read from the handle on first use.
     sections: OnceCell<Vec<SourceMapSection>>,
     module_offsets: OnceCell<Option<Vec<Option<u32>>>>,
     module_paths: OnceCell<Option<Vec<String>>>,

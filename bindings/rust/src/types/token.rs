@@ -51,7 +51,7 @@ impl RawToken {
 pub struct Token<'a> {
     sm: &'a SourceMap,
     raw: RawToken,
-    /// With the distance to the position asked, for a range token.
+    /// With the distance to the position looked up, for a range token.
     src_col: u32,
 }
 
@@ -63,25 +63,25 @@ impl<'a> Token<'a> {
         Token { sm, raw, src_col }
     }
 
-    /// The answer to a position: a token whose source column is that of the
-    /// position asked.
+    /// The answer to a position: a token whose original column is that of the
+    /// position looked up.
     #[inline]
-    pub(crate) fn answered(sm: &'a SourceMap, answer: RawToken, asked: (u32, u32)) -> Token<'a> {
+    pub(crate) fn answered(sm: &'a SourceMap, answer: RawToken, position: (u32, u32)) -> Token<'a> {
         let mut token = Token::listed(sm, answer);
-        if token.raw.is_range && token.raw.dst_line == asked.0 {
+        if token.raw.is_range && token.raw.dst_line == position.0 {
             token.raw.src_col = match token.src_col {
                 // The sum may be cut off here, so only the token itself says.
                 u32::MAX => sm
-                    .closest(asked)
+                    .closest(position)
                     .map_or(u32::MAX, |(_, token)| token.src_col),
-                column => column - (asked.1 - token.raw.dst_col),
+                column => column - (position.1 - token.raw.dst_col),
             };
         }
         token
     }
 
     /// The position that the token answers.
-    pub(crate) fn asked(&self) -> (u32, u32) {
+    pub(crate) fn looked_up(&self) -> (u32, u32) {
         let distance = self.src_col - self.raw.src_col;
         (self.raw.dst_line, self.raw.dst_col.saturating_add(distance))
     }
