@@ -90,8 +90,8 @@ impl SourceMapIndex {
         gathering.finish()
     }
 
-    // The number of tokens of all regular maps. No result depends on it; it avoids copies of a
-    // growing list.
+    // The number of tokens of the maps in its sections, without those of nested indexes. No result
+    // depends on it; it avoids copies of a growing list.
     fn token_capacity(&self) -> usize {
         let mut capacity: usize = 0;
         for section in &self.sections {
@@ -123,7 +123,7 @@ impl SourceMapSection {
 }
 
 impl DecodedMap {
-    // The number of its tokens; of an index, the sum.
+    // The number of its tokens, 0 for an index.
     fn token_capacity(&self) -> usize {
         match self {
             DecodedMap::Regular(map) => map.get_token_count() as usize,
