@@ -3,6 +3,7 @@
 #include <sourcemap.h>
 #include <stdio.h>
 #include <stdlib.h>
+#include <string.h>
 
 static uint8_t *read_file(const char *path, size_t *length)
 {
@@ -18,6 +19,18 @@ static uint8_t *read_file(const char *path, size_t *length)
     if (file)
         fclose(file);
     return bytes;
+}
+
+/* A number of decimal digits, at most 4294967295. */
+static int read_number(const char *word, uint32_t *number)
+{
+    unsigned long long value;
+    size_t digits = strspn(word, "0123456789");
+    if (digits == 0 || digits > 10 || word[digits] != '\0')
+        return 0;
+    value = strtoull(word, NULL, 10);
+    *number = (uint32_t)value;
+    return value <= UINT32_MAX;
 }
 
 static int print_original(sm_map *map, uint32_t line, uint32_t column)
@@ -45,7 +58,8 @@ int main(int count, char **words)
     size_t length = 0;
     int status = 1;
     uint8_t *bytes;
-    if (count != 4) {
+    uint32_t line, column;
+    if (count != 4 || !read_number(words[2], &line) || !read_number(words[3], &column)) {
         fputs("usage: lookup MAP LINE COLUMN\n", stderr);
         return 2;
     }
@@ -54,7 +68,7 @@ int main(int count, char **words)
         return 2;
     }
     if (sm_open(&map, bytes, length, &error) == SM_OK)
-        status = print_original(&map, (uint32_t)strtoul(words[2], NULL, 10), (uint32_t)strtoul(words[3], NULL, 10));
+        status = print_original(&map, line, column);
     else
         fprintf(stderr, "%s: %s\n", words[1], (const char *)error.text);
     sm_close(&map);

@@ -17,9 +17,10 @@
 ** sm_error also write the code, the numbers and the printed text of the error
 ** there. On success the sm_error is as it was. Any of these may return
 ** SM_OUT_OF_MEMORY, which is an error like the others: nothing has changed, and
-** the same call may be made again. Two calls differ: sm_builder_finish() empties
-** its builder, and sm_builder_add_tokens() may have added some. A call that fails
-** writes nothing but its sm_error. Where several errors apply, it names one.
+** the same call may be made again. Three calls differ: sm_builder_finish() empties
+** its builder, sm_sections_finish() may empty its sections, and
+** sm_builder_add_tokens() may have added some. A call that fails writes nothing but
+** its sm_error. Where several errors apply, it names one.
 **
 ** A text that a call writes to an sm_text is not copied. It points into the
 ** handle that it was read from (for sm_function_name(), into its
@@ -104,6 +105,7 @@ typedef uint32_t sm_code;
 #define SM_KIND_BUNDLE 6u
 #define SM_KIND_SPLIT 7u
 #define SM_KIND_BYTES 8u
+#define SM_KIND_SECTIONS 9u
 
 /*
 ** TYPES
@@ -118,6 +120,7 @@ typedef struct sm_handle {
 
 typedef sm_handle sm_map;     /* a map of any kind */
 typedef sm_handle sm_builder; /* a map that is being built */
+typedef sm_handle sm_sections; /* sections of an index map that is being made */
 typedef sm_handle sm_view;    /* a text with the table of its lines */
 typedef sm_handle sm_bundle;  /* a RAM bundle */
 typedef sm_handle sm_split;   /* the modules of a RAM bundle with their maps */
@@ -207,71 +210,102 @@ typedef struct sm_section_start {
 ** OPEN, SHARE AND CLOSE
 */
 
-/* Returns SM_INTERFACE of the linked library. */
+/* Returns SM_INTERFACE of the linked library. Never fails. */
 uint32_t sm_interface(void);
 
-/* Returns what the handle holds: one of SM_KIND_... */
+/* Returns what the handle holds: one of SM_KIND_..., SM_KIND_EMPTY if it holds
+** nothing. Never fails. */
 uint32_t sm_kind(sm_handle *handle);
 
-/* Drops what the handle holds, if anything. It is empty afterwards, and may be
-** filled anew. */
+/* Drops what the handle holds, if anything. The handle is empty afterwards, and may
+** be filled anew. A map that another handle shares stays in that handle. Never
+** fails. */
 void sm_close(sm_handle *handle);
 
 /* Fills `map` with the map that these bytes hold: JSON, after a junk header if
-** there is one. The bytes are not kept. Fails with the first error of the
-** bytes: SM_IO, SM_BAD_JSON, SM_VLQ_..., SM_BAD_..., SM_INVALID_BASE64,
-** SM_INCOMPATIBLE. Bytes that are not UTF-8, and JSON deeper than 127 levels, are
-** SM_BAD_JSON with number 0. */
+** there is one. The bytes are not kept. Returns SM_OK, or an error of the bytes:
+** SM_IO, SM_BAD_JSON, SM_VLQ_..., SM_BAD_..., SM_INVALID_BASE64, SM_INCOMPATIBLE.
+** Bytes that are not UTF-8, and JSON deeper than 127 levels, are SM_BAD_JSON with
+** number 0. sm_kind() says which kind of map it is. */
 sm_code sm_open(sm_map *map, const uint8_t *bytes, size_t length, sm_error *error);
 
-/* Fills `map` with the map in a `data:` URL. Fails with SM_INVALID_DATA_URL, or
-** as sm_open() does of the bytes in it; with SM_UTF8 if the URL is not UTF-8. */
+/* Fills `map` with the map in a `data:` URL. The bytes are not kept. Returns SM_OK;
+** SM_UTF8 if the URL is not UTF-8; SM_INVALID_DATA_URL if it is no data URL of a
+** source map; or an error of the bytes in it, as sm_open() does. */
 sm_code sm_open_url(sm_map *map, const uint8_t *url, size_t length, sm_error *error);
 
 /* Fills `other` with the map that `map` holds, without a copy. Each of the two
 ** handles may then be used by a thread of its own; a change of one is not seen
-** by the other. Fails with SM_WRONG_KIND if `map` holds no map. */
+** by the other. Returns SM_OK, or SM_WRONG_KIND if `map` holds no map. */
 sm_code sm_share(sm_map *map, sm_map *other, sm_error *error);
 
-/* Writes whether the bytes hold a source map, by the keys of their JSON value. */
+/* Writes to `answer` whether the bytes hold a source map, by the keys of their JSON
+** value. Returns SM_OK, also if they hold none: then `answer` is false. No error
+** but SM_OUT_OF_MEMORY. */
 sm_code sm_is_source_map(const uint8_t *bytes, size_t length, bool *answer, sm_error *error);
 
 /*
 ** WHAT A MAP SAYS
 **
-** Of these, SM_ABSENT says that there is no such text, id or debug id, and
-** SM_WRONG_KIND that the handle holds no map. An index map has a file, a debug id
-** of its own, and sections; its sources and tokens are those of its sections
-** (sm_section()), or of the map that sm_flatten() makes.
+** The calls of this section that return a code return SM_OK and write their answer,
+** or return another code and write nothing: SM_ABSENT if the map has no such item,
+** SM_WRONG_KIND if the handle holds no map. They allocate nothing. An index map has
+** a file, a debug id of its own, and sections. It has no root, sources, names,
+** contents or tokens: those are in the maps of its sections (sm_section()), and in
+** the map that sm_flatten() makes.
 */
 
+/* Writes how many items the map has. SM_WRONG_KIND if the handle holds no map;
+** never SM_ABSENT. */
 sm_code sm_count(sm_map *map, sm_counts *counts);
+
+/* The name of the generated file, of a map of any kind. The text is borrowed from
+** `map`. SM_ABSENT if the map names no file, SM_WRONG_KIND if the handle holds no
+** map. */
 sm_code sm_file(sm_map *map, sm_text *text);
+
+/* The `sourceRoot`, as the map has it. The text is borrowed from `map`.
+** SM_ABSENT if the map has none, as every index map; SM_WRONG_KIND if the handle
+** holds no map. */
 sm_code sm_source_root(sm_map *map, sm_text *text);
+
+/* Writes the debug id, of a map of any kind. SM_ABSENT if the map has none,
+** SM_WRONG_KIND if the handle holds no map; then `id` is as it was. */
 sm_code sm_get_debug_id(sm_map *map, sm_debug_id *id);
 
-/* The source of this id, resolved against `sourceRoot`; the name; the contents. */
+/* The source of this id, resolved against `sourceRoot`. The text is borrowed from
+** `map`. SM_ABSENT if there is no source of that id, as in every index map;
+** SM_WRONG_KIND if the handle holds no map. */
 sm_code sm_source(sm_map *map, uint32_t id, sm_text *text);
+
+/* The name of this id. The text is borrowed from `map`. SM_ABSENT if there is no
+** name of that id, as in every index map; SM_WRONG_KIND if the handle holds no map. */
 sm_code sm_name(sm_map *map, uint32_t id, sm_text *text);
+
+/* The contents of the source of this id. The text is borrowed from `map`. SM_ABSENT
+** if there is no source of that id, or it has no contents, as in every index map;
+** SM_WRONG_KIND if the handle holds no map. */
 sm_code sm_contents(sm_map *map, uint32_t id, sm_text *text);
 
 /* Writes the ids of the ignore list, in rising order, from number `first` on, as
-** many as there are and fit. Returns how many it wrote, 0 of an index map. An id
-** may name no source. */
+** many as there are and fit. Returns how many it wrote: 0 of an index map, and of a
+** handle without a map. An id may name no source. The rest of `ids` is as it was. */
 size_t sm_ignore_list(sm_map *map, uint32_t first, uint32_t *ids, size_t length);
 
 /* Writes the tokens of a map in order, from token `first` on, as many as there
-** are and fit. Returns how many it wrote, 0 of an index map. */
+** are and fit. Returns how many it wrote: 0 of an index map, and of a handle without
+** a map. The rest of `tokens` is as it was. */
 size_t sm_tokens(sm_map *map, uint32_t first, sm_token *tokens, size_t length);
 
 /* Of the index map of a RAM bundle: writes the line at which each module begins,
 ** from module `first` on, as many as there are and fit, SM_NONE for a number
 ** without a module. `written` is how many. SM_ABSENT if the map has no such list,
-** SM_WRONG_KIND of a map that is no index map; then nothing is written. */
+** SM_WRONG_KIND if the handle holds no index map; then nothing is written. */
 sm_code sm_module_offsets(sm_map *map, uint32_t first, uint32_t *offsets, size_t length, size_t *written);
 
-/* The path of a module. SM_ABSENT if the map has no such list or no such module,
-** SM_WRONG_KIND of a map that is no index map. */
+/* Of the index map of a RAM bundle: the path of a module. The text is borrowed from
+** `map`. SM_ABSENT if the map has no such list or no such module, SM_WRONG_KIND if
+** the handle holds no index map. */
 sm_code sm_module_path(sm_map *map, uint32_t id, sm_text *text);
 
 /*
@@ -285,178 +319,294 @@ sm_code sm_module_path(sm_map *map, uint32_t id, sm_text *text);
 ** nothing.
 */
 
-/* Returns SM_OK and writes the closest token, or SM_ABSENT where there is none,
-** or SM_WRONG_KIND. Then nothing is written, and `found->found` may be that of an
-** earlier call: look at the code. */
+/* Writes the closest token. Returns SM_OK; SM_ABSENT if there is none; SM_WRONG_KIND
+** if the handle holds no map. On the last two nothing is written, and `found->found`
+** may be that of an earlier call: look at the code. Allocates nothing. */
 sm_code sm_lookup(sm_map *map, uint32_t line, uint32_t column, sm_found *found);
 
 /* Answers each position in turn, as many as both arrays have. Returns how
-** many it answered: 0 if the handle holds no map. */
+** many it answered: 0 if the handle holds no map. `found[i].found` says whether
+** `positions[i]` has a token. The rest of `found` is as it was. Allocates nothing. */
 size_t sm_lookup_many(sm_map *map, const sm_position *positions, size_t count, sm_found *found, size_t length);
 
-/* The source, resolved against `sourceRoot`, and the name of the closest token,
-** of a map of any kind. SM_ABSENT where there is no token, or it has none. */
+/* The source of the closest token, resolved against `sourceRoot`, of a map of any
+** kind. The text is borrowed from `map`. SM_ABSENT if there is no token, or it has
+** no source; SM_WRONG_KIND if the handle holds no map. Then `text` is as it was. */
 sm_code sm_lookup_source(sm_map *map, uint32_t line, uint32_t column, sm_text *text);
+
+/* The name of the closest token, of a map of any kind. The text is borrowed from
+** `map`. SM_ABSENT if there is no token, or it has no name; SM_WRONG_KIND if the
+** handle holds no map. Then `text` is as it was. */
 sm_code sm_lookup_name(sm_map *map, uint32_t line, uint32_t column, sm_text *text);
 
 /* Fills `text` with the answers to a list of positions, LINE:COLUMN on each
 ** line, both counted from 0: for each a line SOURCE:LINE:COLUMN, with
 ** ` name=NAME` if there is a name, or `none`, or `bad position`. SOURCE is
-** `<unknown>` where the token has none; LINE and COLUMN are 4294967295 then, of a
-** map that was opened. */
+** `<unknown>` if the token has none; LINE and COLUMN are 4294967295 then, of a
+** map that was opened. Returns SM_OK, or SM_WRONG_KIND if `map` holds no map.
+** sm_bytes_text() reads the answers. */
 sm_code sm_trace(sm_map *map, const uint8_t *positions, size_t length, sm_bytes *text, sm_error *error);
 
-/* The name of the function that contains a position. A Hermes map has it
+/* The name of the function that contains a generated position. A Hermes map has it
 ** itself, for line 0; of other maps it is guessed from the generated text in
-** `view` and the minified name of the function. SM_ABSENT where there is none;
-** SM_WRONG_KIND of a map that needs a view where `view` holds none; SM_UTF8 if
-** the minified name is not UTF-8. A Hermes map looks at neither `minified` nor
-** `view`; if its functions are unsorted, the name is unspecified. An
-** index map guesses along the section that answers, also where that is a Hermes
-** map. */
+** `view` and the minified name of the function. The text is borrowed from `map`, not
+** from `view`. SM_ABSENT if there is none; SM_WRONG_KIND if `map` holds no map, or a
+** map that needs a view and `view` holds none; SM_UTF8 if the minified name is not
+** UTF-8. A Hermes map looks at neither `minified` nor `view`; if its functions are
+** unsorted, the name is unspecified. An index map guesses along the section that
+** answers, also if that is a Hermes map. */
 sm_code sm_function_name(sm_map *map, uint32_t line, uint32_t column, const uint8_t *minified, size_t length,
                          sm_view *view, sm_text *text);
 
-/* The name of the function at an offset of the bytecode, of a Hermes map.
-** SM_WRONG_KIND of any other. */
+/* The name of the function at an offset of the bytecode, of a Hermes map. The text
+** is borrowed from `map`. SM_ABSENT if there is none; SM_WRONG_KIND if the handle
+** holds no Hermes map. If the functions are unsorted, the name is unspecified. */
 sm_code sm_hermes_function_name(sm_map *map, uint32_t offset, sm_text *text);
 
 /*
 ** CHANGE
 **
-** Each of these changes `map`. Where the map is shared it is copied first, so
-** that no other handle sees the change. A text that is not UTF-8 is SM_UTF8.
+** Each of these changes `map`, and returns SM_OK. If the map is shared it is copied
+** first, so that no other handle sees the change. Each returns SM_WRONG_KIND if the
+** handle holds no map. A text that is not UTF-8 is SM_UTF8. The library copies the
+** texts that it keeps.
 */
 
 /* Keeps only the sources, names and contents that tokens use, in the order of
-** their first use, resolved against `sourceRoot`, which goes, as does the ignore
+** their first use, resolved against `sourceRoot`, which is removed, as is the ignore
 ** list. Removes the names if `with_names` is false, the contents if
-** `with_contents` is. From each source the first of `prefixes` that it begins with
-** is cut, completed by `/`. The prefix `~` means the longest folder that all
-** sources which are absolute paths have in common, before `sourceRoot`, and is
-** tried last. Hermes maps keep their scopes; of sources with one text those of the
-** one used first. SM_WRONG_KIND of an index map. */
+** `with_contents` is. From each source the first of the `count` texts in `prefixes`
+** that it begins with is cut, completed by `/`. The prefix `~` means the longest
+** folder that all sources which are absolute paths have in common, before
+** `sourceRoot`, and is tried last. Hermes maps keep their scopes; of sources with one
+** text those of the one used first. SM_UTF8 if a prefix is not UTF-8; SM_WRONG_KIND
+** of an index map, and if the handle holds no map. */
 sm_code sm_rewrite(sm_map *map, bool with_names, bool with_contents, const sm_text *prefixes, size_t count,
                    sm_error *error);
 
 /* Flattens an index map to a regular map. If each section and all of its tokens
 ** come before the next section, the regular map answers wherever the index map
-** does, and the same. SM_CANNOT_FLATTEN if a section has no map, there are too many sources or
-** names, or a position would pass 4294967295; SM_WRONG_KIND of other maps. */
+** does, and the same. SM_CANNOT_FLATTEN if a section has no map, there are too many
+** sources or names, or a position would pass 4294967295; SM_WRONG_KIND if the handle
+** holds no index map. */
 sm_code sm_flatten(sm_map *map, sm_error *error);
 
 /* Adjusts a regular map by `adjustment`, the regular map of a later text made
-** of this one: positions of the later text then answer. SM_INCOMPATIBLE if a
-** token would pass column 4294967295; SM_WRONG_KIND if either is not regular. */
+** of this one: positions of the later text then answer. `adjustment` does not
+** change. SM_INCOMPATIBLE if a token would pass column 4294967295; SM_WRONG_KIND if
+** either handle holds no regular map. */
 sm_code sm_compose(sm_map *map, sm_map *adjustment, sm_error *error);
 
 /* Moves each section of an index map so many lines further down.
-** SM_PAST_LIMIT if one would pass line 4294967295, SM_WRONG_KIND of other maps. */
+** SM_PAST_LIMIT if one would pass line 4294967295; SM_WRONG_KIND if the handle holds
+** no index map. */
 sm_code sm_shift(sm_map *map, uint32_t lines, sm_error *error);
 
-/* Sets or removes a part. A removed text is one with `present` false; its bytes
-** are then not read, but the pointer is still not null: pass "" and 0. Of an index
-** map the file and the debug id alone can be set, the others are SM_WRONG_KIND.
-** sm_set_source() sets the text before it is resolved against `sourceRoot`.
-** SM_ABSENT if there is no source of that id. */
+/* Setters. `present` says whether a part is set or removed. If it is false, the
+** bytes of the text are not read, but the pointer is still not null: pass "" and 0. */
+
+/* Sets or removes the name of the generated file, of a map of any kind. SM_UTF8 if
+** the text is not UTF-8, SM_WRONG_KIND if the handle holds no map. */
 sm_code sm_set_file(sm_map *map, bool present, const uint8_t *text, size_t length, sm_error *error);
+
+/* Sets or removes the `sourceRoot`. Sources are resolved against the new one. SM_UTF8
+** if the text is not UTF-8; SM_WRONG_KIND of an index map, and if the handle holds
+** no map. */
 sm_code sm_set_source_root(sm_map *map, bool present, const uint8_t *text, size_t length, sm_error *error);
+
+/* Sets or removes the debug id, of a map of any kind. `id` is not null, also if
+** `present` is false. SM_WRONG_KIND if the handle holds no map. */
 sm_code sm_set_debug_id(sm_map *map, bool present, const sm_debug_id *id, sm_error *error);
+
+/* Sets the text of a source, before it is resolved against `sourceRoot`. SM_UTF8 if
+** the text is not UTF-8; SM_ABSENT if there is no source of that id; SM_WRONG_KIND
+** of an index map, and if the handle holds no map. */
 sm_code sm_set_source(sm_map *map, uint32_t id, const uint8_t *text, size_t length, sm_error *error);
+
+/* Sets or removes the contents of a source. SM_UTF8 if the text is not UTF-8;
+** SM_ABSENT if there is no source of that id; SM_WRONG_KIND of an index map, and if
+** the handle holds no map. */
 sm_code sm_set_contents(sm_map *map, uint32_t id, bool present, const uint8_t *text, size_t length, sm_error *error);
+
+/* Adds a source to the ignore list; SM_OK also if it is in the list. SM_ABSENT if
+** there is no source of that id; SM_WRONG_KIND of an index map, and if the handle
+** holds no map. */
 sm_code sm_ignore_source(sm_map *map, uint32_t id, sm_error *error);
+
+/* Removes all names. Tokens keep their name ids, which then name nothing.
+** SM_WRONG_KIND of an index map, and if the handle holds no map. */
 sm_code sm_remove_names(sm_map *map, sm_error *error);
 
 /*
 ** WRITE
+**
+** A token on line L is written after L bytes of `;`, 4 GB at the most: look at the
+** last token before a map of a stranger is written.
 */
 
-/* Fills `text` with the map as JSON, or as a `data:` URL. A token on line L is
-** written after L bytes of `;`, 4 GB at the most: look at the last token before
-** a map of a stranger is written. */
+/* Fills `text` with the map as JSON, of a map of any kind. Returns SM_OK, or
+** SM_WRONG_KIND if `map` holds no map. sm_bytes_text() reads the JSON. */
 sm_code sm_write(sm_map *map, sm_bytes *text, sm_error *error);
+
+/* Fills `text` with a `data:` URL of the map: the JSON of sm_write() in base64.
+** Returns SM_OK, or SM_WRONG_KIND if `map` holds no map. */
 sm_code sm_write_url(sm_map *map, sm_bytes *text, sm_error *error);
 
-/* The text that a call put into the handle. */
+/* The text that a call put into the handle, such as sm_write(), sm_trace() or
+** sm_resolve(). It is borrowed from `bytes`. SM_WRONG_KIND if the handle holds no
+** such text; then `text` is as it was. */
 sm_code sm_bytes_text(sm_bytes *bytes, sm_text *text);
 
 /*
 ** SECTIONS OF AN INDEX MAP
+**
+** Sections count from 0; sm_count() writes how many there are.
 */
 
-/* Where a section begins, and its URL. SM_ABSENT if there is no such section or
-** URL, SM_WRONG_KIND of a map that is no index map. */
+/* Writes the generated position at which a section begins, and whether it has a map
+** and a URL. SM_ABSENT if there is no such section, SM_WRONG_KIND if the handle
+** holds no index map; then `start` is as it was. */
 sm_code sm_section_start_of(sm_map *map, uint32_t id, sm_section_start *start);
+
+/* The URL of a section. The text is borrowed from `map`. SM_ABSENT if there is no
+** such section, or it has no URL; SM_WRONG_KIND if the handle holds no index map. */
 sm_code sm_section_url(sm_map *map, uint32_t id, sm_text *text);
 
-/* Fills `section` with a copy of the map of a section. SM_ABSENT if there is no
-** such section, or it has no map. */
+/* Fills `section` with a copy of the map of a section, which may be an index map
+** too. Returns SM_OK; SM_ABSENT if there is no such section, or it has no map;
+** SM_WRONG_KIND if `map` holds no index map. */
 sm_code sm_section(sm_map *map, uint32_t id, sm_map *section, sm_error *error);
+
+/* Fills `sections` with an empty list of sections, of which an index map is made. */
+sm_code sm_sections_new(sm_sections *sections, sm_error *error);
+
+/* Changes `sections`: adds a section that begins at this position, with a copy of
+** `map`, with the URL of a map, both or neither. Sections keep the order in which
+** they are added; lookups ask for rising positions. Without `has_url` the URL is
+** not read, without `has_map` the handle may hold anything; the pointers are still
+** not null. SM_UTF8 of a URL that is not UTF-8, SM_WRONG_KIND if `sections` holds
+** no sections or `map` no map. */
+sm_code sm_sections_add(sm_sections *sections, uint32_t line, uint32_t column, bool has_url, const uint8_t *url,
+                        size_t length, bool has_map, sm_map *map, sm_error *error);
+
+/* Fills `map` with the index map of these sections, and changes `sections`: it is
+** empty afterwards. The file is optional, and so are the lists of a RAM bundle: the
+** line at which each module begins, SM_NONE for a number without a module, and the
+** path of each module. SM_UTF8 if the file or a path is not UTF-8, SM_WRONG_KIND if
+** `sections` holds no sections. On SM_OUT_OF_MEMORY `sections` may be empty; a handle
+** that holds no sections stays as it is, whatever the code. */
+sm_code sm_sections_finish(sm_sections *sections, sm_map *map, bool has_file, const uint8_t *file, size_t length,
+                           bool has_offsets, const uint32_t *offsets, size_t offset_count, bool has_paths,
+                           const sm_text *paths, size_t path_count, sm_error *error);
 
 /*
 ** BUILD
 **
-** The calls change `builder`. Equal texts get one id; ids count from 0. SM_UTF8 of
-** a text that is not UTF-8, SM_ABSENT if there is no source of that id,
-** SM_INCOMPATIBLE past 4294967295 texts, SM_WRONG_KIND if the handle holds no
-** builder.
+** The calls change `builder`, and return SM_OK. The library copies the texts. Ids
+** count from 0. Each call but sm_builder_new() returns SM_WRONG_KIND if the handle
+** holds no builder.
 */
 
+/* Fills `builder` with a builder that has no items yet. `has_file` says whether
+** `file` is the name of the generated file; if it is false, the bytes are not read.
+** SM_UTF8 if the name is not UTF-8. */
 sm_code sm_builder_new(sm_builder *builder, bool has_file, const uint8_t *file, size_t length, sm_error *error);
+
+/* Sets or removes the `sourceRoot`. SM_UTF8 if `present` is true and the text is not
+** UTF-8; SM_WRONG_KIND if the handle holds no builder. */
 sm_code sm_builder_set_source_root(sm_builder *builder, bool present, const uint8_t *text, size_t length,
                                    sm_error *error);
+
+/* Sets or removes the debug id. `id` is not null, also if `present` is false.
+** SM_WRONG_KIND if the handle holds no builder. */
 sm_code sm_builder_set_debug_id(sm_builder *builder, bool present, const sm_debug_id *id, sm_error *error);
+
+/* Adds a source and writes its id. A source that was added before has the id that
+** it had. SM_UTF8 if the text is not UTF-8; SM_INCOMPATIBLE past 4294967295 sources;
+** SM_WRONG_KIND if the handle holds no builder. Then `id` is as it was. */
 sm_code sm_builder_add_source(sm_builder *builder, const uint8_t *text, size_t length, uint32_t *id, sm_error *error);
+
+/* Adds a name and writes its id. A name that was added before has the id that it
+** had. SM_UTF8 if the text is not UTF-8; SM_INCOMPATIBLE past 4294967295 names;
+** SM_WRONG_KIND if the handle holds no builder. Then `id` is as it was. */
 sm_code sm_builder_add_name(sm_builder *builder, const uint8_t *text, size_t length, uint32_t *id, sm_error *error);
+
+/* Sets or removes the contents of a source. SM_UTF8 if `present` is true and the
+** text is not UTF-8; SM_ABSENT if there is no source of that id; SM_WRONG_KIND if
+** the handle holds no builder. */
 sm_code sm_builder_set_contents(sm_builder *builder, uint32_t id, bool present, const uint8_t *text, size_t length,
                                 sm_error *error);
+
+/* Adds a source to the ignore list; SM_OK also if it is in the list. SM_ABSENT if
+** there is no source of that id; SM_WRONG_KIND if the handle holds no builder. */
 sm_code sm_builder_ignore_source(sm_builder *builder, uint32_t id, sm_error *error);
 
 /* Adds tokens, in any order. Ids that the builder does not have are kept, and
 ** name nothing; a map with a source id that names nothing is written, and refused
 ** when it is opened again: SM_BAD_SOURCE_REFERENCE. The original position of a
-** token without a source is not written. Returns how many were added: all, or
-** fewer if memory ran out or the handle holds no builder (`error` says which); the
-** call may be made again with the rest. */
+** token without a source is not written. Returns how many were added, the first
+** ones: all, or fewer if memory ran out, or 0 if the handle holds no builder. If all
+** were added `error` is as it was, else its code is SM_OUT_OF_MEMORY or
+** SM_WRONG_KIND. The call may be made again with the rest. */
 size_t sm_builder_add_tokens(sm_builder *builder, const sm_token *tokens, size_t count, sm_error *error);
 
-/* Fills `map` with the map that was built, and empties `builder`. On
-** SM_OUT_OF_MEMORY `builder` is empty too; a handle that holds no builder stays as
-** it is, SM_WRONG_KIND. */
+/* Fills `map` with the regular map that was built, and empties `builder`. On
+** SM_OUT_OF_MEMORY `builder` is empty too, and `map` is as it was. SM_WRONG_KIND if
+** `builder` holds no builder; then both handles are as they were. */
 sm_code sm_builder_finish(sm_builder *builder, sm_map *map, sm_error *error);
 
 /*
 ** GENERATED TEXTS
+**
+** A line ends with a line feed, with a carriage return, or with a carriage return
+** and a line feed. A text has at least one line. The last one has no end, and may be
+** empty.
 */
 
-/* Fills `view` with a copy of a text. SM_UTF8 if it is not UTF-8. */
+/* Fills `view` with a copy of a text and the table of its lines. Returns SM_OK, or
+** SM_UTF8 if the text is not UTF-8. */
 sm_code sm_view_open(sm_view *view, const uint8_t *text, size_t length, sm_error *error);
+
+/* The whole text. It is borrowed from `view`. SM_WRONG_KIND if the handle holds no
+** view; then `text` is as it was. */
 sm_code sm_view_text(sm_view *view, sm_text *text);
+
+/* Writes how many lines the text has. SM_WRONG_KIND if the handle holds no view;
+** then `lines` is as it was. */
 sm_code sm_view_count(sm_view *view, size_t *lines);
 
-/* A line without its end, and a slice of one: `span` UTF-16 units from column
-** `column` on. A column inside of a pair of units counts as the one after the
-** pair. SM_ABSENT if there is no such line or slice. */
+/* A line without its end. The text is borrowed from `view`. SM_ABSENT if there is no
+** such line, SM_WRONG_KIND if the handle holds no view. */
 sm_code sm_view_line(sm_view *view, uint32_t line, sm_text *text);
+
+/* A slice of a line: `span` UTF-16 units from column `column` on. A column inside of
+** a pair of units counts as the one after the pair. The text is borrowed from
+** `view`. SM_ABSENT if there is no such line, or the slice passes its end;
+** SM_WRONG_KIND if the handle holds no view. */
 sm_code sm_view_slice(sm_view *view, uint32_t line, uint32_t column, uint32_t span, sm_text *text);
 
 /* Fills `url` with the first reference to a map in a generated text, without
-** white space around it; `is_legacy` says whether its comment begins with `//@`.
-** SM_ABSENT if there is none, SM_IO if a line up to there is not UTF-8. */
+** white space around it; writes to `is_legacy` whether its comment begins with
+** `//@`. Returns SM_OK; SM_ABSENT if there is none; SM_IO if a line up to there is
+** not UTF-8. On these two `url` and `is_legacy` are as they were. */
 sm_code sm_locate_reference(const uint8_t *text, size_t length, sm_bytes *url, bool *is_legacy, sm_error *error);
 
-/* Fills `result` with the URL that a reference leads to from the URL of its
-** text, or the path from the path of its text. SM_ABSENT if it leads nowhere: a
-** `data:` URL, a base that is no URL, for sm_resolve_path() a path that does not
-** begin with `/`, or texts of 2^28 bytes and more. SM_UTF8 if either is not
+/* Fills `result` with the URL that the reference `url` leads to from `base`, the URL
+** of its text. Returns SM_OK; SM_ABSENT if it leads nowhere, such as a `data:` URL,
+** a base that is no URL, or texts of 2^28 bytes and more; SM_UTF8 if either is not
 ** UTF-8. */
 sm_code sm_resolve(const uint8_t *url, size_t length, const uint8_t *base, size_t base_length, sm_bytes *result,
                    sm_error *error);
+
+/* Fills `result` with the path that the reference `url` leads to from `base`, the
+** path of its text. Returns SM_OK; SM_ABSENT if it leads nowhere, such as a `data:`
+** URL, a URL that is not of a file, a base that does not begin with `/`, or texts of
+** 2^28 bytes and more; SM_UTF8 if either is not UTF-8. */
 sm_code sm_resolve_path(const uint8_t *url, size_t length, const uint8_t *base, size_t base_length, sm_bytes *result,
                         sm_error *error);
 
 /* Fills `path` with the path that leads from the folder of the file `base` to
-** the file `target`. SM_UTF8 if either is not UTF-8. */
+** the file `target`. Returns SM_OK, or SM_UTF8 if either is not UTF-8. */
 sm_code sm_relative_path(const uint8_t *base, size_t base_length, const uint8_t *target, size_t target_length,
                          sm_bytes *path, sm_error *error);
 
@@ -464,33 +614,51 @@ sm_code sm_relative_path(const uint8_t *base, size_t base_length, const uint8_t 
 ** RAM BUNDLES
 */
 
-/* Fills `bundle` with an indexed RAM bundle, whose bytes are copied. SM_RANGE
-** below 12 bytes, SM_INVALID_BUNDLE_MAGIC of other bytes. sm_bundle_count() writes
-** how many numbers modules have, missing ones too; sm_bundle_startup() the startup
-** code, SM_RANGE past the end. */
+/* Fills `bundle` with an indexed RAM bundle, whose bytes are copied. Returns SM_OK;
+** SM_RANGE below 12 bytes; SM_INVALID_BUNDLE_MAGIC of bytes that do not begin with
+** the magic number. */
 sm_code sm_bundle_open(sm_bundle *bundle, const uint8_t *bytes, size_t length, sm_error *error);
+
+/* Writes how many numbers modules have, those without a module too. SM_WRONG_KIND if
+** the handle holds no bundle; then `modules` is as it was. */
 sm_code sm_bundle_count(sm_bundle *bundle, size_t *modules);
+
+/* The startup code. The bytes are borrowed from `bundle`, and need not be UTF-8.
+** SM_RANGE if the code passes the end of the bundle; SM_WRONG_KIND if the handle
+** holds no bundle. Then `bytes` is as it was. */
 sm_code sm_bundle_startup(sm_bundle *bundle, sm_text *bytes, sm_error *error);
 
-/* The bytes of a module. SM_ABSENT if the module of that number is missing,
-** SM_INVALID_BUNDLE_INDEX if the number is past the last, SM_RANGE past the end,
-** SM_INVALID_BUNDLE_ENTRY of an invalid entry. The bytes need not be UTF-8. */
+/* The bytes of a module. They are borrowed from `bundle`, and need not be UTF-8.
+** SM_ABSENT if the module of that number is missing, SM_INVALID_BUNDLE_INDEX if the
+** number is past the last, SM_RANGE past the end of the bundle,
+** SM_INVALID_BUNDLE_ENTRY of an invalid entry, SM_WRONG_KIND if the handle holds no
+** bundle. Then `bytes` is as it was. */
 sm_code sm_bundle_module(sm_bundle *bundle, size_t id, sm_text *bytes, sm_error *error);
 
 /* Fills `split` with the modules of a bundle, each with its name, its text and
-** its map, by the index map of the bundle. Items count from 0, and are not
-** numbered as modules are: a missing module, and one with no line in the index
-** map, has none. SM_NOT_A_BUNDLE if the index map has no list of lines,
-** SM_CANNOT_FLATTEN as sm_flatten(). An invalid module is an item too, which fails
-** with SM_INVALID_BUNDLE_ENTRY. Twelve bytes may claim 4294967295 modules: look at
-** sm_bundle_count() before a bundle of a stranger is split. */
+** its map, by the index map of the bundle. The split keeps nothing of the two other
+** handles. Items count from 0, and are not numbered as modules are: a missing module,
+** and one with no line in the index map, has none. An invalid module is an item too:
+** sm_split_item() and sm_split_map() of it fail. Returns SM_OK; SM_NOT_A_BUNDLE if
+** the index map has no list of lines; SM_CANNOT_FLATTEN as sm_flatten();
+** SM_WRONG_KIND if `bundle` holds no bundle, or `index` no index map. Twelve bytes may
+** claim 4294967295 modules: look at sm_bundle_count() before a bundle of a stranger is
+** split. */
 sm_code sm_bundle_split(sm_bundle *bundle, sm_map *index, sm_split *split, sm_error *error);
+
+/* Writes how many items the split has, invalid ones too. SM_WRONG_KIND if the handle
+** holds no split; then `items` is as it was. */
 sm_code sm_split_count(sm_split *split, size_t *items);
 
-/* The name and the text of an item, and its map, which is shared and not
-** copied. An item that could not be made fails with its error. SM_ABSENT if
-** there is no such item. */
+/* The name and the text of an item. Both are borrowed from `split`. SM_ABSENT if
+** there is no such item; SM_INVALID_BUNDLE_ENTRY if its module is invalid, whatever
+** the reason; SM_WRONG_KIND if the handle holds no split. Then `name` and `text` are
+** as they were. */
 sm_code sm_split_item(sm_split *split, size_t item, sm_text *name, sm_text *text, sm_error *error);
+
+/* Fills `map` with the map of an item, which is shared with `split` and not copied.
+** Returns SM_OK; SM_ABSENT if there is no such item; SM_INVALID_BUNDLE_ENTRY if its
+** module is invalid, whatever the reason; SM_WRONG_KIND if `split` holds no split. */
 sm_code sm_split_map(sm_split *split, size_t item, sm_map *map, sm_error *error);
 
 #ifdef __cplusplus

@@ -138,6 +138,9 @@ void describe(sm_handle *handle, char *text, size_t size)
     case SM_KIND_BUILDER:
         snprintf(text, size, "a builder");
         break;
+    case SM_KIND_SECTIONS:
+        snprintf(text, size, "sections");
+        break;
     default:
         snprintf(text, size, "%s", sm_kind(handle) == SM_KIND_EMPTY ? "nothing" : "an unknown kind");
     }

@@ -1,6 +1,7 @@
 #include "exports.h"
 
 static const uint8_t NO_BYTES[1] = { 0 };
+static const uint32_t NO_OFFSETS[1] = { 0 };
 
 static sm_error error;
 static sm_text text;
@@ -70,6 +71,8 @@ WRITING(section_start_of, sm_section_start, start, sm_section_start_of(handle, 0
 ASKING(section_url, sm_section_url(handle, 0, &text))
 ASKING(module_path, sm_module_path(handle, 0, &text))
 FILLING(section, map, sm_section(handle, 0, &map, &error))
+FILLING(sections_finish, map,
+        sm_sections_finish(handle, &map, false, NO_BYTES, 0, false, NO_OFFSETS, 0, false, &text, 0, &error))
 ASKING(builder_set_source_root, sm_builder_set_source_root(handle, false, NO_BYTES, 0, &error))
 WRITING(builder_set_debug_id, sm_debug_id, id, (id.bytes[0] = 0, sm_builder_set_debug_id(handle, false, &id, &error)))
 WRITING(builder_add_source, uint32_t, id, sm_builder_add_source(handle, BYTES("a.js"), &id, &error))
@@ -119,7 +122,8 @@ static sm_code lookup_many(sm_handle *handle)
     return count_code(sm_lookup_many(handle, POSITIONS, 1, found, 1));
 }
 
-/* The handle as the map, as the adjustment, as the bundle, as the index map, and as the view of a call. */
+/* The handle as the map, as the adjustment, as the bundle, as the index map, as the view and as the section's map of a
+** call. */
 static sm_code call_with(sm_handle *handle, uint32_t kind, sm_code (*call)(sm_handle *handle, sm_handle *other))
 {
     sm_handle other = SM_EMPTY;
@@ -161,6 +165,22 @@ static sm_code name_both(sm_handle *map, sm_handle *view)
 static sm_code name_reversed(sm_handle *view, sm_handle *map)
 {
     return name_both(map, view);
+}
+
+static sm_code sections_add(sm_handle *handle)
+{
+    sm_map none = SM_EMPTY;
+    return sm_sections_add(handle, 1, 2, true, BYTES("u"), false, &none, &error);
+}
+
+static sm_code sections_add_map(sm_handle *map)
+{
+    sm_sections sections = SM_EMPTY;
+    sm_code code;
+    CHECK_NUMBER(sm_sections_new(&sections, &error), SM_OK);
+    code = sm_sections_add(&sections, 0, 0, false, NO_BYTES, 0, true, map, &error);
+    sm_close(&sections);
+    return code;
 }
 
 ASKING(compose, call_with(handle, SM_KIND_REGULAR, compose_both))
@@ -223,6 +243,9 @@ const struct export_row EXPORTS[] = {
     { "sm_module_offsets", module_offsets, KIND(SM_KIND_INDEX), false },
     { "sm_module_path", module_path, KIND(SM_KIND_INDEX), false },
     { "sm_section", section, KIND(SM_KIND_INDEX), false },
+    { "sm_sections_add", sections_add, KIND(SM_KIND_SECTIONS), true },
+    { "sm_sections_add, its map", sections_add_map, MAPS, false },
+    { "sm_sections_finish", sections_finish, KIND(SM_KIND_SECTIONS), true },
     { "sm_builder_set_source_root", builder_set_source_root, KIND(SM_KIND_BUILDER), true },
     { "sm_builder_set_debug_id", builder_set_debug_id, KIND(SM_KIND_BUILDER), true },
     { "sm_builder_add_source", builder_add_source, KIND(SM_KIND_BUILDER), true },
@@ -287,6 +310,9 @@ void fill(sm_handle *handle, uint32_t kind)
         break;
     case SM_KIND_BYTES:
         CHECK_NUMBER(sm_locate_reference(BYTES("//# sourceMappingURL=a"), handle, &is_legacy, &error), SM_OK);
+        break;
+    case SM_KIND_SECTIONS:
+        CHECK_NUMBER(sm_sections_new(handle, &error), SM_OK);
         break;
     }
     CHECK_NUMBER(sm_kind(handle), kind);

@@ -52,6 +52,17 @@
     "\xe5\xd1\x0b\xfb\x01\x00\x00\x00\x02\x00\x00\x00\x02\x00\x00\x00\x04\x00\x00\x00" \
     "abxyz\x00"
 
+/* Three modules: `a`, a missing one, and one whose entry has no length. */
+#define ODD_BUNDLE \
+    "\xe5\xd1\x0b\xfb\x03\x00\x00\x00\x00\x00\x00\x00" \
+    "\x00\x00\x00\x00\x02\x00\x00\x00\x00\x00\x00\x00\x00\x00\x00\x00\x01\x00\x00\x00\x00\x00\x00\x00" \
+    "a\x00"
+
+/* The index map of ODD_BUNDLE. A split has an item for module 0, and an invalid one for module 2. */
+#define ODD_BUNDLE_MAP \
+    "{\"sections\":[{\"offset\":{\"line\":0,\"column\":0},\"map\":{\"sources\":[\"a.js\"],\"mappings\":\"AAAA\"}}]," \
+    "\"x_facebook_offsets\":[0,1,2]}"
+
 #define OPEN(handle, map) open_map((handle), BYTES(map))
 
 /* Fills `map`, and checks that it is filled. */

@@ -26,6 +26,7 @@ int main(int count, char **words)
     test_lookups();
     test_changes();
     test_building();
+    test_assembling();
     test_texts();
     test_bundles();
     test_wrong_kinds();

@@ -50,12 +50,6 @@ static void test_short_bundles(void)
     sm_close(&bundle);
 }
 
-/* Three modules: `a`, a missing one, and one whose entry has no length. */
-#define ODD_BUNDLE \
-    "\xe5\xd1\x0b\xfb\x03\x00\x00\x00\x00\x00\x00\x00" \
-    "\x00\x00\x00\x00\x02\x00\x00\x00\x00\x00\x00\x00\x00\x00\x00\x00\x01\x00\x00\x00\x00\x00\x00\x00" \
-    "a\x00"
-
 static void test_odd_modules(void)
 {
     sm_bundle bundle = SM_EMPTY;
@@ -117,8 +111,7 @@ static void test_refused_items(void)
     sm_error error = { 0 };
     size_t items = 99;
     CHECK_NUMBER(sm_bundle_open(&bundle, BYTES(ODD_BUNDLE), &error), SM_OK);
-    OPEN(&index, "{\"sections\":[{\"offset\":{\"line\":0,\"column\":0},\"map\":{\"sources\":[\"a.js\"],"
-                 "\"mappings\":\"AAAA\"}}],\"x_facebook_offsets\":[0,1,2]}");
+    OPEN(&index, ODD_BUNDLE_MAP);
     CHECK_NUMBER(sm_bundle_split(&bundle, &index, &split, &error), SM_OK);
     CHECK_NUMBER(sm_split_count(&split, &items), SM_OK);
     CHECK_NUMBER(items, 2);

@@ -24,23 +24,62 @@ struct refusal_row {
     const char *subject, *out;
 };
 
-/* A checksum of what each export answers on a handle of each kind that it is for. */
+static uint64_t with_value(uint64_t sum, uint64_t value)
+{
+    return (sum ^ value) * 1099511628211u;
+}
+
+/* Adds a code, and what a handle holds then. */
+static uint64_t with_answer(uint64_t sum, sm_code code, sm_handle *handle)
+{
+    char text[SIZE], *at;
+    sum = with_value(sum, code);
+    describe(handle, text, sizeof text);
+    for (at = text; *at; at++)
+        sum = (sum ^ (uint8_t)*at) * 1099511628211u;
+    return sum;
+}
+
+#define DATA_URL "data:application/json;base64,eyJtYXBwaW5ncyI6IkEifQ=="
+#define BAD_DATA_URL "data:application/json;base64,!"
+#define REFERENCE "../b c"
+#define BASE_URL "http://x.com/a/b/c"
+#define PATH_REFERENCE "../b"
+#define BASE_PATH "/a/b/c"
+#define BASE_FILE "/a/b/c.js"
+#define TARGET_FILE "/a/d/e.map"
+
+/* The exports that no row of EXPORTS calls, since they take no full handle. fill() calls those that fill one. */
+static uint64_t with_free_exports(uint64_t sum)
+{
+    sm_handle out = SM_EMPTY;
+    sm_error error = { 0 };
+    bool is_map = false;
+    sum = with_value(sum, sm_interface());
+    sum = with_value(sum, sm_is_source_map(BYTES(FULL_MAP), &is_map, &error));
+    sum = with_value(sum, is_map);
+    sum = with_answer(sum, sm_open_url(&out, BYTES(DATA_URL), &error), &out);
+    sum = with_answer(sum, sm_open_url(&out, BYTES(BAD_DATA_URL), &error), &out);
+    sum = with_answer(sum, sm_resolve(BYTES(REFERENCE), BYTES(BASE_URL), &out, &error), &out);
+    sum = with_answer(sum, sm_resolve_path(BYTES(PATH_REFERENCE), BYTES(BASE_PATH), &out, &error), &out);
+    sum = with_answer(sum, sm_relative_path(BYTES(BASE_FILE), BYTES(TARGET_FILE), &out, &error), &out);
+    sm_close(&out);
+    return with_value(sum, sm_kind(&out));
+}
+
+/* A checksum of what every export answers, on a handle of each kind that it is for. */
 static uint64_t answers_of_all(void)
 {
-    uint64_t sum = 1469598103934665603u;
+    uint64_t sum = with_free_exports(1469598103934665603u);
     size_t row;
     for (row = 0; row < EXPORTS_COUNT; row++) {
         uint32_t kind;
-        for (kind = SM_KIND_REGULAR; kind <= SM_KIND_BYTES; kind++) {
+        for (kind = SM_KIND_REGULAR; kind <= SM_KIND_SECTIONS; kind++) {
             sm_handle handle = SM_EMPTY;
-            char text[SIZE], *at;
             if (!(EXPORTS[row].kinds & KIND(kind)))
                 continue;
             fill(&handle, kind);
-            sum = (sum ^ EXPORTS[row].call(&handle)) * 1099511628211u;
-            describe(&handle, text, sizeof text);
-            for (at = text; *at; at++)
-                sum = (sum ^ (uint8_t)*at) * 1099511628211u;
+            sum = with_answer(sum, EXPORTS[row].call(&handle), &handle);
             sm_close(&handle);
         }
     }
@@ -115,14 +154,40 @@ static void prepare_bundle(struct handles *h)
     OPEN(&h->other, BUNDLE_MAP);
 }
 
-static void prepare_split(struct handles *h)
+/* Cut within the startup code. */
+static void prepare_short_bundle(struct handles *h)
 {
     sm_error error = { 0 };
-    prepare_bundle(h);
-    CHECK_NUMBER(sm_bundle_split(&h->subject, &h->other, &h->out, &error), SM_OK);
+    CHECK_NUMBER(sm_bundle_open(&h->subject, (const uint8_t *)BUNDLE, 21, &error), SM_OK);
+}
+
+static void prepare_odd_bundle(struct handles *h)
+{
+    sm_error error = { 0 };
+    CHECK_NUMBER(sm_bundle_open(&h->subject, BYTES(ODD_BUNDLE), &error), SM_OK);
+    OPEN(&h->other, ODD_BUNDLE_MAP);
+}
+
+/* The split of the bundle, which replaces it. */
+static void split_subject(struct handles *h)
+{
+    sm_split split = SM_EMPTY;
+    sm_error error = { 0 };
+    CHECK_NUMBER(sm_bundle_split(&h->subject, &h->other, &split, &error), SM_OK);
     sm_close(&h->subject);
-    h->subject = h->out;
-    memset(&h->out, 0, sizeof h->out);
+    h->subject = split;
+}
+
+static void prepare_split(struct handles *h)
+{
+    prepare_bundle(h);
+    split_subject(h);
+}
+
+static void prepare_odd_split(struct handles *h)
+{
+    prepare_odd_bundle(h);
+    split_subject(h);
 }
 
 /*
@@ -143,8 +208,8 @@ CALL(open_full, sm_open(&h->out, BYTES(FULL_MAP), error))
 CALL(open_index, sm_open(&h->out, BYTES(INDEX_MAP), error))
 CALL(open_hermes, sm_open(&h->out, BYTES(HERMES_MAP), error))
 CALL(open_bad, sm_open(&h->out, BYTES("{\"sources\":[\"a\",\"b\"],\"mappings\":\"AAAA,AAAAAA\"}"), error))
-CALL(open_url, sm_open_url(&h->out, BYTES("data:application/json;base64,eyJtYXBwaW5ncyI6IkEifQ=="), error))
-CALL(open_bad_url, sm_open_url(&h->out, BYTES("data:application/json;base64,!"), error))
+CALL(open_url, sm_open_url(&h->out, BYTES(DATA_URL), error))
+CALL(open_bad_url, sm_open_url(&h->out, BYTES(BAD_DATA_URL), error))
 CALL(share_map, sm_share(&h->subject, &h->out, error))
 CALL(trace, sm_trace(&h->subject, BYTES("0:0\n0:4\n9:9\nx\n"), &h->out, error))
 CALL(rewrite, sm_rewrite(&h->subject, true, true, &PREFIX, 1, error))
@@ -162,13 +227,40 @@ CALL(write_json, sm_write(&h->subject, &h->out, error))
 CALL(write_url, sm_write_url(&h->subject, &h->out, error))
 CALL(section, sm_section(&h->subject, 1, &h->out, error))
 CALL(builder_new, sm_builder_new(&h->out, true, BYTES("f"), error))
+CALL(sections_new, sm_sections_new(&h->out, error))
 CALL(view_open, sm_view_open(&h->out, BYTES("a\nb\r\nc"), error))
-CALL(resolve, sm_resolve(BYTES("../b c"), BYTES("http://x.com/a/b/c"), &h->out, error))
-CALL(resolve_path, sm_resolve_path(BYTES("../b"), BYTES("/a/b/c"), &h->out, error))
-CALL(relative_path, sm_relative_path(BYTES("/a/b/c.js"), BYTES("/a/d/e.map"), &h->out, error))
+CALL(resolve, sm_resolve(BYTES(REFERENCE), BYTES(BASE_URL), &h->out, error))
+CALL(resolve_path, sm_resolve_path(BYTES(PATH_REFERENCE), BYTES(BASE_PATH), &h->out, error))
+CALL(relative_path, sm_relative_path(BYTES(BASE_FILE), BYTES(TARGET_FILE), &h->out, error))
 CALL(bundle_open, sm_bundle_open(&h->out, BYTES(BUNDLE), error))
 CALL(bundle_split, sm_bundle_split(&h->subject, &h->other, &h->out, error))
 CALL(split_map, sm_split_map(&h->subject, 0, &h->out, error))
+CALL(invalid_split_map, sm_split_map(&h->subject, 1, &h->out, error))
+
+/* A call that borrows a text, and fails: the text is as it was. */
+#define BORROWING(name, expression)                         \
+    static sm_code name(struct handles *h, sm_error *error) \
+    {                                                       \
+        sm_text bytes = text_of("before");                  \
+        sm_code code = expression;                          \
+        CHECK_TEXT(bytes, "before");                        \
+        return code;                                        \
+    }
+
+BORROWING(bundle_startup, sm_bundle_startup(&h->subject, &bytes, error))
+BORROWING(bundle_module, sm_bundle_module(&h->subject, 0, &bytes, error))
+BORROWING(missing_module, sm_bundle_module(&h->subject, 1, &bytes, error))
+BORROWING(invalid_module, sm_bundle_module(&h->subject, 2, &bytes, error))
+BORROWING(no_module, sm_bundle_module(&h->subject, 3, &bytes, error))
+
+static sm_code invalid_item(struct handles *h, sm_error *error)
+{
+    sm_text name = text_of("before"), text = text_of("before");
+    sm_code code = sm_split_item(&h->subject, 1, &name, &text, error);
+    CHECK_TEXT(name, "before");
+    CHECK_TEXT(text, "before");
+    return code;
+}
 
 static sm_code detect(struct handles *h, sm_error *error)
 {
@@ -249,6 +341,7 @@ static const struct refusal_row ROWS[] = {
     { "write a URL", prepare_empty, write_url, SM_OK, NULL, EMPTY_URL },
     { "copy a section", prepare_index, section, SM_OK, NULL, SECOND_SECTION },
     { "begin to build", prepare_none, builder_new, SM_OK, NULL, "a builder" },
+    { "begin an index map", prepare_none, sections_new, SM_OK, NULL, "sections" },
     { "open a view", prepare_none, view_open, SM_OK, NULL, "a\nb\r\nc" },
     { "locate", prepare_none, locate, SM_OK, NULL, "a.map" },
     { "resolve", prepare_none, resolve, SM_OK, NULL, "http://x.com/a/b%20c" },
@@ -256,7 +349,14 @@ static const struct refusal_row ROWS[] = {
     { "path to a file", prepare_none, relative_path, SM_OK, NULL, "../d/e.map" },
     { "open a bundle", prepare_none, bundle_open, SM_OK, NULL, "a bundle of 1" },
     { "split a bundle", prepare_bundle, bundle_split, SM_OK, NULL, "a split of 1" },
+    { "startup code past the end", prepare_short_bundle, bundle_startup, SM_RANGE, NULL, NULL },
+    { "a module past the end", prepare_short_bundle, bundle_module, SM_RANGE, NULL, NULL },
+    { "a missing module", prepare_odd_bundle, missing_module, SM_ABSENT, NULL, NULL },
+    { "an invalid module", prepare_odd_bundle, invalid_module, SM_INVALID_BUNDLE_ENTRY, NULL, NULL },
+    { "no such module", prepare_odd_bundle, no_module, SM_INVALID_BUNDLE_INDEX, NULL, NULL },
+    { "an invalid item", prepare_odd_split, invalid_item, SM_INVALID_BUNDLE_ENTRY, NULL, NULL },
     { "map of an item", prepare_split, split_map, SM_OK, NULL, MODULE_MAP },
+    { "map of an invalid item", prepare_odd_split, invalid_split_map, SM_INVALID_BUNDLE_ENTRY, NULL, NULL },
 };
 
 struct descriptions {
@@ -344,11 +444,13 @@ static void test_row(const struct refusal_row *row, unsigned long most, uint64_t
     "\"mappings\":\"AAAA,ICCEA;E\",\"names\":[\"n\"],\"rangeMappings\":\"C;\",\"sourceRoot\":\"root\","           \
     "\"sources\":[\"a.js\",\"b.js\"],\"sourcesContent\":[null,\"let b;\"],\"version\":3}"
 
-/* Whether a call of a builder is to be made again: memory ran out. Checks that it succeeded otherwise. */
-static bool is_to_repeat(sm_code code, const sm_error *error, unsigned long *failures)
+/* Whether a call of a builder is to be made again: memory ran out. Checks that every export answers as before, or
+** that the call succeeded. */
+static bool is_to_repeat(sm_code code, const sm_error *error, unsigned long *failures, uint64_t answers)
 {
     if (code == SM_OUT_OF_MEMORY) {
         CHECK_NUMBER(error->code, SM_OUT_OF_MEMORY);
+        CHECK(answers_of_all() == answers);
         ++*failures;
         return true;
     }
@@ -359,10 +461,10 @@ static bool is_to_repeat(sm_code code, const sm_error *error, unsigned long *fai
 #define REPEAT(call)                                        \
     do                                                      \
         code = (call);                                      \
-    while (is_to_repeat(code, &error, failures) && *failures < 10)
+    while (is_to_repeat(code, &error, failures, answers) && *failures < 10)
 
 /* Builds one map, and makes each call that fails again. Returns how many calls failed. */
-static void build(sm_map *map, unsigned long *failures)
+static void build(sm_map *map, unsigned long *failures, uint64_t answers)
 {
     sm_builder builder = SM_EMPTY;
     sm_error error = { 0 };
@@ -389,27 +491,77 @@ static void build(sm_map *map, unsigned long *failures)
         error.code = SM_OK;
         added = sm_builder_add_tokens(&builder, tokens + done, 3 - done, &error);
         done += added;
-        is_to_repeat(error.code, &error, failures);
+        is_to_repeat(error.code, &error, failures, answers);
     }
     code = sm_builder_finish(&builder, map, &error);
     CHECK_NUMBER(sm_kind(&builder), SM_KIND_EMPTY);
     /* a builder that is finished is gone, so the map is built anew */
-    if (is_to_repeat(code, &error, failures) && *failures < 10)
-        build(map, failures);
+    if (is_to_repeat(code, &error, failures, answers) && *failures < 10)
+        build(map, failures, answers);
 }
 
-static void test_building_refused(unsigned long most)
+static void test_building_refused(unsigned long most, uint64_t answers)
 {
     unsigned long n, made = 1;
     for (n = 1; n <= most && n <= made; n++) {
         sm_map map = SM_EMPTY;
         unsigned long failures = 0;
         refuse(n, false);
-        build(&map, &failures);
+        build(&map, &failures, answers);
         made = refuse_none();
         CHECK(failures <= 1);
         CHECK_HOLDS(&map, BUILT);
         sm_close(&map);
+    }
+    CHECK(n > 5);
+}
+
+/* Makes an index map, and each call that fails again. */
+static void assemble(sm_map *a, sm_map *b, sm_map *map, unsigned long *failures, uint64_t answers)
+{
+    static const uint32_t OFFSETS[] = { 5, SM_NONE };
+    sm_sections sections = SM_EMPTY;
+    sm_error error = { 0 };
+    sm_code code;
+    REPEAT(sm_sections_new(&sections, &error));
+    REPEAT(sm_sections_add(&sections, 0, 0, false, BYTES(""), true, a, &error));
+    REPEAT(sm_sections_add(&sections, 10, 4, true, BYTES("u"), true, b, &error));
+    REPEAT(sm_sections_add(&sections, 20, 0, false, BYTES(""), false, b, &error));
+    do {
+        code = sm_sections_finish(&sections, map, true, BYTES("f"), true, OFFSETS, 2, true, &PREFIX, 1, &error);
+        if (!is_to_repeat(code, &error, failures, answers)) {
+            CHECK_NUMBER(sm_kind(&sections), SM_KIND_EMPTY);
+            return;
+        }
+        CHECK_NUMBER(sm_kind(map), SM_KIND_EMPTY);
+    } while (sm_kind(&sections) == SM_KIND_SECTIONS && *failures < 10);
+    /* the sections were lost with the memory for their map */
+    CHECK_NUMBER(sm_kind(&sections), SM_KIND_EMPTY);
+    if (*failures < 10)
+        assemble(a, b, map, failures, answers);
+}
+
+static void test_assembling_refused(unsigned long most, uint64_t answers)
+{
+    unsigned long n, made = 1;
+    for (n = 1; n <= most && n <= made; n++) {
+        sm_map map = SM_EMPTY, a = SM_EMPTY, b = SM_EMPTY;
+        unsigned long failures = 0;
+        OPEN(&a, FULL_MAP);
+        OPEN(&b, HERMES_MAP);
+        refuse(n, false);
+        assemble(&a, &b, &map, &failures, answers);
+        made = refuse_none();
+        CHECK(failures <= 1);
+        CHECK_HOLDS(&map, "{\"file\":\"f\",\"sections\":[{\"map\":" FULL_MAP ",\"offset\":{\"column\":0,\"line\":0},"
+                          "\"url\":null},{\"map\":" HERMES_MAP ",\"offset\":{\"column\":4,\"line\":10},\"url\":\"u\"},"
+                          "{\"map\":null,\"offset\":{\"column\":0,\"line\":20},\"url\":null}],\"sources\":null,"
+                          "\"version\":3,\"x_facebook_offsets\":[5,null],\"x_metro_module_paths\":[\"root\"]}");
+        CHECK_HOLDS(&a, FULL_MAP);
+        CHECK_HOLDS(&b, HERMES_MAP);
+        sm_close(&map);
+        sm_close(&a);
+        sm_close(&b);
     }
     CHECK(n > 5);
 }
@@ -437,7 +589,7 @@ static char *map_of_parts(void)
     return json;
 }
 
-static void test_many_parts_refused(unsigned long most)
+static void test_many_parts_refused(unsigned long most, uint64_t answers)
 {
     char *json = map_of_parts();
     unsigned long n, made = 1;
@@ -450,6 +602,7 @@ static void test_many_parts_refused(unsigned long most)
         made = refuse_none();
         if (code == SM_OUT_OF_MEMORY) {
             CHECK_NUMBER(sm_kind(&map), SM_KIND_EMPTY);
+            CHECK(answers_of_all() == answers);
             code = sm_open(&map, (const uint8_t *)json, strlen(json), &error);
         }
         CHECK_NUMBER(code, SM_OK);
@@ -474,7 +627,7 @@ static void test_without_memory(void)
         for (name = 0; name < sizeof FREE / sizeof FREE[0]; name++) {
             if (strcmp(EXPORTS[row].name, FREE[name]) != 0)
                 continue;
-            for (kind = SM_KIND_EMPTY; kind <= SM_KIND_BYTES; kind++) {
+            for (kind = SM_KIND_EMPTY; kind <= SM_KIND_SECTIONS; kind++) {
                 sm_handle handle = SM_EMPTY;
                 sm_code code, without;
                 fill(&handle, kind);
@@ -495,7 +648,8 @@ void test_refusals(unsigned long most)
     CHECK(answers == answers_of_all());
     for (row = 0; row < sizeof ROWS / sizeof ROWS[0]; row++)
         test_row(&ROWS[row], most, answers);
-    test_building_refused(most);
-    test_many_parts_refused(most);
+    test_building_refused(most, answers);
+    test_assembling_refused(most, answers);
+    test_many_parts_refused(most, answers);
     test_without_memory();
 }

@@ -9,6 +9,7 @@ void test_reading(void);
 void test_lookups(void);
 void test_changes(void);
 void test_building(void);
+void test_assembling(void);
 void test_texts(void);
 void test_bundles(void);
 void test_wrong_kinds(void);

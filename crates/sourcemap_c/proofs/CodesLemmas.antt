@@ -36,7 +36,7 @@ positive Absent h = cc
 positive WrongKind h = cc
 positive PastLimit h = cc
 
-reports_positive : (failure : Failure) (code : ℕ) (old new : ErrorReport) → Reports failure code old new → code ≢ 0
+pub reports_positive : (failure : Failure) (code : ℕ) (old new : ErrorReport) → Reports failure code old new → code ≢ 0
 reports_positive failure code old new (inl own) zero = positive failure (sym own.0 ∙ zero)
 reports_positive failure code old new (inr memory) zero = positive (Library OutOfMemory) (sym memory.0 ∙ zero)
 

@@ -4,3 +4,6 @@ pub mod MakingLemmas
 pub mod IdsLemmas
 pub mod BuildingLemmas
 pub mod SettersLemmas
+pub mod Steps
+pub mod Lending
+pub mod AssemblingLemmas

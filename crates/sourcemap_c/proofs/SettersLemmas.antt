@@ -5,7 +5,7 @@ use Rattle.sourcemap_errors.specs.declared.errors.Error.TheVariants.{OutOfMemory
 use Rattle.sourcemap_c_handles.specs.declared.errors.Failure.{Failure}
 use Rattle.sourcemap_c_handles.specs.declared.errors.Failure.TheVariants.{Library, Absent, WrongKind, PastLimit}
 use Rattle.sourcemap_c_handles.specs.declared.held.Held.{Held}
-use Rattle.sourcemap_c_handles.specs.declared.held.Held.TheVariants.{Map, Builder, View, Bundle, Split, Bytes}
+use Rattle.sourcemap_c_handles.specs.declared.held.Held.TheVariants.{Map, Builder, View, Bundle, Split, Bytes, Sections}
 use Rattle.sourcemap_c.specs.Codes.{IsNoText, OrNoText, UnlessMemory}
 use Rattle.sourcemap_c.specs.Kinds.{IsAsBefore}
 
@@ -24,6 +24,7 @@ as_before (Some (View _)) = refl
 as_before (Some (Bundle _)) = refl
 as_before (Some (Split _)) = refl
 as_before (Some (Bytes _)) = refl
+as_before (Some (Sections _)) = refl
 
 pub no_text : (bytes : List ℕ) (e : Error) (Due : Failure → Type 0) (held : Option Held) (present : Bool) → present ≡ true
     → IsNoText bytes e → UnlessMemory (Library e) (OrNoText present bytes Due (Library e)) × IsAsBefore held held

@@ -8,7 +8,7 @@ use Rattle.sourcemap_c_handles.specs.declared.errors.ErrorReport.{ErrorReport}
 use Rattle.sourcemap_c_handles.specs.declared.errors.Failure.{Failure}
 use Rattle.sourcemap_c_handles.specs.declared.errors.Failure.TheVariants.{Library, Absent, WrongKind, PastLimit}
 
--- the fact, unless the failure is out of memory
+-- `P`, unless the failure is out of memory
 abbrev pub UnlessMemory : Failure → Type 0 → Type 0
 UnlessMemory (Library OutOfMemory) P = Unit {0}
 UnlessMemory _ P = P

@@ -1,5 +1,6 @@
 -- Kinds and values of handles.
-use Rattle.std.specs.Prelude.{◌≡◌, ℕ, List, Option, Some, None}
+use Rattle.std.specs.Prelude.{◌≡◌, ℕ, List, Option, Some, None, option_map}
+use Rattle.std.specs.Borrow.{Bor}
 use Rattle.std.specs.Arc.{arc_value, arc_with_value}
 use Rattle.std.specs.declared.alloc.Global.{Global}
 use Rattle.std.specs.declared.sync.Arc.{Arc}
@@ -9,12 +10,16 @@ use Rattle.sourcemap_index.specs.declared.family.DecodedMap.{DecodedMap}
 use Rattle.sourcemap_builder.specs.Builder.{BuilderValue}
 use Rattle.sourcemap_c.specs.declared.kinds.Kind.{Kind}
 use Rattle.sourcemap_c_handles.specs.declared.held.Held.{Held}
-use Rattle.sourcemap_c_handles.specs.declared.held.Held.TheVariants.{Map, Builder, View, Bundle, Split, Bytes}
+use Rattle.sourcemap_c_handles.specs.declared.held.Held.TheVariants.{Map, Builder, View, Bundle, Split, Bytes, Sections}
 
 -- the map of a handle as a tree, if it has one
 abbrev pub tree_in : Option Held → Option MapTree
 tree_in (Some (Map map)) = Some (map_tree (arc_value map))
 tree_in _ = None
+
+-- the same of a borrowed map
+abbrev pub tree_of : Option (Bor DecodedMap) → Option MapTree
+tree_of map = option_map (λ m. map_tree m.now) map
 
 abbrev pub builder_in : Option Held → Option BuilderValue
 builder_in (Some (Builder builder)) = Some builder
@@ -50,6 +55,7 @@ kind_of (Some (View _)) = Kind.View
 kind_of (Some (Bundle _)) = Kind.Bundle
 kind_of (Some (Split _)) = Kind.Split
 kind_of (Some (Bytes _)) = Kind.Bytes
+kind_of (Some (Sections _)) = Kind.Sections
 
 -- `SM_KIND_..` of the header
 abbrev pub number_of : Kind → ℕ
@@ -62,3 +68,4 @@ number_of Kind.View = 5
 number_of Kind.Bundle = 6
 number_of Kind.Split = 7
 number_of Kind.Bytes = 8
+number_of Kind.Sections = 9

@@ -13,3 +13,4 @@ pub mod References
 pub mod Functions
 pub mod Ids
 pub mod Offsets
+pub mod Assembling

@@ -96,25 +96,43 @@ pub extern "C" fn sm_bundle_startup<'a>(
     bytes: &mut &'a [u8],
     error: &mut ErrorReport,
 ) -> u32
-    ensures { Answers result error.old error.new
+    ensures* after { sem 𝓛 (EndsAsBefore bundle.entry) }
+    ensures answer { Answers result error.old error.new
         (option_map bundle_startup (bundle_in (held_in bundle.old)) ≡ Some (Ok bytes.new.now))
         (OfLibraryOrKind (λ e. option_map bundle_startup (bundle_in (held_in bundle.old)) ≡ Some (Err e))
         (bundle_in (held_in bundle.old) ≡ None))
         (bytes.new.now ≡ bytes.old.now) }
 {
-    finish(alloc, startup(bundle, bytes), error)
+    answer_startup(alloc, bundle.get(), bytes, error)
 }
 
-fn startup<'a>(bundle: &'a mut Handle, bytes: &mut &'a [u8]) -> Outcome<()>
-    ensures { Does result
-        (option_map bundle_startup (bundle_in (held_in bundle.old)) ≡ Some (Ok bytes.new.now))
-        (OfLibraryOrKind (λ e. option_map bundle_startup (bundle_in (held_in bundle.old)) ≡ Some (Err e))
-        (bundle_in (held_in bundle.old) ≡ None))
+fn answer_startup<'a>(
+    alloc: Global,
+    held: Option<&'a Held>,
+    bytes: &mut &'a [u8],
+    error: &mut ErrorReport,
+) -> u32
+    ensures { Answers result error.old error.new
+        (option_map bundle_startup (bundle_in (option_copied held.entry)) ≡ Some (Ok bytes.new.now))
+        (OfLibraryOrKind
+        (λ e. option_map bundle_startup (bundle_in (option_copied held.entry)) ≡ Some (Err e))
+        (bundle_in (option_copied held.entry) ≡ None))
         (bytes.new.now ≡ bytes.old.now) }
 {
-    match bundle_in(bundle) {
-        Some(bundle) => put_startup(bundle, bytes),
-        None => Err(Failure::WrongKind),
+    finish(alloc, startup(held, bytes), error)
+}
+
+fn startup<'a>(held: Option<&'a Held>, bytes: &mut &'a [u8]) -> Outcome<()>
+    ensures { Does result
+        (option_map bundle_startup (bundle_in (option_copied held.entry)) ≡ Some (Ok bytes.new.now))
+        (OfLibraryOrKind
+        (λ e. option_map bundle_startup (bundle_in (option_copied held.entry)) ≡ Some (Err e))
+        (bundle_in (option_copied held.entry) ≡ None))
+        (bytes.new.now ≡ bytes.old.now) }
+{
+    match held {
+        Some(Held::Bundle(bundle)) => put_startup(bundle, bytes),
+        _ => Err(Failure::WrongKind),
     }
 }
 
@@ -142,7 +160,8 @@ pub extern "C" fn sm_bundle_module<'a>(
     bytes: &mut &'a [u8],
     error: &mut ErrorReport,
 ) -> u32
-    ensures { Answers result error.old error.new
+    ensures* after { sem 𝓛 (EndsAsBefore bundle.entry) }
+    ensures answer { Answers result error.old error.new
         (option_map (λ b. module_bytes b id) (bundle_in (held_in bundle.old)) ≡ Some (Ok (Some bytes.new.now)))
         (OfLibraryKindOrAbsent
         (λ e. option_map (λ b. module_bytes b id) (bundle_in (held_in bundle.old)) ≡ Some (Err e))
@@ -150,21 +169,39 @@ pub extern "C" fn sm_bundle_module<'a>(
         (option_map (λ b. module_bytes b id) (bundle_in (held_in bundle.old)) ≡ Some (Ok None)))
         (bytes.new.now ≡ bytes.old.now) }
 {
-    finish(alloc, module(bundle, id, bytes), error)
+    answer_module(alloc, bundle.get(), id, bytes, error)
 }
 
-fn module<'a>(bundle: &'a mut Handle, id: usize, bytes: &mut &'a [u8]) -> Outcome<()>
-    ensures { Does result
-        (option_map (λ b. module_bytes b id) (bundle_in (held_in bundle.old)) ≡ Some (Ok (Some bytes.new.now)))
+fn answer_module<'a>(
+    alloc: Global,
+    held: Option<&'a Held>,
+    id: usize,
+    bytes: &mut &'a [u8],
+    error: &mut ErrorReport,
+) -> u32
+    ensures { Answers result error.old error.new
+        (option_map (λ b. module_bytes b id) (bundle_in (option_copied held.entry)) ≡ Some (Ok (Some bytes.new.now)))
         (OfLibraryKindOrAbsent
-        (λ e. option_map (λ b. module_bytes b id) (bundle_in (held_in bundle.old)) ≡ Some (Err e))
-        (bundle_in (held_in bundle.old) ≡ None)
-        (option_map (λ b. module_bytes b id) (bundle_in (held_in bundle.old)) ≡ Some (Ok None)))
+        (λ e. option_map (λ b. module_bytes b id) (bundle_in (option_copied held.entry)) ≡ Some (Err e))
+        (bundle_in (option_copied held.entry) ≡ None)
+        (option_map (λ b. module_bytes b id) (bundle_in (option_copied held.entry)) ≡ Some (Ok None)))
         (bytes.new.now ≡ bytes.old.now) }
 {
-    match bundle_in(bundle) {
-        Some(bundle) => put_module(bundle, id, bytes),
-        None => Err(Failure::WrongKind),
+    finish(alloc, module(held, id, bytes), error)
+}
+
+fn module<'a>(held: Option<&'a Held>, id: usize, bytes: &mut &'a [u8]) -> Outcome<()>
+    ensures { Does result
+        (option_map (λ b. module_bytes b id) (bundle_in (option_copied held.entry)) ≡ Some (Ok (Some bytes.new.now)))
+        (OfLibraryKindOrAbsent
+        (λ e. option_map (λ b. module_bytes b id) (bundle_in (option_copied held.entry)) ≡ Some (Err e))
+        (bundle_in (option_copied held.entry) ≡ None)
+        (option_map (λ b. module_bytes b id) (bundle_in (option_copied held.entry)) ≡ Some (Ok None)))
+        (bytes.new.now ≡ bytes.old.now) }
+{
+    match held {
+        Some(Held::Bundle(bundle)) => put_module(bundle, id, bytes),
+        _ => Err(Failure::WrongKind),
     }
 }
 
@@ -370,28 +407,45 @@ pub extern "C" fn sm_split_item<'a>(
     text: &mut &'a [u8],
     error: &mut ErrorReport,
 ) -> u32
-    ensures { Answers result error.old error.new
+    ensures* after { sem 𝓛 (EndsAsBefore split.entry) }
+    ensures answer { Answers result error.old error.new
         (IsNamed (item_of (items_in (held_in split.old)) item) name.new.now text.new.now)
         (IsNoItem (item_of (items_in (held_in split.old)) item))
         ((name.new.now ≡ name.old.now) × (text.new.now ≡ text.old.now)) }
 {
-    finish(alloc, put_texts(split, item, name, text), error)
+    answer_texts(alloc, split.get(), item, name, text, error)
+}
+
+fn answer_texts<'a>(
+    alloc: Global,
+    held: Option<&'a Held>,
+    item: usize,
+    name: &mut &'a [u8],
+    text: &mut &'a [u8],
+    error: &mut ErrorReport,
+) -> u32
+    ensures { Answers result error.old error.new
+        (IsNamed (item_of (items_in (option_copied held.entry)) item) name.new.now text.new.now)
+        (IsNoItem (item_of (items_in (option_copied held.entry)) item))
+        ((name.new.now ≡ name.old.now) × (text.new.now ≡ text.old.now)) }
+{
+    finish(alloc, put_texts(held, item, name, text), error)
 }
 
 fn put_texts<'a>(
-    split: &'a mut Handle,
+    held: Option<&'a Held>,
     item: usize,
     name: &mut &'a [u8],
     text: &mut &'a [u8],
 ) -> Outcome<()>
     ensures { Does result
-        (IsNamed (item_of (items_in (held_in split.old)) item) name.new.now text.new.now)
-        (IsNoItem (item_of (items_in (held_in split.old)) item))
+        (IsNamed (item_of (items_in (option_copied held.entry)) item) name.new.now text.new.now)
+        (IsNoItem (item_of (items_in (option_copied held.entry)) item))
         ((name.new.now ≡ name.old.now) × (text.new.now ≡ text.old.now)) }
 {
-    match items_in(split) {
-        Some(items) => put_texts_of(items, item, name, text),
-        None => Err(Failure::WrongKind),
+    match held {
+        Some(Held::Split(items)) => put_texts_of(items.as_slice(), item, name, text),
+        _ => Err(Failure::WrongKind),
     }
 }
 

@@ -86,7 +86,7 @@ fn change_shared(alloc: Global, map: &mut Arc<DecodedMap>, change: &Change<'_>) 
 {
     match Arc::get_mut(map) {
         Some(map) => apply(map, change),
-        None => match changed(alloc, map, change) {
+        None => match change_copy(alloc, map, change) {
             Ok(changed) => {
                 *map = changed;
                 Ok(())
@@ -96,7 +96,7 @@ fn change_shared(alloc: Global, map: &mut Arc<DecodedMap>, change: &Change<'_>) 
     }
 }
 
-fn changed(alloc: Global, map: &DecodedMap, change: &Change<'_>) -> Outcome<Arc<DecodedMap>>
+fn change_copy(alloc: Global, map: &DecodedMap, change: &Change<'_>) -> Outcome<Arc<DecodedMap>>
     ensures { MatchResult result
         (λ new. ChangesTo change.now (map_tree map.now) (Ok (map_tree (arc_value new))))
         (λ failure. UnlessMemory failure (ChangesTo change.now (map_tree map.now) (Err failure))) }

@@ -1,11 +1,12 @@
 //! Traces of lists of positions, and names of functions.
 ghost use Rattle.std.specs.Prelude.{◌≡◌, None, Some};
+ghost use Rattle.std.specs.Borrow.{sem};
 ghost use Rattle.std.specs.Option.{option_copied};
-ghost use Rattle.sourcemap_c_handles.specs.Handles.{held_in};
+ghost use Rattle.sourcemap_c_handles.specs.Handles.{EndsAsBefore, held_in};
 ghost use Rattle.sourcemap_index.specs.Family.{map_tree};
 ghost use Rattle.sourcemap_c.specs.Codes.{Answers, Does, NoError, OfLibrary, OfLibraryOrKind};
 ghost use Rattle.sourcemap_c.specs.Functions.{Guesses, IsTrace, Names, NamesAt, NamesIn};
-ghost use Rattle.sourcemap_c.specs.Kinds.{bytes_in, tree_in, view_in};
+ghost use Rattle.sourcemap_c.specs.Kinds.{bytes_in, tree_in, tree_of, view_in};
 
 use crate::codes::{WRONG_KIND, put_text, text_in};
 use crate::kinds::{map_in, put_bytes};
@@ -69,11 +70,27 @@ pub extern "C" fn sm_function_name<'a>(
     view: &mut Handle,
     text: &mut &'a [u8],
 ) -> u32
+    ensures* after { sem 𝓛 (EndsAsBefore map.entry) }
     ensures name { NamesIn (tree_in (held_in map.old)) (view_in (held_in view.old)) minified.now
         (line, column) result text.old.now text.new.now }
     ensures kept { held_in view.new ≡ held_in view.old }
 {
-    match map_in(map) {
+    put_name_in(map_in(map), line, column, minified, view, text)
+}
+
+fn put_name_in<'a>(
+    map: Option<&'a DecodedMap>,
+    line: u32,
+    column: u32,
+    minified: &[u8],
+    view: &mut Handle,
+    text: &mut &'a [u8],
+) -> u32
+    ensures name { NamesIn (tree_of map.entry) (view_in (held_in view.old)) minified.now
+        (line, column) result text.old.now text.new.now }
+    ensures kept { held_in view.new ≡ held_in view.old }
+{
+    match map {
         Some(map) => put_name(map, line, column, minified, view_in(view), text),
         None => WRONG_KIND,
     }
@@ -129,19 +146,17 @@ pub extern "C" fn sm_hermes_function_name<'a>(
     offset: u32,
     text: &mut &'a [u8],
 ) -> u32
-    ensures { NamesAt (tree_in (held_in map.old)) offset result text.old.now text.new.now }
+    ensures* after { sem 𝓛 (EndsAsBefore map.entry) }
+    ensures value { NamesAt (tree_in (held_in map.old)) offset result text.old.now text.new.now }
 {
-    match map_in(map) {
-        Some(map) => put_name_at(map, offset, text),
-        None => WRONG_KIND,
-    }
+    put_name_at(map_in(map), offset, text)
 }
 
-fn put_name_at<'a>(map: &'a DecodedMap, offset: u32, text: &mut &'a [u8]) -> u32
-    ensures { NamesAt (Some (map_tree map.now)) offset result text.old.now text.new.now }
+fn put_name_at<'a>(map: Option<&'a DecodedMap>, offset: u32, text: &mut &'a [u8]) -> u32
+    ensures { NamesAt (tree_of map.entry) offset result text.old.now text.new.now }
 {
     match map {
-        DecodedMap::Hermes(map) => put_text(map.get_original_function_name(offset), text),
-        DecodedMap::Regular(_) | DecodedMap::Index(_) => WRONG_KIND,
+        Some(DecodedMap::Hermes(map)) => put_text(map.get_original_function_name(offset), text),
+        _ => WRONG_KIND,
     }
 }

@@ -1,14 +1,15 @@
 //! Getters of maps.
 ghost use Rattle.std.specs.Prelude.{◌≡◌, ◌≤◌, ◌-◌, ℕ, IfSome, None, Some, length, min, option_map, slice_get, unwrap_or};
+ghost use Rattle.std.specs.Borrow.{sem};
 ghost use Rattle.std.specs.Option.{option_copied};
-ghost use Rattle.sourcemap_c_handles.specs.Handles.{held_in};
+ghost use Rattle.sourcemap_c_handles.specs.Handles.{EndsAsBefore, held_in};
 ghost use Rattle.sourcemap_c_handles.specs.Layout.{map_token};
 ghost use Rattle.sourcemap_index.specs.DecodedMap.{debug_id_of};
 ghost use Rattle.sourcemap_index.specs.Family.{index_value, map_tree};
 ghost use Rattle.sourcemap_c.specs.Getters.{AreFrom, contents_in, counts_of, counts_of_map, counts_of_sections, file_of, leaf_in, name_in, root_of, source_in};
 ghost use Rattle.sourcemap_c.specs.Codes.{ReturnsValue};
 ghost use Rattle.sourcemap_c.specs.Ids.{AreIdsFrom};
-ghost use Rattle.sourcemap_c.specs.Kinds.{tree_in};
+ghost use Rattle.sourcemap_c.specs.Kinds.{tree_in, tree_of};
 
 use crate::codes::{ABSENT, OK, WRONG_KIND, put_text};
 use crate::ids::put_ignored;
@@ -71,10 +72,17 @@ fn counts_of_index(index: &SourceMapIndex) -> Counts
 /// Borrows the name of the generated file.
 #[unsafe(no_mangle)]
 pub extern "C" fn sm_file<'a>(map: &'a mut Handle, text: &mut &'a [u8]) -> u32
-    ensures { ReturnsValue (option_map file_of (tree_in (held_in map.old)))
+    ensures* after { sem 𝓛 (EndsAsBefore map.entry) }
+    ensures value { ReturnsValue (option_map file_of (tree_in (held_in map.old)))
         result text.old.now text.new.now }
 {
-    match map_in(map) {
+    put_file(map_in(map), text)
+}
+
+fn put_file<'a>(map: Option<&'a DecodedMap>, text: &mut &'a [u8]) -> u32
+    ensures { ReturnsValue (option_map file_of (tree_of map.entry)) result text.old.now text.new.now }
+{
+    match map {
         Some(map) => put_text(file_of(map), text),
         None => WRONG_KIND,
     }
@@ -104,10 +112,17 @@ pub(crate) fn leaf_in(map: &DecodedMap) -> Option<&SourceMap>
 /// Borrows the `sourceRoot`.
 #[unsafe(no_mangle)]
 pub extern "C" fn sm_source_root<'a>(map: &'a mut Handle, text: &mut &'a [u8]) -> u32
-    ensures { ReturnsValue (option_map root_of (tree_in (held_in map.old)))
+    ensures* after { sem 𝓛 (EndsAsBefore map.entry) }
+    ensures value { ReturnsValue (option_map root_of (tree_in (held_in map.old)))
         result text.old.now text.new.now }
 {
-    match map_in(map) {
+    put_source_root(map_in(map), text)
+}
+
+fn put_source_root<'a>(map: Option<&'a DecodedMap>, text: &mut &'a [u8]) -> u32
+    ensures { ReturnsValue (option_map root_of (tree_of map.entry)) result text.old.now text.new.now }
+{
+    match map {
         Some(map) => put_text(root_of(map), text),
         None => WRONG_KIND,
     }
@@ -147,10 +162,17 @@ fn put_id(map: &DecodedMap, id: &mut IdBytes) -> u32
 /// Borrows the source with this id, resolved against the root.
 #[unsafe(no_mangle)]
 pub extern "C" fn sm_source<'a>(map: &'a mut Handle, id: u32, text: &mut &'a [u8]) -> u32
-    ensures { ReturnsValue (option_map (source_in id) (tree_in (held_in map.old)))
+    ensures* after { sem 𝓛 (EndsAsBefore map.entry) }
+    ensures value { ReturnsValue (option_map (source_in id) (tree_in (held_in map.old)))
         result text.old.now text.new.now }
 {
-    match map_in(map) {
+    put_source(map_in(map), id, text)
+}
+
+fn put_source<'a>(map: Option<&'a DecodedMap>, id: u32, text: &mut &'a [u8]) -> u32
+    ensures { ReturnsValue (option_map (source_in id) (tree_of map.entry)) result text.old.now text.new.now }
+{
+    match map {
         Some(map) => put_text(source_in(map, id), text),
         None => WRONG_KIND,
     }
@@ -165,10 +187,17 @@ fn source_in(map: &DecodedMap, id: u32) -> Option<&str>
 /// Borrows the name with this id.
 #[unsafe(no_mangle)]
 pub extern "C" fn sm_name<'a>(map: &'a mut Handle, id: u32, text: &mut &'a [u8]) -> u32
-    ensures { ReturnsValue (option_map (name_in id) (tree_in (held_in map.old)))
+    ensures* after { sem 𝓛 (EndsAsBefore map.entry) }
+    ensures value { ReturnsValue (option_map (name_in id) (tree_in (held_in map.old)))
         result text.old.now text.new.now }
 {
-    match map_in(map) {
+    put_name(map_in(map), id, text)
+}
+
+fn put_name<'a>(map: Option<&'a DecodedMap>, id: u32, text: &mut &'a [u8]) -> u32
+    ensures { ReturnsValue (option_map (name_in id) (tree_of map.entry)) result text.old.now text.new.now }
+{
+    match map {
         Some(map) => put_text(name_in(map, id), text),
         None => WRONG_KIND,
     }
@@ -183,10 +212,17 @@ fn name_in(map: &DecodedMap, id: u32) -> Option<&str>
 /// Borrows the contents of the source with this id.
 #[unsafe(no_mangle)]
 pub extern "C" fn sm_contents<'a>(map: &'a mut Handle, id: u32, text: &mut &'a [u8]) -> u32
-    ensures { ReturnsValue (option_map (contents_in id) (tree_in (held_in map.old)))
+    ensures* after { sem 𝓛 (EndsAsBefore map.entry) }
+    ensures value { ReturnsValue (option_map (contents_in id) (tree_in (held_in map.old)))
         result text.old.now text.new.now }
 {
-    match map_in(map) {
+    put_contents(map_in(map), id, text)
+}
+
+fn put_contents<'a>(map: Option<&'a DecodedMap>, id: u32, text: &mut &'a [u8]) -> u32
+    ensures { ReturnsValue (option_map (contents_in id) (tree_of map.entry)) result text.old.now text.new.now }
+{
+    match map {
         Some(map) => put_text(contents_in(map, id), text),
         None => WRONG_KIND,
     }

@@ -25,6 +25,7 @@ pub(crate) enum Kind {
     Bundle = 6,
     Split = 7,
     Bytes = 8,
+    Sections = 9,
 }
 
 impl Kind {
@@ -47,6 +48,7 @@ pub(crate) fn kind_of(held: Option<&Held>) -> Kind
         Some(Held::Bundle(_)) => Kind::Bundle,
         Some(Held::Split(_)) => Kind::Split,
         Some(Held::Bytes(_)) => Kind::Bytes,
+        Some(Held::Sections(_)) => Kind::Sections,
     }
 }
 

@@ -1,6 +1,7 @@
 //! The C interface: the functions of `sourcemap.h`.
 #![tactic(auto)]
 
+pub mod assembling;
 pub mod building;
 pub mod bundles;
 pub mod changing;

@@ -1,13 +1,14 @@
 //! Lookups of generated positions.
 ghost use Rattle.std.specs.Prelude.{◌≡◌, ◌<◌, ◌≤◌, ℕ, IfSome, None, Some, length, min, option_and_then, option_map, slice_get, unwrap_or};
+ghost use Rattle.std.specs.Borrow.{sem};
 ghost use Rattle.std.specs.Option.{option_copied};
-ghost use Rattle.sourcemap_c_handles.specs.Handles.{held_in};
+ghost use Rattle.sourcemap_c_handles.specs.Handles.{EndsAsBefore, held_in};
 ghost use Rattle.sourcemap_c_handles.specs.Layout.{found_in};
 ghost use Rattle.sourcemap_index.specs.Family.{map_tree};
 ghost use Rattle.sourcemap_index_model.specs.Meaning.{meaning};
 ghost use Rattle.sourcemap_index_model.specs.WellFormed.{IsInOrder};
 ghost use Rattle.sourcemap_c.specs.Codes.{IsAbsentUnlessOk, ReturnsValue};
-ghost use Rattle.sourcemap_c.specs.Kinds.{tree_in};
+ghost use Rattle.sourcemap_c.specs.Kinds.{tree_in, tree_of};
 ghost use Rattle.sourcemap_c.specs.Lookup.{AreAnswered, ReturnsLookup, answer_at, found_at, name_at, source_at};
 
 use crate::codes::{ABSENT, OK, WRONG_KIND, put_text};
@@ -93,10 +94,23 @@ pub extern "C" fn sm_lookup_source<'a>(
     column: u32,
     text: &mut &'a [u8],
 ) -> u32
-    ensures { ReturnsLookup (λ t. source_at t (line, column)) (tree_in (held_in map.old))
+    ensures* after { sem 𝓛 (EndsAsBefore map.entry) }
+    ensures value { ReturnsLookup (λ t. source_at t (line, column)) (tree_in (held_in map.old))
         result text.old.now text.new.now }
 {
-    match map_in(map) {
+    put_source_at(map_in(map), line, column, text)
+}
+
+fn put_source_at<'a>(
+    map: Option<&'a DecodedMap>,
+    line: u32,
+    column: u32,
+    text: &mut &'a [u8],
+) -> u32
+    ensures { ReturnsLookup (λ t. source_at t (line, column)) (tree_of map.entry)
+        result text.old.now text.new.now }
+{
+    match map {
         Some(map) => put_text(source_at(map, line, column), text),
         None => WRONG_KIND,
     }
@@ -117,10 +131,18 @@ pub extern "C" fn sm_lookup_name<'a>(
     column: u32,
     text: &mut &'a [u8],
 ) -> u32
-    ensures { ReturnsLookup (λ t. name_at t (line, column)) (tree_in (held_in map.old))
+    ensures* after { sem 𝓛 (EndsAsBefore map.entry) }
+    ensures value { ReturnsLookup (λ t. name_at t (line, column)) (tree_in (held_in map.old))
         result text.old.now text.new.now }
 {
-    match map_in(map) {
+    put_name_at(map_in(map), line, column, text)
+}
+
+fn put_name_at<'a>(map: Option<&'a DecodedMap>, line: u32, column: u32, text: &mut &'a [u8]) -> u32
+    ensures { ReturnsLookup (λ t. name_at t (line, column)) (tree_of map.entry)
+        result text.old.now text.new.now }
+{
+    match map {
         Some(map) => put_text(name_at(map, line, column), text),
         None => WRONG_KIND,
     }

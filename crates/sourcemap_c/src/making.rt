@@ -142,7 +142,7 @@ fn composed_with(map: &DecodedMap, adjustment: &SourceMap) -> Outcome<DecodedMap
         (IsAdjustedBy (Some (leaf (regular adjustment.now))) (map_tree map.now) (Err failure))) }
 {
     match map {
-        DecodedMap::Regular(map) => match composed(map, adjustment) {
+        DecodedMap::Regular(map) => match compose_copy(map, adjustment) {
             Ok(composed) => Ok(DecodedMap::Regular(composed)),
             Err(error) => Err(Failure::Library(error)),
         },
@@ -150,7 +150,7 @@ fn composed_with(map: &DecodedMap, adjustment: &SourceMap) -> Outcome<DecodedMap
     }
 }
 
-fn composed(map: &SourceMap, adjustment: &SourceMap) -> Result<SourceMap>
+fn compose_copy(map: &SourceMap, adjustment: &SourceMap) -> Result<SourceMap>
     ensures { Gives (λ m. m) result (adjusted map.now adjustment.now) }
 {
     let mut copy = map.clone()?;
@@ -202,7 +202,8 @@ fn rewrite(
     }
 }
 
-fn texts_in<'a>(alloc: Global, texts: &[&'a [u8]]) -> Result<Vec<&'a str>>
+/// These bytes as texts. Returns `Utf8` if one is not UTF-8.
+pub(crate) fn texts_in<'a>(alloc: Global, texts: &[&'a [u8]]) -> Result<Vec<&'a str>>
     ensures { MatchResult result
         (λ found. let found = list_map (λ text. text.now) found.items in
         (found ≡ list_map (λ text. text.now) texts.now) × All IsUtf8 found)
@@ -253,12 +254,12 @@ fn rewritten_in(map: &mut Handle, options: &RewriteOptions<'_>) -> Outcome<Decod
     ensures kept { held_in map.new ≡ held_in map.old }
 {
     match map_in(map) {
-        Some(map) => rewritten(map, options),
+        Some(map) => rewrite_copy(map, options),
         None => Err(Failure::WrongKind),
     }
 }
 
-fn rewritten(map: &DecodedMap, options: &RewriteOptions<'_>) -> Outcome<DecodedMap>
+fn rewrite_copy(map: &DecodedMap, options: &RewriteOptions<'_>) -> Outcome<DecodedMap>
     requires { options.now.load_local_source_contents ≡ false }
     ensures { MatchResult result
         (λ new. IsRewritten (removal_of options.now) (map_tree map.now) (Ok (map_tree new)))

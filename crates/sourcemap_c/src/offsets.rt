@@ -1,12 +1,13 @@
 //! First lines and paths of the modules in an index map, and relative paths.
 ghost use Rattle.std.specs.Prelude.{◌≡◌, ◌≤◌, ◌-◌, ℕ, Some, length, min, slice_get};
+ghost use Rattle.std.specs.Borrow.{sem};
 ghost use Rattle.std.specs.Option.{option_and_then, option_copied};
-ghost use Rattle.sourcemap_c_handles.specs.Handles.{held_in};
+ghost use Rattle.sourcemap_c_handles.specs.Handles.{EndsAsBefore, held_in};
 ghost use Rattle.sourcemap_index.specs.Family.{index_value, map_tree};
 ghost use Rattle.sourcemap_file_urls.specs.RelativePaths.{relative_path};
 ghost use Rattle.sourcemap_c.specs.Getters.{AreFrom};
 ghost use Rattle.sourcemap_c.specs.Codes.{Answers, Does, NoError, OfLibrary, ReturnsValue};
-ghost use Rattle.sourcemap_c.specs.Kinds.{bytes_in, tree_in};
+ghost use Rattle.sourcemap_c.specs.Kinds.{bytes_in, tree_in, tree_of};
 ghost use Rattle.sourcemap_c.specs.Offsets.{AreTexts, IsNoTextOf, WritesLines, lines_in, or_none, path_in};
 
 use crate::codes::{ABSENT, OK, WRONG_KIND, put_text, text_in};
@@ -17,7 +18,7 @@ use sourcemap_c_handles::errors::{ErrorReport, Failure, Outcome, finish};
 use std::alloc::Global;
 
 // `SM_NONE` of the header.
-const NONE: u32 = u32::MAX;
+pub(crate) const NONE: u32 = u32::MAX;
 
 /// Writes the first lines of modules, from module `first`, and how many were written.
 #[unsafe(no_mangle)]
@@ -77,23 +78,21 @@ fn put_numbers(lines: &[Option<u32>], first: usize, offsets: &mut [u32]) -> usiz
     count
 }
 
-/// Borrows the path of a module.
+/// Borrows the path of the module with this id, of an index map that has a list of paths.
 #[unsafe(no_mangle)]
 pub extern "C" fn sm_module_path<'a>(map: &'a mut Handle, id: u32, text: &mut &'a [u8]) -> u32
-    ensures { ReturnsValue (path_in id (tree_in (held_in map.old))) result text.old.now text.new.now }
+    ensures* after { sem 𝓛 (EndsAsBefore map.entry) }
+    ensures value { ReturnsValue (path_in id (tree_in (held_in map.old))) result text.old.now text.new.now }
 {
-    match map_in(map) {
-        Some(map) => put_path(map, id as usize, text),
-        None => WRONG_KIND,
-    }
+    put_path(map_in(map), id, text)
 }
 
-fn put_path<'a>(map: &'a DecodedMap, id: usize, text: &mut &'a [u8]) -> u32
-    ensures { ReturnsValue (path_in id (Some (map_tree map.now))) result text.old.now text.new.now }
+fn put_path<'a>(map: Option<&'a DecodedMap>, id: u32, text: &mut &'a [u8]) -> u32
+    ensures { ReturnsValue (path_in id (tree_of map.entry)) result text.old.now text.new.now }
 {
     match map {
-        DecodedMap::Index(index) => put_text(path_of(index, id), text),
-        DecodedMap::Regular(_) | DecodedMap::Hermes(_) => WRONG_KIND,
+        Some(DecodedMap::Index(index)) => put_text(path_of(index, id as usize), text),
+        _ => WRONG_KIND,
     }
 }
 

@@ -77,10 +77,18 @@ fn start_of(section: &SourceMapSection) -> SectionStart
 /// Borrows the URL of a section.
 #[unsafe(no_mangle)]
 pub extern "C" fn sm_section_url<'a>(map: &'a mut Handle, id: u32, text: &mut &'a [u8]) -> u32
-    ensures { ReturnsValue (option_map (λ ss. option_and_then url_of (slice_get ss id))
+    ensures* after { sem 𝓛 (EndsAsBefore map.entry) }
+    ensures value { ReturnsValue (option_map (λ ss. option_and_then url_of (slice_get ss id))
         (option_and_then sections_in (tree_in (held_in map.old)))) result text.old.now text.new.now }
 {
-    match index_in(map) {
+    put_url(index_in(map), id, text)
+}
+
+fn put_url<'a>(index: Option<&'a SourceMapIndex>, id: u32, text: &mut &'a [u8]) -> u32
+    ensures { ReturnsValue (option_map (λ ss. option_and_then url_of (slice_get ss id))
+        (option_map (λ i. (index_value i.now).sections) index.entry)) result text.old.now text.new.now }
+{
+    match index {
         Some(index) => put_text(url_at(index, id), text),
         None => WRONG_KIND,
     }

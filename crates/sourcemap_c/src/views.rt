@@ -66,10 +66,18 @@ fn open_text(alloc: Global, view: &mut Handle, text: &str) -> Outcome<()>
 /// Borrows the text of a view.
 #[unsafe(no_mangle)]
 pub extern "C" fn sm_view_text<'a>(view: &'a mut Handle, text: &mut &'a [u8]) -> u32
-    ensures { ReturnsValue (option_map (λ source. Some source) (view_in (held_in view.old)))
+    ensures* after { sem 𝓛 (EndsAsBefore view.entry) }
+    ensures value { ReturnsValue (option_map (λ source. Some source) (view_in (held_in view.old)))
         result text.old.now text.new.now }
 {
-    match view_in(view) {
+    put_source(view_in(view), text)
+}
+
+fn put_source<'a>(view: Option<&'a SourceView>, text: &mut &'a [u8]) -> u32
+    ensures { ReturnsValue (option_map (λ source. Some source) (option_copied view.entry))
+        result text.old.now text.new.now }
+{
+    match view {
         Some(view) => put_text(Some(view.source()), text),
         None => WRONG_KIND,
     }
@@ -94,10 +102,18 @@ pub extern "C" fn sm_view_count(view: &mut Handle, lines: &mut usize) -> u32
 /// Borrows a line without its end.
 #[unsafe(no_mangle)]
 pub extern "C" fn sm_view_line<'a>(view: &'a mut Handle, line: u32, text: &mut &'a [u8]) -> u32
-    ensures { ReturnsValue (option_map (λ source. slice_get (line_bodies source) line)
+    ensures* after { sem 𝓛 (EndsAsBefore view.entry) }
+    ensures value { ReturnsValue (option_map (λ source. slice_get (line_bodies source) line)
         (view_in (held_in view.old))) result text.old.now text.new.now }
 {
-    match view_in(view) {
+    put_line(view_in(view), line, text)
+}
+
+fn put_line<'a>(view: Option<&'a SourceView>, line: u32, text: &mut &'a [u8]) -> u32
+    ensures { ReturnsValue (option_map (λ source. slice_get (line_bodies source) line)
+        (option_copied view.entry)) result text.old.now text.new.now }
+{
+    match view {
         Some(view) => put_text(view.get_line(line), text),
         None => WRONG_KIND,
     }
@@ -112,10 +128,24 @@ pub extern "C" fn sm_view_slice<'a>(
     span: u32,
     text: &mut &'a [u8],
 ) -> u32
-    ensures { ReturnsValue (option_map (λ source. view_slice source line column span)
+    ensures* after { sem 𝓛 (EndsAsBefore view.entry) }
+    ensures value { ReturnsValue (option_map (λ source. view_slice source line column span)
         (view_in (held_in view.old))) result text.old.now text.new.now }
 {
-    match view_in(view) {
+    put_slice(view_in(view), line, column, span, text)
+}
+
+fn put_slice<'a>(
+    view: Option<&'a SourceView>,
+    line: u32,
+    column: u32,
+    span: u32,
+    text: &mut &'a [u8],
+) -> u32
+    ensures { ReturnsValue (option_map (λ source. view_slice source line column span)
+        (option_copied view.entry)) result text.old.now text.new.now }
+{
+    match view {
         Some(view) => put_text(view.get_line_slice(line, column, span), text),
         None => WRONG_KIND,
     }

@@ -1,7 +1,9 @@
 //! Encoding of maps.
 ghost use Rattle.std.specs.Prelude.{◌≡◌, None, Some, ℕ, List, option_map};
+ghost use Rattle.std.specs.Borrow.{sem};
+ghost use Rattle.std.specs.Option.{option_copied};
 ghost use Rattle.sourcemap_headers.specs.DataUrl.{data_url_of};
-ghost use Rattle.sourcemap_c_handles.specs.Handles.{held_in};
+ghost use Rattle.sourcemap_c_handles.specs.Handles.{EndsAsBefore, held_in};
 ghost use Rattle.sourcemap_index.specs.Family.{map_tree};
 ghost use Rattle.sourcemap_c.specs.Codes.{Answers, Does, NoError, OfLibrary, OfLibraryOrKind, ReturnsValue};
 ghost use Rattle.sourcemap_c.specs.Kinds.{bytes_in, tree_in};
@@ -115,10 +117,18 @@ fn put_url_of(alloc: Global, encoded: &[u8], text: &mut Handle) -> Outcome<()>
 /// Borrows the text.
 #[unsafe(no_mangle)]
 pub extern "C" fn sm_bytes_text<'a>(bytes: &'a mut Handle, text: &mut &'a [u8]) -> u32
-    ensures { ReturnsValue (option_map (λ held. Some held) (bytes_in (held_in bytes.old)))
+    ensures* after { sem 𝓛 (EndsAsBefore bytes.entry) }
+    ensures value { ReturnsValue (option_map (λ held. Some held) (bytes_in (held_in bytes.old)))
         result text.old.now text.new.now }
 {
-    match bytes.get() {
+    put_held(bytes.get(), text)
+}
+
+fn put_held<'a>(held: Option<&'a Held>, text: &mut &'a [u8]) -> u32
+    ensures { ReturnsValue (option_map (λ held. Some held) (bytes_in (option_copied held.entry)))
+        result text.old.now text.new.now }
+{
+    match held {
         Some(Held::Bytes(bytes)) => {
             *text = bytes.as_slice();
             OK

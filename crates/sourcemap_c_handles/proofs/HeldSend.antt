@@ -22,6 +22,7 @@ use Rattle.sourcemap_errors.specs.contracts.errors.Error
 use Rattle.sourcemap_headers.proofs.debug_id.DebugId.TheSendSync as id
 use Rattle.sourcemap_index.proofs.family.DecodedMap.TheLaws.TheKnot as knot
 use Rattle.sourcemap_index.specs.contracts.family.DecodedMap
+use Rattle.sourcemap_index.specs.contracts.family.SourceMapSection
 use Rattle.sourcemap_map_regular.proofs.map.SourceMap.TheSendSync as regular
 use Rattle.sourcemap_source_views.proofs.sourceview.SourceView.TheSendSync as view
 use Rattle.sourcemap_c_handles.specs.contracts.held.Held
@@ -45,8 +46,14 @@ module_send = recorded_send (SplitModule.the_field).row _ _ (SplitModule.the_typ
 modules_send : IsSend (Vec.the_row (Result.the_row SplitModule.the_row Error.the_row) Global.the_row TheImpl.ghosts)
 modules_send = vecs.the_send (Result.the_row SplitModule.the_row Error.the_row) Global.the_row TheImpl.ghosts (results.the_send SplitModule.the_row Error.the_row module_send error.the_send) heap.the_send frees.the_frees
 
+section_send : IsSend SourceMapSection.the_row
+section_send = search (regular.the_send, id.the_send, MapsCrossing.crosses, Crossing.crosses, knot.crosses, sendable) depth 60 fits 20000
+
+sections_send : IsSend (Vec.the_row SourceMapSection.the_row Global.the_row TheImpl.ghosts)
+sections_send = vecs.the_send SourceMapSection.the_row Global.the_row TheImpl.ghosts section_send heap.the_send frees.the_frees
+
 field_send : IsSend (Held.the_field).row
-field_send = enum_send (enums.shape Held.the_type) ((shared_send, tt), ((builder.the_send, tt), ((view.the_send, tt), ((bundle.the_send static_lft, tt), ((modules_send, tt), ((search (Crossing.crosses, sendable), tt), tt))))))
+field_send = enum_send (enums.shape Held.the_type) ((shared_send, tt), ((builder.the_send, tt), ((view.the_send, tt), ((bundle.the_send static_lft, tt), ((modules_send, tt), ((search (Crossing.crosses, sendable), tt), ((sections_send, tt), tt)))))))
 
 pub held_send : IsSend Held.the_row
 held_send = recorded_send (Held.the_field).row _ _ (Held.the_type).to_one field_send

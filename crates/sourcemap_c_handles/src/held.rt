@@ -2,7 +2,7 @@
 use sourcemap_builder::builder::SourceMapBuilder;
 use sourcemap_bundles::ram_bundle::RamBundle;
 use sourcemap_errors::errors::Result;
-use sourcemap_index::family::DecodedMap;
+use sourcemap_index::family::{DecodedMap, SourceMapSection};
 use sourcemap_source_views::sourceview::SourceView;
 use std::sync::Arc;
 
@@ -21,6 +21,8 @@ pub enum Held {
     Split(Vec<Result<SplitModule>>),
     /// A text that a call returned.
     Bytes(Vec<u8>),
+    /// The sections of an index that is being made.
+    Sections(Vec<SourceMapSection>),
 }
 
 /// A module of a split RAM bundle.

@@ -1,5 +1,5 @@
 use Rattle.sourcemap_c.proofs.CodesLemmas.{coded}
-use Rattle.sourcemap_c.proofs.bundles.sm_bundle_module.Goals as goal
+use Rattle.sourcemap_c.proofs.bundles.answer_module.Goals as goal
 
 pub returns : goal.returns
 returns c = coded c.module.result c.finish.result c.args.error.now c.finish.new.to _ _ _ c.finish.ensures c.module.ensures

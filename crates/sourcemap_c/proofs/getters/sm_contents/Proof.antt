@@ -1,0 +1,15 @@
+-- `sm_contents` lends the handle to `map_in`, and `put_contents` writes what that found.
+use Rattle.std.specs.Prelude.{option_map}
+use Rattle.sourcemap_c.specs.Codes.{ReturnsValue}
+use Rattle.sourcemap_c.specs.Getters.{contents_in}
+use Rattle.sourcemap_c.proofs.Lending.{maps, lends_1}
+use Rattle.sourcemap_c.specs.contracts.getters.sm_contents.Key as key
+use Rattle.sourcemap_c.proofs.getters.sm_contents.Statement.{statement}
+use Rattle.sourcemap_c.proofs.getters.sm_contents.Code as code
+use Rattle.sourcemap_c.proofs.kinds.map_in.Met as getter
+use Rattle.sourcemap_c.proofs.getters.put_contents.Met as put
+
+pub sm_contents_spec : {M : Type 1} → statement M
+sm_contents_spec 𝓤 𝓛 𝓜 𝓡 wired =
+    lends_1 maps 𝓤 𝓛 𝓜 𝓡 _ _ _ _ _ key.name (λ ids t. ReturnsValue (option_map (contents_in ids.0) t)) (code.unfolded 𝓤 𝓛.H 𝓜 𝓡 wired) (λ κ v ok. ok.0)
+    (getter.met 𝓤 𝓛 𝓜 𝓡 (code.calls-sourcemap_c::kinds::map_in 𝓡.env wired)) (put.met 𝓤 𝓛 𝓜 𝓡 (code.calls-sourcemap_c::getters::put_contents 𝓡.env wired))

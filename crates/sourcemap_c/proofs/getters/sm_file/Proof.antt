@@ -1,0 +1,15 @@
+-- `sm_file` lends the handle to `map_in`, and `put_file` writes what that found.
+use Rattle.std.specs.Prelude.{option_map}
+use Rattle.sourcemap_c.specs.Codes.{ReturnsValue}
+use Rattle.sourcemap_c.specs.Getters.{file_of}
+use Rattle.sourcemap_c.proofs.Lending.{maps, lends_0}
+use Rattle.sourcemap_c.specs.contracts.getters.sm_file.Key as key
+use Rattle.sourcemap_c.proofs.getters.sm_file.Statement.{statement}
+use Rattle.sourcemap_c.proofs.getters.sm_file.Code as code
+use Rattle.sourcemap_c.proofs.kinds.map_in.Met as getter
+use Rattle.sourcemap_c.proofs.getters.put_file.Met as put
+
+pub sm_file_spec : {M : Type 1} → statement M
+sm_file_spec 𝓤 𝓛 𝓜 𝓡 wired =
+    lends_0 maps 𝓤 𝓛 𝓜 𝓡 _ _ _ _ _ key.name (λ _ t. ReturnsValue (option_map file_of t)) (code.unfolded 𝓤 𝓛.H 𝓜 𝓡 wired) (λ κ v ok. ok.0)
+    (getter.met 𝓤 𝓛 𝓜 𝓡 (code.calls-sourcemap_c::kinds::map_in 𝓡.env wired)) (put.met 𝓤 𝓛 𝓜 𝓡 (code.calls-sourcemap_c::getters::put_file 𝓡.env wired))

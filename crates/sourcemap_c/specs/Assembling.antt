@@ -1,0 +1,60 @@
+-- Sections in a handle, and the index that is made of them.
+use Rattle.std.specs.Prelude.{◌≡◌, ◌⊎◌, ◌∷◌, ◌++◌, ◌==◌, ℕ, List, [], Bool, true, cond, if◌then◌else◌, map, option_map, Option, Some, None, Result, MatchResult}
+use Rattle.std.specs.Option.{option_and_then}
+use Rattle.sourcemap_errors.specs.declared.errors.Error.TheVariants.{OutOfMemory}
+use Rattle.sourcemap_index.specs.Family.{section_value}
+use Rattle.sourcemap_index.specs.Index.{index_made}
+use Rattle.sourcemap_index.specs.Section.{section_made}
+use Rattle.sourcemap_index_model.specs.MapTree.{MapSection, MapTree, index_tree}
+use Rattle.sourcemap_c_handles.specs.declared.errors.Failure.{Failure}
+use Rattle.sourcemap_c_handles.specs.declared.errors.Failure.TheVariants.{Library}
+use Rattle.sourcemap_c_handles.specs.declared.held.Held.{Held}
+use Rattle.sourcemap_c_handles.specs.declared.held.Held.TheVariants.{Sections}
+use Rattle.sourcemap_c.specs.Making.{HasNoText}
+
+-- the sections of a handle, if it has a list of them
+abbrev pub list_in : Option Held → Option (List MapSection)
+list_in (Some (Sections sections)) = Some (map section_value sections.items)
+list_in _ = None
+
+-- the same sections, or for other kinds equality
+abbrev pub AreAsBefore : (old new : Option Held) → Type 0
+AreAsBefore old new = (list_in new ≡ list_in old) × (list_in old ≡ None → new ≡ old)
+
+-- an argument with a flag that says whether it is given
+abbrev pub if_given : {X : Type 0} → (given : Bool) → X → Option X
+if_given given x = cond given (Some x) None
+
+-- the map of a new section; `None` if it is to have one, and the handle has none
+abbrev pub map_due : (given : Bool) → Option MapTree → Option (Option MapTree)
+map_due given tree = cond given (option_map Some tree) (Some None)
+
+-- the new section, unless its map is missing
+abbrev pub section_due : (start : ℕ × ℕ) → (url : Option (List ℕ)) → (given : Bool) → Option MapTree → Option MapSection
+section_due start url given tree = option_map (section_made start url) (map_due given tree)
+
+-- the sections with one more, if there are sections and there is one more
+abbrev pub with_section : Option (List MapSection) → Option MapSection → Option (List MapSection)
+with_section sections section = option_and_then (λ s. option_map (λ ss. ss ++ s ∷ []) sections) section
+
+-- the first line of a module; `SM_NONE` is a number without a module
+abbrev pub line_of : ℕ → Option ℕ
+line_of offset = if offset == 4294967295 then None else Some offset
+
+-- the index of these sections
+abbrev pub index_of : (file : Option (List ℕ)) → (offsets : Option (List (Option ℕ))) → (paths : Option (List (List ℕ))) → List MapSection → MapTree
+index_of file offsets paths ss = index_tree (index_made file ss offsets paths)
+
+-- a given path is not UTF-8
+abbrev pub IsNoPathIf : (given : Bool) → (paths : List (List ℕ)) → Failure → Type 0
+IsNoPathIf true paths (Library e) = HasNoText paths e
+IsNoPathIf _ paths _ = ⊥
+
+-- the same, or one of these failures
+abbrev pub OrNoPath : (given : Bool) → (paths : List (List ℕ)) → (Failure → Type 0) → Failure → Type 0
+OrNoPath given paths Due failure = IsNoPathIf given paths failure ⊎ Due failure
+
+-- the handle is empty after success, and as before after a failure; when memory ran out it may be empty
+abbrev pub Empties : {X : Type 0} → Result X Failure → (old new : Option Held) → Type 0
+Empties result old new = MatchResult result (λ _. new ≡ None)
+    (λ failure. (new ≡ old) ⊎ ((failure ≡ Library OutOfMemory) × (new ≡ None)))
