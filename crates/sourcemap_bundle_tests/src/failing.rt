@@ -3,7 +3,7 @@ use crate::answers::bundle_text;
 use crate::checks::check;
 use sourcemap_bundles::ram_bundle::{RamBundle, is_unbundle_path};
 use sourcemap_errors::errors::{Error, Result};
-use sourcemap_test_support::files::{FakeFile, unsupported};
+use sourcemap_test_support::files::{FakeFile, unsupported_error};
 use sourcemap_test_support::readers::NarrowReader;
 use std::alloc::{Allocator, Global};
 use std::fs::{Metadata, OpenOptions};
@@ -121,27 +121,27 @@ impl<'a> Files for Disk<'a> {
     }
 
     fn copy(&self, _from: &str, _to: &str) -> io::Result<u64> {
-        unsupported()
+        unsupported_error()
     }
 
     fn rename(&self, _from: &str, _to: &str) -> io::Result<()> {
-        unsupported()
+        unsupported_error()
     }
 
     fn remove_file(&self, _path: &str) -> io::Result<()> {
-        unsupported()
+        unsupported_error()
     }
 
     fn create_dir(&self, _path: &str) -> io::Result<()> {
-        unsupported()
+        unsupported_error()
     }
 
     fn remove_dir(&self, _path: &str) -> io::Result<()> {
-        unsupported()
+        unsupported_error()
     }
 
     fn remove_dir_all<B: Allocator>(&self, _alloc: B, _path: &str) -> io::Result<()> {
-        unsupported()
+        unsupported_error()
     }
 }
 
@@ -178,7 +178,7 @@ struct Row {
     no_memory: &'static str,
 }
 
-fn asked(alloc: Global, row: &Row, kind: ErrorKind) -> Result<String> {
+fn open_failing(alloc: Global, row: &Row, kind: ErrorKind) -> Result<String> {
     let disk = Disk {
         names: row.names,
         step: row.step,
@@ -333,9 +333,9 @@ static ROWS: [Row; 17] = [
 fn folders_that_fail(rt: HostRuntime) {
     let alloc = rt.alloc();
     for row in &ROWS {
-        let refused = asked(alloc, row, ErrorKind::PermissionDenied);
+        let refused = open_failing(alloc, row, ErrorKind::PermissionDenied);
         check(&rt, row.about, refused, row.refused);
-        let no_memory = asked(alloc, row, ErrorKind::OutOfMemory);
+        let no_memory = open_failing(alloc, row, ErrorKind::OutOfMemory);
         check(&rt, row.about, no_memory, row.no_memory);
     }
 }

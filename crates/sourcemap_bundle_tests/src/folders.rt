@@ -117,7 +117,7 @@ fn make<F: Files>(rt: &F, alloc: Global, names: &[&str]) -> Result<()> {
     Ok(())
 }
 
-fn asked<F: Files>(rt: &F, alloc: Global, path: &str) -> Result<String> {
+fn answers_at<F: Files>(rt: &F, alloc: Global, path: &str) -> Result<String> {
     let is_bundle = is_unbundle_path(rt, alloc, path)?;
     let answer = parsed_text(alloc, RamBundle::parse_unbundle_from_path(rt, alloc, path))?;
     Ok(format!(in alloc; "{is_bundle} {answer}")?)
@@ -125,7 +125,7 @@ fn asked<F: Files>(rt: &F, alloc: Global, path: &str) -> Result<String> {
 
 fn made_and_asked<F: Files>(rt: &F, alloc: Global, names: &[&str]) -> Result<String> {
     make(rt, alloc, names)?;
-    let answer = asked(rt, alloc, "bundle_made/main.js")?;
+    let answer = answers_at(rt, alloc, "bundle_made/main.js")?;
     fs::remove_dir_all(&(rt, alloc), "bundle_made")?;
     Ok(answer)
 }
@@ -135,10 +135,10 @@ fn asked_without_folder<F: Files>(rt: &F, alloc: Global) -> Result<String> {
     let _ = fs::remove_dir_all(&(rt, alloc), "bundle_alone");
     fs::create_dir(rt, "bundle_alone")?;
     fs::write(rt, "bundle_alone/main.js", "main")?;
-    let missing = asked(rt, alloc, "bundle_alone/main.js")?;
+    let missing = answers_at(rt, alloc, "bundle_alone/main.js")?;
     fs::write(rt, "bundle_alone/js-modules", "")?;
-    let file = asked(rt, alloc, "bundle_alone/main.js")?;
-    let folder = asked(rt, alloc, "bundle_alone")?;
+    let file = answers_at(rt, alloc, "bundle_alone/main.js")?;
+    let folder = answers_at(rt, alloc, "bundle_alone")?;
     fs::remove_dir_all(&(rt, alloc), "bundle_alone")?;
     Ok(format!(in alloc; "{missing}, {file}, {folder}")?)
 }
@@ -175,7 +175,7 @@ fn paths(rt: HostRuntime) {
     check(
         &rt,
         "a missing file bundle",
-        asked(&rt, alloc, missing),
+        answers_at(&rt, alloc, missing),
         "false not a ram bundle",
     );
     check(

@@ -13,10 +13,26 @@ static ONE: [u8; 26] = [
 ];
 
 // How many bytes of it there are, its startup code, its module 0.
-static CUTS: [(usize, &str, &str); 11] = [
+static CUTS: [(usize, &str, &str); 27] = [
     (0, "parse error: 0+12 past 0", "parse error: 0+12 past 0"),
+    (1, "parse error: 0+12 past 1", "parse error: 0+12 past 1"),
+    (2, "parse error: 0+12 past 2", "parse error: 0+12 past 2"),
+    (3, "parse error: 0+12 past 3", "parse error: 0+12 past 3"),
+    (4, "parse error: 0+12 past 4", "parse error: 0+12 past 4"),
+    (5, "parse error: 0+12 past 5", "parse error: 0+12 past 5"),
+    (6, "parse error: 0+12 past 6", "parse error: 0+12 past 6"),
+    (7, "parse error: 0+12 past 7", "parse error: 0+12 past 7"),
+    (8, "parse error: 0+12 past 8", "parse error: 0+12 past 8"),
+    (9, "parse error: 0+12 past 9", "parse error: 0+12 past 9"),
+    (10, "parse error: 0+12 past 10", "parse error: 0+12 past 10"),
     (11, "parse error: 0+12 past 11", "parse error: 0+12 past 11"),
     (12, "parse error: 20+2 past 12", "parse error: 12+8 past 12"),
+    (13, "parse error: 20+2 past 13", "parse error: 12+8 past 13"),
+    (14, "parse error: 20+2 past 14", "parse error: 12+8 past 14"),
+    (15, "parse error: 20+2 past 15", "parse error: 12+8 past 15"),
+    (16, "parse error: 20+2 past 16", "parse error: 12+8 past 16"),
+    (17, "parse error: 20+2 past 17", "parse error: 12+8 past 17"),
+    (18, "parse error: 20+2 past 18", "parse error: 12+8 past 18"),
     (19, "parse error: 20+2 past 19", "parse error: 12+8 past 19"),
     (20, "parse error: 20+2 past 20", "parse error: 22+3 past 20"),
     (21, "parse error: 20+2 past 21", "parse error: 22+3 past 21"),
@@ -78,15 +94,20 @@ fn module_at(alloc: Global, bytes: &[u8], id: usize) -> Result<String> {
     }
 }
 
+fn count_text(alloc: Global, bytes: &[u8]) -> Result<String> {
+    let count = RamBundle::parse_indexed_from_slice(bytes)?.module_count();
+    Ok(format!(in alloc; "{count}")?)
+}
+
 // Of a copy of a bundle that owns its bytes.
-fn copied(alloc: Global, bytes: &[u8]) -> Result<String> {
+fn copy_text(alloc: Global, bytes: &[u8]) -> Result<String> {
     let bundle = RamBundle::parse_indexed_from_vec(Vec::from_slice(alloc, bytes)?)?;
     let copy = bundle.clone()?;
     bundle_text(alloc, &copy)
 }
 
 // The source of a module's view.
-fn viewed(alloc: Global, bytes: &[u8]) -> Result<String> {
+fn view_text(alloc: Global, bytes: &[u8]) -> Result<String> {
     let bundle = RamBundle::parse_indexed_from_slice(bytes)?;
     match bundle.get_module(0)? {
         Some(found) => Ok(String::from_str(alloc, found.source_view(alloc)?.source())?),
@@ -135,6 +156,8 @@ fn one_bundle(rt: HostRuntime) {
         past,
     );
     check(&rt, "the same, cut", module_at(alloc, &ONE[..12], 1), past);
+    let count = "4294967295";
+    check(&rt, "the largest count", count_text(alloc, &HUGE), count);
     let range = "parse error: 34359738372+2 past 12";
     check(&rt, "a huge table", startup(alloc, &HUGE), range);
     let entry = "parse error: 34359738364+8 past 12";
@@ -144,8 +167,13 @@ fn one_bundle(rt: HostRuntime) {
         module_at(alloc, &HUGE, 4294967294),
         entry,
     );
-    check(&rt, "a copy", copied(alloc, &ONE), "Indexed 1 [ab] 0=xyz");
-    check(&rt, "a view", viewed(alloc, &ONE), "xyz");
+    check(
+        &rt,
+        "a copy",
+        copy_text(alloc, &ONE),
+        "Indexed 1 [ab] 0=xyz",
+    );
+    check(&rt, "a view", view_text(alloc, &ONE), "xyz");
     check(
         &rt,
         "numbers",

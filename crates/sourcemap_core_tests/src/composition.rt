@@ -108,7 +108,7 @@ static COMPOSED: [(&str, &[Way], &[Way], &str); 21] = [
         " 0:0=3:1:1#4 0:0=3:2:2#4",
     ),
     (
-        "parts that change places",
+        "parts that are swapped",
         &[((0, 0), (1, 1))],
         &[((9, 0), (0, 0)), ((2, 0), (0, 4))],
         " 2:0=3:1:1#4 9:0=3:1:1#4",
@@ -120,7 +120,7 @@ static COMPOSED: [(&str, &[Way], &[Way], &str); 21] = [
         " 5:2=3:1:1#4 5:9=3:2:2#4",
     ),
     (
-        "equal places out of order",
+        "equal positions out of order",
         &[((1, 0), (2, 2)), ((0, 5), (1, 1)), ((1, 0), (3, 3))],
         &[((0, 0), (1, 0))],
         " 0:0=3:3:3#4",
@@ -183,7 +183,7 @@ fn composed_text(alloc: Global, original: &[RawToken], adjustment: &[RawToken]) 
     }
 }
 
-fn composed(alloc: Global, originals: &[Way], adjustments: &[Way]) -> Result<String> {
+fn compose_text(alloc: Global, originals: &[Way], adjustments: &[Way]) -> Result<String> {
     let originals = tokens_of(alloc, originals, 3, 4)?;
     let adjustments = tokens_of(alloc, adjustments, 9, 8)?;
     again(|| composed_text(alloc, originals.as_slice(), adjustments.as_slice()))
@@ -195,13 +195,13 @@ fn composes_tokens(rt: HostRuntime) {
         check(
             &rt,
             about,
-            composed(rt.alloc(), originals, adjustments),
+            compose_text(rt.alloc(), originals, adjustments),
             want,
         );
     }
 }
 
-fn cut(alloc: Global, row: Row) -> Result<Vec<RawToken>> {
+fn cut_row(alloc: Global, row: Row) -> Result<Vec<RawToken>> {
     let adjustments = tokens_of(alloc, &[((5, 0), (0, 10))], 9, 8)?;
     compose(alloc, &[token(row)], adjustments.as_slice())
 }
@@ -209,7 +209,7 @@ fn cut(alloc: Global, row: Row) -> Result<Vec<RawToken>> {
 #[test]
 fn cuts_range_tokens(rt: HostRuntime) {
     for (about, row, want) in CUT.iter() {
-        let tokens = cut(rt.alloc(), *row);
+        let tokens = cut_row(rt.alloc(), *row);
         let want = [token(*want)];
         let is_wanted = matches!(&tokens, Ok(tokens) if tokens.as_slice() == &want[..]);
         assert!(rt; is_wanted, "{about}: {tokens:?}");

@@ -7,11 +7,7 @@ mod checks;
 #[cfg(test)]
 mod composition;
 #[cfg(test)]
-mod digits;
-#[cfg(test)]
 mod line_index;
-#[cfg(test)]
-mod lists;
 #[cfg(test)]
 mod mappings;
 #[cfg(test)]
@@ -20,3 +16,7 @@ mod paths;
 mod text_index;
 #[cfg(test)]
 mod texts;
+#[cfg(test)]
+mod token_lists;
+#[cfg(test)]
+mod vlq;

@@ -31,7 +31,7 @@ fn equal_tokens(alloc: Global, count: u32) -> Result<TokenList> {
 }
 
 // The closest token, and whether the lookup took from `least` to `most` comparisons.
-fn found(
+fn closest_text(
     alloc: Global,
     list: &TokenList,
     position: (u32, u32),
@@ -64,7 +64,7 @@ fn among_equals(
     most: u32,
 ) -> Result<String> {
     let list = equal_tokens(alloc, count)?;
-    found(alloc, &list, position, least, most)
+    closest_text(alloc, &list, position, least, most)
 }
 
 #[test]
@@ -94,15 +94,15 @@ static BETWEEN_LINES: [(&str, (u32, u32), &str); 9] = [
     ("on a line without tokens", (1, 0), "Some(0) true"),
     ("before the tokens of its line", (2, 4), "Some(0) true"),
     ("at the first of two tokens", (2, 5), "Some(1) true"),
-    ("behind the second of them", (2, 8), "Some(2) true"),
+    ("after the second of them", (2, 8), "Some(2) true"),
     ("on a line between two others", (3, 7), "Some(3) true"),
     ("at the last token", (4, 0), "Some(4) true"),
-    ("behind all tokens", (NO_ID, NO_ID), "Some(4) true"),
+    ("after all tokens", (NO_ID, NO_ID), "Some(4) true"),
 ];
 
 fn between_lines(alloc: Global, position: (u32, u32)) -> Result<String> {
     let list = tokens_on_lines(alloc)?;
-    again(|| found(alloc, &list, position, 1, 8))
+    again(|| closest_text(alloc, &list, position, 1, 8))
 }
 
 #[test]
@@ -155,7 +155,7 @@ static ON_MANY_LINES: [(u32, (u32, u32), &str); 21] = [
 
 fn on_many_lines(alloc: Global, a_line: u32, position: (u32, u32)) -> Result<String> {
     let list = tokens_on_many_lines(alloc, a_line)?;
-    found(alloc, &list, position, 1, 36)
+    closest_text(alloc, &list, position, 1, 36)
 }
 
 // The same lookup by the list, which has samples of long lines.

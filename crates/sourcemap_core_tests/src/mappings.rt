@@ -184,7 +184,7 @@ static WRITTEN: [(&str, &[Row], &str, Option<&str>); 8] = [
         Some("C"),
     ),
     (
-        "a range token behind another on its line",
+        "a range token after another on its line",
         &[((0, 0), BARE, NO_ID, false), ((0, 1), BARE, NO_ID, true)],
         "A,C",
         Some("C"),
@@ -240,7 +240,7 @@ fn tokens(alloc: Global, rows: &[Row]) -> Result<Vec<RawToken>> {
     Ok(tokens)
 }
 
-fn written(alloc: Global, rows: &[Row]) -> Result<String> {
+fn write_rows(alloc: Global, rows: &[Row]) -> Result<String> {
     let tokens = tokens(alloc, rows)?;
     if !tokens_in_order(tokens.as_slice()) {
         return Err(Error::IncompatibleSourceMap);
@@ -262,7 +262,7 @@ fn ranges_written(alloc: Global, rows: &[Row]) -> Result<String> {
 #[test]
 fn writes_tokens(rt: HostRuntime) {
     for (about, rows, mappings, ranges) in WRITTEN.iter() {
-        check(&rt, about, written(rt.alloc(), rows), mappings);
+        check(&rt, about, write_rows(rt.alloc(), rows), mappings);
         let ranges = ranges.unwrap_or("none");
         check(&rt, about, ranges_written(rt.alloc(), rows), ranges);
     }

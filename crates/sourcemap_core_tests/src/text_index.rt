@@ -57,7 +57,7 @@ fn count_numbered<'a>(index: &mut TextIndex<'a>, texts: &'a [String]) -> Result<
 
 // That count on the first and on a second pass, whether the last text is in the index, and whether a
 // text that was not entered is.
-fn numbered(alloc: Global, start: &str, end: &str, count: usize) -> Result<String> {
+fn numbering_text(alloc: Global, start: &str, end: &str, count: usize) -> Result<String> {
     let texts = numbered_texts(alloc, start, end, count)?;
     let other = format!(in alloc; "{start}{:08}{end}", count)?;
     let mut index = TextIndex::new(alloc)?;
@@ -73,14 +73,14 @@ fn numbered(alloc: Global, start: &str, end: &str, count: usize) -> Result<Strin
 
 #[test]
 fn numbers_many_texts(rt: HostRuntime) {
-    let answer = numbered(rt.alloc(), "name", "", 3000);
+    let answer = numbering_text(rt.alloc(), "name", "", 3000);
     check(&rt, "usual texts", answer, "3000 3000 true false");
 }
 
 // All of these have one hash: bench/colliding.py writes them.
 #[test]
 fn numbers_texts_that_collide(rt: HostRuntime) {
-    let answer = numbered(
+    let answer = numbering_text(
         rt.alloc(),
         "webpack:00000019v}kzYA]7",
         "/src/app/file.js",

@@ -2,7 +2,7 @@
 use crate::checks::check;
 use crate::folders::count_or_error;
 use sourcemap::{Result, SourceMapBuilder};
-use sourcemap_test_support::files::{FakeFile, unsupported};
+use sourcemap_test_support::files::{FakeFile, unsupported_error};
 use sourcemap_test_support::readers::NarrowReader;
 use sourcemap_test_support::results::push_optional;
 use std::alloc::{Allocator, Global};
@@ -55,43 +55,43 @@ impl Files for Broken {
     }
 
     fn open_dir(&self, _path: &str) -> io::Result<FakeFile<'static>> {
-        unsupported()
+        unsupported_error()
     }
 
     fn metadata(&self, _path: &str) -> io::Result<Metadata> {
-        unsupported()
+        unsupported_error()
     }
 
     fn symlink_metadata(&self, _path: &str) -> io::Result<Metadata> {
-        unsupported()
+        unsupported_error()
     }
 
     fn copy(&self, _from: &str, _to: &str) -> io::Result<u64> {
-        unsupported()
+        unsupported_error()
     }
 
     fn rename(&self, _from: &str, _to: &str) -> io::Result<()> {
-        unsupported()
+        unsupported_error()
     }
 
     fn remove_file(&self, _path: &str) -> io::Result<()> {
-        unsupported()
+        unsupported_error()
     }
 
     fn create_dir(&self, _path: &str) -> io::Result<()> {
-        unsupported()
+        unsupported_error()
     }
 
     fn remove_dir(&self, _path: &str) -> io::Result<()> {
-        unsupported()
+        unsupported_error()
     }
 
     fn remove_dir_all<B: Allocator>(&self, _alloc: B, _path: &str) -> io::Result<()> {
-        unsupported()
+        unsupported_error()
     }
 }
 
-fn loaded(alloc: Global, kind: ErrorKind, sources: &[&str]) -> Result<String> {
+fn load_failing(alloc: Global, kind: ErrorKind, sources: &[&str]) -> Result<String> {
     let mut builder = SourceMapBuilder::new(alloc, None)?;
     for source in sources {
         builder.add_source(source)?;
@@ -137,7 +137,7 @@ static ROWS: [(ErrorKind, &[&str], &str); 6] = [
 #[test]
 fn an_error_skips_a_source_unless_out_of_memory(rt: HostRuntime) {
     for (kind, sources, want) in ROWS.iter() {
-        let answer = loaded(rt.alloc(), *kind, sources);
+        let answer = load_failing(rt.alloc(), *kind, sources);
         check(&rt, want, answer, want);
     }
 }

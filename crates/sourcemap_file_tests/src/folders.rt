@@ -67,7 +67,7 @@ pub fn count_or_error(alloc: Global, loaded: Result<usize>) -> Result<String> {
 }
 
 // How many of the first sources have contents.
-fn held(builder: &SourceMapBuilder, count: u32) -> usize {
+fn count_contents(builder: &SourceMapBuilder, count: u32) -> usize {
     let mut held = 0usize;
     for id in 0..count {
         if builder.has_source_contents(id) {
@@ -86,10 +86,10 @@ pub fn load<F: Files>(
     base: Option<&str>,
     count: u32,
 ) -> Result<usize> {
-    let before = held(builder, count);
+    let before = count_contents(builder, count);
     let mut loaded = builder.load_local_source_contents(rt, current, base);
     if matches!(loaded, Err(Error::OutOfMemory)) {
-        let kept = held(builder, count).saturating_sub(before);
+        let kept = count_contents(builder, count).saturating_sub(before);
         let others = builder.load_local_source_contents(rt, current, base)?;
         loaded = Ok(kept.saturating_add(others));
     }

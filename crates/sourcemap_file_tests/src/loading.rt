@@ -33,7 +33,7 @@ fn set_contents(builder: &mut SourceMapBuilder, contents: Option<&str>) -> Resul
 }
 
 // The count of loaded contents, all contents, and the count of a second call.
-fn loaded<F: Files>(
+fn load_text<F: Files>(
     rt: &F,
     alloc: Global,
     builder: &mut SourceMapBuilder,
@@ -69,7 +69,7 @@ fn answer<F: Files>(rt: &F, alloc: Global, folder: &str, row: &Row) -> Result<St
     };
     let mut builder = builder(alloc, folder, row.sources, row.contents)?;
     let count = row.sources.len().min(100) as u32;
-    loaded(
+    load_text(
         rt,
         alloc,
         &mut builder,

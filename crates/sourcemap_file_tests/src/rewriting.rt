@@ -20,7 +20,7 @@ fn source_list(alloc: Global, map: &SourceMap) -> Result<String> {
     Ok(out)
 }
 
-fn rewritten<F: Files>(
+fn rewrite_with<F: Files>(
     rt: &F,
     alloc: Global,
     text: &str,
@@ -121,7 +121,7 @@ fn rewritten_row<'a, F: Files>(
     row: &'a Row,
 ) -> Result<String> {
     let options = options(row, folder);
-    rewritten(rt, alloc, row.text, &options)
+    rewrite_with(rt, alloc, row.text, &options)
 }
 
 fn check_row<R: Files + AllocGlobal + Abort>(rt: &R, folder: &str, at: usize) {

@@ -7,7 +7,7 @@ use sourcemap_hermes::map::SourceMapHermes;
 use sourcemap_map_regular::encode::Encodable;
 use sourcemap_map_regular::token::Token;
 use sourcemap_records::jsontypes::RawSourceMap;
-use sourcemap_test_support::results::boxed;
+use sourcemap_test_support::results::box_result;
 use std::alloc::Global;
 
 pub fn name_or_none(alloc: Global, name: Option<&str>) -> Result<String> {
@@ -15,7 +15,7 @@ pub fn name_or_none(alloc: Global, name: Option<&str>) -> Result<String> {
 }
 
 fn map_of(alloc: Global, text: &str) -> Result<Box<SourceMapHermes>> {
-    boxed(alloc, SourceMapHermes::from_slice(alloc, text.as_bytes()))
+    box_result(alloc, SourceMapHermes::from_slice(alloc, text.as_bytes()))
 }
 
 fn name_at(alloc: Global, text: &str, offset: u32) -> Result<String> {
@@ -103,7 +103,7 @@ fn scope_text(alloc: Global, map: &SourceMapHermes, token: Option<Token<'_>>) ->
 
 // The function name of the closest token to a bytecode offset.
 fn scope_at(alloc: Global, text: &str, offset: u32) -> Result<String> {
-    let map = boxed(alloc, SourceMapHermes::from_reader(alloc, text.as_bytes()))?;
+    let map = box_result(alloc, SourceMapHermes::from_reader(alloc, text.as_bytes()))?;
     scope_text(alloc, &*map, map.lookup_token(0, offset))
 }
 
@@ -118,7 +118,7 @@ fn record_of(alloc: Global, text: &str) -> Result<RawSourceMap> {
     map_of(alloc, text)?.as_raw_sourcemap()
 }
 
-fn written(alloc: Global, text: &str) -> Result<String> {
+fn write_map(alloc: Global, text: &str) -> Result<String> {
     let value = record_of(alloc, text)?.into_value(alloc)?;
     Ok(value.to_string(alloc)?)
 }
@@ -126,7 +126,7 @@ fn written(alloc: Global, text: &str) -> Result<String> {
 #[test]
 fn scopes_are_written_unchanged(rt: HostRuntime) {
     for text in WRITTEN.iter() {
-        check(&rt, text, written(rt.alloc(), text), text);
+        check(&rt, text, write_map(rt.alloc(), text), text);
     }
 }
 
@@ -177,14 +177,14 @@ fn copies_text(alloc: Global, text: &str, map: &SourceMapHermes) -> Result<Strin
     Ok(format!(in alloc; "{is_copied} {is_streamed}")?)
 }
 
-fn copied(alloc: Global, text: &str) -> Result<String> {
+fn copy_map(alloc: Global, text: &str) -> Result<String> {
     copies_text(alloc, text, &*map_of(alloc, text)?)
 }
 
 #[test]
 fn copies_and_maps_of_readers_are_equal(rt: HostRuntime) {
     for text in MAPS.iter() {
-        check(&rt, text, copied(rt.alloc(), text), "true true");
+        check(&rt, text, copy_map(rt.alloc(), text), "true true");
     }
 }
 

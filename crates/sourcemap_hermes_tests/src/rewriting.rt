@@ -7,17 +7,17 @@ use sourcemap_map_regular::rewrite::RewriteOptions;
 use std::alloc::Global;
 use std::rt::Files;
 
-fn rewritten<F: Files>(
+fn rewrite_with<F: Files>(
     rt: &F,
     alloc: Global,
     text: &str,
     options: &RewriteOptions<'_>,
 ) -> Result<String> {
     let map = SourceMapHermes::from_slice(alloc, text.as_bytes())?;
-    written(alloc, map.rewrite(rt, options))
+    write_rewritten(alloc, map.rewrite(rt, options))
 }
 
-fn written(alloc: Global, map: Result<SourceMapHermes>) -> Result<String> {
+fn write_rewritten(alloc: Global, map: Result<SourceMapHermes>) -> Result<String> {
     match map {
         Ok(map) => {
             let value = map.into_raw_sourcemap()?.into_value(alloc)?;
@@ -99,7 +99,12 @@ static DEFAULT: [(&str, &str); 12] = [
 fn functions_follow_their_sources(rt: HostRuntime) {
     let options = RewriteOptions::default();
     for (text, want) in DEFAULT.iter() {
-        check(&rt, text, rewritten(&rt, rt.alloc(), text, &options), want);
+        check(
+            &rt,
+            text,
+            rewrite_with(&rt, rt.alloc(), text, &options),
+            want,
+        );
     }
 }
 
@@ -125,7 +130,12 @@ fn functions_stay_where_prefixes_are_cut(rt: HostRuntime) {
             strip_prefixes: prefixes,
             ..RewriteOptions::default()
         };
-        check(&rt, text, rewritten(&rt, rt.alloc(), text, &options), want);
+        check(
+            &rt,
+            text,
+            rewrite_with(&rt, rt.alloc(), text, &options),
+            want,
+        );
     }
 }
 
@@ -139,7 +149,7 @@ fn a_folder_is_needed_to_load_contents(rt: HostRuntime) {
     check(
         &rt,
         want,
-        rewritten(&rt, rt.alloc(), TURNED, &options),
+        rewrite_with(&rt, rt.alloc(), TURNED, &options),
         want,
     );
 }

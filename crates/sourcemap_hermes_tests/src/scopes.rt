@@ -18,8 +18,20 @@ fn lists(alloc: Global, text: &str) -> Result<ScopeLists> {
         .ok_or(Error::IncompatibleSourceMap)
 }
 
+// `SourceScopes::new` requires no more lists than source ids.
 fn scopes(alloc: Global, text: &str) -> Result<SourceScopes> {
-    SourceScopes::new(alloc, lists(alloc, text)?)
+    let lists = lists(alloc, text)?;
+    if lists.len() > 4294967295 {
+        return Err(Error::IncompatibleSourceMap);
+    }
+    SourceScopes::new(alloc, lists)
+}
+
+fn selected(alloc: Global, text: &str, ids: &[u32]) -> Result<SourceScopes> {
+    if ids.len() > 4294967295 {
+        return Err(Error::IncompatibleSourceMap);
+    }
+    scopes(alloc, text)?.select(alloc, ids)
 }
 
 fn name_at_position(alloc: Global, text: &str, source: u32, line: u32, col: u32) -> Result<String> {
@@ -147,15 +159,15 @@ fn names_by_source(rt: HostRuntime) {
     }
 }
 
-fn written(alloc: Global, lists: ScopeLists) -> Result<String> {
+fn write_scopes(alloc: Global, lists: ScopeLists) -> Result<String> {
     let mut record = RawSourceMap::from_owned(alloc, Value::from_str(alloc, "{}")?)?;
     record.x_facebook_sources = Some(lists);
     Ok(record.into_value(alloc)?.to_string(alloc)?)
 }
 
 fn selected_written(alloc: Global, text: &str, ids: &[u32]) -> Result<String> {
-    let selected = scopes(alloc, text)?.select(alloc, ids)?;
-    written(alloc, selected.into_entries())
+    let selected = selected(alloc, text, ids)?;
+    write_scopes(alloc, selected.into_entries())
 }
 
 // Label, lists, ids to select, and the lists then.
@@ -200,7 +212,7 @@ fn selected_scopes_are_written(rt: HostRuntime) {
 }
 
 fn name_when_selected(alloc: Global, text: &str, ids: &[u32], source: u32) -> Result<String> {
-    let selected = scopes(alloc, text)?.select(alloc, ids)?;
+    let selected = selected(alloc, text, ids)?;
     name_or_none(alloc, selected.scope(source, 0, 0))
 }
 
@@ -242,18 +254,18 @@ fn is_as_its_copy(scopes: &SourceScopes) -> Result<bool> {
 }
 
 fn copy_written(alloc: Global, scopes: &SourceScopes) -> Result<String> {
-    written(alloc, scopes.copy_entries()?)
+    write_scopes(alloc, scopes.copy_entries()?)
 }
 
 // Whether scopes equal their copy, those of the same text, and those of another.
-fn compared(alloc: Global, text: &str, other: &str) -> Result<(bool, bool, bool)> {
+fn compare_scopes(alloc: Global, text: &str, other: &str) -> Result<(bool, bool, bool)> {
     let scopes = scopes(alloc, text)?;
     let as_copy = is_as_its_copy(&scopes)?;
     let as_same = is_equal(alloc, &scopes, text)?;
     Ok((as_copy, as_same, is_equal(alloc, &scopes, other)?))
 }
 
-fn copied(alloc: Global, text: &str) -> Result<String> {
+fn copy_scopes(alloc: Global, text: &str) -> Result<String> {
     let scopes = scopes(alloc, text)?;
     copy_written(alloc, &scopes)
 }
@@ -261,11 +273,11 @@ fn copied(alloc: Global, text: &str) -> Result<String> {
 #[test]
 fn copies_are_equal(rt: HostRuntime) -> Result<()> {
     let alloc = rt.alloc();
-    assert!(rt; compared(alloc, LISTS, SECOND)? == (true, true, false));
-    assert!(rt; compared(alloc, ROW, EMPTY)? == (true, true, false));
+    assert!(rt; compare_scopes(alloc, LISTS, SECOND)? == (true, true, false));
+    assert!(rt; compare_scopes(alloc, ROW, EMPTY)? == (true, true, false));
     let want =
         r#"{"sources":null,"version":null,"x_facebook_sources":[null,[{"mappings":"AAA","names":["f"]}]]}"#;
-    check(&rt, SECOND, copied(alloc, SECOND), want);
+    check(&rt, SECOND, copy_scopes(alloc, SECOND), want);
     Ok(())
 }
 

@@ -7,7 +7,7 @@ use sourcemap::decoder::decode_slice;
 use sourcemap::encoder::Encodable;
 use sourcemap::errors::{Error, Result};
 use sourcemap::types::{DecodedMap, SourceMapIndex, SourceMapSection};
-use sourcemap_test_support::results::boxed;
+use sourcemap_test_support::results::box_result;
 use std::alloc::Global;
 
 // A change of an index map of two sections, or of one of the sections.
@@ -17,41 +17,41 @@ enum Change {
     File,
     // the URL of the section of this number
     Url(u32),
-    // the map of the section of this number is taken away
+    // the map of the section of this number is removed
     Map(u32),
     // the section of this number gets an index of no section instead of its map
     NewMap(u32),
-    // the debug id of the map of the section of this number is taken away
+    // the debug id of the map of the section of this number is removed
     DebugId(u32),
 }
 
 const MAP: &str = r#"{"mappings":"A","debugId":"00000000-0000-0000-0000-000000000000"}"#;
 
-fn linked(alloc: Global) -> Result<SourceMapSection> {
+fn linked_section(alloc: Global) -> Result<SourceMapSection> {
     SourceMapSection::new(alloc, (0, 0), Some(String::from_str(alloc, "v")?), None)
 }
 
-fn mapped(alloc: Global) -> Result<SourceMapSection> {
+fn section_with_map(alloc: Global) -> Result<SourceMapSection> {
     let map = decode_slice(alloc, MAP.as_bytes())?;
     SourceMapSection::new(alloc, (1, 2), None, Some(map))
 }
 
 fn sections(alloc: Global) -> Result<Vec<SourceMapSection>> {
     let mut sections = Vec::new(alloc);
-    sections.push(linked(alloc)?)?;
-    sections.push(mapped(alloc)?)?;
+    sections.push(linked_section(alloc)?)?;
+    sections.push(section_with_map(alloc)?)?;
     Ok(sections)
 }
 
 /// The index of a file, of these sections.
-pub fn filed(alloc: Global, sections: Vec<SourceMapSection>) -> Result<SourceMapIndex> {
+pub fn index_of_file(alloc: Global, sections: Vec<SourceMapSection>) -> Result<SourceMapIndex> {
     let file = String::from_str(alloc, "test.js")?;
     Ok(SourceMapIndex::new(alloc, Some(file), sections))
 }
 
-fn made(alloc: Global) -> Result<Box<SourceMapIndex>> {
+fn make_index(alloc: Global) -> Result<Box<SourceMapIndex>> {
     let sections = sections(alloc)?;
-    boxed(alloc, filed(alloc, sections))
+    box_result(alloc, index_of_file(alloc, sections))
 }
 
 fn with_url(index: &mut SourceMapIndex, id: u32) -> Result<()> {
@@ -123,7 +123,7 @@ fn apply_beside(
 }
 
 fn apply_whole(alloc: Global, index: &mut SourceMapIndex, change: Change) -> Result<()> {
-    let before = boxed(alloc, index.clone())?;
+    let before = box_result(alloc, index.clone())?;
     apply_beside(alloc, index, &*before, change)
 }
 
@@ -134,8 +134,8 @@ fn change_text(alloc: Global, index: &mut SourceMapIndex, change: Change) -> Res
     Ok(format!(in alloc; "{:?} {sections} {has_id}", index.get_file())?)
 }
 
-fn changed(alloc: Global, change: Change) -> Result<String> {
-    change_text(alloc, &mut *made(alloc)?, change)
+fn apply_change(alloc: Global, change: Change) -> Result<String> {
+    change_text(alloc, &mut *make_index(alloc)?, change)
 }
 
 // A change, and what the index is afterwards.
@@ -189,12 +189,12 @@ static CHANGES: [(Change, &str); 11] = [
 #[test]
 fn one_part_of_an_index_is_changed(rt: HostRuntime) {
     for (change, want) in CHANGES.iter() {
-        check(&rt, want, changed(rt.alloc(), *change), want);
+        check(&rt, want, apply_change(rt.alloc(), *change), want);
     }
 }
 
 // An index of no section with both lists of a bundle.
-fn bundled(alloc: Global) -> Result<Box<SourceMapIndex>> {
+fn bundle_index(alloc: Global) -> Result<Box<SourceMapIndex>> {
     let offsets = offsets(alloc)?;
     let paths = paths(alloc)?;
     let index = SourceMapIndex::new_ram_bundle_compatible(
@@ -204,7 +204,7 @@ fn bundled(alloc: Global) -> Result<Box<SourceMapIndex>> {
         Some(offsets),
         Some(paths),
     );
-    boxed(alloc, Ok(index))
+    box_result(alloc, Ok(index))
 }
 
 fn offsets(alloc: Global) -> Result<Vec<Option<u32>>> {
@@ -221,7 +221,7 @@ fn paths(alloc: Global) -> Result<Vec<String>> {
 }
 
 fn bundle_text(alloc: Global) -> Result<String> {
-    lists_text(alloc, &*bundled(alloc)?)
+    lists_text(alloc, &*bundle_index(alloc)?)
 }
 
 #[test]
@@ -231,7 +231,7 @@ fn indexes_are_made_for_bundles(rt: HostRuntime) {
 }
 
 fn empty(alloc: Global) -> Result<Box<SourceMapIndex>> {
-    boxed(alloc, filed(alloc, Vec::new(alloc)))
+    box_result(alloc, index_of_file(alloc, Vec::new(alloc)))
 }
 
 fn is_index(map: &DecodedMap, index: &SourceMapIndex) -> bool {
@@ -266,7 +266,7 @@ fn indexes_of_no_section_are_written_and_read_back(rt: HostRuntime) {
     check(
         &rt,
         "a bundle",
-        made_index_text(alloc, bundled(alloc)),
+        made_index_text(alloc, bundle_index(alloc)),
         want,
     );
 }

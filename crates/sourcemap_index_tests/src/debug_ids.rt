@@ -1,11 +1,11 @@
-// Debug ids of index maps: read under either key, set, taken away and written.
-use crate::changes::filed;
+// Debug ids of index maps: read under either key, set, removed and written.
+use crate::changes::index_of_file;
 use crate::checks::check;
 use crate::maps::{map_of, value_text};
 use sourcemap::errors::Result;
 use sourcemap::jsontypes::DebugId;
 use sourcemap::types::DecodedMap;
-use sourcemap_test_support::results::{boxed, error_of};
+use sourcemap_test_support::results::{box_result, error_of};
 use std::alloc::Global;
 
 const ID: &str = "0123456789abcdef0123456789abcdef";
@@ -125,9 +125,9 @@ fn debug_ids_of_indexes_are_set(rt: HostRuntime) {
 }
 
 // An index of no sections.
-fn made(alloc: Global) -> Result<Box<DecodedMap>> {
-    let index = filed(alloc, Vec::new(alloc))?;
-    boxed(alloc, Ok(DecodedMap::Index(index)))
+fn empty_index(alloc: Global) -> Result<Box<DecodedMap>> {
+    let index = index_of_file(alloc, Vec::new(alloc))?;
+    box_result(alloc, Ok(DecodedMap::Index(index)))
 }
 
 // An index that was made gets a debug id: whether it had none before, and whether it is then the map
@@ -143,7 +143,7 @@ fn made_text(alloc: Global, map: &mut DecodedMap) -> Result<String> {
 }
 
 fn made_with_id(alloc: Global) -> Result<String> {
-    made_text(alloc, &mut *made(alloc)?)
+    made_text(alloc, &mut *empty_index(alloc)?)
 }
 
 #[test]

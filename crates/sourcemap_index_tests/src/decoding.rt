@@ -3,7 +3,7 @@ use crate::checks::check;
 use sourcemap::decoder::{decode, decode_data_url, decode_slice, decode_vec};
 use sourcemap::errors::Result;
 use sourcemap::types::{DecodedMap, SourceMapIndex, SourceMapSection};
-use sourcemap_test_support::results::{boxed, error_of};
+use sourcemap_test_support::results::{box_result, error_of};
 use std::alloc::Global;
 
 fn section_text(alloc: Global, section: &SourceMapSection) -> Result<String> {
@@ -35,7 +35,7 @@ fn map_text(alloc: Global, map: &DecodedMap) -> Result<String> {
 }
 
 fn describe(alloc: Global, answer: Result<DecodedMap>) -> Result<String> {
-    match boxed(alloc, answer) {
+    match box_result(alloc, answer) {
         Ok(map) => map_text(alloc, &*map),
         error => error_of(alloc, error),
     }
@@ -134,7 +134,7 @@ fn records_are_read_section_by_section(rt: HostRuntime) {
 }
 
 fn index_text(alloc: Global, answer: Result<SourceMapIndex>) -> Result<String> {
-    match boxed(alloc, answer) {
+    match box_result(alloc, answer) {
         Ok(index) => sections_text(alloc, &*index),
         error => error_of(alloc, error),
     }

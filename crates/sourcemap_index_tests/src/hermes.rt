@@ -94,7 +94,7 @@ fn scopes_are_written_as_they_were_read(rt: HostRuntime) {
     }
 }
 
-// The debug id of a map, and what is left of it once it is taken away.
+// The debug id of a map, then its debug id and a function name after the id was removed.
 fn ids_text(alloc: Global, map: &mut DecodedMap) -> Result<String> {
     let old = id_text(alloc, map)?;
     map.set_debug_id(None);

@@ -3,7 +3,7 @@ use crate::checks::check;
 use crate::maps::{index_of, map_of};
 use sourcemap::errors::Result;
 use sourcemap::types::{SourceMapIndex, Token};
-use sourcemap_test_support::results::boxed;
+use sourcemap_test_support::results::box_result;
 use std::alloc::Global;
 
 // Two maps, the second from the middle of a line on.
@@ -123,7 +123,7 @@ pub fn flat_token_text(
     line: u32,
     col: u32,
 ) -> Result<String> {
-    let map = boxed(alloc, index.flatten())?;
+    let map = box_result(alloc, index.flatten())?;
     token_text(alloc, map.lookup_token(line, col))
 }
 

@@ -4,17 +4,17 @@ use sourcemap::decoder::decode_slice;
 use sourcemap::errors::{Error, Result};
 use sourcemap::jsontypes::RawSourceMap;
 use sourcemap::types::{DecodedMap, SourceMapIndex};
-use sourcemap_test_support::results::{boxed, error_of};
+use sourcemap_test_support::results::{box_result, error_of};
 use std::alloc::Global;
 
 /// The map of a text.
 pub fn map_of(alloc: Global, text: &str) -> Result<Box<DecodedMap>> {
-    boxed(alloc, decode_slice(alloc, text.as_bytes()))
+    box_result(alloc, decode_slice(alloc, text.as_bytes()))
 }
 
 /// The index of a text.
 pub fn index_of(alloc: Global, text: &str) -> Result<Box<SourceMapIndex>> {
-    boxed(alloc, index_in(decode_slice(alloc, text.as_bytes())?))
+    box_result(alloc, index_in(decode_slice(alloc, text.as_bytes())?))
 }
 
 fn index_in(map: DecodedMap) -> Result<SourceMapIndex> {

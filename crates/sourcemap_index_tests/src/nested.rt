@@ -6,7 +6,7 @@ use serde_json::Value;
 use sourcemap::decoder::decode_slice;
 use sourcemap::errors::Result;
 use sourcemap::types::{DecodedMap, SourceMapIndex, SourceMapSection};
-use sourcemap_test_support::results::{again, boxed, error_of};
+use sourcemap_test_support::results::{again, box_result, error_of};
 use std::alloc::Global;
 
 const INNERMOST: &str = r#"{"sources":["a.js"],"mappings":"AAAA"}"#;
@@ -16,7 +16,7 @@ const OPENED: &str = r#"{"sections":[{"offset":{"line":0,"column":0},"map":"#;
 const CLOSED: &str = "}]}";
 
 // An index of one section, with this map.
-fn wrapped(alloc: Global, map: DecodedMap) -> Result<DecodedMap> {
+fn wrap_map(alloc: Global, map: DecodedMap) -> Result<DecodedMap> {
     let mut sections = Vec::new(alloc);
     sections.push(SourceMapSection::new(alloc, (0, 0), None, Some(map))?)?;
     Ok(DecodedMap::Index(SourceMapIndex::new(alloc, None, sections)))
@@ -25,13 +25,13 @@ fn wrapped(alloc: Global, map: DecodedMap) -> Result<DecodedMap> {
 fn wrapped_often(alloc: Global, depth: usize) -> Result<DecodedMap> {
     let mut map = decode_slice(alloc, INNERMOST.as_bytes())?;
     for _ in 0..depth {
-        map = wrapped(alloc, map)?;
+        map = wrap_map(alloc, map)?;
     }
     Ok(map)
 }
 
-fn nested(alloc: Global, depth: usize) -> Result<Box<DecodedMap>> {
-    boxed(alloc, wrapped_often(alloc, depth))
+fn nested_index(alloc: Global, depth: usize) -> Result<Box<DecodedMap>> {
+    box_result(alloc, wrapped_often(alloc, depth))
 }
 
 fn nested_text(alloc: Global, depth: usize) -> Result<String> {
@@ -68,14 +68,14 @@ fn nested_index_maps_are_looked_up(rt: HostRuntime) {
         check(
             &rt,
             "in memory",
-            looked_up(alloc, nested(alloc, *depth)),
+            looked_up(alloc, nested_index(alloc, *depth)),
             "a.js:0:0",
         );
         check(&rt, want, read(alloc, *depth), want);
     }
 }
 
-// What the flattened map of an index prints at position 0:0.
+// The text of the token at 0:0 in the flattened map, or `no index`.
 fn flat_looked_up(alloc: Global, map: &DecodedMap) -> Result<String> {
     match map {
         DecodedMap::Index(index) => flat_token_text(alloc, index, 0, 0),
@@ -83,8 +83,8 @@ fn flat_looked_up(alloc: Global, map: &DecodedMap) -> Result<String> {
     }
 }
 
-fn flattened(alloc: Global, depth: usize) -> Result<String> {
-    let map = nested(alloc, depth)?;
+fn flatten_nested(alloc: Global, depth: usize) -> Result<String> {
+    let map = nested_index(alloc, depth)?;
     again(|| flat_looked_up(alloc, &*map))
 }
 
@@ -96,7 +96,7 @@ fn text_beside(alloc: Global, map: &DecodedMap, made: &DecodedMap) -> Result<Str
 
 fn value_read(alloc: Global, value: Result<Value>) -> Result<Box<DecodedMap>> {
     let value = value?;
-    boxed(alloc, DecodedMap::from_value(alloc, &value))
+    box_result(alloc, DecodedMap::from_value(alloc, &value))
 }
 
 fn read_back_text(alloc: Global, map: &DecodedMap) -> Result<String> {
@@ -104,25 +104,25 @@ fn read_back_text(alloc: Global, map: &DecodedMap) -> Result<String> {
 }
 
 fn read_back(alloc: Global, depth: usize) -> Result<String> {
-    let map = nested(alloc, depth)?;
+    let map = nested_index(alloc, depth)?;
     again(|| read_back_text(alloc, &*map))
 }
 
 fn copy_text(alloc: Global, map: &DecodedMap) -> Result<String> {
-    text_beside(alloc, map, &*boxed(alloc, map.clone())?)
+    text_beside(alloc, map, &*box_result(alloc, map.clone())?)
 }
 
-fn copied(alloc: Global, depth: usize) -> Result<String> {
-    copy_text(alloc, &*nested(alloc, depth)?)
+fn copy_nested(alloc: Global, depth: usize) -> Result<String> {
+    copy_text(alloc, &*nested_index(alloc, depth)?)
 }
 
 fn moved_text(alloc: Global, map: &DecodedMap, value: Result<Value>) -> Result<String> {
     text_beside(alloc, map, &*value_read(alloc, value)?)
 }
 
-fn moved(alloc: Global, depth: usize) -> Result<String> {
+fn move_nested(alloc: Global, depth: usize) -> Result<String> {
     let value = wrapped_often(alloc, depth)?.into_value();
-    moved_text(alloc, &*nested(alloc, depth)?, value)
+    moved_text(alloc, &*nested_index(alloc, depth)?, value)
 }
 
 // How many sections a map is printed with.
@@ -132,22 +132,22 @@ fn sections_printed(alloc: Global, map: &DecodedMap) -> Result<String> {
     Ok(format!(in alloc; "{count}")?)
 }
 
-fn printed(alloc: Global, depth: usize) -> Result<String> {
-    sections_printed(alloc, &*nested(alloc, depth)?)
+fn print_nested(alloc: Global, depth: usize) -> Result<String> {
+    sections_printed(alloc, &*nested_index(alloc, depth)?)
 }
 
 #[test]
 fn a_hundred_nested_index_maps_are_flattened_copied_and_read_back(rt: HostRuntime) {
     let alloc = rt.alloc();
-    check(&rt, "flat", flattened(alloc, 100), "a.js:0:0");
-    check(&rt, "copied", copied(alloc, 100), "a.js:0:0 true");
+    check(&rt, "flat", flatten_nested(alloc, 100), "a.js:0:0");
+    check(&rt, "copied", copy_nested(alloc, 100), "a.js:0:0 true");
     check(&rt, "by values", read_back(alloc, 100), "a.js:0:0 true");
-    check(&rt, "moved", moved(alloc, 100), "a.js:0:0 true");
-    check(&rt, "printed", printed(alloc, 100), "100");
+    check(&rt, "moved", move_nested(alloc, 100), "a.js:0:0 true");
+    check(&rt, "printed", print_nested(alloc, 100), "100");
 }
 
 fn text_of_bytes(alloc: Global, map: &DecodedMap, bytes: &[u8]) -> Result<String> {
-    match boxed(alloc, decode_slice(alloc, bytes)) {
+    match box_result(alloc, decode_slice(alloc, bytes)) {
         Ok(back) => text_beside(alloc, map, &*back),
         error => error_of(alloc, error),
     }
@@ -164,8 +164,8 @@ fn written_text(alloc: Global, map: &DecodedMap) -> Result<String> {
     text_of_bytes(alloc, map, bytes.as_slice())
 }
 
-fn written(alloc: Global, depth: usize) -> Result<String> {
-    written_text(alloc, &*nested(alloc, depth)?)
+fn write_nested(alloc: Global, depth: usize) -> Result<String> {
+    written_text(alloc, &*nested_index(alloc, depth)?)
 }
 
 // How many indexes there are in one another, and what is read of the text that they are written as:
@@ -180,6 +180,6 @@ static WRITTEN: [(usize, &str); 4] = [
 #[test]
 fn nested_index_maps_are_written_at_any_depth(rt: HostRuntime) {
     for (depth, want) in WRITTEN.iter() {
-        check(&rt, want, written(rt.alloc(), *depth), want);
+        check(&rt, want, write_nested(rt.alloc(), *depth), want);
     }
 }

@@ -7,7 +7,7 @@ use sourcemap::decoder::decode;
 use sourcemap::errors::{Error, Result};
 use sourcemap::types::{DecodedMap, SourceMap, SourceMapIndex};
 use sourcemap_test_support::readers::HaltingReader;
-use sourcemap_test_support::results::{again, boxed, error_of};
+use sourcemap_test_support::results::{again, box_result, error_of};
 use std::alloc::Global;
 use std::io::ErrorKind;
 
@@ -27,7 +27,7 @@ static TEXTS: [&str; 4] = [
 ];
 
 // A reader of these bytes, which fails after so many reads.
-fn halting(text: &str, reads: usize, kind: ErrorKind) -> HaltingReader<'_> {
+fn halting_reader(text: &str, reads: usize, kind: ErrorKind) -> HaltingReader<'_> {
     HaltingReader::new(text.as_bytes(), reads, kind)
 }
 
@@ -39,9 +39,9 @@ fn position_text(alloc: Global, map: Result<Box<DecodedMap>>) -> Result<String> 
     }
 }
 
-fn decoded(alloc: Global, text: &str, reads: usize) -> Result<String> {
-    let reader = halting(text, reads, ErrorKind::TimedOut);
-    position_text(alloc, boxed(alloc, decode(alloc, reader)))
+fn decode_halting(alloc: Global, text: &str, reads: usize) -> Result<String> {
+    let reader = halting_reader(text, reads, ErrorKind::TimedOut);
+    position_text(alloc, box_result(alloc, decode(alloc, reader)))
 }
 
 fn is_as_from_slice(alloc: Global, map: &DecodedMap, text: &str) -> Result<bool> {
@@ -50,8 +50,8 @@ fn is_as_from_slice(alloc: Global, map: &DecodedMap, text: &str) -> Result<bool>
 
 // Whether a reader of a text is read as its bytes are.
 fn is_read_alike(alloc: Global, text: &str) -> Result<String> {
-    let reader = halting(text, usize::MAX, ErrorKind::TimedOut);
-    let map = boxed(alloc, DecodedMap::from_reader(alloc, reader))?;
+    let reader = halting_reader(text, usize::MAX, ErrorKind::TimedOut);
+    let map = box_result(alloc, DecodedMap::from_reader(alloc, reader))?;
     Ok(format!(in alloc; "{}", is_as_from_slice(alloc, &*map, text)?)?)
 }
 
@@ -63,7 +63,7 @@ fn maps_are_read_byte_by_byte(rt: HostRuntime) {
         check(
             &rt,
             text,
-            again(|| decoded(alloc, text, usize::MAX)),
+            again(|| decode_halting(alloc, text, usize::MAX)),
             "a.js:0:0",
         );
     }
@@ -73,7 +73,12 @@ fn maps_are_read_byte_by_byte(rt: HostRuntime) {
 fn each_read_may_fail(rt: HostRuntime) {
     for text in TEXTS.iter() {
         for reads in 0..=text.len() {
-            check(&rt, text, decoded(rt.alloc(), text, reads), "timed out");
+            check(
+                &rt,
+                text,
+                decode_halting(rt.alloc(), text, reads),
+                "timed out",
+            );
         }
     }
 }
@@ -88,7 +93,7 @@ enum Kind {
 
 // The error of a reader that fails after so many reads.
 fn read_error(alloc: Global, kind: Kind, text: &str, reads: usize) -> Result<String> {
-    let reader = halting(text, reads, ErrorKind::TimedOut);
+    let reader = halting_reader(text, reads, ErrorKind::TimedOut);
     match kind {
         Kind::Regular => error_of(alloc, SourceMap::from_reader(alloc, reader)),
         Kind::Hermes => error_of(alloc, SourceMapHermes::from_reader(alloc, reader)),
@@ -132,7 +137,7 @@ fn maps_of_one_kind_are_read(rt: HostRuntime) {
 }
 
 fn ran_out(alloc: Global, text: &str, reads: usize) -> bool {
-    let reader = halting(text, reads, ErrorKind::OutOfMemory);
+    let reader = halting_reader(text, reads, ErrorKind::OutOfMemory);
     matches!(decode(alloc, reader), Err(Error::OutOfMemory))
 }
 

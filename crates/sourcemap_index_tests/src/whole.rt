@@ -4,7 +4,7 @@ use crate::decoding::sections_text;
 use crate::maps::{index_of, map_of, record_text, value_text};
 use sourcemap::errors::{Error, Result};
 use sourcemap::types::{DecodedMap, RewriteOptions, SourceMap, SourceMapIndex, SourceMapSection};
-use sourcemap_test_support::results::{again, boxed, error_of};
+use sourcemap_test_support::results::{again, box_result, error_of};
 use std::alloc::Global;
 use std::rt::Files;
 
@@ -193,7 +193,7 @@ fn moved_text(alloc: Global, index: &mut SourceMapIndex, rows: u32) -> Result<St
     Ok(format!(in alloc; "{fits} {out}")?)
 }
 
-fn moved(alloc: Global, text: &str, rows: u32) -> Result<String> {
+fn move_rows(alloc: Global, text: &str, rows: u32) -> Result<String> {
     moved_text(alloc, &mut *index_of(alloc, text)?, rows)
 }
 
@@ -249,7 +249,7 @@ static MOVED: [(&str, u32, &str); 8] = [
 fn sections_move_down_all_or_none(rt: HostRuntime) {
     let alloc = rt.alloc();
     for (text, rows, want) in MOVED.iter() {
-        check(&rt, text, moved(alloc, text, *rows), want);
+        check(&rt, text, move_rows(alloc, text, *rows), want);
     }
 }
 
@@ -292,7 +292,7 @@ fn only_rows_change_when_sections_move(rt: HostRuntime) {
     }
 }
 
-fn written(alloc: Global, text: &str) -> Result<String> {
+fn write_text(alloc: Global, text: &str) -> Result<String> {
     let map = map_of(alloc, text)?;
     again(|| value_text(alloc, map.to_value()))
 }
@@ -379,7 +379,7 @@ static WRITTEN: [(&str, &str); 9] = [
 fn indexes_are_written(rt: HostRuntime) {
     let alloc = rt.alloc();
     for (text, want) in WRITTEN.iter() {
-        check(&rt, text, written(alloc, text), want);
+        check(&rt, text, write_text(alloc, text), want);
         check(&rt, text, written_away(alloc, text), want);
         check(&rt, text, index_written_away(alloc, text), want);
         check(&rt, text, written_to(alloc, text), want);
@@ -388,7 +388,7 @@ fn indexes_are_written(rt: HostRuntime) {
 }
 
 fn equals_copy(alloc: Global, map: &DecodedMap) -> Result<bool> {
-    Ok(*boxed(alloc, map.clone())? == *map)
+    Ok(*box_result(alloc, map.clone())? == *map)
 }
 
 fn equals(alloc: Global, map: &DecodedMap, other: &str) -> Result<bool> {
@@ -401,7 +401,7 @@ fn compared_text(alloc: Global, map: &DecodedMap, other: &str) -> Result<String>
     Ok(format!(in alloc; "{copied} {same}")?)
 }
 
-fn compared(alloc: Global, text: &str, other: &str) -> Result<String> {
+fn compare_maps(alloc: Global, text: &str, other: &str) -> Result<String> {
     compared_text(alloc, &*map_of(alloc, text)?, other)
 }
 
@@ -428,20 +428,20 @@ static COMPARED: [(&str, &str, &str); 7] = [
 fn copies_are_equal(rt: HostRuntime) {
     let alloc = rt.alloc();
     for (text, other, want) in COMPARED.iter() {
-        check(&rt, text, compared(alloc, text, other), want);
+        check(&rt, text, compare_maps(alloc, text, other), want);
     }
 }
 
 // Whether copies of an index and of its first section equal what they were made of.
 
 fn index_equals_copy(alloc: Global, index: &SourceMapIndex) -> Result<bool> {
-    Ok(*boxed(alloc, index.clone())? == *index)
+    Ok(*box_result(alloc, index.clone())? == *index)
 }
 
 fn section_equals_copy(alloc: Global, section: Option<&SourceMapSection>) -> Result<bool> {
     match section {
         None => Ok(false),
-        Some(section) => Ok(*boxed(alloc, section.clone())? == *section),
+        Some(section) => Ok(*box_result(alloc, section.clone())? == *section),
     }
 }
 

@@ -106,7 +106,7 @@ fn describe(alloc: Global, map: &DecodedMap, way: Way) -> Result<String> {
     }
 }
 
-fn written(alloc: Global, text: &str, way: Way) -> Result<String> {
+fn write_by(alloc: Global, text: &str, way: Way) -> Result<String> {
     describe(alloc, &*map_of(alloc, text)?, way)
 }
 
@@ -121,13 +121,13 @@ static WHOLE: [Way; 4] = [
 fn all_bytes_are_written(rt: HostRuntime) {
     for text in WRITTEN.iter() {
         for way in WHOLE.iter() {
-            check(&rt, text, written(rt.alloc(), text, *way), text);
+            check(&rt, text, write_by(rt.alloc(), text, *way), text);
         }
     }
 }
 
 // So many characters of a text, and what is said after them.
-fn cut(alloc: Global, text: &str, most: usize, error: &str) -> Result<String> {
+fn cut_text(alloc: Global, text: &str, most: usize, error: &str) -> Result<String> {
     let mut out = String::new(alloc);
     for letter in text.chars().take(most) {
         out.push(letter)?;
@@ -139,7 +139,7 @@ fn cut(alloc: Global, text: &str, most: usize, error: &str) -> Result<String> {
 
 fn check_cut(rt: &impl Abort, alloc: Global, text: &str, way: Way, want: Result<String>) {
     match want {
-        Ok(want) => check(rt, text, written(alloc, text, way), want.as_str()),
+        Ok(want) => check(rt, text, write_by(alloc, text, way), want.as_str()),
         Err(error) => check(rt, text, Err(error), ""),
     }
 }
@@ -149,9 +149,9 @@ fn each_write_may_fail_or_take_nothing(rt: HostRuntime) {
     let alloc = rt.alloc();
     for text in WRITTEN.iter() {
         for most in 0..text.len() {
-            let failed = cut(alloc, text, most, "broken pipe");
+            let failed = cut_text(alloc, text, most, "broken pipe");
             check_cut(&rt, alloc, text, Way::Failing(Some(most)), failed);
-            let full = cut(alloc, text, most, "failed to write whole buffer");
+            let full = cut_text(alloc, text, most, "failed to write whole buffer");
             check_cut(&rt, alloc, text, Way::Halting(Some(most)), full);
         }
     }

@@ -1,10 +1,10 @@
 // Adjusting of mappings.
 use crate::checks::check;
 use crate::lookups::{looked_up, token_text};
-use crate::samples::{Made, NONE, Row, made, written};
+use crate::samples::{Made, NONE, Row, make_map, map_text};
 use sourcemap::errors::{Error, Result};
 use sourcemap::types::{RawToken, SourceMap, Token};
-use sourcemap_test_support::results::boxed;
+use sourcemap_test_support::results::box_result;
 use std::alloc::Global;
 
 // A token that starts before the position that is moved, and one that starts after it.
@@ -39,7 +39,7 @@ const FAR_RANGE: [Row; 1] = [((0, 0), (0, 0, 4294967290), NONE, true)];
 
 const BARE_RANGE: [Row; 1] = [((0, 0), (NONE, NONE, NONE), NONE, true)];
 
-const BEHIND: [Row; 1] = [((5, 0), (0, 0, 10), NONE, false)];
+const AFTER_START: [Row; 1] = [((5, 0), (0, 0, 10), NONE, false)];
 
 // The last column, from the first.
 const LAST: [Row; 1] = [((0, NONE), (0, 0, 0), NONE, false)];
@@ -89,25 +89,40 @@ static ADJUSTED: [(&[Row], &[Row], (u32, u32), &str); 13] = [
     (&BEFORE, &TWICE, (4, 0), "o.js:1:1"),
     (&THERE, &TWICE, (3, 0), "none"),
     (&THERE, &TWICE, (4, 0), "o.js:1:1"),
-    (&RANGE, &BEHIND, (5, 0), "o.js:0:17"),
-    (&RANGE, &BEHIND, (5, 3), "o.js:0:20"),
+    (&RANGE, &AFTER_START, (5, 0), "o.js:0:17"),
+    (&RANGE, &AFTER_START, (5, 3), "o.js:0:20"),
     (&BEFORE, &LAST, (0, NONE), "o.js:1:1"),
 ];
 
 // A map of one source and two names, which those of the adjustment are not to replace.
 fn original(alloc: Global, rows: &[Row]) -> Made {
-    made(alloc, rows, &["k", "m"], &["o.js"])
+    make_map(alloc, rows, &["k", "m"], &["o.js"])
 }
 
 fn adjustment(alloc: Global, rows: &[Row]) -> Made {
-    made(alloc, rows, &["n"], &["t.js"])
+    make_map(alloc, rows, &["n"], &["t.js"])
+}
+
+// Adjusts a map. If out of memory, the call is repeated; the map must be unchanged, else the error is
+// one that no adjustment returns.
+fn adjust_again(map: &mut SourceMap, before: &SourceMap, by: &SourceMap) -> Result<()> {
+    match map.adjust_mappings(by) {
+        Err(Error::OutOfMemory) if *map != *before => Err(Error::NotARamBundle),
+        Err(Error::OutOfMemory) => map.adjust_mappings(by),
+        outcome => outcome,
+    }
+}
+
+fn adjust_by(alloc: Global, map: &mut SourceMap, by: &SourceMap) -> Result<()> {
+    let before = box_result(alloc, map.clone())?;
+    adjust_again(map, &*before, by)
 }
 
 fn adjust(alloc: Global, map: &mut SourceMap, adjustments: &[Row]) -> Result<()> {
-    map.adjust_mappings(&*adjustment(alloc, adjustments)?)
+    adjust_by(alloc, map, &*adjustment(alloc, adjustments)?)
 }
 
-fn adjusted(alloc: Global, originals: &[Row], adjustments: &[Row]) -> Made {
+fn adjust_rows(alloc: Global, originals: &[Row], adjustments: &[Row]) -> Made {
     let mut map = original(alloc, originals)?;
     adjust(alloc, &mut *map, adjustments)?;
     Ok(map)
@@ -117,7 +132,7 @@ fn adjusted(alloc: Global, originals: &[Row], adjustments: &[Row]) -> Made {
 fn adjusted_maps_are_looked_up(rt: HostRuntime) {
     let alloc = rt.alloc();
     for (originals, adjustments, (line, col), want) in ADJUSTED.iter() {
-        let map = adjusted(alloc, originals, adjustments);
+        let map = adjust_rows(alloc, originals, adjustments);
         check(&rt, want, looked_up(alloc, map, *line, *col), want);
     }
 }
@@ -137,7 +152,7 @@ static LISTS: [(&str, &[Row], &[Row], &str); 23] = [
         " 17:23=0:102:35 17:33=0:102:50",
     ),
     (
-        "two adjustments of one position, behind the start of an original",
+        "two adjustments of one position, after the start of an original",
         &BEFORE,
         &TWICE,
         " 3:0=0:1:1 4:0=0:1:1",
@@ -149,7 +164,7 @@ static LISTS: [(&str, &[Row], &[Row], &str); 23] = [
         " 4:0=0:1:1",
     ),
     (
-        "the last column, but none behind it",
+        "the last column, but none after it",
         &BEFORE,
         &LAST,
         " 0:4294967295=0:1:1",
@@ -161,7 +176,7 @@ static LISTS: [(&str, &[Row], &[Row], &str); 23] = [
         "",
     ),
     (
-        "two originals at one position, behind the start of an adjustment",
+        "two originals at one position, after the start of an adjustment",
         &EQUAL,
         &[((0, 0), (0, 0, 0), NONE, false)],
         " 0:5=0:1:1 0:5=0:2:2",
@@ -196,33 +211,38 @@ static LISTS: [(&str, &[Row], &[Row], &str); 23] = [
         ],
         " 0:0=0:2:2 0:9=0:1:1",
     ),
-    ("a range token that is cut", &RANGE, &BEHIND, " 5:0=0:0:17+"),
+    (
+        "a range token that is cut",
+        &RANGE,
+        &AFTER_START,
+        " 5:0=0:0:17+",
+    ),
     (
         "another token that is cut at the same position",
         &[((0, 0), (0, 0, 7), NONE, false)],
-        &BEHIND,
+        &AFTER_START,
         " 5:0=0:0:7",
     ),
     (
         "a range token that is cut, near the last column of its source",
         &FAR_RANGE,
-        &BEHIND,
+        &AFTER_START,
         " 5:0=0:0:4294967295+",
     ),
     (
         "a range token that is cut, without a source",
         &BARE_RANGE,
-        &BEHIND,
+        &AFTER_START,
         " 5:0=4294967295:4294967295:4294967295+",
     ),
     (
-        "a line put before all, and text behind all",
+        "a line put before all, and text after all",
         &EDITED,
         &A_LINE_DOWN,
         " 1:0=0:0:0 1:9=0:0:4 2:0=0:1:0 2:2=0:1:5#1 3:0=0:2:3",
     ),
     (
-        "a line put behind the first",
+        "a line put after the first",
         &EDITED,
         &[
             ((0, 0), (0, 0, 0), NONE, false),
@@ -232,7 +252,7 @@ static LISTS: [(&str, &[Row], &[Row], &str); 23] = [
         " 0:0=0:0:0 0:9=0:0:4 2:0=0:1:0 2:2=0:1:5#1 3:0=0:2:3",
     ),
     (
-        "a line taken away",
+        "a line removed",
         &EDITED,
         &[
             ((0, 0), (0, 0, 0), NONE, false),
@@ -241,7 +261,7 @@ static LISTS: [(&str, &[Row], &[Row], &str); 23] = [
         " 0:0=0:0:0 0:9=0:0:4 1:0=0:2:3",
     ),
     (
-        "a line taken away, and one put before each other",
+        "a line removed, and one put before each other",
         &EDITED,
         &[
             ((1, 0), (0, 1, 0), NONE, false),
@@ -269,13 +289,13 @@ static LISTS: [(&str, &[Row], &[Row], &str); 23] = [
         " 0:0=0:0:0 0:14=0:0:0 0:19=0:0:4",
     ),
     (
-        "columns taken away",
+        "columns removed",
         &EDITED,
         &[((0, 0), (0, 0, 4), NONE, false)],
         " 0:0=0:0:0 0:5=0:0:4",
     ),
     (
-        "nothing put and nothing taken away",
+        "nothing put and nothing removed",
         &EDITED,
         &[
             ((0, 0), (0, 0, 0), NONE, false),
@@ -284,7 +304,7 @@ static LISTS: [(&str, &[Row], &[Row], &str); 23] = [
         ],
         " 0:0=0:0:0 0:9=0:0:4 1:0=0:1:0 1:2=0:1:5#1 2:0=0:2:3",
     ),
-    ("all lines taken away", &EDITED, &[], ""),
+    ("all lines removed", &EDITED, &[], ""),
 ];
 
 fn push_token(out: &mut String, token: &RawToken) -> Result<()> {
@@ -323,7 +343,7 @@ fn tokens_of(alloc: Global, map: Made) -> Result<String> {
 fn adjusted_maps_have_these_tokens_and_no_others(rt: HostRuntime) {
     let alloc = rt.alloc();
     for (about, originals, adjustments, want) in LISTS.iter() {
-        let map = adjusted(alloc, originals, adjustments);
+        let map = adjust_rows(alloc, originals, adjustments);
         check(&rt, about, tokens_of(alloc, map), want);
     }
 }
@@ -339,7 +359,7 @@ static ALIKE: [(&str, [&[Row]; 2], [(u32, u32); 2], &str); 9] = [
         "o.js:102:35",
     ),
     (
-        "behind that",
+        "after that",
         [&CUT, &MOVED],
         [(17, 30), (8, 37)],
         "o.js:102:35",
@@ -352,25 +372,25 @@ static ALIKE: [(&str, [&[Row]; 2], [(u32, u32); 2], &str); 9] = [
     ),
     (
         "where a range token was cut",
-        [&RANGE, &BEHIND],
+        [&RANGE, &AFTER_START],
         [(5, 0), (0, 10)],
         "o.js:0:17+",
     ),
     (
-        "behind that",
-        [&RANGE, &BEHIND],
+        "after that",
+        [&RANGE, &AFTER_START],
         [(5, 3), (0, 13)],
         "o.js:0:20+",
     ),
     (
         "the last column of a source",
-        [&FAR_RANGE, &BEHIND],
+        [&FAR_RANGE, &AFTER_START],
         [(5, 3), (0, 13)],
         "o.js:0:4294967295+",
     ),
     (
         "a range token without a source",
-        [&BARE_RANGE, &BEHIND],
+        [&BARE_RANGE, &AFTER_START],
         [(5, 3), (0, 13)],
         "<unknown>:4294967295:4294967295+",
     ),
@@ -408,10 +428,10 @@ fn moved_positions_keep_their_meaning(rt: HostRuntime) {
     for (about, tokens, positions, want) in ALIKE.iter() {
         // prover: array parts outside of a pattern
         let [originals, adjustments] = *tokens;
-        let [position, old_place] = *positions;
-        let old_meaning = meaning(alloc, original(alloc, originals), old_place);
+        let [position, old_position] = *positions;
+        let old_meaning = meaning(alloc, original(alloc, originals), old_position);
         check(&rt, about, old_meaning, want);
-        let map = adjusted(alloc, originals, adjustments);
+        let map = adjust_rows(alloc, originals, adjustments);
         check(&rt, about, meaning(alloc, map, position), want);
     }
 }
@@ -443,20 +463,14 @@ static WRITTEN: [(&[Row], &[Row], &str); 3] = [
 fn adjusted_maps_are_written(rt: HostRuntime) {
     let alloc = rt.alloc();
     for (originals, adjustments, want) in WRITTEN.iter() {
-        let map = adjusted(alloc, originals, adjustments);
-        check(&rt, want, written(alloc, map), want);
+        let map = adjust_rows(alloc, originals, adjustments);
+        check(&rt, want, map_text(alloc, map), want);
     }
 }
 
-// Whether the map is unchanged after an error. If out of memory, the call is repeated.
+// Whether an adjustment is refused and leaves the map unchanged.
 fn is_refused(map: &mut SourceMap, before: &SourceMap, by: &SourceMap) -> bool {
-    let mut outcome = map.adjust_mappings(by);
-    if matches!(outcome, Err(Error::OutOfMemory)) {
-        if *map != *before {
-            return false;
-        }
-        outcome = map.adjust_mappings(by);
-    }
+    let outcome = adjust_again(map, before, by);
     matches!(outcome, Err(Error::IncompatibleSourceMap)) && *map == *before
 }
 
@@ -466,11 +480,11 @@ fn is_refused_by_last(alloc: Global, map: &mut SourceMap, before: &SourceMap) ->
 }
 
 fn is_refused_at(alloc: Global, map: &mut SourceMap) -> Result<bool> {
-    let before = boxed(alloc, map.clone())?;
+    let before = box_result(alloc, map.clone())?;
     is_refused_by_last(alloc, map, &*before)
 }
 
-fn refused(alloc: Global) -> Result<String> {
+fn refusal_text(alloc: Global) -> Result<String> {
     let mut map = original(alloc, &NEIGHBOURS)?;
     let is_as_before = is_refused_at(alloc, &mut *map)?;
     Ok(format!(in alloc; "{is_as_before}")?)
@@ -478,5 +492,10 @@ fn refused(alloc: Global) -> Result<String> {
 
 #[test]
 fn an_error_leaves_the_map_unchanged(rt: HostRuntime) {
-    check(&rt, "past the last column", refused(rt.alloc()), "true");
+    check(
+        &rt,
+        "past the last column",
+        refusal_text(rt.alloc()),
+        "true",
+    );
 }

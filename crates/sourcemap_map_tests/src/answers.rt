@@ -3,7 +3,7 @@ use crate::checks::check;
 use sourcemap::errors::Result;
 use sourcemap::jsontypes::DebugId;
 use sourcemap::types::{SourceMap, Token};
-use sourcemap_test_support::results::boxed;
+use sourcemap_test_support::results::box_result;
 use std::alloc::Global;
 
 const FULL: &str =
@@ -87,7 +87,7 @@ fn describe(alloc: Global, map: &SourceMap, getter: Getter) -> Result<String> {
 }
 
 fn answer(alloc: Global, getter: Getter) -> Result<String> {
-    let map = boxed(alloc, SourceMap::from_slice(alloc, FULL.as_bytes()))?;
+    let map = box_result(alloc, SourceMap::from_slice(alloc, FULL.as_bytes()))?;
     describe(alloc, &*map, getter)
 }
 

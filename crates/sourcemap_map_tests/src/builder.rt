@@ -39,16 +39,16 @@ enum Answer {
 
 fn take(alloc: Global, builder: &mut SourceMapBuilder, step: &Step<'_>) -> Result<Answer> {
     match *step {
-        Step::File(file) => done(builder.set_file(Some(file))),
-        Step::Root(root) => done(builder.set_source_root(Some(root))),
+        Step::File(file) => done_if_ok(builder.set_file(Some(file))),
+        Step::Root(root) => done_if_ok(builder.set_source_root(Some(root))),
         Step::DebugId(text) => {
             builder.set_debug_id(DebugId::parse(text));
             Ok(Answer::Done)
         }
-        Step::Ignore(id) => done(builder.add_to_ignore_list(id)),
-        Step::Strip(prefix) => done(strip(alloc, builder, prefix)),
-        Step::Show(id, text) => done(show(builder, id, text)),
-        Step::Contents(id, text) => done(set_contents(builder, id, text)),
+        Step::Ignore(id) => done_if_ok(builder.add_to_ignore_list(id)),
+        Step::Strip(prefix) => done_if_ok(strip(alloc, builder, prefix)),
+        Step::Show(id, text) => done_if_ok(show(builder, id, text)),
+        Step::Contents(id, text) => done_if_ok(set_contents(builder, id, text)),
         Step::Source(text) => id(builder.add_source(text)),
         Step::Name(text) => id(builder.add_name(text)),
         Step::Token(dst, src, source, name) => token(builder.add(
@@ -63,11 +63,11 @@ fn take(alloc: Global, builder: &mut SourceMapBuilder, step: &Step<'_>) -> Resul
         Step::Raw(dst, src, source, is_range) => token(builder.add_raw(
             dst.0, dst.1, src.0, src.1, source, None, is_range,
         )),
-        Step::Found(text, col, with_name) => token(found(alloc, builder, text, col, with_name)),
+        Step::Found(text, col, with_name) => token(find_in(alloc, builder, text, col, with_name)),
     }
 }
 
-fn done(outcome: Result<()>) -> Result<Answer> {
+fn done_if_ok(outcome: Result<()>) -> Result<Answer> {
     outcome?;
     Ok(Answer::Done)
 }
@@ -99,7 +99,7 @@ fn set_contents(builder: &mut SourceMapBuilder, id: u32, text: Option<&str>) -> 
     }
 }
 
-fn found(
+fn find_in(
     alloc: Global,
     builder: &mut SourceMapBuilder,
     text: &str,
@@ -220,7 +220,7 @@ fn answers(alloc: Global, steps: &[Step<'_>]) -> Result<String> {
     Ok(out)
 }
 
-fn written(alloc: Global, builder: Result<SourceMapBuilder>) -> Result<String> {
+fn write_built(alloc: Global, builder: Result<SourceMapBuilder>) -> Result<String> {
     let record = builder?.into_sourcemap()?.into_raw_sourcemap()?;
     Ok(record.into_value(alloc)?.to_string(alloc)?)
 }
@@ -365,13 +365,13 @@ fn builders_return_and_are_written(rt: HostRuntime) {
         check(
             &rt,
             row.about,
-            written(alloc, built(alloc, row.steps)),
+            write_built(alloc, built(alloc, row.steps)),
             row.written,
         );
     }
 }
 
-fn displayed(alloc: Global, builder: Result<SourceMapBuilder>) -> Result<String> {
+fn builder_text(alloc: Global, builder: Result<SourceMapBuilder>) -> Result<String> {
     let map = Box::new(alloc, builder?.into_sourcemap()?)?;
     let sources = (map.get_source(0), map.get_source(1), map.get_source(2));
     Ok(format!(in alloc; "{sources:?} {}", map.get_token_count())?)
@@ -383,7 +383,7 @@ fn sources_are_resolved_against_the_root(rt: HostRuntime) {
     check(
         &rt,
         want,
-        displayed(rt.alloc(), built(rt.alloc(), ROWS[0].steps)),
+        builder_text(rt.alloc(), built(rt.alloc(), ROWS[0].steps)),
         want,
     );
 }
@@ -411,7 +411,7 @@ static PREFIXES: [(&str, &[&str], &str, &str); 9] = [
     ("no prefix", &[], "/x.js", "/x.js"),
 ];
 
-fn cut<'a>(
+fn strip_in<'a>(
     builder: &'a mut SourceMapBuilder,
     prefixes: &[&str],
     source: &str,
@@ -421,15 +421,15 @@ fn cut<'a>(
     Ok(builder.get_source(id))
 }
 
-fn left(alloc: Global, prefixes: &[&str], source: &str) -> Result<String> {
+fn strip_source(alloc: Global, prefixes: &[&str], source: &str) -> Result<String> {
     let mut builder = SourceMapBuilder::new(alloc, None)?;
-    let left = cut(&mut builder, prefixes, source)?;
+    let left = strip_in(&mut builder, prefixes, source)?;
     Ok(String::from_str(alloc, left.unwrap_or("none"))?)
 }
 
 #[test]
 fn prefixes_are_cut(rt: HostRuntime) {
     for (about, prefixes, source, want) in PREFIXES.iter() {
-        check(&rt, about, left(rt.alloc(), prefixes, source), want);
+        check(&rt, about, strip_source(rt.alloc(), prefixes, source), want);
     }
 }

@@ -1,9 +1,9 @@
 // Changes of maps, step by step.
 use crate::checks::check;
-use crate::samples::{Made, mixed, written};
+use crate::samples::{Made, map_text, mixed_map};
 use sourcemap::errors::{Error, Result};
 use sourcemap::types::SourceMap;
-use sourcemap_test_support::results::boxed;
+use sourcemap_test_support::results::box_result;
 use std::alloc::Global;
 
 // A change of a map.
@@ -31,7 +31,7 @@ static CHANGES: [Change<'static>; 10] = [
     Change::NoNames,
 ];
 
-// Which of these changes the map: all but taking away the debug id that it lacks, and the last id
+// Which of these changes the map: all but removing the debug id that it lacks, and the last id
 // to be ignored, which is ignored already.
 const MARKS: &str = "+=++++++=+";
 
@@ -84,7 +84,7 @@ fn mark_beside(map: &mut SourceMap, before: &SourceMap, change: &Change<'_>) -> 
 }
 
 fn mark(alloc: Global, map: &mut SourceMap, change: &Change<'_>) -> Result<char> {
-    let before = boxed(alloc, map.clone())?;
+    let before = box_result(alloc, map.clone())?;
     mark_beside(map, &*before, change)
 }
 
@@ -96,12 +96,12 @@ fn marks(alloc: Global, map: &mut SourceMap, changes: &[Change<'_>]) -> Result<S
     Ok(marks)
 }
 
-fn marked(alloc: Global, map: Made) -> Result<String> {
+fn change_marks(alloc: Global, map: Made) -> Result<String> {
     let mut map = map?;
     marks(alloc, &mut *map, &CHANGES)
 }
 
-fn changed(map: Made, changes: &[Change<'_>]) -> Made {
+fn apply_changes(map: Made, changes: &[Change<'_>]) -> Made {
     let mut map = map?;
     make_all(&mut *map, changes)?;
     Ok(map)
@@ -117,13 +117,13 @@ fn make_all(map: &mut SourceMap, changes: &[Change<'_>]) -> Result<()> {
 #[test]
 fn changes_are_atomic(rt: HostRuntime) {
     let alloc = rt.alloc();
-    check(&rt, "marks", marked(alloc, mixed(alloc)), MARKS);
+    check(&rt, "marks", change_marks(alloc, mixed_map(alloc)), MARKS);
     let want =
         r#"{"file":"out.js","ignoreList":[1,3],"mappings":"EAAA,AIAA,GJCE;I","names":[],"rangeMappings":"E;","sourceRoot":"root/","sources":["a.js","b.js","http:a","https:a","a.js"],"sourcesContent":[null,null,"text",null,null],"version":3}"#;
     check(
         &rt,
         "written",
-        written(alloc, changed(mixed(alloc), &CHANGES)),
+        map_text(alloc, apply_changes(mixed_map(alloc), &CHANGES)),
         want,
     );
 }
@@ -194,7 +194,7 @@ static ROOTS: [(&str, &str); 3] = [
 fn sources_are_resolved_against_the_root(rt: HostRuntime) {
     let alloc = rt.alloc();
     for (root, want) in ROOTS.iter() {
-        let map = changed(mixed(alloc), &[Change::Root(root)]);
+        let map = apply_changes(mixed_map(alloc), &[Change::Root(root)]);
         check(&rt, want, lists_of(alloc, map), want);
     }
 }
@@ -202,6 +202,6 @@ fn sources_are_resolved_against_the_root(rt: HostRuntime) {
 #[test]
 fn lists_have_the_changes(rt: HostRuntime) {
     let want = "root/a.js root/b.js http:a https:a root/a.js | - - text - - | 1 3 | ";
-    let map = changed(mixed(rt.alloc()), &CHANGES);
+    let map = apply_changes(mixed_map(rt.alloc()), &CHANGES);
     check(&rt, want, lists_of(rt.alloc(), map), want);
 }

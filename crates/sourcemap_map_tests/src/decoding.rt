@@ -15,7 +15,7 @@ const README: &str =
 static REGULAR: [(&str, &str, &str); 7] = [
     ("the map of the documentation", README, "9"),
     (
-        "a map behind a junk header",
+        "a map after a junk header",
         concat!(")]}'junk\r\n", r#"{"mappings":"A"}"#),
         "1",
     ),
@@ -88,7 +88,7 @@ fn regular_maps_are_read_alone(rt: HostRuntime) -> Result<()> {
 static ANY_KIND: [(&str, &str, &str); 5] = [
     ("the map of the documentation", README, "coolstuff.js:0:0"),
     (
-        "a map behind a junk header, whose token has no source",
+        "a map after a junk header, whose token has no source",
         concat!(")]}'\n", r#"{"mappings":"A"}"#),
         "<unknown>:4294967295:4294967295",
     ),
@@ -136,7 +136,7 @@ fn proper_beginnings_of_a_text_are_no_json(rt: HostRuntime) {
 }
 
 // Whether a map equals its copy, and whether it differs from it without its debug id.
-fn copied(map: &mut DecodedMap) -> Result<(bool, bool)> {
+fn compare_copy(map: &mut DecodedMap) -> Result<(bool, bool)> {
     let copy = map.clone()?;
     let is_same = copy == *map;
     map.set_debug_id(None);
@@ -145,7 +145,7 @@ fn copied(map: &mut DecodedMap) -> Result<(bool, bool)> {
 
 fn copies(alloc: Global, text: &str) -> Result<(bool, bool)> {
     let mut map = DecodedMap::from_reader(alloc, text.as_bytes())?;
-    copied(&mut map)
+    compare_copy(&mut map)
 }
 
 #[test]
@@ -203,7 +203,7 @@ static URLS: [(&str, &str, &str); 3] = [
     ),
 ];
 
-fn written(alloc: Global, answer: Result<DecodedMap>) -> Result<String> {
+fn write_decoded(alloc: Global, answer: Result<DecodedMap>) -> Result<String> {
     match answer {
         Ok(map) => Ok(DecodedMap::into_value(map)?.to_string(alloc)?),
         error => error_of(alloc, error),
@@ -218,7 +218,7 @@ fn url_of(alloc: Global, text: &str) -> Result<String> {
 #[test]
 fn data_urls_are_read_and_written(rt: HostRuntime) {
     for (about, url, want) in URLS.iter() {
-        let read = again(|| written(rt.alloc(), decode_data_url(rt.alloc(), url)));
+        let read = again(|| write_decoded(rt.alloc(), decode_data_url(rt.alloc(), url)));
         check(&rt, about, read, want);
     }
     let (about, url, text) = URLS[1];

@@ -88,20 +88,20 @@ fn with_ends(alloc: Global, ends: &str, position: usize, length: usize) -> Resul
 }
 
 // The lines of a text, found one character after the other.
-fn counted(alloc: Global, text: &str) -> Result<String> {
+fn lines_by_character(alloc: Global, text: &str) -> Result<String> {
     let mut answer = String::new(alloc);
     let mut start = 0usize;
     let mut position = 0usize;
-    let mut is_behind_return = false;
+    let mut follows_return = false;
     for character in text.chars() {
-        let is_pair = is_behind_return && character == '\n';
-        if is_pair {
+        let is_crlf = follows_return && character == '\n';
+        if is_crlf {
             start = position.saturating_add(1);
         } else if character == '\n' || character == '\r' {
             push_range(&mut answer, Some((start, position)))?;
             start = position.saturating_add(1);
         }
-        is_behind_return = character == '\r';
+        follows_return = character == '\r';
         position = position.saturating_add(1);
     }
     push_range(&mut answer, Some((start, position)))?;
@@ -119,7 +119,7 @@ fn all_ranges(alloc: Global, text: &str) -> Result<String> {
 }
 
 fn check_ends(rt: &impl Abort, alloc: Global, text: &str) -> Result<()> {
-    let want = counted(alloc, text)?;
+    let want = lines_by_character(alloc, text)?;
     check(rt, text, all_ranges(alloc, text), want.as_str());
     Ok(())
 }
@@ -151,14 +151,14 @@ static COLUMNS: [(&str, u64, &str); 14] = [
     ("abc", 18446744073709551615, "None"),
 ];
 
-fn placed(alloc: Global, line: &str, col: u64) -> Result<String> {
+fn offset_text(alloc: Global, line: &str, col: u64) -> Result<String> {
     let position = utf16_offset(line, col);
     Ok(format!(in alloc; "{position:?}")?)
 }
 
 #[test]
-fn utf16_columns_lead_to_places_in_bytes(rt: HostRuntime) {
+fn utf16_columns_lead_to_byte_offsets(rt: HostRuntime) {
     for (line, col, want) in COLUMNS.iter() {
-        check(&rt, line, placed(rt.alloc(), line, *col), want);
+        check(&rt, line, offset_text(rt.alloc(), line, *col), want);
     }
 }

@@ -1,16 +1,16 @@
 // Maps of tokens that are looked up, written as records, and looked up as they are read back.
 use crate::checks::check;
-use crate::samples::{Made, bare, ranged, readme, record_of, written};
+use crate::samples::{Made, bare, map_text, range_map, readme, record_of};
 use sourcemap::decoder::decode_regular;
 use sourcemap::errors::Result;
 use sourcemap::types::Token;
-use sourcemap_test_support::results::boxed;
+use sourcemap_test_support::results::box_result;
 use std::alloc::Global;
 
 // A position, and the text of the token there.
-type Place = (u32, u32, &'static str);
+type Lookup = (u32, u32, &'static str);
 
-static README: [Place; 6] = [
+static README: [Lookup; 6] = [
     (0, 0, "coolstuff.js:0:0"),
     (0, 5, "coolstuff.js:0:4 name=x"),
     (0, 18, "coolstuff.js:2:2 name=alert"),
@@ -20,7 +20,7 @@ static README: [Place; 6] = [
 ];
 
 // A range token adds the distance of columns on its own line alone.
-static RANGED: [Place; 3] = [
+static RANGED: [Lookup; 3] = [
     (0, 4, "coolstuff.js:0:0"),
     (0, 9, "coolstuff.js:0:9"),
     (3, 9, "coolstuff.js:0:5"),
@@ -42,7 +42,7 @@ pub fn looked_up(alloc: Global, map: Made, line: u32, col: u32) -> Result<String
 
 fn read_back(alloc: Global, map: Made) -> Made {
     let record = record_of(map)?;
-    boxed(alloc, decode_regular(alloc, record))
+    box_result(alloc, decode_regular(alloc, record))
 }
 
 #[test]
@@ -67,10 +67,10 @@ fn ranges_reach_along_their_line(rt: HostRuntime) {
         check(
             &rt,
             want,
-            looked_up(alloc, ranged(alloc), *line, *col),
+            looked_up(alloc, range_map(alloc), *line, *col),
             want,
         );
-        let back = read_back(alloc, ranged(alloc));
+        let back = read_back(alloc, range_map(alloc));
         check(&rt, want, looked_up(alloc, back, *line, *col), want);
     }
 }
@@ -80,17 +80,17 @@ fn tokens_are_written_in_order(rt: HostRuntime) {
     let alloc = rt.alloc();
     let want =
         r#"{"file":"f","mappings":"AAAA,GAAIA,GAAI,EACR,IAAIA,GAAK,EAAG,CACVC,MAAM","names":["x","alert"],"sources":["coolstuff.js"],"version":3}"#;
-    check(&rt, "readme", written(alloc, readme(alloc)), want);
+    check(&rt, "readme", map_text(alloc, readme(alloc)), want);
     let want =
         r#"{"file":"f","mappings":"AAAA,KAAK","names":[],"rangeMappings":"C","sources":["coolstuff.js"],"version":3}"#;
-    check(&rt, "ranged", written(alloc, ranged(alloc)), want);
+    check(&rt, "ranged", map_text(alloc, range_map(alloc)), want);
     let want =
         r#"{"file":"f","mappings":"A;A","names":[],"rangeMappings":";B","sources":[],"version":3}"#;
-    check(&rt, "bare", written(alloc, bare(alloc)), want);
+    check(&rt, "bare", map_text(alloc, bare(alloc)), want);
     check(
         &rt,
         "bare",
-        written(alloc, read_back(alloc, bare(alloc))),
+        map_text(alloc, read_back(alloc, bare(alloc))),
         want,
     );
 }

@@ -44,8 +44,8 @@ static NAMES: [(&str, (u32, u32), &str, &str); 17] = [
     (HERMES, (1, 0), "b", "none"),
 ];
 
-// A map that was read, in a box. The prover takes what lets a box go as one step, and what lets a map
-// go as one for each of its parts, on each way out of a function.
+// A boxed map: the prover handles dropping a box as one step, and dropping a map as one step for each
+// part, at each return.
 fn map_of(alloc: Global, text: &str) -> Result<Box<DecodedMap>> {
     let map = decode_slice(alloc, text.as_bytes())?;
     Ok(Box::new(alloc, map)?)
@@ -244,7 +244,7 @@ fn walk_text(alloc: Global, view: &SourceView, last: Option<Token<'_>>) -> Resul
     Ok(out)
 }
 
-fn walked(alloc: Global, text: &str, last: usize) -> Result<String> {
+fn walk_tokens(alloc: Global, text: &str, last: usize) -> Result<String> {
     let view = SourceView::new(alloc, text)?;
     let map = regular_of(alloc, COLUMNS)?;
     walk_text(alloc, &view, map.get_token(last))
@@ -261,6 +261,6 @@ static WALKS: [(usize, &str); 4] = [
 #[test]
 fn walks_along_the_tokens_of_a_map_find_identifiers(rt: HostRuntime) {
     for (last, want) in WALKS.iter() {
-        check(&rt, want, walked(rt.alloc(), "abc👌def", *last), want);
+        check(&rt, want, walk_tokens(rt.alloc(), "abc👌def", *last), want);
     }
 }

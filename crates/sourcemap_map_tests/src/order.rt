@@ -1,12 +1,12 @@
 // Tokens in their order: compared, sought and printed.
 use crate::checks::check;
-use crate::samples::{Made, mixed};
+use crate::samples::{Made, mixed_map};
 use sourcemap::errors::Result;
 use sourcemap::types::{SourceMap, Token, TokenIter};
 use std::alloc::Global;
 
 // Whether the first two are equal, but not by their numbers, and the second is before the third.
-fn compared(map: &SourceMap) -> Option<(bool, bool, bool)> {
+fn compare_tokens(map: &SourceMap) -> Option<(bool, bool, bool)> {
     let first = map.get_token(0)?;
     let second = map.get_token(1)?;
     let third = map.get_token(2)?;
@@ -15,11 +15,11 @@ fn compared(map: &SourceMap) -> Option<(bool, bool, bool)> {
 }
 
 fn compared_text(alloc: Global, map: &SourceMap) -> Result<String> {
-    Ok(format!(in alloc; "{:?}", compared(map))?)
+    Ok(format!(in alloc; "{:?}", compare_tokens(map))?)
 }
 
 fn mixed_compared(alloc: Global) -> Result<String> {
-    compared_text(alloc, &*mixed(alloc)?)
+    compared_text(alloc, &*mixed_map(alloc)?)
 }
 
 #[test]
@@ -33,9 +33,9 @@ fn tokens_are_ordered_by_their_answers(rt: HostRuntime) {
 static SOUGHT: [(&str, u32, u32, &str); 5] = [
     ("before all tokens", 0, 1, "false (0, 2) 0"),
     ("at the first of two tokens", 0, 2, "true (0, 2) 4"),
-    ("behind both of them", 0, 4, "true (0, 5) 0"),
+    ("after both of them", 0, 4, "true (0, 5) 0"),
     ("on the next line", 1, 3, "true (1, 4) 4294967295"),
-    ("behind all tokens", 9, 9, "true none"),
+    ("after all tokens", 9, 9, "true none"),
 ];
 
 fn next_text(alloc: Global, found: bool, mut left: TokenIter<'_>) -> Result<String> {
@@ -49,14 +49,14 @@ fn next_text(alloc: Global, found: bool, mut left: TokenIter<'_>) -> Result<Stri
     }
 }
 
-fn sought(alloc: Global, map: &SourceMap, line: u32, col: u32) -> Result<String> {
+fn seek_text(alloc: Global, map: &SourceMap, line: u32, col: u32) -> Result<String> {
     let mut left = map.tokens();
     let found = left.seek(line, col);
     next_text(alloc, found, left)
 }
 
 fn sought_in(alloc: Global, map: Made, line: u32, col: u32) -> Result<String> {
-    sought(alloc, &*map?, line, col)
+    seek_text(alloc, &*map?, line, col)
 }
 
 #[test]
@@ -65,7 +65,7 @@ fn seeking_goes_on_after_the_closest_token(rt: HostRuntime) {
         check(
             &rt,
             about,
-            sought_in(rt.alloc(), mixed(rt.alloc()), *line, *col),
+            sought_in(rt.alloc(), mixed_map(rt.alloc()), *line, *col),
             want,
         );
     }
@@ -87,7 +87,7 @@ static PRINTED: [(u32, u32, &str); 4] = [
     ),
 ];
 
-fn printed(alloc: Global, token: Option<Token<'_>>) -> Result<String> {
+fn token_line(alloc: Global, token: Option<Token<'_>>) -> Result<String> {
     match token {
         None => Ok(String::from_str(alloc, "none")?),
         Some(token) => Ok(format!(in alloc; "{token}|{token:#}|{token:?}")?),
@@ -96,7 +96,7 @@ fn printed(alloc: Global, token: Option<Token<'_>>) -> Result<String> {
 
 fn printed_at(alloc: Global, map: Made, line: u32, col: u32) -> Result<String> {
     let map = map?;
-    printed(alloc, map.lookup_token(line, col))
+    token_line(alloc, map.lookup_token(line, col))
 }
 
 #[test]
@@ -105,7 +105,7 @@ fn tokens_are_printed(rt: HostRuntime) {
         check(
             &rt,
             want,
-            printed_at(rt.alloc(), mixed(rt.alloc()), *line, *col),
+            printed_at(rt.alloc(), mixed_map(rt.alloc()), *line, *col),
             want,
         );
     }

@@ -1,8 +1,8 @@
 // Encoding in parts: the bytes that `encode_to` writes, tokens on far lines, and writers that take
 // little, are interrupted or fail.
 use crate::checks::check;
-use crate::samples::{Made, NONE, made, mixed, ranged, readme};
-use crate::writing::{BARE, WRITTEN, cut, outcome_text, regular};
+use crate::samples::{Made, NONE, make_map, mixed_map, range_map, readme};
+use crate::writing::{BARE, WRITTEN, cut_writing, outcome_text, regular};
 use sourcemap::encoder::{encode_in_parts, encode_to_vec};
 use sourcemap::{Result, SourceMap};
 use sourcemap_test_support::writers::{HaltingWriter, NarrowWriter};
@@ -51,7 +51,7 @@ impl Write for LineCounter {
 
 fn far(alloc: Global) -> Made {
     let row = ((FAR, 0), (NONE, NONE, NONE), NONE, true);
-    made(alloc, &[row], &[], &[])
+    make_map(alloc, &[row], &[], &[])
 }
 
 // The other bytes, how many lines end, and that no write was long.
@@ -120,8 +120,8 @@ fn same_text(alloc: Global, map: &SourceMap) -> Result<String> {
 fn parts_are_the_text_of_made_maps(rt: HostRuntime) {
     let alloc = rt.alloc();
     check_same(&rt, alloc, "the map of the documentation", readme(alloc));
-    check_same(&rt, alloc, "a range token behind a repeat", ranged(alloc));
-    check_same(&rt, alloc, "sources, a name and a range", mixed(alloc));
+    check_same(&rt, alloc, "a range token after a repeat", range_map(alloc));
+    check_same(&rt, alloc, "sources, a name and a range", mixed_map(alloc));
     check_same(&rt, alloc, "many tokens", many(alloc));
 }
 
@@ -149,7 +149,7 @@ fn parts_end_where_a_write_fails(rt: HostRuntime) {
     let alloc = rt.alloc();
     let (about, text, want) = BARE;
     for taken in 0..want.len() {
-        let due = cut(alloc, want, taken).expect(&rt, "memory");
+        let due = cut_writing(alloc, want, taken).expect(&rt, "memory");
         let out = decoded_text(alloc, text, Some(taken));
         check(&rt, about, out, due.as_str());
     }

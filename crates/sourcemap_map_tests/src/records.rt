@@ -41,7 +41,7 @@ fn compared_with(alloc: Global, one: &RawSourceMap, text: &str) -> Result<char> 
     Ok(verdict(*one == other, *one != other))
 }
 
-fn compared(alloc: Global, one: &str, other: &str) -> Result<char> {
+fn compare_records(alloc: Global, one: &str, other: &str) -> Result<char> {
     let one = record(alloc, one)?;
     compared_with(alloc, &one, other)
 }
@@ -49,8 +49,8 @@ fn compared(alloc: Global, one: &str, other: &str) -> Result<char> {
 #[test]
 fn records_that_differ_in_a_field_are_not_equal(rt: HostRuntime) -> Result<()> {
     for text in ONE_FIELD.iter() {
-        assert!(rt; compared(rt.alloc(), "{}", text)? == '!', "{text}");
-        assert!(rt; compared(rt.alloc(), text, text)? == '=', "{text}");
+        assert!(rt; compare_records(rt.alloc(), "{}", text)? == '!', "{text}");
+        assert!(rt; compare_records(rt.alloc(), text, text)? == '=', "{text}");
     }
     Ok(())
 }

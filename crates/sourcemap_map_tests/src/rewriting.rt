@@ -6,17 +6,17 @@ use sourcemap::types::{RewriteOptions, SourceMap};
 use std::alloc::Global;
 use std::rt::Files;
 
-fn rewritten<F: Files>(
+fn rewrite_with<F: Files>(
     rt: &F,
     alloc: Global,
     text: &str,
     options: &RewriteOptions<'_>,
 ) -> Result<String> {
     let map = SourceMap::from_slice(alloc, text.as_bytes())?;
-    written(alloc, map.rewrite(rt, options))
+    write_rewritten(alloc, map.rewrite(rt, options))
 }
 
-fn written(alloc: Global, map: Result<SourceMap>) -> Result<String> {
+fn write_rewritten(alloc: Global, map: Result<SourceMap>) -> Result<String> {
     match map {
         Ok(map) => record_written(alloc, map.into_raw_sourcemap()),
         Err(Error::OutOfMemory) => Err(Error::OutOfMemory),
@@ -35,7 +35,7 @@ static DEFAULT: [(&str, &str, &str); 4] = [
         r#"{"mappings":"AAAA","names":[],"sources":["b.js"],"sourcesContent":["y"],"version":3}"#,
     ),
     (
-        "a root, behind which sources are resolved then",
+        "a root, against which sources are then resolved",
         r#"{"mappings":"AAAA,GAAIA,GAAI,EACR,IAAIA,GAAK,EAAG,CACVC,MAAM","names":["x","alert"],"sourceRoot":"r","sources":["coolstuff.js"]}"#,
         r#"{"mappings":"AAAA,GAAIA,GAAI,EACR,IAAIA,GAAK,EAAG,CACVC,MAAM","names":["x","alert"],"sources":["r/coolstuff.js"],"version":3}"#,
     ),
@@ -55,7 +55,7 @@ static DEFAULT: [(&str, &str, &str); 4] = [
 fn used_sources_and_names_are_kept(rt: HostRuntime) {
     let options = RewriteOptions::default();
     for (about, text, want) in DEFAULT.iter() {
-        let answer = rewritten(&rt, rt.alloc(), text, &options);
+        let answer = rewrite_with(&rt, rt.alloc(), text, &options);
         check(&rt, about, answer, want);
     }
 }
@@ -111,7 +111,7 @@ fn prefixes_are_cut(rt: HostRuntime) {
             strip_prefixes: prefixes,
             ..RewriteOptions::default()
         };
-        let answer = rewritten(&rt, rt.alloc(), text, &options);
+        let answer = rewrite_with(&rt, rt.alloc(), text, &options);
         check(&rt, about, answer, want);
     }
 }
@@ -155,7 +155,7 @@ fn names_and_contents_are_left_out(rt: HostRuntime) {
             with_source_contents: *with_source_contents,
             ..RewriteOptions::default()
         };
-        let answer = rewritten(&rt, rt.alloc(), text, &options);
+        let answer = rewrite_with(&rt, rt.alloc(), text, &options);
         check(&rt, about, answer, want);
     }
 }
@@ -177,7 +177,12 @@ fn contents_are_loaded_from_absolute_folders_alone(rt: HostRuntime) {
             base_path: *base_path,
             ..RewriteOptions::default()
         };
-        check(&rt, want, rewritten(&rt, rt.alloc(), PATHS, &options), want);
+        check(
+            &rt,
+            want,
+            rewrite_with(&rt, rt.alloc(), PATHS, &options),
+            want,
+        );
     }
 }
 

@@ -6,10 +6,10 @@ use sourcemap::encoder::Encodable;
 use sourcemap::errors::{Error, Result};
 use sourcemap::jsontypes::RawSourceMap;
 use sourcemap::types::{RawToken, SourceMap};
-use sourcemap_test_support::results::boxed;
+use sourcemap_test_support::results::box_result;
 use std::alloc::Global;
 
-/// A map in a box, as `boxed` makes it, or an error.
+/// A map in a box, as `box_result` makes it, or an error.
 pub type Made = Result<Box<SourceMap>>;
 
 /// No id, and the line and column of no original position.
@@ -54,25 +54,25 @@ static BARE: [Row; 2] = [
 ];
 
 pub fn readme(alloc: Global) -> Made {
-    made(alloc, &README, &["x", "alert"], &["coolstuff.js"])
+    make_map(alloc, &README, &["x", "alert"], &["coolstuff.js"])
 }
 
-pub fn ranged(alloc: Global) -> Made {
-    made(alloc, &RANGED, &[], &["coolstuff.js"])
+pub fn range_map(alloc: Global) -> Made {
+    make_map(alloc, &RANGED, &[], &["coolstuff.js"])
 }
 
-pub fn mixed(alloc: Global) -> Made {
+pub fn mixed_map(alloc: Global) -> Made {
     let sources = ["a.js", "/a.js", "http:a", "https:a", "a.js"];
-    made(alloc, &MIXED, &["n"], &sources)
+    make_map(alloc, &MIXED, &["n"], &sources)
 }
 
 pub fn bare(alloc: Global) -> Made {
-    made(alloc, &BARE, &[], &[])
+    make_map(alloc, &BARE, &[], &[])
 }
 
-/// A map of these tokens, names and sources.
-pub fn made(alloc: Global, rows: &[Row], names: &[&str], sources: &[&str]) -> Made {
-    boxed(alloc, map_of(alloc, rows, names, sources))
+/// A boxed map of these tokens, names and sources, or an error.
+pub fn make_map(alloc: Global, rows: &[Row], names: &[&str], sources: &[&str]) -> Made {
+    box_result(alloc, map_of(alloc, rows, names, sources))
 }
 
 fn map_of(alloc: Global, rows: &[Row], names: &[&str], sources: &[&str]) -> Result<SourceMap> {
@@ -128,7 +128,7 @@ pub fn record_of(map: Made) -> Result<RawSourceMap> {
 }
 
 /// The text of a map, by the record of one that is consumed.
-pub fn written(alloc: Global, map: Made) -> Result<String> {
+pub fn map_text(alloc: Global, map: Made) -> Result<String> {
     record_written(alloc, Box::into_inner(map?).into_raw_sourcemap())
 }
 

@@ -3,7 +3,7 @@ use crate::checks::check;
 use crate::samples::{Made, NONE};
 use sourcemap::errors::Result;
 use sourcemap::types::{RawToken, SourceMap};
-use sourcemap_test_support::results::boxed;
+use sourcemap_test_support::results::box_result;
 use std::alloc::Global;
 
 // A position, how many comparisons a lookup of it takes at least and at most, and the column in the
@@ -61,11 +61,11 @@ fn map_of(alloc: Global, tokens: Vec<RawToken>) -> Made {
     let names = Vec::new(alloc);
     let sources = Vec::new(alloc);
     let map = SourceMap::new(alloc, None, tokens, names, sources, None);
-    boxed(alloc, map)
+    box_result(alloc, map)
 }
 
 // The closest token, and whether it took as many comparisons as it may.
-fn counted(alloc: Global, map: &SourceMap, row: &Counted) -> Result<String> {
+fn steps_text(alloc: Global, map: &SourceMap, row: &Counted) -> Result<String> {
     let (position, least, most, _) = *row;
     let (found, steps) = map.lookup_token_steps(position.0, position.1);
     let is_counted = least <= steps && steps <= most;
@@ -74,7 +74,23 @@ fn counted(alloc: Global, map: &SourceMap, row: &Counted) -> Result<String> {
 }
 
 fn describe(alloc: Global, map: Made, row: &Counted) -> Result<String> {
-    counted(alloc, &*map?, row)
+    steps_text(alloc, &*map?, row)
+}
+
+// The largest number of comparisons of a lookup on line 2, columns 0 to 8999.
+fn most_steps(map: &SourceMap) -> u32 {
+    let mut most = 0;
+    for col in 0..9000 {
+        most = most.max(map.lookup_token_steps(2, col).1);
+    }
+    most
+}
+
+// Whether some lookup among 3,000 tokens at distinct columns counts at least eight comparisons. A
+// comparison has three outcomes, so seven distinguish 2,187 answers at most.
+fn counts_enough(alloc: Global, map: Made) -> Result<String> {
+    let is_enough = most_steps(&*map?) >= 8;
+    Ok(format!(in alloc; "{is_enough}")?)
 }
 
 static AMONG_NONE: [Counted; 2] = [
@@ -174,4 +190,14 @@ fn tokens_of_a_long_line_take_few_comparisons(rt: HostRuntime) {
             row.3,
         );
     }
+}
+
+#[test]
+fn distinct_tokens_take_enough_comparisons(rt: HostRuntime) {
+    check(
+        &rt,
+        "enough",
+        counts_enough(rt.alloc(), long_line(rt.alloc())),
+        "true",
+    );
 }

@@ -72,7 +72,7 @@ static SLICES: [(&str, (u32, u32, u32), &str); 49] = [
     ("x\r", (1, 0, 0), "[]"),
 ];
 
-fn sliced(alloc: Global, text: &str, position: (u32, u32, u32)) -> Result<String> {
+fn slice_text(alloc: Global, text: &str, position: (u32, u32, u32)) -> Result<String> {
     let view = SourceView::new(alloc, text)?;
     optional_text(
         alloc,
@@ -83,7 +83,7 @@ fn sliced(alloc: Global, text: &str, position: (u32, u32, u32)) -> Result<String
 #[test]
 fn lines_are_sliced_by_utf16_columns(rt: HostRuntime) {
     for (text, position, want) in SLICES.iter() {
-        let slice = again(|| sliced(rt.alloc(), text, *position));
+        let slice = again(|| slice_text(rt.alloc(), text, *position));
         check(&rt, text, slice, want);
     }
 }
@@ -100,7 +100,7 @@ static LINES: [(&str, &str); 8] = [
     ("no end", "1 [no end]"),
 ];
 
-fn listed(alloc: Global, text: &str) -> Result<String> {
+fn lines_text(alloc: Global, text: &str) -> Result<String> {
     let view = SourceView::new(alloc, text)?;
     let count = view.line_count();
     let mut answer = format!(in alloc; "{count}")?;
@@ -119,7 +119,7 @@ fn push_line(answer: &mut String, line: &str) -> Result<()> {
 #[test]
 fn lines_in_turn(rt: HostRuntime) {
     for (text, want) in LINES.iter() {
-        check(&rt, text, again(|| listed(rt.alloc(), text)), want);
+        check(&rt, text, again(|| lines_text(rt.alloc(), text)), want);
     }
 }
 
@@ -157,7 +157,8 @@ fn line_at(alloc: Global, text: &str, line: u32) -> Result<String> {
 #[test]
 fn lines_out_of_turn(rt: HostRuntime) {
     for (text, line, want) in LINES_BY_INDEX.iter() {
-        check(&rt, want, line_at(rt.alloc(), text, *line), want);
+        let found = again(|| line_at(rt.alloc(), text, *line));
+        check(&rt, want, found, want);
     }
 }
 
@@ -171,19 +172,46 @@ fn copy_text(alloc: Global, copy: &SourceView, is_copy: bool, is_other: bool) ->
     Ok(format!(in alloc; "{is_copy} {is_other} {source} {copy:?}")?)
 }
 
-fn compared(alloc: Global, view: &SourceView, is_other: bool) -> Result<String> {
+fn compare_views(alloc: Global, view: &SourceView, is_other: bool) -> Result<String> {
     let copy = view.clone()?;
     copy_text(alloc, &copy, copy == *view, is_other)
 }
 
-fn copied(alloc: Global, text: &str, other: &str) -> Result<String> {
+fn copy_view(alloc: Global, text: &str, other: &str) -> Result<String> {
     let view = SourceView::new(alloc, text)?;
     let is_other = is_view_of(alloc, &view, other)?;
-    compared(alloc, &view, is_other)
+    again(|| compare_views(alloc, &view, is_other))
 }
 
 #[test]
 fn copies_are_equal_and_print_their_text(rt: HostRuntime) {
     let want = "true false a\nb SourceView { source: \"a\\nb\" }";
-    check(&rt, "copy", copied(rt.alloc(), "a\nb", "a\r\nb"), want);
+    check(&rt, "copy", copy_view(rt.alloc(), "a\nb", "a\r\nb"), want);
+}
+
+// A text, and the reference to a source map in it.
+static REFERENCES: [(&str, &str); 3] = [
+    (
+        "a\n//@ sourceMappingURL=x.map \n//# sourceMappingURL=y.map",
+        r#"Some(LegacyRef("x.map"))"#,
+    ),
+    ("//# sourceMappingURL=y.map", r#"Some(Ref("y.map"))"#),
+    ("a\nb", "None"),
+];
+
+fn reference_text(alloc: Global, view: &SourceView) -> Result<String> {
+    let found = view.sourcemap_reference()?;
+    Ok(format!(in alloc; "{found:?}")?)
+}
+
+fn reference_of(alloc: Global, text: &str) -> Result<String> {
+    let view = SourceView::new(alloc, text)?;
+    again(|| reference_text(alloc, &view))
+}
+
+#[test]
+fn references_are_found(rt: HostRuntime) {
+    for (text, want) in REFERENCES.iter() {
+        check(&rt, text, reference_of(rt.alloc(), text), want);
+    }
 }

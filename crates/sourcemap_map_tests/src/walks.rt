@@ -17,7 +17,7 @@ struct ChainToken {
 #[derive(Clone, Copy)]
 struct Chain<'a> {
     here: ChainToken,
-    behind: &'a [ChainToken],
+    earlier: &'a [ChainToken],
 }
 
 impl<'a> WalkedToken for Chain<'a> {
@@ -30,15 +30,15 @@ impl<'a> WalkedToken for Chain<'a> {
 
     ghost seen = { λ token. token.here };
 
-    ghost place_of = { λ spot. (spot.line, spot.col) };
+    ghost position_value = { λ token. (token.line, token.col) };
 
-    ghost name_of = { λ spot. option_copied spot.name };
+    ghost name_of = { λ token. option_copied token.name };
 
     ghost text_of = { λ name. name.now };
 
-    ghost before = { λ token. token.behind.now };
+    ghost before = { λ token. token.earlier.now };
 
-    fn place(&self) -> (u32, u32) {
+    fn generated_position(&self) -> (u32, u32) {
         (self.here.line, self.here.col)
     }
 
@@ -47,10 +47,10 @@ impl<'a> WalkedToken for Chain<'a> {
     }
 
     fn previous(&self) -> Option<Self> {
-        let (here, behind) = self.behind.split_first()?;
+        let (here, earlier) = self.earlier.split_first()?;
         Some(Chain {
             here: *here,
-            behind,
+            earlier,
         })
     }
 }
@@ -129,9 +129,9 @@ static WALKS: [(&str, &[(u32, u32)], &str); 18] = [
     ),
 ];
 
-fn walked(alloc: Global, text: &str, places: &[(u32, u32)]) -> Result<String> {
+fn walk_text(alloc: Global, text: &str, positions: &[(u32, u32)]) -> Result<String> {
     let mut chain_tokens = Vec::new(alloc);
-    for (line, col) in places {
+    for (line, col) in positions {
         chain_tokens.push(ChainToken {
             line: *line,
             col: *col,
@@ -144,10 +144,10 @@ fn walked(alloc: Global, text: &str, places: &[(u32, u32)]) -> Result<String> {
 
 fn along(alloc: Global, view: &SourceView, chain_tokens: &[ChainToken]) -> Result<String> {
     let mut answer = String::new(alloc);
-    if let Some((here, behind)) = chain_tokens.split_first() {
+    if let Some((here, earlier)) = chain_tokens.split_first() {
         let last = Chain {
             here: *here,
-            behind,
+            earlier,
         };
         for (_, identifier) in view.rev_token_iter(last) {
             push_optional(&mut answer, identifier)?;
@@ -158,8 +158,8 @@ fn along(alloc: Global, view: &SourceView, chain_tokens: &[ChainToken]) -> Resul
 
 #[test]
 fn walks_find_the_identifier_at_each_position(rt: HostRuntime) {
-    for (text, places, want) in WALKS.iter() {
-        check(&rt, text, walked(rt.alloc(), text, places), want);
+    for (text, positions, want) in WALKS.iter() {
+        check(&rt, text, walk_text(rt.alloc(), text, positions), want);
     }
 }
 
@@ -170,7 +170,7 @@ type Walk = (u32, &'static [(u32, &'static str)]);
 // Label, a name in that text, a walk, and the name that is guessed.
 static NAMES: [(&str, &str, Walk, &str); 10] = [
     (
-        "the name behind the word",
+        "the name after the word",
         "b",
         (0, &[(9, "foo"), (0, "bar")]),
         "[foo]",
@@ -216,13 +216,13 @@ static NAMES: [(&str, &str, Walk, &str); 10] = [
     ),
 ];
 
-fn named(alloc: Global, name: &str, walk: Walk) -> Result<String> {
+fn name_by_walk(alloc: Global, name: &str, walk: Walk) -> Result<String> {
     let (count, columns) = walk;
     let mut chain_tokens = Vec::new(alloc);
-    for behind in 0..count {
+    for number in 0..count {
         chain_tokens.push(ChainToken {
             line: 1,
-            col: count - behind,
+            col: count - number,
             name: None,
         })?;
     }
@@ -233,17 +233,22 @@ fn named(alloc: Global, name: &str, walk: Walk) -> Result<String> {
             name: Some(*name),
         })?;
     }
-    guessed(alloc, "function b(){}", chain_tokens.as_slice(), name)
+    guess_name(alloc, "function b(){}", chain_tokens.as_slice(), name)
 }
 
-fn guessed(alloc: Global, text: &str, chain_tokens: &[ChainToken], name: &str) -> Result<String> {
+fn guess_name(
+    alloc: Global,
+    text: &str,
+    chain_tokens: &[ChainToken],
+    name: &str,
+) -> Result<String> {
     let view = SourceView::new(alloc, text)?;
     match chain_tokens.split_first() {
         None => optional_text(alloc, None),
-        Some((here, behind)) => {
+        Some((here, earlier)) => {
             let last = Chain {
                 here: *here,
-                behind,
+                earlier,
             };
             optional_text(alloc, view.get_original_function_name(last, name))
         }
@@ -253,7 +258,7 @@ fn guessed(alloc: Global, text: &str, chain_tokens: &[ChainToken], name: &str) -
 #[test]
 fn walks_guess_the_name_after_the_word_function(rt: HostRuntime) {
     for (about, name, walk, want) in NAMES.iter() {
-        check(&rt, about, named(rt.alloc(), name, *walk), want);
+        check(&rt, about, name_by_walk(rt.alloc(), name, *walk), want);
     }
 }
 
@@ -271,7 +276,7 @@ static COMPARED: [(&str, &str, &str); 9] = [
     ("function é1(){}", "é", "none"),
 ];
 
-fn compared(alloc: Global, text: &str, name: &str) -> Result<String> {
+fn compare_walks(alloc: Global, text: &str, name: &str) -> Result<String> {
     let chain_tokens = [
         ChainToken {
             line: 0,
@@ -284,12 +289,12 @@ fn compared(alloc: Global, text: &str, name: &str) -> Result<String> {
             name: None,
         },
     ];
-    guessed(alloc, text, &chain_tokens, name)
+    guess_name(alloc, text, &chain_tokens, name)
 }
 
 #[test]
 fn names_are_compared_whole(rt: HostRuntime) {
     for (text, name, want) in COMPARED.iter() {
-        check(&rt, text, compared(rt.alloc(), text, name), want);
+        check(&rt, text, compare_walks(rt.alloc(), text, name), want);
     }
 }

@@ -1,12 +1,12 @@
 // Encoding of maps, by each call, and writers that take little or fail.
 use crate::checks::check;
-use crate::samples::{Made, record_of, record_written, value_written, written};
+use crate::samples::{Made, map_text, record_of, record_written, value_written};
 use serde_json::Value;
 use sourcemap::decoder::decode_regular;
-use sourcemap::encoder::{encode, encode_to};
+use sourcemap::encoder::{Encodable, encode, encode_to};
 use sourcemap::jsontypes::RawSourceMap;
 use sourcemap::{DecodedMap, Error, Result, SourceMap, decode_slice};
-use sourcemap_test_support::results::{again, boxed};
+use sourcemap_test_support::results::{again, box_result};
 use sourcemap_test_support::writers::NarrowWriter;
 use std::alloc::Global;
 use std::process::Abort;
@@ -49,7 +49,7 @@ pub static WRITTEN: [Row; 11] = [
         r#"{"file":"<invalid>","mappings":"","names":[],"sources":["","a.js"],"sourcesContent":[null,"x"],"version":3}"#,
     ),
     (
-        "a range bit behind an empty part",
+        "a range bit after an empty part",
         r#"{"mappings":"A,,C","rangeMappings":"E"}"#,
         r#"{"mappings":"A,C","names":[],"rangeMappings":"C","sources":[],"version":3}"#,
     ),
@@ -64,7 +64,7 @@ pub static WRITTEN: [Row; 11] = [
         r#"{"ignoreList":[1,3],"mappings":"","names":["","","7","a"],"sources":[],"version":3}"#,
     ),
     (
-        "a root and a source behind it",
+        "a root and a source resolved against it",
         r#"{"sourceRoot":"webpack:///","sources":["./bar.js"]}"#,
         r#"{"mappings":"","names":[],"sourceRoot":"webpack:///","sources":["./bar.js"],"version":3}"#,
     ),
@@ -82,12 +82,12 @@ fn record(alloc: Global, text: &str) -> Result<RawSourceMap> {
 /// A map that is decoded from this JSON text.
 pub fn regular(alloc: Global, text: &str) -> Made {
     let record = record(alloc, text)?;
-    boxed(alloc, decode_regular(alloc, record))
+    box_result(alloc, decode_regular(alloc, record))
 }
 
 // A map of any kind.
-fn decoded(alloc: Global, text: &str) -> Result<Box<DecodedMap>> {
-    boxed(alloc, decode_slice(alloc, text.as_bytes()))
+fn decode_boxed(alloc: Global, text: &str) -> Result<Box<DecodedMap>> {
+    box_result(alloc, decode_slice(alloc, text.as_bytes()))
 }
 
 // By the record of a map that is borrowed, and of one that is consumed.
@@ -97,13 +97,13 @@ fn by_record(alloc: Global, text: &str) -> Result<String> {
 }
 
 fn by_moved_record(alloc: Global, text: &str) -> Result<String> {
-    written(alloc, regular(alloc, text))
+    map_text(alloc, regular(alloc, text))
 }
 
 // By the value of a map of any kind that is borrowed, and of one that is consumed.
 
 fn by_value(alloc: Global, text: &str) -> Result<String> {
-    let map = decoded(alloc, text)?;
+    let map = decode_boxed(alloc, text)?;
     again(|| value_written(alloc, map.to_value()))
 }
 
@@ -185,7 +185,7 @@ fn read_and_put_any(
     call: Call,
     writer: &mut NarrowWriter,
 ) -> Result<()> {
-    put_any(alloc, &*decoded(alloc, text)?, call, writer)
+    put_any(alloc, &*decode_boxed(alloc, text)?, call, writer)
 }
 
 fn put(alloc: Global, text: &str, call: Call, writer: &mut NarrowWriter) -> Result<()> {
@@ -240,8 +240,46 @@ fn bytes_are_written_one_by_one(rt: HostRuntime) {
     }
 }
 
+// Writes a map to a writer that needs no more memory. If out of memory, the writer must be empty, and
+// the call is repeated.
+fn encode_again<M: Encodable>(alloc: Global, map: &M, writer: &mut NarrowWriter) -> Result<String> {
+    let mut outcome = encode_to(alloc, map, writer);
+    if matches!(outcome, Err(Error::OutOfMemory)) {
+        if !writer.held.is_empty() {
+            return Ok(String::from_str(alloc, "a part was written")?);
+        }
+        outcome = encode_to(alloc, map, writer);
+    }
+    outcome_text(alloc, writer.held.as_slice(), outcome)
+}
+
+fn encoded<M: Encodable>(alloc: Global, map: &M, capacity: usize) -> Result<String> {
+    let mut writer = NarrowWriter {
+        held: Vec::with_capacity(alloc, capacity)?,
+        left: None,
+    };
+    encode_again(alloc, map, &mut writer)
+}
+
+fn regular_encoded(alloc: Global, text: &str, capacity: usize) -> Result<String> {
+    encoded(alloc, &*regular(alloc, text)?, capacity)
+}
+
+fn any_encoded(alloc: Global, text: &str, capacity: usize) -> Result<String> {
+    encoded(alloc, &*decode_boxed(alloc, text)?, capacity)
+}
+
+#[test]
+fn nothing_is_written_without_memory(rt: HostRuntime) {
+    let alloc = rt.alloc();
+    for (about, text, want) in WRITTEN.iter() {
+        check(&rt, about, regular_encoded(alloc, text, want.len()), want);
+        check(&rt, about, any_encoded(alloc, text, want.len()), want);
+    }
+}
+
 /// What a writer holds that fails after some bytes of this text, and the error.
-pub fn cut(alloc: Global, text: &str, most: usize) -> Result<String> {
+pub fn cut_writing(alloc: Global, text: &str, most: usize) -> Result<String> {
     let mut out = String::new(alloc);
     for letter in text.chars().take(most) {
         out.push(letter)?;
@@ -255,7 +293,7 @@ fn each_write_may_fail(rt: HostRuntime) {
     let alloc = rt.alloc();
     let (about, text, want) = BARE;
     for taken in 0..want.len() {
-        let due = cut(alloc, want, taken).expect(&rt, "memory");
+        let due = cut_writing(alloc, want, taken).expect(&rt, "memory");
         check_each_call(&rt, alloc, (about, text, due.as_str()), Some(taken));
     }
 }

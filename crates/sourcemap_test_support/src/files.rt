@@ -7,7 +7,7 @@ use std::io;
 use std::io::{ErrorKind, Read, Seek, SeekFrom, Write};
 
 /// The result of an operation that no test uses.
-pub fn unsupported<T>() -> io::Result<T>
+pub fn unsupported_error<T>() -> io::Result<T>
     ensures { IsErr result }
 {
     Err(io::Error::from(ErrorKind::Unsupported))
@@ -30,17 +30,17 @@ impl Read for FakeFile<'_> {
 
 impl Write for FakeFile<'_> {
     fn write(&mut self, _buf: &[u8]) -> io::Result<usize> {
-        unsupported()
+        unsupported_error()
     }
 
     fn flush(&mut self) -> io::Result<()> {
-        unsupported()
+        unsupported_error()
     }
 }
 
 impl Seek for FakeFile<'_> {
     fn seek(&mut self, _to: SeekFrom) -> io::Result<u64> {
-        unsupported()
+        unsupported_error()
     }
 }
 
@@ -48,19 +48,19 @@ impl OpenFile for FakeFile<'_> {
     fn metadata(&self) -> io::Result<Metadata> {
         match self.size {
             Some(size) => Ok(Metadata::of_file(size)),
-            None => unsupported(),
+            None => unsupported_error(),
         }
     }
 
     fn set_len(&self, _size: u64) -> io::Result<()> {
-        unsupported()
+        unsupported_error()
     }
 
     fn sync_all(&self) -> io::Result<()> {
-        unsupported()
+        unsupported_error()
     }
 
     fn sync_data(&self) -> io::Result<()> {
-        unsupported()
+        unsupported_error()
     }
 }

@@ -30,7 +30,7 @@ pub fn error_of<T: Drop>(alloc: Global, got: Result<T>) -> Result<String> {
 }
 
 /// Moves a value to a box. prover: one drop
-pub fn boxed<T: Drop>(alloc: Global, made: Result<T>) -> Result<Box<T>> {
+pub fn box_result<T: Drop>(alloc: Global, made: Result<T>) -> Result<Box<T>> {
     Ok(Box::new(alloc, made?)?)
 }
 

@@ -67,7 +67,7 @@ fn flatten(rt: &HostRuntime, text: &str) -> Result<String, Error> {
     apply(rt, rt.alloc(), &Command::Flatten, map, None)
 }
 
-// An index map, and why it cannot be flatten.
+// An index map, and why it cannot be flattened.
 static REFUSED: [(&str, &str); 2] = [
     (
         r#"{"sections":[{"offset":{"line":4294967295,"column":0},"map":{"sources":["a.js"],"mappings":";AAAA"}}]}"#,

@@ -1,5 +1,5 @@
 // A fake file system of one file, whose reads may fail. Records whether the file was opened.
-use sourcemap_test_support::files::{FakeFile, unsupported};
+use sourcemap_test_support::files::{FakeFile, unsupported_error};
 use sourcemap_test_support::readers::NarrowReader;
 use std::alloc::Allocator;
 use std::cell::Cell;
@@ -43,38 +43,38 @@ impl<'a> Files for FakeFiles<'a> {
     }
 
     fn open_dir(&self, _path: &str) -> io::Result<FakeFile<'a>> {
-        unsupported()
+        unsupported_error()
     }
 
     fn metadata(&self, _path: &str) -> io::Result<Metadata> {
-        unsupported()
+        unsupported_error()
     }
 
     fn symlink_metadata(&self, _path: &str) -> io::Result<Metadata> {
-        unsupported()
+        unsupported_error()
     }
 
     fn copy(&self, _from: &str, _to: &str) -> io::Result<u64> {
-        unsupported()
+        unsupported_error()
     }
 
     fn rename(&self, _from: &str, _to: &str) -> io::Result<()> {
-        unsupported()
+        unsupported_error()
     }
 
     fn remove_file(&self, _path: &str) -> io::Result<()> {
-        unsupported()
+        unsupported_error()
     }
 
     fn create_dir(&self, _path: &str) -> io::Result<()> {
-        unsupported()
+        unsupported_error()
     }
 
     fn remove_dir(&self, _path: &str) -> io::Result<()> {
-        unsupported()
+        unsupported_error()
     }
 
     fn remove_dir_all<B: Allocator>(&self, _alloc: B, _path: &str) -> io::Result<()> {
-        unsupported()
+        unsupported_error()
     }
 }

@@ -5,7 +5,7 @@ use sourcemap::{Error, decode};
 use sourcemap_cli::program::run;
 use sourcemap_cli::system::report_error;
 use sourcemap_test_support::readers::NarrowReader;
-use sourcemap_test_support::writers::NarrowWriter;
+use sourcemap_test_support::writers::{HaltingWriter, NarrowWriter};
 use std::io;
 use std::io::ErrorKind;
 use std::test::Fail;
@@ -15,6 +15,15 @@ fn narrow(rt: &HostRuntime, left: Option<usize>) -> NarrowWriter {
     NarrowWriter {
         held: Vec::new(rt.alloc()),
         left,
+    }
+}
+
+// A writer that is interrupted before each byte and takes nothing after `left` bytes.
+fn halting(rt: &HostRuntime, left: Option<usize>) -> HaltingWriter {
+    HaltingWriter {
+        held: Vec::new(rt.alloc()),
+        left,
+        is_interrupted: false,
     }
 }
 
@@ -88,6 +97,44 @@ fn a_writer_that_fails_ends_the_run(rt: HostRuntime) -> Result<(), Fail> {
     Ok(())
 }
 
+// The output of `lookup 0 5`.
+const LOOKED_UP: &[u8] = b"coolstuff.js:0:4 name=x\n";
+
+// Whether a run prints `LOOKED_UP` on a writer that is interrupted before each byte.
+fn is_written_when_interrupted(rt: &HostRuntime, words: &[String]) -> Result<bool, Fail> {
+    let mut output = halting(rt, None);
+    let status = run(rt, rt.alloc(), words, &mut slow(None), &mut output)?;
+    unless_out(status, output.held.as_slice())?;
+    Ok(status == 0 && output.held.as_slice() == LOOKED_UP)
+}
+
+// Whether an error is that of a writer that takes nothing.
+fn is_write_zero(error: &Error) -> bool {
+    matches!(error, Error::Io(cause) if cause.kind() == ErrorKind::WriteZero)
+}
+
+// Whether a run fails on a writer that takes nothing after `left` bytes of `LOOKED_UP`.
+fn is_cut_off(rt: &HostRuntime, words: &[String], left: usize) -> Result<bool, Fail> {
+    let mut output = halting(rt, Some(left));
+    let ended = run(rt, rt.alloc(), words, &mut slow(None), &mut output);
+    unless_cut_out(&ended, output.held.as_slice())?;
+    let is_failed = matches!(&ended, Err(error) if is_write_zero(error));
+    Ok(is_failed && LOOKED_UP.get(..left) == Some(output.held.as_slice()))
+}
+
+#[test]
+fn a_writer_that_takes_nothing_ends_the_run(rt: HostRuntime) -> Result<(), Fail> {
+    let words = words_of(rt.alloc(), "lookup 0 5")?;
+    assert!(rt; is_written_when_interrupted(&rt, words.as_slice())?);
+    for left in 0..LOOKED_UP.len() {
+        assert!(rt;
+            is_cut_off(&rt, words.as_slice(), left)?,
+            "after {left} bytes"
+        );
+    }
+    Ok(())
+}
+
 // Whether the report of an error is `want`, and on each writer that accepts fewer bytes a prefix.
 fn is_reported_as(rt: &HostRuntime, error: &Error, want: &[u8]) -> Result<bool, Fail> {
     let mut output = narrow(rt, None);
@@ -111,5 +158,42 @@ fn errors_are_reported_unless_the_reader_is_gone(rt: HostRuntime) -> Result<(), 
     assert!(rt; is_reported_as(&rt, &gone, b"")?);
     assert!(rt; is_reported_as(&rt, &full, b"no storage space\n")?);
     assert!(rt; is_reported_as(&rt, &Error::OutOfMemory, b"out of memory\n")?);
+    Ok(())
+}
+
+const FULL: &[u8] = b"no storage space\n";
+
+// Whether the report of an error is `want` on a writer that is interrupted before each byte and takes
+// nothing after `left` bytes.
+fn is_reported_when_interrupted(
+    rt: &HostRuntime,
+    error: &Error,
+    left: Option<usize>,
+    want: &[u8],
+) -> Result<bool, Fail> {
+    let mut output = halting(rt, left);
+    report_error(error, &mut output)?;
+    Ok(output.held.as_slice() == want)
+}
+
+// Whether the report of an error fails on a writer that takes nothing after `left` bytes of `FULL`.
+fn is_report_cut_off(rt: &HostRuntime, error: &Error, left: usize) -> Result<bool, Fail> {
+    let mut output = halting(rt, Some(left));
+    match report_error(error, &mut output) {
+        Err(Error::OutOfMemory) => Err(Error::OutOfMemory.into()),
+        Err(other) => Ok(is_write_zero(&other) && FULL.get(..left) == Some(output.held.as_slice())),
+        Ok(()) => Ok(false),
+    }
+}
+
+#[test]
+fn a_writer_that_takes_nothing_ends_the_report(rt: HostRuntime) -> Result<(), Fail> {
+    let gone = Error::from(io::Error::from(ErrorKind::BrokenPipe));
+    let full = Error::from(io::Error::from(ErrorKind::StorageFull));
+    assert!(rt; is_reported_when_interrupted(&rt, &full, None, FULL)?);
+    assert!(rt; is_reported_when_interrupted(&rt, &gone, Some(0), b"")?);
+    for left in 0..FULL.len() {
+        assert!(rt; is_report_cut_off(&rt, &full, left)?, "after {left} bytes");
+    }
     Ok(())
 }

@@ -11,7 +11,7 @@ use std::io;
 use std::io::ErrorKind;
 use std::test::Fail;
 
-// `TWO`, flatten.
+// `TWO`, flattened.
 const FLAT: &str = r#"{"sources":["a.js","b.js"],"mappings":"AAAA;;;;;;;;;;ICAA"}"#;
 
 const RANGED: &str = r#"{"sources":["a.js"],"mappings":"AAAO","rangeMappings":"B"}"#;

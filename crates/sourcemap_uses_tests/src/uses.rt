@@ -2,10 +2,10 @@
 use sourcemap::errors::JsonFault;
 use sourcemap::types::RawToken;
 use sourcemap::{
-    DecodedMap, Error, Result, SourceMap, SourceMapBuilder, SourceMapIndex, SourceView,
-    decode_slice,
+    DecodedMap, Error, Result, SourceMap, SourceMapBuilder, SourceMapHermes, SourceMapIndex,
+    SourceView, decode_slice,
 };
-use sourcemap_test_support::results::boxed;
+use sourcemap_test_support::results::box_result;
 use sourcemap_uses::adjusting::lookup_adjusted;
 use sourcemap_uses::building::lookup_once_written;
 use sourcemap_uses::data_urls::inline_map;
@@ -13,15 +13,15 @@ use sourcemap_uses::error_advice::{Advice, advise, exit_status};
 use sourcemap_uses::exporting::export;
 use sourcemap_uses::finding::{FoundMap, find_map};
 use sourcemap_uses::flattening::is_kept_flat;
-use sourcemap_uses::functions::function_at;
+use sourcemap_uses::functions::{function_at, shrink_copy};
 use sourcemap_uses::linking::link;
 use sourcemap_uses::lookups::{frame_text, lookup_text};
 use sourcemap_uses::merging::{add_source_displayed_as, merged_sources};
 use sourcemap_uses::naming::{line_total, original_name, source_line};
-use sourcemap_uses::publishing::published;
+use sourcemap_uses::publishing::publish;
 use sourcemap_uses::quick::quick_lookup;
-use sourcemap_uses::saving::saved;
-use sourcemap_uses::shrinking::{lookup_once_shrunk, shrunk};
+use sourcemap_uses::saving::save;
+use sourcemap_uses::shrinking::{lookup_once_shrunk, shrink};
 use std::alloc::Global;
 use std::process::Abort;
 use std::rt::Files;
@@ -38,7 +38,7 @@ fn text_or_empty(alloc: Global, position: Option<String>) -> String {
 }
 
 fn map_of(alloc: Global, bytes: &[u8]) -> Result<Box<SourceMap>> {
-    boxed(alloc, SourceMap::from_slice(alloc, bytes))
+    box_result(alloc, SourceMap::from_slice(alloc, bytes))
 }
 
 #[test]
@@ -102,7 +102,7 @@ fn summary(alloc: Global, map: &SourceMap) -> Result<String> {
 #[test]
 fn a_map_is_published(rt: HostRuntime) -> std::result::Result<(), Fail> {
     let alloc = rt.alloc();
-    let text = published(&rt, alloc, MAP.as_bytes())?;
+    let text = publish(&rt, alloc, MAP.as_bytes())?;
     let output = summary(alloc, &*map_of(alloc, text.as_slice())?)?;
     assert_eq!(rt; output.as_str(), "coolstuff.js:0:4 1 false");
     Ok(())
@@ -110,7 +110,7 @@ fn a_map_is_published(rt: HostRuntime) -> std::result::Result<(), Fail> {
 
 fn shrunk_map<F: Files>(rt: &F, alloc: Global, bytes: &[u8]) -> Result<Box<SourceMap>> {
     let map = SourceMap::from_slice(alloc, bytes)?;
-    boxed(alloc, shrunk(rt, map))
+    box_result(alloc, shrink(rt, map))
 }
 
 #[test]
@@ -131,6 +131,42 @@ fn a_shrunk_map_keeps_its_meaning(rt: HostRuntime) -> std::result::Result<(), Fa
         output.as_str(),
         r#"Some(OriginalPosition { source: Some("coolstuff.js"), line: 0, column: 4, name: Some("x"), is_range: false })"#
     );
+    Ok(())
+}
+
+// Both tokens have the second source, the first one the second name. The second one is in foo.
+const HERMES: &str = r#"{"sources":["unused.js","a.js"],"names":["y","x"],"mappings":"ACAAC,KACK",
+"x_facebook_sources":[null,[{"names":["<global>","foo"],"mappings":"AAA,KCC"}]]}"#;
+
+fn shrunk_hermes_map<F: Files>(rt: &F, alloc: Global, text: &str) -> Result<Box<SourceMapHermes>> {
+    let map = box_result(alloc, SourceMapHermes::from_slice(alloc, text.as_bytes()))?;
+    box_result(alloc, shrink_copy(rt, &*map))
+}
+
+// Appends the names of a map, each after a blank.
+fn push_names(output: &mut String, map: &SourceMap) -> Result<()> {
+    for name in map.names() {
+        output.push(' ')?;
+        output.push_str(name)?;
+    }
+    Ok(())
+}
+
+// The sources and the names of a Hermes map, and the function at column 7.
+fn hermes_text(alloc: Global, map: &SourceMapHermes) -> Result<String> {
+    let mut output = String::new(alloc);
+    push_sources(&mut output, map)?;
+    push_names(&mut output, map)?;
+    output.push(' ')?;
+    output.push_str(map.get_original_function_name(7).unwrap_or("none"))?;
+    Ok(output)
+}
+
+#[test]
+fn a_hermes_map_is_shrunk(rt: HostRuntime) -> std::result::Result<(), Fail> {
+    let alloc = rt.alloc();
+    let copy = shrunk_hermes_map(&rt, alloc, HERMES)?;
+    assert_eq!(rt; hermes_text(alloc, &*copy)?.as_str(), " a.js x foo");
     Ok(())
 }
 
@@ -201,7 +237,7 @@ fn tokens_are_written_and_looked_up(rt: HostRuntime) -> std::result::Result<(), 
 }
 
 fn holds_map(alloc: Global, reference: &str) -> Result<bool> {
-    let map = boxed(alloc, inline_map(alloc, reference))?;
+    let map = box_result(alloc, inline_map(alloc, reference))?;
     Ok(map.is_some())
 }
 
@@ -236,7 +272,7 @@ fn found_text(alloc: Global, found: &FoundMap) -> Result<String> {
 }
 
 fn map_found(alloc: Global, text: &str) -> Result<String> {
-    match boxed(alloc, find_map(alloc, text.as_bytes(), "/out/a.js")) {
+    match box_result(alloc, find_map(alloc, text.as_bytes(), "/out/a.js")) {
         Ok(found) => found_text(alloc, &*found),
         Err(error) => Ok(format!(in alloc; "{error}")?),
     }
@@ -262,7 +298,7 @@ fn push_sources(output: &mut String, map: &SourceMap) -> Result<()> {
 fn merged_text(alloc: Global, first: &[u8], second: &[u8]) -> Result<String> {
     let first = map_of(alloc, first)?;
     let second = map_of(alloc, second)?;
-    let both = boxed(alloc, merged_sources(alloc, &*first, &*second))?;
+    let both = box_result(alloc, merged_sources(alloc, &*first, &*second))?;
     let mut output = String::new(alloc);
     push_sources(&mut output, &*both)?;
     Ok(output)
@@ -402,7 +438,7 @@ fn a_section_is_linked(rt: HostRuntime) -> std::result::Result<(), Fail> {
 
 // Looks up a position after the map was saved and read again.
 fn lookup_once_saved(alloc: Global, text: &str, line: u32, col: u32) -> Result<Option<String>> {
-    let bytes = saved(alloc, &decode_slice(alloc, text.as_bytes())?)?;
+    let bytes = save(alloc, &decode_slice(alloc, text.as_bytes())?)?;
     lookup_text(alloc, bytes.as_slice(), line, col)
 }
 
@@ -442,7 +478,7 @@ fn lines_are_counted_by_their_ends(rt: HostRuntime) -> std::result::Result<(), F
     Ok(())
 }
 
-fn exported(alloc: Global, text: &str) -> Result<Vec<u8>> {
+fn export_text(alloc: Global, text: &str) -> Result<Vec<u8>> {
     let mut file = Vec::new(alloc);
     export(alloc, &*map_of(alloc, text.as_bytes())?, &mut file)?;
     Ok(file)
@@ -451,7 +487,7 @@ fn exported(alloc: Global, text: &str) -> Result<Vec<u8>> {
 #[test]
 fn an_exported_map_is_its_text(rt: HostRuntime) -> std::result::Result<(), Fail> {
     let text = r#"{"file":"f","mappings":";A","names":[],"sources":[],"version":3}"#;
-    let file = exported(rt.alloc(), text)?;
+    let file = export_text(rt.alloc(), text)?;
     assert_eq!(rt; file.as_slice(), text.as_bytes());
     Ok(())
 }

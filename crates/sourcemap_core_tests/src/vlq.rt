@@ -40,7 +40,7 @@ static READ: [(&str, &str, &str); 12] = [
         "vlq decode caused an overflow",
     ),
     (
-        "an end behind thirteen digits that go on",
+        "an end after thirteen digits that go on",
         "ggggggggggggg",
         "leftover cur/shift in vlq decode",
     ),
@@ -77,7 +77,7 @@ static WRITTEN: [(&str, &[i64], &str); 5] = [
     ),
 ];
 
-fn written(alloc: Global, numbers: &[i64]) -> Result<String> {
+fn write_numbers(alloc: Global, numbers: &[i64]) -> Result<String> {
     match generate_vlq_segment(alloc, numbers) {
         Ok(text) => Ok(text),
         Err(error) => error_text(alloc, &error),
@@ -87,7 +87,12 @@ fn written(alloc: Global, numbers: &[i64]) -> Result<String> {
 #[test]
 fn writes_segments(rt: HostRuntime) {
     for (about, numbers, want) in WRITTEN.iter() {
-        check(&rt, about, again(|| written(rt.alloc(), numbers)), want);
+        check(
+            &rt,
+            about,
+            again(|| write_numbers(rt.alloc(), numbers)),
+            want,
+        );
     }
 }
 
@@ -127,7 +132,7 @@ fn bits_appended(alloc: Global, start: &str, bits: &[bool]) -> Result<String> {
     Ok(text)
 }
 
-fn appended(alloc: Global, start: &str, positions: &[usize]) -> Result<String> {
+fn append_bits(alloc: Global, start: &str, positions: &[usize]) -> Result<String> {
     let bits = bits(alloc, positions)?;
     bits_appended(alloc, start, bits.as_slice())
 }
@@ -135,7 +140,7 @@ fn appended(alloc: Global, start: &str, positions: &[usize]) -> Result<String> {
 #[test]
 fn appends_bits_to_a_text(rt: HostRuntime) {
     for (start, positions, want) in APPENDED.iter() {
-        check(&rt, want, appended(rt.alloc(), start, positions), want);
+        check(&rt, want, append_bits(rt.alloc(), start, positions), want);
     }
 }
 

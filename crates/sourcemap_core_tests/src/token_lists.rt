@@ -61,7 +61,7 @@ fn columns(alloc: Global, tokens: &[RawToken]) -> Result<String> {
     Ok(out)
 }
 
-fn sorted(alloc: Global) -> Result<String> {
+fn sort_text(alloc: Global) -> Result<String> {
     let list = list(alloc)?;
     columns(alloc, list.as_slice())
 }
@@ -75,7 +75,7 @@ fn sorted_in_list(alloc: Global) -> Result<String> {
 
 #[test]
 fn sorts_tokens_stably(rt: HostRuntime) {
-    check(&rt, "sorted", sorted(rt.alloc()), "1 3 0 2 ");
+    check(&rt, "sorted", sort_text(rt.alloc()), "1 3 0 2 ");
     check(&rt, "in place", sorted_in_list(rt.alloc()), "1 3 0 2 ");
 }
 
@@ -91,7 +91,7 @@ fn detects_sorted_tokens(rt: HostRuntime) -> Result<()> {
 }
 
 // Whether a list equals its copy, and its copy without the last token.
-fn compared(list: &TokenList) -> Result<(bool, bool)> {
+fn compare_lists(list: &TokenList) -> Result<(bool, bool)> {
     let copy = list.clone()?;
     let is_same = copy == *list;
     let mut fewer = copy.into_vec();
@@ -103,7 +103,7 @@ fn ends(alloc: Global) -> Result<String> {
     let list = list(alloc)?;
     let is_second = list.get(1) == list.as_slice().get(1).copied();
     let is_past = list.get(list.len()).is_none();
-    Ok(format!(in alloc; "{:?} {is_second} {is_past}", compared(&list)?)?)
+    Ok(format!(in alloc; "{:?} {is_second} {is_past}", compare_lists(&list)?)?)
 }
 
 #[test]
@@ -162,7 +162,7 @@ fn ids(alloc: Global) -> Result<String> {
     Ok(out)
 }
 
-fn filled(alloc: Global) -> Result<Interner> {
+fn fill_interner(alloc: Global) -> Result<Interner> {
     let mut interner = Interner::new(alloc);
     for text in TEXTS.iter() {
         interner.add(text)?;
@@ -171,7 +171,7 @@ fn filled(alloc: Global) -> Result<Interner> {
 }
 
 fn interned_texts(alloc: Global) -> Result<String> {
-    let interner = filled(alloc)?;
+    let interner = fill_interner(alloc)?;
     let texts = (
         interner.get(0),
         interner.get(2),
@@ -181,8 +181,8 @@ fn interned_texts(alloc: Global) -> Result<String> {
     Ok(format!(in alloc; "{} {texts:?}", interner.len())?)
 }
 
-fn kept(alloc: Global) -> Result<String> {
-    let texts = filled(alloc)?.into_texts();
+fn texts_text(alloc: Global) -> Result<String> {
+    let texts = fill_interner(alloc)?.into_texts();
     Ok(format!(in alloc; "{texts:?}")?)
 }
 
@@ -197,7 +197,12 @@ fn equal_texts_have_one_number(rt: HostRuntime) {
         interned_texts(alloc),
         r#"4 (Some("b"), Some(""), None, None)"#,
     );
-    check(&rt, "all texts", kept(alloc), r#"["b", "a", "", "B"]"#);
+    check(
+        &rt,
+        "all texts",
+        texts_text(alloc),
+        r#"["b", "a", "", "B"]"#,
+    );
 }
 
 // Texts with one digest: only their bytes differ.
