@@ -26,7 +26,7 @@ then the status is 1. A reason is given only where what was printed bears it out
   no section without a map comes before that
 - digits: this program refuses a byte, named as a character, or a number that mappings have, where the byte is
   no digit or the number has more than 63 bits; the reference takes them, or refuses what comes later
-- fault: both report an error of the JSON text, but different ones
+- error: both report an error of the JSON text, but different ones
 - not there: this program does not know the word yet
 
 Positions in an index are drawn here, beside tokens of the flat map, beside starts of sections and anywhere.
@@ -74,7 +74,7 @@ def reason(word, data, here, there):
     if here == REFUSED_PAST_THE_END:
         return PAST_THE_END if flattening_error(record_of(data), tokens_with_positions) == PAST_THE_END else None
     if here[0] == 1 and there[0] == 1:
-        return 'fault' if are_json_errors(here, there) else None
+        return 'error' if are_json_errors(here, there) else None
     if word == 'tokens':
         return None if here[0] or there[0] or not is_reordered(here[1], there[1]) else 'stable sort'
     if word == 'rewrite' and KEY.encode() in data and record_of(data).get(KEY) is not None:
@@ -93,7 +93,7 @@ def is_moved(here, theirs, distance):
 def is_among_equals(reference, data, position, found_at, here):
     """Whether both programs have the same tokens at a position, in another order, and the answer given here is
     the right one of those: the first if the position looked up is that one, else the last."""
-    own, other = ([text for match, text in tokens_of(answer([program, 'tokens'], data)[1]) if match == found_at]
+    own, other = ([text for at, text in tokens_of(answer([program, 'tokens'], data)[1]) if at == found_at]
                   for program in (TOOL, reference))
     if own == other or sorted(own) != sorted(other):
         return False
@@ -117,7 +117,7 @@ def reason_of_lookup(reference, data, position, here, theirs, with_position):
     if is_refused_digit(data, here):
         return 'digits'
     if are_json_errors(here, (1, theirs)):
-        return 'fault'
+        return 'error'
     match = POSITION.search(with_position)
     if here[0] or not match:
         return None
@@ -134,14 +134,14 @@ def reason_of_lookup(reference, data, position, here, theirs, with_position):
 def positions_in_index(record, count):
     """Positions in an index: beside tokens of the flat map, beside starts of sections, and anywhere."""
     draws = random.Random(count)
-    starting = [found_at for found_at, _ in flat_tokens(record, tokens_with_positions)] + [(0, 0)]
+    positions = [position for position, _ in flat_tokens(record, tokens_with_positions)] + [(0, 0)]
     starts = list(map(offset_of, record['sections'])) + [(0, 0)]
-    last = max(starting)[0]
+    last = max(positions)[0]
 
     def drawn(number):
         if number % 4 == 3:
             return draws.randrange(last + 3), draws.randrange(1 << draws.randrange(33))
-        line, column = draws.choice(starts if number % 4 == 2 else starting)
+        line, column = draws.choice(starts if number % 4 == 2 else positions)
         return line + (draws.randrange(-1, 2) if number % 4 == 2 else 0), column + draws.randrange(-2, 4)
 
     bounded = ([max(0, min(LAST, part)) for part in drawn(number)] for number in range(count))
@@ -164,10 +164,10 @@ def compare_lookups(reference, count, name, data):
     with tempfile.NamedTemporaryFile() as file:
         file.write(positions)
         file.flush()
-        (status, text), (_, starting) = (answer([reference, word, file.name], data) for word in ('batch', 'dst'))
+        (status, text), (_, with_positions) = (answer([reference, word, file.name], data) for word in ('batch', 'dst'))
     for i, position in enumerate(positions.decode().splitlines()):
         here = answer([TOOL, 'lookup', *position.split()], data)
-        theirs, with_position = (text if status else both.split(b'\n')[i] for both in (text, starting))
+        theirs, with_position = (text if status else both.split(b'\n')[i] for both in (text, with_positions))
         yield noted(f'{name}, lookup {position}', here, (status, text if status else theirs + b'\n'),
                     lambda: reason_of_lookup(reference, data, position, here, theirs, with_position))
 

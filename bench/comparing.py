@@ -8,6 +8,7 @@ CRATES = pathlib.Path(__file__).resolve().parent.parent / 'crates'
 TOOL = os.environ.get('SOURCEMAP_TOOL', str(CRATES / 'sourcemap_tool/out/sourcemap_tool'))
 BENCH = os.environ.get('SOURCEMAP_BENCH', str(CRATES / 'sourcemap_bench/out/sourcemap_bench'))
 BENCH_BUNDLES = os.environ.get('SOURCEMAP_BENCH_BUNDLES', str(CRATES / 'sourcemap_bench_bundles/out/sourcemap_bench_bundles'))
+BENCH_CALLS = os.environ.get('SOURCEMAP_BENCH_CALLS', str(CRATES / 'sourcemap_bench_calls/out/sourcemap_bench_calls'))
 BENCH_VIEWS = os.environ.get('SOURCEMAP_BENCH_VIEWS', str(CRATES / 'sourcemap_bench_views/out/sourcemap_bench_views'))
 MAPS_AT_ONCE = 3
 MARK = b' range'
@@ -26,8 +27,8 @@ def text_beside(path):
 
 def answer(command, data):
     """The status of a program that is given these bytes, and what it prints."""
-    output = subprocess.run(command, input=data, stdout=subprocess.PIPE, stderr=subprocess.DEVNULL)
-    return output.returncode, output.stdout
+    ended = subprocess.run(command, input=data, stdout=subprocess.PIPE, stderr=subprocess.DEVNULL)
+    return ended.returncode, ended.stdout
 
 
 def build_missing(programs=(TOOL, BENCH)):
@@ -58,7 +59,7 @@ def kind_of(reference, data):
 
 def tokens_of(text):
     """The position and the text of each token in the output of `tokens`; of an error, its text."""
-    return [(b'%b:%b' % output[:2], output[2]) for output in TOKEN.findall(text)] or [(b'', text)]
+    return [(b'%b:%b' % found[:2], found[2]) for found in TOKEN.findall(text)] or [(b'', text)]
 
 
 def without_repeats(text):
@@ -66,12 +67,12 @@ def without_repeats(text):
     return [token for i, token in enumerate(tokens) if i == 0 or tokens[i - 1] != token]
 
 
-def without_mark(output):
-    return output[:-len(MARK)] if output.endswith(MARK) else output
+def without_mark(text):
+    return text[:-len(MARK)] if text.endswith(MARK) else text
 
 
 def without_marks(text):
-    return [(position, without_mark(output)) for position, output in without_repeats(text)]
+    return [(position, without_mark(token)) for position, token in without_repeats(text)]
 
 
 def is_reordered(here, there):
@@ -82,8 +83,8 @@ def is_reordered(here, there):
 
 def tokens_with_positions(record):
     """The positions and the texts of the tokens of a map, of an index those of the flattened map."""
-    output = TOKEN.findall(answer([TOOL, 'tokens'], bytes_of(record))[1])
-    return [((int(line), int(column)), text) for line, column, text in output]
+    found = TOKEN.findall(answer([TOOL, 'tokens'], bytes_of(record))[1])
+    return [((int(line), int(column)), text) for line, column, text in found]
 
 
 def tokens_here(data):
@@ -137,11 +138,11 @@ def reason_of_record(data, here, there):
     return 'stable sort, range bits' if ranges else 'stable sort'
 
 
-def without_scopes(output):
+def without_scopes(ended):
     """An answer that is a record, without the scopes of its sources, and these."""
-    record = json.loads(output[1])
+    record = json.loads(ended[1])
     scopes = record.pop(KEY, None)
-    return (output[0], bytes_of(record)), scopes
+    return (ended[0], bytes_of(record)), scopes
 
 
 def reason_of_rewritten_hermes(data, here, there):

@@ -52,11 +52,12 @@ def tokens_of_record(record):
     return sorted(tokens, key=lambda token: token[:2])
 
 
-def stretches(tokens, at):
+def stretches(tokens, position_of):
     """The tokens sorted by one of their positions, and what each covers: up to the next one, or to the end of its line."""
-    ordered = sorted(tokens, key=at)
-    ends = [at(token) for token in ordered[1:]] + [(2**33, 0)]
-    return [Stretch(token, at(token), min(end, (at(token)[0], LAST))) for token, end in zip(ordered, ends)]
+    ordered = sorted(tokens, key=position_of)
+    ends = [position_of(token) for token in ordered[1:]] + [(2**33, 0)]
+    return [Stretch(token, position_of(token), min(end, (position_of(token)[0], LAST)))
+            for token, end in zip(ordered, ends)]
 
 
 def pair_token(adjustment, original, takes_cut):

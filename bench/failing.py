@@ -15,7 +15,7 @@ the beginning of the input, or of the file, that was read. A write that is inter
 Where one fails or takes nothing, the status is 1, standard output holds what was written before, and standard
 error has the error, if it can be written.
 """
-import argparse, collections, concurrent.futures, os, pathlib, re, subprocess, sys, tempfile
+import argparse, collections, concurrent.futures, os, pathlib, re, resource, subprocess, sys, tempfile
 
 CRATES = pathlib.Path(__file__).resolve().parent.parent / 'crates'
 TOOL = 'sourcemap_tool'
@@ -74,6 +74,10 @@ WAYS_OF_RUNS = [('allocation', 'fails', False), ('allocation', 'onward', False)]
 Ending = collections.namedtuple('Ending', 'status output errors')
 
 
+class Unswept(Exception):
+    """A program did not start, or ended before its calls could fail."""
+
+
 class Failing:
     """Runs programs with calls that fail."""
 
@@ -89,7 +93,7 @@ class Failing:
         ran = subprocess.run(command, env=env, cwd=folder, stdin=subprocess.DEVNULL, stdout=subprocess.PIPE,
                              stderr=subprocess.PIPE)
         if ran.returncode:
-            raise RuntimeError(f'{command[0]} could not be swept: {ran.stderr.decode(errors="replace")[-300:]}')
+            raise Unswept(f'status {ran.returncode}, {ran.stderr.decode(errors="replace").strip()[-300:]!r}')
         first, *lines = ran.stdout.decode().splitlines()
         found = {}
         for line in lines:
@@ -137,7 +141,7 @@ class Runs:
         return [self.program, *(file if word == 'FILE' else word for word in self.case.words.split())]
 
     def ends_after(self, count):
-        """How the run ends where so many bytes of its input, and of the file behind it, are read before an end
+        """How the run ends where so many bytes of its input, and of the file after it, are read before an end
         comes. The end of the input itself counts as a byte."""
         size = len(self.input_bytes)
         given, file = self.input_bytes[:count], self.file_bytes[:max(count - size - 1, 0)]
@@ -149,7 +153,7 @@ class Runs:
         return self.known[given, file]
 
     def ends_at(self, number, is_short):
-        """How the run ends where this read, and each behind it, gives nothing. Each before it gave a byte, or all
+        """How the run ends where this read, and each after it, gives nothing. Each before it gave a byte, or all
         that there was: the input, its end, the file, its end."""
         size = len(self.input_bytes)
         whole = [0, size, size + 1, size + 1 + len(self.file_bytes)]
@@ -176,6 +180,11 @@ class Tally:
         self.passed = self.failed = self.left_out = 0
         self.printed = collections.Counter()
 
+    def add_unswept(self, about, why):
+        """Counts what could not be swept as one run that failed."""
+        self.failed += 1
+        print(f'{about}: not swept, {why}', flush=True)
+
     def add(self, about, way, calls, found, is_well):
         call, how, is_short = way
         self.left_out += max(calls - len(found) + 1, 0) if how not in ('nothing', 'each_interrupted') else 0
@@ -192,8 +201,11 @@ class Tally:
 
 
 def tests_of(program):
-    listed = subprocess.run([program, '--list'], stdout=subprocess.PIPE, stdin=subprocess.DEVNULL, check=True)
-    return [line.partition(': ')[0] for line in listed.stdout.decode().splitlines() if line.endswith(': test')]
+    listed = subprocess.run([program, '--list'], stdout=subprocess.PIPE, stderr=subprocess.PIPE, stdin=subprocess.DEVNULL)
+    tests = [line.partition(': ')[0] for line in listed.stdout.decode().splitlines() if line.endswith(': test')]
+    if listed.returncode or not tests:
+        raise Unswept(f'status {listed.returncode}, and no tests are listed')
+    return tests
 
 
 def crates_with_tests():
@@ -217,12 +229,25 @@ def sweep_test(failing, program, test, way):
         calls, found = failing.endings([program, test], folder, '/dev/null', *way)
     usual = found[0]
     well = lambda number, ending: is_test_well(way, ending, usual) and usual.status == 0
-    return f'{pathlib.Path(program).name[:-len("_tests")]} {test}', way, calls, found, well
+    return way, calls, found, well
 
 
 def sweep_run(failing, runs, way):
     calls, found = failing.endings(runs.command(runs.file), runs.folder, runs.input, *way)
-    return f'{TOOL} {runs.case.words}', way, calls, found, lambda number, ending: runs.is_well(way, number, ending)
+    return way, calls, found, lambda number, ending: runs.is_well(way, number, ending)
+
+
+def steps_of(name, work):
+    """The sweeps of a crate's tests, or of the program."""
+    program = str(program_of(name))
+    if name == TOOL:
+        every = [Runs(program, work, case, at) for at, case in enumerate(CASES)]
+        return [(f'{TOOL} {runs.case.words}', sweep_run, runs, way) for runs in every for way in WAYS_OF_RUNS]
+    return [(f'{name} {test}', sweep_test, program, test, way) for test in tests_of(program) for way in WAYS_OF_TESTS]
+
+
+def millis_of(word):
+    return 1e12 if word == 'all' else float(word)
 
 
 def main():
@@ -230,33 +255,30 @@ def main():
     words.add_argument('work')
     words.add_argument('crates', nargs='*')
     words.add_argument('--build', action='store_true')
-    words.add_argument('--millis', type=float, default=2000)
+    words.add_argument('--millis', type=millis_of, default=1000, metavar='N|all')
     words.add_argument('--jobs', type=int, default=os.cpu_count() or 1)
     given = words.parse_intermixed_args()
-    names = given.crates or [*crates_with_tests(), TOOL]
-    for name in names:
+    failing, tally, steps = Failing(f'{given.work}/failing.so', given.millis), Tally(), []
+    for name in given.crates or [*crates_with_tests(), TOOL]:
         if given.build and not program_of(name).exists():
             build(name)
-    missing = [name for name in names if not program_of(name).exists()]
-    failing, tally, work = Failing(f'{given.work}/failing.so', given.millis), Tally(), []
-    for name in names:
-        program = str(program_of(name))
-        if name in missing:
-            continue
-        if name == TOOL:
-            every = [Runs(program, given.work, case, at) for at, case in enumerate(CASES)]
-            work += [(sweep_run, runs, way) for runs in every for way in WAYS_OF_RUNS]
-        else:
-            work += [(sweep_test, program, test, way) for test in tests_of(program) for way in WAYS_OF_TESTS]
+        try:
+            steps += steps_of(name, given.work)
+        except (OSError, Unswept) as why:
+            tally.add_unswept(name, f'not built: {program_of(name)}' if isinstance(why, FileNotFoundError) else why)
     with concurrent.futures.ThreadPoolExecutor(given.jobs) as pool:
-        for done in concurrent.futures.as_completed([pool.submit(how, failing, *on) for how, *on in work]):
-            tally.add(*done.result())
-    if missing:
-        print(f'not built, and so not swept: {" ".join(missing)}')
+        begun = {pool.submit(how, failing, *on): about for about, how, *on in steps}
+        for done in concurrent.futures.as_completed(begun):
+            try:
+                tally.add(begun[done], *done.result())
+            except (OSError, Unswept) as why:
+                tally.add_unswept(begun[done], why)
     if tally.left_out:
-        print(f'{tally.left_out} calls of long tests were left out; --millis 1e12 takes all of them')
-    print(f'{tally.passed} passed, {tally.failed + len(missing)} failed')
-    return tally.failed > 0 or bool(missing)
+        print(f'{tally.left_out} calls of long tests were left out; --millis all takes all of them')
+    spent = resource.getrusage(resource.RUSAGE_CHILDREN)
+    print(f'{(spent.ru_utime + spent.ru_stime) / 60:.1f} processor minutes')
+    print(f'{tally.passed} passed, {tally.failed} failed')
+    return tally.failed > 0 or tally.passed == 0
 
 
 if __name__ == '__main__':

@@ -5,41 +5,45 @@
 
 KIND            kinds to try, or words that their names hold; without one all of them
 --scale         sizes are multiplied by this, as 0.1 or 4 (1)
---instructions  counts instructions with valgrind in place of processor time; slow, and the same on every run
+--instructions  counts instructions with valgrind instead of processor time; slow, and the same on every run
 --list          prints the kinds, and runs nothing
 
 A kind makes an input of a size, and says what its cost is counted by: its bytes, those of its output, or a product
 that the rules ask for, as of the length of `sourceRoot` and the count of sources. Sizes are N, 2N and 4N. For each run
 a row has the bytes of the input and of the output, the time and the most memory, both less those of the same run of a
-small input; and of the three sizes the growth, as the exponent of the count. A row fails where the time of the largest
-size is more than twice that of the smallest, grown by n log n; where it takes more memory a unit of its count than the
-kind allows; or where the status is none of 0, 1 and 2. The last line is `N passed, M failed`, and the status is 1 if
-any failed.
+small input; and of the three sizes the growth of time and of memory, as exponents of the count. A row fails where the
+time of the largest size is more than twice that of the smallest, grown by n log n; where its memory is more than twice
+that of the smallest, grown by n; where it takes more memory a unit of its count than the kind allows, or more time than
+the run does; or where the status is none of 0, 1 and 2. A call that refuses a kind is tried all the same.
+
+A second table has of each kind the memory a unit that it allows, the most that a run took, and the most output a byte of
+the input. Where index maps in one another are among the kinds, the stack that a level takes is found by bisection and
+printed. The last line is `N passed, M failed`, and the status is 1 if any failed.
 
 The programs are sourcemap_tool, sourcemap_bench, sourcemap_bench_views, sourcemap_bench_bundles and
 sourcemap_bench_calls, which are built where they are missing; SOURCEMAP_TOOL, SOURCEMAP_BENCH, SOURCEMAP_BENCH_VIEWS,
 SOURCEMAP_BENCH_BUNDLES and SOURCEMAP_BENCH_CALLS name others. Needs `/usr/bin/time` as GNU has it, and valgrind for
 --instructions.
 """
-import argparse, base64, collections, json, math, os, pathlib, re, resource, struct, subprocess, sys, tempfile
-from comparing import BENCH, BENCH_VIEWS, CRATES, TOOL, build_missing
+import argparse, base64, collections, functools, json, math, os, pathlib, re, resource, struct, subprocess, sys, tempfile
+from comparing import BENCH, BENCH_BUNDLES, BENCH_CALLS, BENCH_VIEWS, TOOL, build_missing
 
 SCRIPTS = pathlib.Path(__file__).resolve().parent
-CALLS = os.environ.get('SOURCEMAP_BENCH_CALLS', str(CRATES / 'sourcemap_bench_calls/out/sourcemap_bench_calls'))
-BUNDLES = os.environ.get('SOURCEMAP_BENCH_BUNDLES', str(CRATES / 'sourcemap_bench_bundles/out/sourcemap_bench_bundles'))
 SLACK = 2
 # below these a difference is noise: seconds, instructions, bytes
 LEAST_TIME, LEAST_COUNT, LEAST_MEMORY = 0.02, 5_000_000, 1 << 20
+# with --instructions a nanosecond counts as so many
+INSTRUCTIONS = 4
 README = json.dumps({'version': 3, 'sources': ['coolstuff.js'], 'names': ['x', 'alert'],
                      'mappings': 'AAAA,GAAIA,GAAI,EACR,IAAIA,GAAK,EAAG,CACVC,MAAM'})
-FLAT_COMMANDS = ['lookup 0 5', 'tokens', 'rewrite', 'compose small.map', 'trace small.txt']
-INDEX_COMMANDS = ['lookup 0 5', 'flatten', 'shift 1', 'trace small.txt']
+FLAT_COMMANDS = ['lookup 0 5', 'tokens', 'rewrite', 'compose small.map', 'trace small.txt', 'flatten', 'shift 1']
+INDEX_COMMANDS = ['lookup 0 5', 'flatten', 'shift 1', 'trace small.txt', 'tokens', 'rewrite', 'compose small.map']
 FLAT_WORDS = ['decode 1', 'decode-reader 1', 'lookup 1', 'tokens 1', 'encode 1', 'rewrite 1']
 INDEX_WORDS = ['decode 1', 'decode-reader 1', 'lookup 1', 'encode 1', 'flatten 1']
 
-# what is run: a program, its words, how many bytes of stack it has for a size, all that there is if None, and what its
-# time grows with, the count of its kind if None
-Run = collections.namedtuple('Run', 'program words stack count', defaults=[None, None])
+# what is run: a program, its words, how many bytes of stack it has for a size, all that there is if None, what its time
+# grows with, the count of its kind if None, and the most nanoseconds for each of that, any number if None
+Run = collections.namedtuple('Run', 'program words stack count most', defaults=[None, None, None])
 # a kind of input: what makes it of a size, its smallest size, its runs, the memory that it may take of each unit of its
 # count, and the count, by the size, the bytes of the input and those of the output
 Kind = collections.namedtuple('Kind', 'name make size runs memory count')
@@ -62,16 +66,24 @@ def of_bench(*words):
 
 
 def of_calls(*words):
-    return [Run(CALLS, each.split()) for each in words]
+    return [Run(BENCH_CALLS, each.split()) for each in words]
 
 
-FLAT = of_tool(*FLAT_COMMANDS) + of_bench(*FLAT_WORDS)
-INDEX = of_tool(*INDEX_COMMANDS) + of_bench(*INDEX_WORDS)
+FLAT = of_tool(*FLAT_COMMANDS) + of_bench(*FLAT_WORDS) + of_calls('encode-in-parts', 'to-data-url')
+INDEX = of_tool(*INDEX_COMMANDS) + of_bench(*INDEX_WORDS) + of_calls('flatten-and-rewrite')
 DECODES = of_tool('lookup 0 5', 'tokens') + of_bench('decode 1', 'decode-reader 1') + of_calls('detect', 'detect-reader')
 
 
 def with_output(size, given, written):
     return given + written
+
+
+def by_size(size, given, written):
+    return size
+
+
+def by_square(size, given, written):
+    return size * size + given
 
 
 def text_of(record):
@@ -107,40 +119,40 @@ def colliding(what, count):
 
 # texts that collide in a hash of a fixed seed
 
-@kind('colliding sources', 10_000, FLAT, 24)
+@kind('colliding sources', 10_000, FLAT, 12)
 def _(size):
     return colliding('sources', size)
 
 
-@kind('colliding names', 10_000, FLAT, 24)
+@kind('colliding names', 10_000, FLAT, 8)
 def _(size):
     return colliding('names', size)
 
 
-@kind('colliding sections', 10_000, INDEX, 24)
+@kind('colliding sections', 10_000, INDEX, 12)
 def _(size):
     return colliding('index', size)
 
 
-@kind('colliding lines', 10_000, of_calls('builder', 'intern'), 24)
+@kind('colliding lines', 10_000, of_calls('builder', 'intern'), 8)
 def _(size):
     return colliding('lines', size)
 
 
 # mappings
 
-@kind('one huge segment', 1_000_000, DECODES, 6)
+@kind('one huge segment', 1_000_000, DECODES, 4)
 def _(size):
     return flat('A' * size)
 
 
-@kind('one number without an end', 1_000_000, DECODES, 6)
+@kind('one number without an end', 1_000_000, DECODES, 4)
 def _(size):
     return flat('g' * size)
 
 
 # it has no token to look up, while the small map has
-@kind('empty segments and lines', 1_000_000, [run for run in FLAT if run.words != ['lookup', '1']], 24)
+@kind('empty segments and lines', 1_000_000, [run for run in FLAT if run.words != ['lookup', '1']], 4)
 def _(size):
     return flat(',;' * (size // 2))
 
@@ -150,27 +162,27 @@ def _(size):
     return flat('D,' * size + 'A')
 
 
-@kind('equal tokens', 200_000, FLAT, 40)
+@kind('equal tokens', 200_000, FLAT, 16)
 def _(size):
     return flat('AAAC,' * size + 'AAAA')
 
 
-@kind('a token in turn on two lines far apart', 100_000, FLAT, 60)
+@kind('a token in turn on two lines far apart', 100_000, FLAT, 16)
 def _(size):
     return flat(';'.join('gBAAC,DAAD' for _ in range(size)))
 
 
-@kind('range bits without tokens', 1_000_000, FLAT, 6)
+@kind('range bits without tokens', 1_000_000, FLAT, 4)
 def _(size):
     return flat('A', rangeMappings='A' * size)
 
 
-@kind('ids that name nothing', 200_000, DECODES, 40)
+@kind('ids that name nothing', 200_000, DECODES, 20)
 def _(size):
     return text_of({'version': 3, 'sources': [], 'names': [], 'mappings': 'A,' * size + 'CAAA'})
 
 
-@kind('names that are missing', 200_000, FLAT, 40)
+@kind('names that are missing', 200_000, FLAT, 12)
 def _(size):
     return text_of({'version': 3, 'sources': ['a.js'], 'names': ['x'], 'mappings': 'AAAA,' + 'CAAA,' * size + 'AAAAC'})
 
@@ -182,18 +194,18 @@ def _(size):
     return text_of({'version': 3, 'sources': ['a.js'], 'names': [0] * size, 'mappings': 'AAAA'})
 
 
-@kind('empty contents', 100_000, FLAT, 56)
+@kind('empty contents', 100_000, FLAT, 48)
 def _(size):
     return text_of({'version': 3, 'sources': ['a'] * size, 'sourcesContent': [''] * size, 'names': [],
                     'mappings': 'AAAA,' + 'CCAA,' * (size - 1) + 'C'})
 
 
-@kind('doubled keys', 100_000, DECODES, 24)
+@kind('doubled keys', 100_000, DECODES, 3)
 def _(size):
     return b'{"version":3,"sources":[],"mappings":"",' + b'"names":[],' * size + b'"names":[]}'
 
 
-@kind('many keys', 100_000, DECODES, 40)
+@kind('many keys', 100_000, DECODES, 20)
 def _(size):
     return text_of({**{f'{number}': 0 for number in range(size)}, 'version': 3, 'sources': [], 'names': [], 'mappings': ''})
 
@@ -203,37 +215,37 @@ def _(size):
     return b'{"version":3,"sources":[],"names":[],"mappings":"","x":[' + b'{"":0},' * size + b'{"":0}]}'
 
 
-@kind('arrays in a key that nothing reads', 200_000, DECODES, 24)
+@kind('arrays in a key that nothing reads', 200_000, DECODES, 16)
 def _(size):
     return b'{"version":3,"sources":[],"names":[],"mappings":"","x":[' + b'[],' * size + b'[]]}'
 
 
-@kind('deep arrays', 500_000, DECODES, 8)
+@kind('deep arrays', 500_000, DECODES, 4)
 def _(size):
     return b'[' * size + b']' * size
 
 
-@kind('escapes', 200_000, FLAT, 8)
+@kind('escapes', 200_000, FLAT, 3)
 def _(size):
     return b'{"version":3,"sources":["' + b'\\u0041' * size + b'"],"names":["x"],"mappings":"AAAA"}'
 
 
-@kind('escapes that are cut short', 200_000, DECODES, 8)
+@kind('escapes that are cut short', 200_000, DECODES, 4)
 def _(size):
     return b'{"version":3,"sources":["' + b'\\ud83d' * size
 
 
-@kind('junk without an end', 1_000_000, DECODES, 6)
+@kind('junk without an end', 1_000_000, DECODES, 3)
 def _(size):
     return b')]}' + b'x' * size
 
 
-@kind('junk of returns', 1_000_000, DECODES, 6)
+@kind('junk of returns', 1_000_000, DECODES, 3)
 def _(size):
     return b')]}' + b'\r\n' * size + README.encode()
 
 
-@kind('white space', 1_000_000, DECODES, 6)
+@kind('white space', 1_000_000, DECODES, 3)
 def _(size):
     return b' ' * size + README.encode()
 
@@ -245,19 +257,84 @@ def _(size):
 
 # products that the rules ask for
 
-@kind('sourceRoot times sources', 2_000, FLAT, 4, lambda size, given, written: size * size + given)
+def rooted(size):
+    """A map with a long root, and a token for each of as many sources."""
+    return {'version': 3, 'sourceRoot': 'r' * size, 'sources': [f'{number}' for number in range(size)], 'names': [],
+            'mappings': 'AAAA' + ',CCAA' * (size - 1)}
+
+
+@kind('sourceRoot times sources', 2_000, FLAT, 2.2, by_square)
 def _(size):
-    return text_of({'version': 3, 'sourceRoot': 'r' * size, 'sources': ['a'] * size, 'names': [], 'mappings': 'AAAA'})
+    return text_of(rooted(size))
 
 
-@kind('tokens of one long source', 1_000, FLAT, 8, with_output)
+@kind('tokens of one long source', 1_000, FLAT, 2, with_output)
 def _(size):
     return text_of({'version': 3, 'sources': ['s' * size], 'names': [], 'mappings': 'AAAA,' + 'CAAA,' * size + 'C'})
 
 
-@kind('a far line', 4_000_000, of_tool('flatten') + of_bench('flatten 1', 'encode 1'), 4, lambda size, given, written: size)
-def _(size):
+def far_line(size):
     return index([(0, 0, small()), (size, 0, small())])
+
+
+@kind('a far line', 4_000_000, of_tool('flatten') + of_bench('flatten 1', 'encode 1') + of_calls('encode', 'flatten-and-rewrite'), 2.2, by_size)
+def _(size):
+    return far_line(size)
+
+
+@kind('a far line as a data URL', 4_000_000, of_calls('to-data-url'), 4.3, by_size)
+def _(size):
+    return far_line(size)
+
+
+# it takes no memory for a line
+@kind('a far line in parts', 40_000_000, of_calls('encode-in-parts'), 0.01, by_size)
+def _(size):
+    return far_line(size)
+
+
+@kind('sourceRoot times sources in a section', 2_000, INDEX, 3.2, by_square)
+def _(size):
+    return index([(0, 0, {'map': rooted(size)})])
+
+
+@kind('sourceRoot times sources in parts', 2_000, of_calls('encode-in-parts'), 1.25, by_square)
+def _(size):
+    return text_of(rooted(size))
+
+
+# the text is as long as the product, and is not held
+@kind('sourceRoot times sources in a section, in parts', 2_000, of_calls('encode-in-parts'), 2.5, by_square)
+def _(size):
+    return index([(0, 0, {'map': rooted(size)})])
+
+
+@kind('a root that is set', 2_000, of_calls('set-root'), 1.25, by_square)
+def _(size):
+    return text_of({**rooted(size), 'sourceRoot': None}) + b'\n' + b'r' * size
+
+
+@kind('a root in place of another', 2_000, of_calls('set-root'), 2.5, by_square)
+def _(size):
+    return text_of(rooted(size)) + b'\n' + b's' * size
+
+
+@kind('prefixes times sources', 1_000, of_calls('strip'), 0.1, by_square)
+def _(size):
+    return b' '.join(b'p' * 40 + b'%d' % number for number in range(size)) + b'\n' + b''.join(
+        b'p' * 40 + b'/%d\n' % number for number in range(size))
+
+
+# what is set
+
+@kind('a line for each source', 100_000, of_calls('set-sources', 'set-contents', 'set-file', 'ignore'), 20)
+def _(size):
+    return text_of({**rooted(size), 'sourceRoot': 'r'}) + b'\n' + b''.join(b'%d\n' % (size - number) for number in range(size))
+
+
+@kind('one long line to set', 1_000_000, of_calls('set-root', 'set-sources', 'set-contents', 'set-file', 'ignore'), 4)
+def _(size):
+    return flat('AAAA', sourceRoot='r') + b'\n' + b'x' * size
 
 
 # index maps
@@ -282,7 +359,7 @@ def _(size):
     return b'{"version":3,"sections":[' + b'{"offset":{"line":0,"column":0}},' * size + b'{"offset":{"line":0,"column":0}}]}'
 
 
-@kind('a large map in forty indexes', 100_000, INDEX, 40)
+@kind('a large map in forty indexes', 100_000, INDEX, 24)
 def _(size):
     record = flat('CAAA,' * size + 'C').decode()
     for _ in range(40):
@@ -290,7 +367,7 @@ def _(size):
     return record.encode()
 
 
-@kind('indexes too deep for text', 20_000, DECODES, 24)
+@kind('indexes too deep for text', 20_000, DECODES, 4)
 def _(size):
     opening, closing = b'{"version":3,"sections":[{"offset":{"line":0,"column":0},"map":', b'}]}'
     return opening * size + README.encode() + closing * size
@@ -298,36 +375,42 @@ def _(size):
 
 # function maps
 
-@kind('function maps of one line', 100_000, FLAT, 60)
+@kind('function maps of one line', 100_000, FLAT, 12)
 def _(size):
     scopes = [[{'names': ['f', 'g'], 'mappings': 'AAA,' + 'CCA,CDA,' * size + 'C'}]]
     return flat('AAAA', x_facebook_sources=scopes)
 
 
-@kind('function maps without names', 50_000, FLAT, 60)
+@kind('function maps without names', 50_000, FLAT, 56)
 def _(size):
     return text_of({'version': 3, 'sources': ['a'] * size, 'names': [], 'mappings': 'AAAA',
                     'x_facebook_sources': [[{'names': [], 'mappings': ';'}]] * size})
 
 
+@kind('a token in each of many functions', 100_000, of_calls('scopes'), 7.5)
+def _(size):
+    scopes = [[{'names': ['f', 'g'], 'mappings': 'AAA,' + 'CCA,CDA,' * (size // 2) + 'C'}]]
+    return flat('AAAA,' + 'CAAC,' * size + 'C', x_facebook_sources=scopes)
+
+
 # two inputs
 
-@kind('positions by the million', 250_000, of_tool('trace FILE'), 24)
+@kind('positions by the million', 250_000, of_tool('trace FILE'), 6)
 def _(size):
     return README.encode(), ''.join(f'{number % 7}:{number % 1000}\n' for number in range(size)).encode()
 
 
-@kind('positions on one line without an end', 1_000_000, of_tool('trace FILE'), 24)
+@kind('positions on one line without an end', 1_000_000, of_tool('trace FILE'), 2)
 def _(size):
     return README.encode(), b'1' * size
 
 
-@kind('an adjustment from one position', 200_000, of_tool('compose FILE'), 60)
+@kind('an adjustment from one position', 200_000, of_tool('compose FILE'), 12)
 def _(size):
     return flat('AAAA,' + 'CAAC,' * size + 'C'), flat('AAAA,' + 'CAAA,' * size + 'C')
 
 
-@kind('an adjustment in falling order', 200_000, of_tool('compose FILE'), 60)
+@kind('an adjustment in falling order', 200_000, of_tool('compose FILE'), 16)
 def _(size):
     return flat('AAAA,' + 'CAAC,' * size + 'C'), flat(f'AAA{digits(size)},' + 'CAAD,' * size + 'C')
 
@@ -338,68 +421,80 @@ def map_and_text(columns, text):
     return flat('AAAA,' + 'CAAC,' * (columns - 1) + 'CAAC') + b'\n' + text
 
 
-def calls_times_line(size, given, written):
-    return size * size
+def views_of(tokens, most):
+    """The runs on a text and a map that has so many tokens on its longest line, for a size. A walk reads the text once.
+    Names are asked for from every 128th token, and each time the line is read up to the token once, white space to its
+    end: `most` nanoseconds for each character and each name. Where a line is searched for each of the 128 tokens, a run
+    takes many times as long."""
+    def calls_times_line(size, given, written):
+        return given + math.ceil(tokens(size) / 128) * size
+    return [Run(BENCH_CALLS, ['walk'], most=50), Run(BENCH_VIEWS, ['names', '1'], count=calls_times_line, most=most)]
 
 
-# names are looked for from every 128th token, and each call reads the line up to its token
-VIEWS = of_calls('walk') + [Run(BENCH_VIEWS, ['names', '1'], count=calls_times_line)]
-
-
-@kind('one long identifier, a token at each column', 50_000, VIEWS, 40)
+@kind('one long identifier, a token at each column', 50_000, views_of(lambda size: size, 0.4), 12)
 def _(size):
     return map_and_text(size, b'a' * size)
 
 
-@kind('white space, a token at each column', 50_000, VIEWS, 40)
+@kind('white space, a token at each column', 50_000, views_of(lambda size: size, 4), 12)
 def _(size):
     return map_and_text(size, b' ' * size)
 
 
-@kind('pairs of surrogates, a token at each column', 50_000, VIEWS, 40)
+@kind('pairs of surrogates, a token at each column', 50_000, views_of(lambda size: 2 * size, 6), 8)
 def _(size):
     return map_and_text(2 * size, '\U0001d51e'.encode() * size)
 
 
-@kind('names at the end of a line of letters', 500_000, VIEWS, 40)
+@kind('names at the end of a line of letters', 500_000, views_of(lambda size: 20_000, 0.4), 3)
 def _(size):
-    return flat('AAAA,' + digits(size - 1) + 'AAC,' + 'AAAC,' * 200 + 'AAAC') + b'\n' + b'a' * size
+    return flat('AAAA,' + digits(size - 1) + 'AAC,' + 'AAAC,' * 20_000 + 'AAAC') + b'\n' + b'a' * size
 
 
-@kind('lines without text', 1_000_000, of_calls('view', 'locate', 'locate-reader', 'locate-view') + [Run(BENCH_VIEWS, ['lines', '1'])], 12)
+@kind('lines without text', 1_000_000, of_calls('view', 'slices', 'locate', 'locate-reader', 'locate-view') + [Run(BENCH_VIEWS, ['lines', '1'])], 12)
 def _(size):
     return b'\n' * size
 
 
-@kind('references to nothing', 50_000, of_calls('locate', 'locate-reader', 'locate-view'), 12)
+@kind('one line of letters', 1_000_000, of_calls('view', 'slices'), 2.5)
+def _(size):
+    return b'a' * size
+
+
+@kind('one line of pairs of surrogates', 500_000, of_calls('view', 'slices'), 2.5)
+def _(size):
+    return '\U0001d51e'.encode() * size
+
+
+@kind('references to nothing', 50_000, of_calls('locate', 'locate-reader', 'locate-view'), 3)
 def _(size):
     return b' //# sourceMappingURL=a.map\n//# sourceMappingURL' * size
 
 
-@kind('a reference without an end', 1_000_000, of_calls('locate', 'locate-reader', 'locate-view', 'resolve', 'resolve-path'), 24)
+@kind('a reference without an end', 1_000_000, of_calls('locate', 'locate-reader', 'locate-view', 'resolve', 'resolve-path'), 6)
 def _(size):
     return b'//# sourceMappingURL=' + b'a/' * (size // 2)
 
 
 # URLs and paths
 
-@kind('a path of dots', 200_000, of_calls('resolve', 'resolve-path', 'relative'), 24)
+@kind('a path of dots', 200_000, of_calls('resolve', 'resolve-path', 'relative'), 3)
 def _(size):
     return b'//# sourceMappingURL=' + b'../' * size
 
 
-@kind('long paths', 200_000, of_calls('relative', 'prefix'), 24)
+@kind('long paths', 200_000, of_calls('relative', 'prefix'), 2)
 def _(size):
     return b'/a' * size + b'/b\n' + b'/a' * size + b'/c'
 
 
-@kind('a data URL', 1_000_000, of_calls('data-url', 'embedded'), 12)
+@kind('a data URL', 1_000_000, of_calls('data-url', 'embedded'), 6)
 def _(size):
     record = flat('A' * size)
     return b'data:application/json;base64,' + base64.b64encode(record)
 
 
-@kind('a data URL of nothing', 1_000_000, of_calls('data-url', 'embedded'), 12)
+@kind('a data URL of nothing', 1_000_000, of_calls('data-url', 'embedded'), 4)
 def _(size):
     return b'data:application/json;base64,' + b'=' * size
 
@@ -410,22 +505,22 @@ def bundle(count, startup, entries, code=b''):
     return struct.pack('<III', 0xFB0BD1E5, count, startup) + b''.join(struct.pack('<II', *each) for each in entries) + code
 
 
-@kind('a bundle whose modules are one text', 20_000, of_calls('bundle'), 24)
+@kind('a bundle whose modules are one text', 20_000, of_calls('bundle'), 2)
 def _(size):
     return bundle(size, 0, [(0, size)] * size, b'x' * size)
 
 
-@kind('a bundle whose entries lie', 100_000, of_calls('bundle'), 12)
+@kind('a bundle whose entries lie', 100_000, of_calls('bundle'), 2)
 def _(size):
     return bundle(size, 0xFFFFFFFF, [(0xFFFFFFFF, 0xFFFFFFFF)] * size)
 
 
-@kind('a bundle of nothing', 100_000, of_calls('bundle'), 12)
+@kind('a bundle of nothing', 100_000, of_calls('bundle'), 2)
 def _(size):
     return bundle(size, 0, [(0, 0)] * size)
 
 
-SPLITS = [Run(BUNDLES, ['split', '1'])]
+SPLITS = [Run(BENCH_BUNDLES, ['split', '1'])]
 
 
 def split_of(offsets, mappings, text, entries):
@@ -435,25 +530,40 @@ def split_of(offsets, mappings, text, entries):
     return text_of(record) + b'\n' + bundle(len(entries), 0, entries, text)
 
 
-@kind('a bundle of modules of one line each', 20_000, SPLITS, 60)
+@kind('a bundle of modules of one line each', 20_000, SPLITS, 8)
 def _(size):
     return split_of([*range(size)], 'AAAA;' * size, b'x;\0' * size, [(3 * number, 3) for number in range(size)])
 
 
-@kind('modules that all stand on one line', 500, SPLITS, 60, lambda size, given, written: size * size + given)
+# each module has the tokens of all
+@kind('modules that all stand on one line', 1_000, [Run(BENCH_BUNDLES, ['split', '1'], count=by_square)], 12)
 def _(size):
-    return split_of([0] * size, 'CAAC,' * size + 'C', b'x' * (2 * size) + b'\0', [(0, 2 * size)] * size)
+    return split_of([0] * size, 'AAAA,' + 'CAAC,' * size + 'C', b'x' * (2 * size) + b'\0', [(0, 2 * size)] * size)
 
 
 # maps that are built in memory
 
-@kind('indexes in one another', 100, [Run(CALLS, ['nest'], lambda size: 10_240 * size)], 20_000, lambda size, given, written: size)
+NEST = 'nest'
+# with less the program does not start
+LEAST_STACK = 250_000
+
+
+@kind('indexes in one another, 100 in 1,024,000 bytes of stack', 25, [Run(BENCH_CALLS, [NEST], lambda size: max(10_240 * size, LEAST_STACK))], 14_200,
+      by_size)
 def _(size):
     return str(size).encode()
 
 
-class Failed(Exception):
-    pass
+@kind('indexes in one another, 1,000 in 8 MB of stack', 250, [Run(BENCH_CALLS, [NEST], lambda size: max(8 * 2**20 * size // 1000, LEAST_STACK))], 14_200,
+      by_size)
+def _(size):
+    return str(size).encode()
+
+
+# those of the three sizes of a kind are kept for its runs
+@functools.lru_cache(maxsize=3)
+def made_of(make, size):
+    return make(size)
 
 
 def inputs_of(made, folder):
@@ -492,47 +602,98 @@ def measured(run, folder, counts, size=None):
     return cost, int(peak.read_text().split()[-1]) * 1024, written, process.returncode
 
 
+def has_stack(levels, stack):
+    """Whether so many index maps in one another take no more than this stack."""
+    try:
+        ran = subprocess.run([BENCH_CALLS, NEST], input=str(levels).encode(), stdout=subprocess.DEVNULL, stderr=subprocess.DEVNULL,
+                             env={}, preexec_fn=with_stack(stack))
+    except OSError:
+        return False
+    return ran.returncode == 0
+
+
+def stack_of(levels):
+    """The least stack of so many index maps in one another, in bytes, up to the next page."""
+    low, high = 16, 2**15
+    while high - low > 1:
+        middle = (low + high) // 2
+        low, high = (low, middle) if has_stack(levels, 4096 * middle) else (middle, high)
+    return 4096 * high
+
+
+def print_stack():
+    few, many = stack_of(100), stack_of(1000)
+    print(f'stack: 100 index maps in one another take {few:,} bytes, 1,000 take {many:,}: {(many - few) / 900:,.0f} a level')
+
+
+# what a run of a size came to: what its memory and its time are counted by, the bytes of the input and of the output, the
+# time or the instructions, the memory, and the status
+Row = collections.namedtuple('Row', 'count steps given written cost memory status')
+
+
 def tried(each, run, base, scale, counts):
     """A row for each size, and what failed of it."""
     rows = []
     for factor in (1, 2, 4):
         size = max(1, int(each.size * scale)) * factor
         with tempfile.TemporaryDirectory() as folder:
-            given = inputs_of(each.make(size), folder)
+            given = inputs_of(made_of(each.make, size), folder)
             cost, memory, written, status = measured(run, folder, counts, size)
         count = each.count(size, given, written)
         steps = run.count(size, given, written) if run.count else count
-        rows.append((count, steps, given, written, cost, max(0, memory - base[1]), status))
+        rows.append(Row(count, steps, given, written, cost, max(0, memory - base[1]), status))
     # a run that is refused at once may cost less than that of a small input
-    spent = base[0] if all(row[4] > base[0] for row in rows) else 0
-    rows = [(*row[:4], row[4] - spent, *row[5:]) for row in rows]
-    return rows, failures_of(each, rows, counts)
+    spent = base[0] if all(row.cost > base[0] for row in rows) else 0
+    rows = [row._replace(cost=row.cost - spent) for row in rows]
+    return rows, list(failures_of(each, run, rows, base, counts))
 
 
-def failures_of(each, rows, counts):
-    (_, least, _, _, first, _, _), (count, most, _, _, last, memory, _) = rows[0], rows[-1]
-    grown = most * math.log(most + 2) / (least * math.log(least + 2))
+def failures_of(each, run, rows, base, counts):
+    first, last = rows[0], rows[-1]
+    grown = last.steps * math.log(last.steps + 2) / (first.steps * math.log(first.steps + 2))
     floor = LEAST_COUNT if counts else LEAST_TIME
-    if any(row[-1] not in (0, 1, 2) for row in rows):
-        yield f'status {[row[-1] for row in rows]}'
-    if last > SLACK * grown * max(first, floor / SLACK):
-        yield f'time grows by {last / max(first, 1e-9):.1f}, and n log n by {grown:.1f}'
-    if memory > each.memory * count + LEAST_MEMORY:
-        yield f'{memory / count:.1f} bytes a unit, of {each.memory}'
+    if any(row.status not in (0, 1, 2) for row in rows):
+        yield f'status {[row.status for row in rows]}'
+    if last.cost > SLACK * grown * max(first.cost, floor / SLACK):
+        yield f'time grows by {last.cost / max(first.cost, 1e-9):.1f}, and n log n by {grown:.1f}'
+    # what the small input takes may be freed before the most is taken
+    if last.memory + base[1] > SLACK * last.count / first.count * (first.memory + base[1]):
+        yield f'memory grows by {last.memory / max(first.memory, 1):.1f}, and n by {last.count / first.count:.1f}'
+    if last.memory > each.memory * last.count + LEAST_MEMORY:
+        yield f'{last.memory / last.count:.1f} bytes a unit, of {each.memory}'
+    most = run.most and run.most * last.steps * (INSTRUCTIONS if counts else 1e-9)
+    if most and last.cost > max(most, floor):
+        yield f'{last.cost / most:.1f} times the time that it may take'
 
 
-def growth(rows):
-    """The exponent of the time in the count."""
-    (_, least, _, _, first, _, _), (_, most, _, _, last, _, _) = rows[0], rows[-1]
-    return math.log(last / first) / math.log(most / least) if first > 0 and last > 0 and most > least else 0
+def growth(rows, of):
+    """The exponent of the time or the memory in what it is counted by, 0 where it is next to none."""
+    first, last = [(row.steps, row.cost) if of == 'cost' else (row.count, row.memory) for row in (rows[0], rows[-1])]
+    return math.log(last[1] / first[1]) / math.log(last[0] / first[0]) if min(first[1], last[1]) > 0 and last[0] > first[0] else 0
+
+
+def name_of(run):
+    return f'{pathlib.Path(run.program).name.removeprefix("sourcemap_")} {" ".join(run.words)}'
 
 
 def printed(each, run, rows, failures, counts):
-    count, _, given, written, cost, memory, status = rows[-1]
-    figure = f'{cost / 1e6:.1f} M' if counts else f'{cost * 1e3:.0f} ms'
-    name = pathlib.Path(run.program).name.removeprefix('sourcemap_')
-    print(f'| {each.name} | {name} {" ".join(run.words)} | {given:,} | {written:,} | {figure} | {growth(rows):.2f} '
-          f'| {memory / 1e6:.1f} MB | {memory / count:.1f} | {status} | {"; ".join(failures) or "ok"} |', flush=True)
+    last = rows[-1]
+    figure = f'{last.cost / 1e6:.1f} M' if counts else f'{last.cost * 1e3:.0f} ms'
+    print(f'| {each.name} | {name_of(run)} | {last.given:,} | {last.written:,} | {figure} | {growth(rows, "cost"):.2f} '
+          f'| {last.memory / 1e6:.1f} MB | {growth(rows, "memory"):.2f} | {last.memory / last.count:.1f} | {last.status} '
+          f'| {"; ".join(failures) or "ok"} |', flush=True)
+
+
+def print_worst(worst):
+    """Of each kind the memory that it allows, the most that a run took, and the most output."""
+    print('\n| Kind | Bytes a unit, at most | most measured | by | Output a byte of input, most | by |\n|' + '---|' * 6)
+    for each, found in worst:
+        # less memory than counts says nothing of a unit
+        run, last = max(found, key=lambda pair: (pair[1].memory > LEAST_MEMORY, pair[1].memory / pair[1].count))
+        writer, most = max(found, key=lambda pair: pair[1].written / pair[1].given)
+        print(f'| {each.name} | {each.memory:,} | {last.memory / last.count:,.1f} | {name_of(run)} '
+              f'| {most.written / most.given:,.2f} | {name_of(writer)} |')
+    print()
 
 
 def base_of(run, counts):
@@ -554,17 +715,21 @@ def main():
         print('\n'.join(each.name for each in chosen))
         return
     build_missing(dict.fromkeys(run.program for each in chosen for run in each.runs))
-    print('| Kind | Run | Input | Output | Time | Growth | Memory | Bytes a unit | Status | |\n|' + '---|' * 10)
+    print('| Kind | Run | Input | Output | Time | Growth | Memory | Growth | Bytes a unit | Status | |\n|' + '---|' * 11)
     passed = failed = 0
-    bases = {}
+    bases, worst = {}, []
     for each in chosen:
+        worst.append((each, []))
         for run in each.runs:
             key = run.program, *run.words
             bases[key] = bases.get(key) or base_of(run, given.instructions)
             rows, failures = tried(each, run, bases[key], given.scale, given.instructions)
-            failures = list(failures)
             printed(each, run, rows, failures, given.instructions)
+            worst[-1][1].append((run, rows[-1]))
             passed, failed = passed + (not failures), failed + bool(failures)
+    print_worst(worst)
+    if any(run.words == [NEST] for each in chosen for run in each.runs):
+        print_stack()
     print(f'{passed} passed, {failed} failed')
     sys.exit(failed > 0)
 

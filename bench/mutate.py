@@ -1,30 +1,38 @@
 #!/usr/bin/env python3
 """Runs the program on maps, pairs of maps, bundles, generated texts and lists of positions that are made and
 mutated by chance, the same on every run of a seed, and looks whether it crashes, or says anything but what the
-rules of the formats say.
+rules of the formats say; and so two programs that make the calls for which it has no words, on RAM bundles,
+generated texts, references, data URLs and paths.
 
     bench/mutate.py [--runs N] [--seed N] [--jobs N] [--reference PROGRAM] [--only CASE]
 
-Each case has words for the program, standard input and the file that the words name. A run has to end with the
-status and the text that `rules.py` says, and nothing on standard error. An answer of more lines than that can make
-may be `out of memory` too, with status 1: a run has 256 MB. With --reference, a program over the crate (`reference/`,
-built), each case runs on that too, and each difference has to have a reason among those of
-`docs/DIFFERENCES.md`; it is printed as UNEXPLAINED where it has none.
+Each case has words for a program, standard input and the file that the words name. A run has to end with the
+status and the text that `rules.py` says, or `calls.py` of calls, and nothing on standard error but the error of a
+bundle that is not split. An answer of more lines than that can make may be `out of memory` too, with status 1: a
+run has 256 MB. With --reference, a program over the crate (`reference/`, built), each case of a command runs on
+that too, and each difference has to have a reason among those of `docs/DIFFERENCES.md`; it is printed as
+UNEXPLAINED where it has none.
 
 What is contradicted is printed with its number; `--only CASE` makes that case alone again, and prints all of it.
-The last line is `N passed, M failed`, of cases, and the status is 1 if M is not 0.
+How cases ended is counted, of commands and of calls apart. `open` are those of which the rules only say that the
+status is 0 or 1. The last line is `N passed, M failed`, of cases, and the status is 1 if M is not 0.
 
-A million cases take some minutes on four processors: the program is started once for each job and count of words,
+A million cases take some minutes on four processors: each program is started once for each job and count of words,
 and forked for each run, by a library that is made of `serving.c` (CC, or else cc). Needs Python 3.8 besides.
+SOURCEMAP_TOOL, SOURCEMAP_BENCH_CALLS and SOURCEMAP_BENCH_BUNDLES name other programs than those in `crates`.
 """
 import argparse, collections, json, multiprocessing, os, pathlib, random, shutil, struct, subprocess, sys, tempfile, time
-import rules
+import calls, rules
+from comparing import BENCH_BUNDLES, BENCH_CALLS, TOOL, build_missing
 from composing import DIGITS, Token, written
+from drawn_bundles import TEXTS as MODULES, bundle_bytes
+from drawn_references import drawn_text
 from index_maps import LAST, LISTS
 
 HERE = pathlib.Path(__file__).resolve().parent
-TOOL = os.environ.get('SOURCEMAP_TOOL', str(HERE.parent / 'crates/sourcemap_tool/out/sourcemap_tool'))
 CHUNK = 500
+# of the cases, how many are of calls
+CALLS_SHARE = 0.25
 NO_MEMORY = (1, b'out of memory\n')
 EDGES = [0, 1, 2, 5, 31, 32, 2**31 - 1, 2**31, LAST - 1, LAST, LAST + 1, 2**63, 2**64, -1]
 TEXTS = ['a.js', 'b.js', '/a/b/x.js', '/a/b/y.js', '', 'http://x.com/c.js', 'https:d', '../e.js', '~/f.js', 'é👌', '\\"\n\t\x01',
@@ -35,14 +43,7 @@ JUNK = [b")]}'\n", b")]}'\r\n", b"'x", b']x\rx\n', b'}\r\n\n', b')']
 VALUES = [None, True, 0, 1, -1, 2**32, 1.5, '', 'x', [], [None], [[]], {}, {'a': 1}, [1, 'a', None]]
 TEXT = (b'function a(){}\n//# sourceMappingURL=a.js.map\n//@ sourceMappingURL=data:application/json;base64,e30=\n')
 
-Case = collections.namedtuple('Case', 'words data file')
-
-
-def bundle(chance):
-    """An indexed bundle, with or without a table that lies."""
-    count = chance.choice([0, 1, 2, 2**32 - 1])
-    table = b''.join(struct.pack('<II', chance.choice([0, 2, LAST]), chance.choice([0, 1, 4, LAST])) for _ in range(2))
-    return struct.pack('<III', 0xFB0BD1E5, count, chance.choice([0, 2, LAST])) + table + b'abxyz\0'
+Case = collections.namedtuple('Case', 'words data file program', defaults=[TOOL])
 
 
 def edge(chance):
@@ -211,7 +212,8 @@ FITTING = {'flatten': index, 'shift': index, 'rewrite': lambda chance: chance.ch
 def map_bytes(chance, verb):
     """The bytes of a map for a command, mutated or not."""
     if chance.random() < 0.02:
-        return chance.choice([bundle(chance), TEXT, positions(chance), b''])
+        other = chance.choice([bundle_bytes(chance, [chance.choice(MODULES)]), drawn_text(chance), positions(chance), b''])
+        return changed_bytes(chance, other, TEXT) if chance.random() < 0.5 else other
     value = FITTING.get(verb, whole)(chance) if chance.random() < 0.875 else whole(chance)
     change = chance.random()
     if change < 0.2:
@@ -259,7 +261,14 @@ def words_of(chance, path):
     return words + words if words[0] == 'trace' and len(words) == 2 else words
 
 
+MAPS = calls.Maps(whole, regular, lambda chance: map_bytes(chance, 'lookup'), with_changed_mappings, changed_bytes)
+
+
 def case_of(seed, at, path):
+    chance = random.Random(f'{seed} {at} calls')
+    if chance.random() < CALLS_SHARE:
+        words, data = calls.drawn(chance, MAPS)
+        return Case([*words], data, b'', BENCH_BUNDLES if words == calls.SPLIT else BENCH_CALLS)
     chance = random.Random(f'{seed} {at}')
     words = words_of(chance, path)
     data = map_bytes(chance, words[0])
@@ -299,21 +308,25 @@ class Server:
 
 
 def due(case):
-    """The status and the text that the rules say, and None where the text is too long for them."""
+    """The status and the text that the rules say, and None where the text is too long for them, or open."""
+    if case.program != TOOL:
+        return calls.ended(tuple(case.words), case.data)
     try:
         return rules.ended(case.words, case.data, case.file)
     except rules.TooLong:
         return None
 
 
-def contradiction(case, ended):
-    """Why a run did not end as the rules say, None if it did."""
+def contradiction(case, ended, want):
+    """Why a run did not end as it should by the rules, None if it did."""
     status, output, errors = ended
     if status > 2:
         return f'status {status}'
+    if case.program == BENCH_BUNDLES and status == 1 and errors and not output:
+        # which error it is stands there in the words of the kit
+        return None if want[0] == 1 else f'the rules say {want}'
     if errors:
         return 'something on standard error'
-    want = due(case)
     if want is None:
         return None if status in (0, 1) else f'status {status}'
     return None if (status, output) == want else f'the rules say {want}'
@@ -328,6 +341,7 @@ class Job:
         self.path = f'{self.folder}/file'
 
     def run(self, program, case, *before):
+        """How a program ends with the words of a case, after others."""
         key = program, len(case.words) + len(before)
         if key not in self.servers:
             self.servers[key] = Server(self.library, *key)
@@ -340,12 +354,14 @@ class Job:
             case = case_of(self.seed, at, self.path)
             if case.words[0] in ('compose', 'trace'):
                 pathlib.Path(self.path).write_bytes(case.file)
-            ended = self.run(TOOL, case)
-            kinds[f'{case.words[0] or "no word"} {ended[0]}'] += 1
-            why = contradiction(case, ended)
+            ended, want = self.run(case.program, case), due(case)
+            kind = 'command' if case.program == TOOL else 'call'
+            kinds[f'{kind} {case.words[0] or "no word"} {ended[0]}'] += 1
+            kinds.update([f'{kind}s in all'] + [f'{kind}s, open'] * (want is None))
+            why = contradiction(case, ended, want)
             if why:
                 failures.append((at, f'{why}; it says {ended}'))
-            if self.reference and ended[0] < 2:
+            if self.reference and case.program == TOOL and ended[0] < 2:
                 agreement = self.compared(case, ended)
                 kinds[f'reference: {agreement}'] += 1
                 if agreement == UNEXPLAINED:
@@ -446,7 +462,7 @@ def show(seed, at, library):
     job = Job(library, None, seed)
     case = case_of(seed, at, job.path)
     pathlib.Path(job.path).write_bytes(case.file)
-    print(f'words {case.words}\ninput {case.data}\nfile  {case.file}\nrules {due(case)}\nsays  {job.run(TOOL, case)}')
+    print(f'words {case.words}\ninput {case.data}\nfile  {case.file}\nrules {due(case)}\nsays  {job.run(case.program, case)}')
     job.end()
 
 
@@ -464,6 +480,7 @@ def main():
     words.add_argument('--reference')
     words.add_argument('--only', type=int)
     given = words.parse_args()
+    build_missing([TOOL, BENCH_CALLS, BENCH_BUNDLES])
     with tempfile.TemporaryDirectory() as folder:
         library = library_in(folder)
         if given.only is not None:

@@ -317,13 +317,13 @@ def with_file(commands, text):
 
 def answer(command, data):
     given = {'stdin': data()} if callable(data) else {'input': data}
-    described = subprocess.run(command, stdout=subprocess.PIPE, stderr=subprocess.DEVNULL, **given)
+    ended = subprocess.run(command, stdout=subprocess.PIPE, stderr=subprocess.DEVNULL, **given)
     if 'stdin' in given:
         os.close(given['stdin'])
-    return described.returncode, described.stdout
+    return ended.returncode, ended.stdout
 
 
-def is_described(due, status, text, other):
+def is_as_described(due, status, text, other):
     if callable(due[1]):
         return status == due[0] and text != other and due[1](other, text)
     return status == due[0] and due[1].encode() in text
@@ -333,15 +333,15 @@ def wrong(title, trial, reference):
     """What differs from the row's description, None if nothing does."""
     both = with_file(commands(trial.word, title, reference), trial.file)
     here, there = (answer(command, trial.data) for command in both)
-    if is_described(trial.here, *here, b'') and is_described(trial.there, *there, here[1]):
+    if is_as_described(trial.here, *here, b'') and is_as_described(trial.there, *there, here[1]):
         return None
     return f'{title}\n    here  {here}\n    there {there}'
 
 
 def wrong_answers(reference):
     """All answers of the library that differ from their rows."""
-    described_here = answers_here([row.case for row in ASKED.values()])
-    for (title, row), here in zip(ASKED.items(), described_here):
+    all_here = answers_here([row.case for row in ASKED.values()])
+    for (title, row), here in zip(ASKED.items(), all_here):
         there = answers_there(reference, row.case)
         is_so = row.there(here[0], there[0]) if callable(row.there) else there[:1] == [row.there]
         if here[0] != row.here or not is_so:
@@ -364,7 +364,7 @@ def main():
     failures += wrong_answers(reference)
     for failure in failures:
         print(failure)
-    print(f'{len(described)} rows, {len(tried)} tried, {len(failures)} faults')
+    print(f'{len(described)} rows, {len(tried)} tried, {len(failures)} failed')
     sys.exit(1 if failures else 0)
 
 

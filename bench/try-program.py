@@ -69,15 +69,15 @@ def unbuilt(words):
             copy = pathlib.Path(folder, name)
             copy.parent.mkdir(parents=True, exist_ok=True)
             shutil.copy(HOME / name, copy)
-        status, printed, result = ended([f'{folder}/sourcemap', *words])
-    return status, printed.split(b'\n')[0], result
+        status, printed, errors = ended([f'{folder}/sourcemap', *words])
+    return status, printed.split(b'\n')[0], errors
 
 
 def answered_unproved(words):
     """The same of words that the program answers: the status, the line, how many lines standard error got, and
     whether they name the command that proves and builds."""
-    status, printed, result = unbuilt(words)
-    return status, printed, len(result.splitlines()), b'/sourcemap --build\'' in result
+    status, printed, errors = unbuilt(words)
+    return status, printed, len(errors.splitlines()), b'/sourcemap --build\'' in errors
 
 
 def within(kilobytes):

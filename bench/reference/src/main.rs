@@ -140,9 +140,9 @@ fn write_tokens(map: &SourceMap, output: &mut Output) -> io::Result<()> {
 }
 
 /// A line of an answer to a lookup, with the token's generated position on request.
-fn write_answer(token: Option<Token<'_>>, is_absolute_source: bool, output: &mut Output) -> io::Result<()> {
+fn write_answer(token: Option<Token<'_>>, with_position: bool, output: &mut Output) -> io::Result<()> {
     match token {
-        Some(token) if is_absolute_source => writeln!(output, "{token:#}"),
+        Some(token) if with_position => writeln!(output, "{token:#}"),
         Some(token) => writeln!(output, "{token}"),
         None => writeln!(output, "none"),
     }
@@ -151,14 +151,14 @@ fn write_answer(token: Option<Token<'_>>, is_absolute_source: bool, output: &mut
 fn write_answers(
     map: &DecodedMap,
     positions: &str,
-    is_absolute_source: bool,
+    with_position: bool,
     output: &mut Output,
 ) -> Result<()> {
     for position in positions.lines() {
         let (line, column) = position.split_once(' ').unwrap_or_default();
         match (line.parse(), column.parse()) {
             (Ok(line), Ok(column)) => {
-                write_answer(map.lookup_token(line, column), is_absolute_source, output)?
+                write_answer(map.lookup_token(line, column), with_position, output)?
             }
             _ => return Err(io::Error::other(format!("no position: {position}")).into()),
         }
@@ -195,7 +195,7 @@ fn write_stat(map: DecodedMap, output: &mut Output) -> io::Result<()> {
 }
 
 /// Why a map is refused, or `none`.
-fn write_fault<T>(read: Result<T>, output: &mut Output) -> Result<()> {
+fn write_error<T>(read: Result<T>, output: &mut Output) -> Result<()> {
     match read {
         Ok(_) => Ok(writeln!(output, "none")?),
         Err(error) => Ok(writeln!(output, "{error}")?),
@@ -333,18 +333,18 @@ fn answer(form: Form, words: &[&str], output: &mut Output) -> Option<Result<()>>
             .and_then(|questions| Ok(bundles::write_answers(&questions, output)?)),
         ["regular"] => bytes()
             .map_err(Error::from)
-            .and_then(|bytes| write_fault(SourceMap::from_slice(&bytes), output)),
+            .and_then(|bytes| write_error(SourceMap::from_slice(&bytes), output)),
         ["sections"] => bytes()
             .map_err(Error::from)
-            .and_then(|bytes| write_fault(SourceMapIndex::from_slice(&bytes), output)),
+            .and_then(|bytes| write_error(SourceMapIndex::from_slice(&bytes), output)),
         ["refused"] => map()
             .and_then(regular)
-            .and_then(|map| write_fault(map.to_writer(Refusing), output)),
+            .and_then(|map| write_error(map.to_writer(Refusing), output)),
         ["contents"] => map()
             .and_then(regular)
-            .and_then(|map| write_fault(with_contents(map), output)),
+            .and_then(|map| write_error(with_contents(map), output)),
         ["built", pairs] => questions_in(pairs).and_then(|pairs| write_built(&pairs, output)),
-        ["url", url] => write_fault(decode_data_url(url), output),
+        ["url", url] => write_error(decode_data_url(url), output),
         ["equal"] => map().and_then(regular).and_then(|map| {
             Ok(writeln!(output, "{}", map.get_token(0) == map.get_token(1))?)
         }),

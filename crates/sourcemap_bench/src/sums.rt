@@ -9,7 +9,7 @@ use sourcemap::{DecodedMap, SourceMap, Token};
 
 /// Adds a number to a checksum.
 #[inline]
-pub fn mixed(sum: u32, number: u32) -> u32
+pub fn add_to_sum(sum: u32, number: u32) -> u32
     ensures { result ≡ mixed sum number }
 {
     ((31 * u64::from(sum) + u64::from(number)) % (1 << 32)) as u32
@@ -37,7 +37,7 @@ fn add_lookup(map: &DecodedMap, sum: u32, position: (u32, u32)) -> u32
         → result ≡ mixed sum (worth (lookup (map_tree map.now) position)) }
 {
     let (line, column) = position;
-    mixed(sum, worth(map.lookup_token(line, column)))
+    add_to_sum(sum, worth(map.lookup_token(line, column)))
 }
 
 /// Adds the lookups of these positions to a checksum. The clause requires sorted sections at every
@@ -59,7 +59,7 @@ pub fn token_sum(map: &SourceMap, start: u32) -> u32
 {
     let mut sum = start;
     for token in map.tokens() {
-        sum = mixed(sum, worth(Some(token)));
+        sum = add_to_sum(sum, worth(Some(token)));
     }
     sum
 }

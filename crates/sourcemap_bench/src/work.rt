@@ -6,7 +6,7 @@ ghost use Rattle.sourcemap_bench.specs.Work.{LengthOfText, RoundGives, RoundsGiv
 
 use crate::command::Operation;
 use crate::draws::drawn_positions;
-use crate::sums::{lookup_sum, mixed, token_sum};
+use crate::sums::{add_to_sum, lookup_sum, token_sum};
 use sourcemap::encoder::encode_to_vec;
 use sourcemap::{
     DecodedMap, Error, Result, RewriteOptions, SourceMap, SourceMapIndex, decode, decode_slice,
@@ -114,28 +114,28 @@ fn slice_sum(alloc: Global, bytes: &Vec<u8>, sum: u32) -> Result<u32>
     ensures { IfOk result (SizeOfDecoded bytes.now.items sum) }
 {
     let map = decode_slice(alloc, bytes.as_slice())?;
-    Ok(mixed(sum, size_of(&map)))
+    Ok(add_to_sum(sum, size_of(&map)))
 }
 
 fn reader_sum(alloc: Global, bytes: &Vec<u8>, sum: u32) -> Result<u32>
     ensures { IfOk result (SizeOfDecoded bytes.now.items sum) }
 {
     let map = decode(alloc, bytes.as_slice())?;
-    Ok(mixed(sum, size_of(&map)))
+    Ok(add_to_sum(sum, size_of(&map)))
 }
 
 fn text_sum(alloc: Global, map: &DecodedMap, sum: u32) -> Result<u32>
     ensures { IfOk result (LengthOfText (map_tree map.now) sum) }
 {
     let text = encode_to_vec(alloc, map)?;
-    Ok(mixed(sum, u32::try_from(text.len()).unwrap_or(u32::MAX)))
+    Ok(add_to_sum(sum, u32::try_from(text.len()).unwrap_or(u32::MAX)))
 }
 
 fn flat_sum(index: &SourceMapIndex, sum: u32) -> Result<u32>
     ensures { IfOk result (SizeOfFlat (index_tree (index_value index.now)) sum) }
 {
     let flat = index.flatten()?;
-    Ok(mixed(sum, flat.get_token_count()))
+    Ok(add_to_sum(sum, flat.get_token_count()))
 }
 
 fn adjusted_sum(map: &SourceMap, adjustment: &SourceMap, sum: u32) -> Result<u32>
@@ -143,10 +143,9 @@ fn adjusted_sum(map: &SourceMap, adjustment: &SourceMap, sum: u32) -> Result<u32
 {
     let mut copy = map.clone()?;
     copy.adjust_mappings(adjustment)?;
-    Ok(mixed(sum, copy.get_token_count()))
+    Ok(add_to_sum(sum, copy.get_token_count()))
 }
 
-// Runs one round and returns the checksum after it.
 fn round<F: Files>(rt: &F, alloc: Global, work: &Work, sum: u32) -> Result<u32>
     ensures { IfOk result (RoundGives work.now sum) }
 {
@@ -158,7 +157,7 @@ fn round<F: Files>(rt: &F, alloc: Global, work: &Work, sum: u32) -> Result<u32>
         Work::Encode(map) => text_sum(alloc, &**map, sum),
         Work::Rewrite(map) => {
             let new = (**map).clone()?.rewrite(rt, &RewriteOptions::default())?;
-            Ok(mixed(sum, new.get_source_count()))
+            Ok(add_to_sum(sum, new.get_source_count()))
         }
         Work::Flatten(index) => flat_sum(&**index, sum),
         Work::Compose(map, adjustment) => adjusted_sum(&**map, &**adjustment, sum),

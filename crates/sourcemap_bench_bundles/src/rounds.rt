@@ -7,8 +7,7 @@ use sourcemap::ram_bundle::{RamBundle, SplitRamBundleModuleIter, split_ram_bundl
 use sourcemap::{Result, SourceMap, SourceMapIndex, SourceView};
 use std::alloc::Global;
 
-// Adds a number to a checksum.
-fn mixed(sum: u32, number: u32) -> u32
+fn add_to_sum(sum: u32, number: u32) -> u32
     ensures { result ≡ mixed sum number }
 {
     ((31 * u64::from(sum) + u64::from(number)) % (1 << 32)) as u32
@@ -20,7 +19,7 @@ fn with_module(sum: u32, parts: &(String, SourceView, SourceMap)) -> u32
 {
     let (_, view, map) = parts;
     let length = u32::try_from(view.source().len()).unwrap_or(u32::MAX);
-    mixed(mixed(sum, length), map.get_source_count())
+    add_to_sum(add_to_sum(sum, length), map.get_source_count())
 }
 
 // Adds all of these modules to a checksum; the first error ends it.

@@ -20,7 +20,7 @@ pub enum Call {
     ResolvePath,
     /// `data-url`: `decode_data_url`.
     DataUrl,
-    /// `decode_embedded`: `SourceMapRef::get_embedded_sourcemap`.
+    /// `embedded`: `SourceMapRef::get_embedded_sourcemap`.
     Embedded,
     /// `detect`: `is_sourcemap_slice`.
     Detect,
@@ -36,8 +36,34 @@ pub enum Call {
     Intern,
     /// `bundle`: all modules of a RAM bundle, and its startup code.
     Bundle,
-    /// `nest`: nested index maps, copied, looked up, flattened and dropped.
+    /// `nest`: nested index maps, looked up, printed, copied, compared, read back from their value,
+    /// flattened and dropped.
     Nest,
+    /// `encode`: `encode_to` of a map, which is flattened if it is an index map.
+    Encode,
+    /// `encode-in-parts`: `encode_in_parts` of the same.
+    EncodeInParts,
+    /// `to-data-url`: `to_data_url` of the same.
+    ToDataUrl,
+    /// `flatten-and-rewrite`: `SourceMapIndex::flatten_and_rewrite`.
+    FlattenAndRewrite,
+    /// `slices`: `SourceView::get_line_slice` of each line.
+    Slices,
+    /// `scopes`: `SourceMapHermes::get_scope_for_token` of each token.
+    Scopes,
+    /// `set-root`: `set_source_root` of the map on the first line to what follows.
+    SetRoot,
+    /// `set-sources`: `set_source` of the map on the first line to each line after it.
+    SetSources,
+    /// `set-contents`: `set_source_contents` of the same.
+    SetContents,
+    /// `set-file`: `set_file` of the same.
+    SetFile,
+    /// `ignore`: `add_to_ignore_list` of the number on each line after the map.
+    Ignore,
+    /// `strip`: `SourceMapBuilder::strip_prefixes` with the words of the first line, of a source for
+    /// each line after it.
+    Strip,
 }
 
 /// Parses a call. `None` for other words.
@@ -63,6 +89,18 @@ pub fn parse_words(words: &[String]) -> Option<Call> {
         "intern" => Some(Call::Intern),
         "bundle" => Some(Call::Bundle),
         "nest" => Some(Call::Nest),
+        "encode" => Some(Call::Encode),
+        "encode-in-parts" => Some(Call::EncodeInParts),
+        "to-data-url" => Some(Call::ToDataUrl),
+        "flatten-and-rewrite" => Some(Call::FlattenAndRewrite),
+        "slices" => Some(Call::Slices),
+        "scopes" => Some(Call::Scopes),
+        "set-root" => Some(Call::SetRoot),
+        "set-sources" => Some(Call::SetSources),
+        "set-contents" => Some(Call::SetContents),
+        "set-file" => Some(Call::SetFile),
+        "ignore" => Some(Call::Ignore),
+        "strip" => Some(Call::Strip),
         _ => None,
     }
 }

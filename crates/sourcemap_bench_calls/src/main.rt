@@ -2,9 +2,12 @@
 #![tactic(auto)]
 
 mod call;
+mod encoding;
 mod indexes;
 mod paths;
 mod references;
+mod scopes;
+mod setters;
 mod tables;
 mod views;
 
@@ -14,12 +17,13 @@ use std::alloc::Global;
 use std::env;
 use std::io::Read;
 use std::process::ExitCode;
+use std::rt::Files;
 
 const USAGE: &str =
-    "usage: walk | view | locate | locate-reader | locate-view | resolve | resolve-path | relative | prefix | data-url | embedded | detect | detect-reader | builder | intern | bundle | nest";
+    "usage: walk | view | locate | locate-reader | locate-view | resolve | resolve-path | relative | prefix | data-url | embedded | detect | detect-reader | builder | intern | bundle | nest | encode | encode-in-parts | to-data-url | flatten-and-rewrite | slices | scopes | set-root | set-sources | set-contents | set-file | ignore | strip";
 
-// Prints a size of the result, so that the call is not optimised away.
-fn size_of(alloc: Global, call: Call, bytes: &[u8]) -> Result<usize> {
+// Returns a size of the result of a call. `main` prints it, so that the call is not optimised away.
+fn size_of<F: Files>(rt: &F, alloc: Global, call: Call, bytes: &[u8]) -> Result<usize> {
     match call {
         Call::Walk => views::walked(alloc, bytes),
         Call::View => views::viewed(alloc, bytes),
@@ -37,7 +41,19 @@ fn size_of(alloc: Global, call: Call, bytes: &[u8]) -> Result<usize> {
         Call::Builder => tables::built(alloc, bytes),
         Call::Intern => tables::interned(alloc, bytes),
         Call::Bundle => tables::modules(bytes),
-        Call::Nest => indexes::nested(alloc, bytes),
+        Call::Nest => indexes::count_nested_tokens(alloc, bytes),
+        Call::Encode => encoding::count_encoded(alloc, bytes),
+        Call::EncodeInParts => encoding::count_encoded_in_parts(alloc, bytes),
+        Call::ToDataUrl => encoding::measure_data_url(alloc, bytes),
+        Call::FlattenAndRewrite => indexes::flatten_and_rewrite(rt, alloc, bytes),
+        Call::Slices => views::sliced(alloc, bytes),
+        Call::Scopes => scopes::name_size(alloc, bytes),
+        Call::SetRoot => setters::set_root(alloc, bytes),
+        Call::SetSources => setters::set_sources(alloc, bytes),
+        Call::SetContents => setters::set_contents(alloc, bytes),
+        Call::SetFile => setters::set_file(alloc, bytes),
+        Call::Ignore => setters::ignore(alloc, bytes),
+        Call::Strip => setters::strip(alloc, bytes),
     }
 }
 
@@ -50,7 +66,7 @@ fn main(rt: HostRuntime) -> Result<ExitCode> {
     };
     let mut bytes = Vec::new(alloc);
     rt.reader().read_to_end(&mut bytes)?;
-    match size_of(alloc, call, bytes.as_slice()) {
+    match size_of(&rt, alloc, call, bytes.as_slice()) {
         Ok(size) => {
             println!(rt; "{size}")?;
             Ok(ExitCode::SUCCESS)

@@ -31,3 +31,21 @@ pub fn viewed(alloc: Global, bytes: &[u8]) -> Result<usize> {
     }
     Ok(size)
 }
+
+// The bytes of the second eighth of a line, its columns counted by the bytes of the line.
+fn slice_size(view: &SourceView, line: u32) -> usize {
+    let length = view.get_line(line).map_or(0, |text| text.len());
+    let eighth = u32::try_from(length / 8).unwrap_or(u32::MAX);
+    let slice = view.get_line_slice(line, eighth, eighth);
+    slice.map_or(0, |text| text.len())
+}
+
+/// The number of lines of a text plus the bytes of the second eighth of each.
+pub fn sliced(alloc: Global, bytes: &[u8]) -> Result<usize> {
+    let view = SourceView::new(alloc, str::from_utf8(bytes)?)?;
+    let mut size = view.line_count();
+    for line in 0..u32::try_from(view.line_count()).unwrap_or(u32::MAX) {
+        size = size.wrapping_add(slice_size(&view, line));
+    }
+    Ok(size)
+}

@@ -9,18 +9,17 @@ use sourcemap::{SourceMap, SourceView};
 // No function of the timed texts has this name, so no walk ends early.
 const ABSENT_NAME: &str = "nameOfNoFunction";
 
-// Adds a number to a checksum.
-fn mixed(sum: u32, number: u32) -> u32
+fn add_to_sum(sum: u32, number: u32) -> u32
     ensures { result ≡ mixed sum number }
 {
     ((31 * u64::from(sum) + u64::from(number)) % (1 << 32)) as u32
 }
 
 // Counts above 4294967295 are taken as 4294967295.
-fn counted(sum: u32, count: usize) -> u32
+fn add_count(sum: u32, count: usize) -> u32
     ensures { result ≡ counted sum count }
 {
-    mixed(sum, u32::try_from(count).unwrap_or(u32::MAX))
+    add_to_sum(sum, u32::try_from(count).unwrap_or(u32::MAX))
 }
 
 /// Adds the lengths of the lines of a view to a checksum, in order, up to line 4294967295.
@@ -29,7 +28,7 @@ pub fn line_sum(view: &SourceView, start: u32) -> u32
 {
     let mut sum = start;
     for line in view.lines() {
-        sum = counted(sum, line.len());
+        sum = add_count(sum, line.len());
     }
     sum
 }
@@ -44,13 +43,13 @@ fn name_worth(name: Option<&str>) -> u32
     }
 }
 
-fn guessed(map: &SourceMap, view: &SourceView, sum: u32, position: (u32, u32)) -> u32
+fn add_guess(map: &SourceMap, view: &SourceView, sum: u32, position: (u32, u32)) -> u32
     ensures { result
         ≡ mixed sum (name_worth (function_name map.now view.now absent_name position)) }
 {
     let (line, column) = position;
     let name = map.get_original_function_name(line, column, ABSENT_NAME, view);
-    mixed(sum, name_worth(name))
+    add_to_sum(sum, name_worth(name))
 }
 
 /// Adds the guesses for that name at these positions to a checksum.
@@ -59,7 +58,7 @@ pub fn name_sum(map: &SourceMap, view: &SourceView, positions: &[(u32, u32)], st
 {
     let mut sum = start;
     for position in positions {
-        sum = guessed(map, view, sum, *position);
+        sum = add_guess(map, view, sum, *position);
     }
     sum
 }

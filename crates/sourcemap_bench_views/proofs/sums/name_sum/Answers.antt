@@ -10,4 +10,4 @@ loop-position-preserved c =
     let i = c.loop-position.position-index in
     let p = get_or c.args.positions.now i (0, 0) in
     rw (take_more c.args.positions.now i (0, 0) (omega arith), fold-append)
-    (c.guessed-sum.ensures ∙ ap (λ sum. mixed sum (name_worth (function_name c.args.map.now c.args.view.now absent_name p))) c.loop-position.invariant)
+    (c.add_guess-sum.ensures ∙ ap (λ sum. mixed sum (name_worth (function_name c.args.map.now c.args.view.now absent_name p))) c.loop-position.invariant)

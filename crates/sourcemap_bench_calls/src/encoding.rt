@@ -1,0 +1,56 @@
+//! Maps that are written.
+
+use sourcemap::encoder::{encode_in_parts, encode_to};
+use sourcemap::{DecodedMap, Error, Result, SourceMap, decode_slice};
+use std::alloc::Global;
+use std::io;
+use std::io::Write;
+
+// Counts the bytes that are written, and keeps none.
+#[derive(Drop)]
+struct Counter {
+    size: usize,
+}
+
+impl Write for Counter {
+    fn write(&mut self, buf: &[u8]) -> io::Result<usize> {
+        self.size = self.size.wrapping_add(buf.len());
+        Ok(buf.len())
+    }
+
+    fn flush(&mut self) -> io::Result<()> {
+        Ok(())
+    }
+}
+
+// A regular map, or an index map flattened.
+fn flat_map(alloc: Global, bytes: &[u8]) -> Result<SourceMap> {
+    match decode_slice(alloc, bytes)? {
+        DecodedMap::Regular(map) => Ok(map),
+        DecodedMap::Index(index) => index.flatten(),
+        DecodedMap::Hermes(_) => Err(Error::IncompatibleSourceMap),
+    }
+}
+
+/// The number of bytes that `encode_to` writes.
+pub fn count_encoded(alloc: Global, bytes: &[u8]) -> Result<usize> {
+    let map = flat_map(alloc, bytes)?;
+    let mut counter = Counter { size: 0 };
+    encode_to(alloc, &map, &mut counter)?;
+    Ok(counter.size)
+}
+
+/// The number of bytes that `encode_in_parts` writes.
+pub fn count_encoded_in_parts(alloc: Global, bytes: &[u8]) -> Result<usize> {
+    let map = flat_map(alloc, bytes)?;
+    let mut counter = Counter { size: 0 };
+    encode_in_parts(alloc, &map, &mut counter)?;
+    Ok(counter.size)
+}
+
+/// The length of the map as a data URL.
+pub fn measure_data_url(alloc: Global, bytes: &[u8]) -> Result<usize> {
+    let map = flat_map(alloc, bytes)?;
+    let url = map.to_data_url()?;
+    Ok(url.len())
+}
