@@ -56,7 +56,7 @@ unnamed f (x ∷ xs) zero h = cc
 unnamed f (x ∷ xs) (suc i) h = let rest = unnamed f xs i h in omega arith
 
 module _ (removal : Removal) (h : HermesValue) (few : length h.map.sources ≤ 4294967295) where
-  few_ids : length (first_ids h.map) ≤ 4294967295
+  pub few_ids : length (first_ids h.map) ≤ 4294967295
   few_ids =
       let many : length (first_ids h.map) ≡ length (used_sources h.map) =
       length-map (kept_of (resolved_sources h.map) (map (λ t. t.src_id) h.map.tokens)) (first_of (resolved_sources h.map) (map (λ t. t.src_id) h.map.tokens))

@@ -1,10 +1,10 @@
 -- A Hermes map as contracts see it: a regular map, and the scopes of its sources.
-use Rattle.std.specs.Prelude.{ℕ, ◌≤◌, List, length, Option, option_and_then}
+use Rattle.std.specs.Prelude.{ℕ, List, Option, option_and_then}
 use Rattle.std.specs.Borrow.{Lends, MutBor, Fml}
 use Rattle.sourcemap_map_regular.specs.Map.{MapValue, TokenValue, says, lookup, IsWellFormed as IsWellFormedRegular}
 use Rattle.sourcemap_map_regular.specs.contracts.map.SourceMap.{the_row as map_row}
-use Rattle.sourcemap_hermes_scopes.specs.ScopeLists.{ScopeEntry}
 use Rattle.sourcemap_hermes_scopes.specs.SourceScopes.{SourceScopesValue, AreOfEntries, scope_at}
+pub use Rattle.sourcemap_hermes_scopes.specs.SourceScopes.{AreFewScopes}
 use Rattle.sourcemap_hermes.specs.contracts.map.SourceMapHermes.{the_row as hermes_row}
 use Rattle.sourcemap_hermes.specs.declared.map.SourceMapHermes.{SourceMapHermes}
 
@@ -15,10 +15,6 @@ pub record HermesValue : Type 0 where
 
 abbrev pub hermes_value : SourceMapHermes → HermesValue
 hermes_value h = record { map = h.sm; scopes = h.scopes }
-
--- there are no more entries than source ids
-abbrev pub AreFewScopes : List ScopeEntry → Type 0
-AreFewScopes entries = length entries ≤ 4294967295
 
 -- the regular map is well-formed, the scopes are few, and the function maps are those of the entries
 pub record IsWellFormed (h : HermesValue) : Type 0 where

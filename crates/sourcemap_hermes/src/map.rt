@@ -1,5 +1,5 @@
 //! A Hermes map: a regular map with the scopes of its sources.
-ghost use Rattle.std.specs.Prelude.{◌≡◌, IfSome};
+ghost use Rattle.std.specs.Prelude.{◌≡◌, IfSome, length};
 ghost use Rattle.std.specs.Option.{option_copied};
 
 use sourcemap_hermes_scopes::source_scopes::SourceScopes;
@@ -15,8 +15,18 @@ pub struct SourceMapHermes {
 
 impl SourceMapHermes {
     ghost use Rattle.sourcemap_map_regular.specs.Token.{token_value, lookup};
-    ghost use Rattle.sourcemap_hermes_scopes.specs.SourceScopes.{IsInOrderAt};
+    ghost use Rattle.sourcemap_hermes_scopes.specs.SourceScopes.{AreFewScopes, AreOfEntries, IsInOrderAt};
     ghost use Rattle.sourcemap_hermes.specs.Map.{hermes_value, function_name, token_scope};
+
+    /// The number of entries for scopes, by source id: a source whose id is not below it has no
+    /// scopes. An entry may be empty. Each function map is the one that its entry encodes.
+    pub fn scope_count(&self) -> u32
+        ensures count { result ≡ length (hermes_value self.now).scopes.entries }
+        ensures few { AreFewScopes (hermes_value self.now).scopes.entries }
+        ensures of_entries { AreOfEntries (hermes_value self.now).scopes }
+    {
+        self.scopes.count()
+    }
 
     /// The name of the function that contains a token's original position. For a range token that
     /// was looked up, the column is as far after the token's as the lookup was. `None` where the

@@ -1,5 +1,5 @@
 -- Items taken out of a list by their ids.
-use Rattle.std.proofs.Common.{◌≡◌, ◌≢◌, ℕ, zero, suc, List, [], ◌∷◌, ◌++◌, false, nat_eq, None, Option, option_map, option_and_then, map, slice_get, slice_set, sym, ap, ap₂, ◌∙◌, refl, append_assoc, arith}
+use Rattle.std.proofs.Common.{◌≡◌, ◌≢◌, ℕ, zero, suc, List, [], ◌∷◌, ◌++◌, false, nat_eq, None, Option, option_map, option_and_then, length, map, slice_get, slice_set, sym, ap, ap₂, ◌∙◌, refl, append_assoc, arith}
 use Rattle.std.specs.List.{IsDistinct, AllByRecursion}
 use Rattle.std.proofs.lemmas.Bool.Decides.{nat_tests}
 use Rattle.std.proofs.lemmas.List.{map-set}
@@ -28,6 +28,12 @@ unfolding IsDistinct
 moved-distinct items [] distinct = refl
 moved-distinct items (id ∷ ids) distinct =
     ap (λ rest. item_at items id ∷ rest) (moved-distinct (slice_set items id None) ids distinct.1 ∙ left_as_it_was items id ids distinct.0)
+
+-- As many as ids.
+
+pub moved-length : {X : Type 0} (items : List (Option X)) (ids : List ℕ) → length (moved_items items ids) ≡ length ids
+moved-length items [] = refl
+moved-length items (id ∷ ids) = ap suc (moved-length (slice_set items id None) ids)
 
 -- Items under a function.
 

@@ -1,5 +1,5 @@
 -- Scopes of sources: function maps are determined, entries and function maps are selected together, equality is decided.
-use Rattle.std.proofs.Common.{◌≡◌, ℕ, zero, suc, List, [], ◌∷◌, map, nat_eq, slice_set, Option, Some, None, Vec, sym, ap, ap₂, ◌∙◌, subst, refl}
+use Rattle.std.proofs.Common.{◌≡◌, ◌≤◌, ℕ, zero, suc, List, [], ◌∷◌, length, map, nat_eq, slice_set, Option, Some, None, Vec, sym, ap, ap₂, ◌∙◌, subst, refl}
 use Rattle.std.specs.Bool.{Decides}
 use Rattle.std.specs.Cmp.Lexicographic.{pointwise_decides}
 use Rattle.std.specs.List.{AllZip, IsDistinct}
@@ -11,10 +11,10 @@ use Rattle.sourcemap_records.specs.declared.jsontypes.FacebookScopeMapping.{Face
 use Rattle.sourcemap_tokens.specs.Items.{item_at}
 use Rattle.sourcemap_hermes_scopes.specs.Picks.{moved_items}
 use Rattle.sourcemap_hermes_scopes.specs.ScopeLists.{ScopeEntry, EntryStandsFor, ScopesStandFor, entry_in, list_in, first_scopes, same_scopes}
-use Rattle.sourcemap_hermes_scopes.specs.SourceScopes.{SourceScopesValue, AreOfEntries, picked_scopes, same_source_scopes}
+use Rattle.sourcemap_hermes_scopes.specs.SourceScopes.{SourceScopesValue, AreFewScopes, AreOfEntries, picked_scopes, same_source_scopes}
 use Rattle.sourcemap_hermes_scopes.specs.declared.offsets.HermesScopeOffset.{HermesScopeOffset}
 use Rattle.sourcemap_hermes_scopes.proofs.FunctionMapLemmas.{offsets_decide}
-use Rattle.sourcemap_hermes_scopes.proofs.PicksLemmas.{moved-distinct, moved-map}
+use Rattle.sourcemap_hermes_scopes.proofs.PicksLemmas.{moved-distinct, moved-length, moved-map}
 use Rattle.sourcemap_hermes_scopes.proofs.OffsetsAnswers.{StandsFor-same}
 
 -- One list of function maps.
@@ -71,6 +71,9 @@ module _ (entries kept : List (Option (Vec FacebookScopeMapping Global))) (maps 
   stored_moved all =
       subst (λ es. AllZip EntryStandsFor es kept_maps) (sym seen)
       (subst (λ ms. AllZip EntryStandsFor (moved_items (map entry_in entries) ids) ms) (sym are_kept) (all_moved (map entry_in entries) maps ids all))
+
+  pub stored_few : length ids ≤ 4294967295 → AreFewScopes (map entry_in kept)
+  stored_few few = subst (λ (n : ℕ). n ≤ 4294967295) (sym (ap length seen ∙ moved-length (map entry_in entries) ids)) few
 
   pub stored_picked : (scopes : SourceScopesValue) → record { entries = map entry_in entries; function_maps = maps } ≡ scopes → IsDistinct nat_eq ids
       → record { entries = map entry_in kept; function_maps = kept_maps } ≡ picked_scopes scopes ids

@@ -1,5 +1,5 @@
 -- The scopes of the sources of a Hermes map, and the function that contains an original position.
-use Rattle.std.specs.Prelude.{ℕ, List, slice_get, Bool, Option, IfSome, option_map, option_and_then}
+use Rattle.std.specs.Prelude.{ℕ, ◌≤◌, List, length, slice_get, Bool, Option, IfSome, option_map, option_and_then}
 use Rattle.std.specs.Option.{option_eq}
 use Rattle.std.specs.List.{AllZip}
 use Rattle.std.specs.Ordering.{on, eq_of_both}
@@ -17,6 +17,10 @@ use Rattle.sourcemap_hermes_scopes.specs.declared.offsets.HermesScopeOffset.{Her
 pub record SourceScopesValue : Type 0 where
   pub entries : List ScopeEntry
   pub function_maps : List (Option (List HermesScopeOffset))
+
+-- there are no more entries than source ids
+abbrev pub AreFewScopes : List ScopeEntry → Type 0
+AreFewScopes entries = length entries ≤ 4294967295
 
 -- each function map is the one that its entry encodes
 abbrev pub AreOfEntries : SourceScopesValue → Type 0

@@ -10,7 +10,7 @@ ghost use Rattle.sourcemap_hermes_scopes.specs.declared.offsets.HermesScopeOffse
 ghost use Rattle.sourcemap_hermes_scopes.specs.OffsetsSteps.{IsLastOffset, AddsOffsets};
 
 use sourcemap_errors::errors::{Error, Result};
-use sourcemap_mappings::read::cut;
+use sourcemap_mappings::read::split_line;
 use sourcemap_mappings::segment::{Numbers, any_part};
 use std::alloc::Global;
 
@@ -96,7 +96,7 @@ pub(crate) fn read_offsets(alloc: Global, text: &str) -> Result<Vec<HermesScopeO
     let mut last = START;
     let mut lines = Some(text);
     while let Some(text) = lines {
-        let (line, later) = cut(text);
+        let (line, later) = split_line(text);
         last = add_parts(&mut offsets, line.as_bytes(), last)?;
         lines = later;
     }

@@ -1,5 +1,5 @@
 //! The scopes of the sources of a Hermes map, as decoded, with their function maps.
-ghost use Rattle.std.specs.Prelude.{◌≡◌, ℕ, List, Some, Ok, IfOk, IsOkUnless, nat_eq, option_map, slice_get};
+ghost use Rattle.std.specs.Prelude.{◌≡◌, ◌≤◌, ℕ, List, length, Some, Ok, IfOk, IsOkUnless, nat_eq, option_map, slice_get};
 ghost use Rattle.std.specs.Bool.{Decides};
 ghost use Rattle.std.specs.Cmp.{partial_equiv_from_equiv};
 ghost use Rattle.std.specs.Cmp.Lexicographic.{pointwise};
@@ -10,7 +10,7 @@ ghost use Rattle.sourcemap_errors.specs.declared.errors.Error.TheVariants.{OutOf
 ghost use Rattle.sourcemap_hermes_scopes.specs.FunctionMap.{same_offsets};
 ghost use Rattle.sourcemap_tokens.specs.Items.{item_at};
 ghost use Rattle.sourcemap_hermes_scopes.specs.ScopeLists.{entries_in, names_of};
-ghost use Rattle.sourcemap_hermes_scopes.specs.SourceScopes.{SourceScopesValue, AreOfEntries, IsInOrderAt, name_index, picked_scopes, same_source_scopes, same_source_scopes_equiv, scope_at};
+ghost use Rattle.sourcemap_hermes_scopes.specs.SourceScopes.{SourceScopesValue, AreFewScopes, AreOfEntries, IsInOrderAt, name_index, picked_scopes, same_source_scopes, same_source_scopes_equiv, scope_at};
 
 use crate::function_map::{HermesFunctionMap, copy_function_maps, same_function_maps};
 use crate::picks::take_items;
@@ -42,8 +42,9 @@ impl Model for SourceScopes {
 impl SourceScopes {
     /// The scopes of a record, with their function maps. A source's function map is that of the
     /// first scopes of its list. A source with no list, an empty list or invalid mappings has no
-    /// function map. The only error is `OutOfMemory`.
+    /// function map. The only error is `OutOfMemory`. Requires at most 4294967295 lists.
     pub fn new(alloc: Global, entries: ScopeLists) -> Result<SourceScopes>
+        requires { AreFewScopes (entries_in entries) }
         ensures entries { IfOk result (λ scopes. scopes.entries ≡ entries_in entries) }
         ensures function_maps { IfOk result AreOfEntries }
         ensures memory { IsOkUnless result OutOfMemory }
@@ -53,6 +54,15 @@ impl SourceScopes {
             entries,
             function_maps,
         })
+    }
+
+    /// The number of entries: a source whose id is not below it has no scopes.
+    pub fn count(&self) -> u32
+        ensures count { result ≡ length self.now.entries }
+        ensures few { AreFewScopes self.now.entries }
+        ensures function_maps { AreOfEntries self.now }
+    {
+        self.entries.len() as u32
     }
 
     fn name_index(&self, source: u32, line: u32, col: u32) -> Option<u32>
@@ -91,8 +101,10 @@ impl SourceScopes {
     }
 
     /// The scopes of the sources with these ids, in this order, moved and not copied. A source has
-    /// none if its id has none, or occurs earlier in `ids`. The only error is `OutOfMemory`.
+    /// none if its id has none, or occurs earlier in `ids`. The only error is `OutOfMemory`. Requires
+    /// at most 4294967295 ids.
     pub fn select(self, alloc: Global, ids: &[u32]) -> Result<SourceScopes>
+        requires { length ids.now ≤ 4294967295 }
         ensures select { IsDistinct nat_eq ids.now
             → IfOk result (λ scopes. scopes ≡ picked_scopes self ids.now) }
         ensures memory { IsOkUnless result OutOfMemory }

@@ -69,7 +69,6 @@ fn digits(text: &[u8], from: usize) -> Result<(u64, usize), Stop>
     Ok((value, at))
 }
 
-// The value of the digit at `at`.
 #[inline(always)]
 fn digit_at(text: &[u8], at: usize) -> Option<u64>
     ensures byte { IfSome result (λ digit. head (drop at text.now) ≡ 48 + digit) }

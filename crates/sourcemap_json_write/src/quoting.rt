@@ -135,7 +135,6 @@ fn store_pair(buffer: &mut [u8], to: usize, letter: u8)
     store_byte(buffer, to + 1, letter);
 }
 
-// Appends the escape of a byte.
 #[inline(always)]
 fn put_escape(out: &mut Vec<u8>, byte: u8) -> Result<(), AllocError>
     requires { is_stop byte ≡ true }

@@ -76,7 +76,6 @@ impl LineIndex {
         Ok(())
     }
 
-    // A copy of the table. The only error is out of memory.
     pub(crate) fn duplicate(&self, alloc: Global) -> Result<LineIndex>
         ensures { Gives (λ table. table) result (Ok self.now) }
     {

@@ -168,7 +168,6 @@ impl TokenList {
     }
 }
 
-// An optional index, with the token at that index.
 #[inline(always)]
 fn with_token(tokens: &[RawToken], index: Option<usize>) -> Option<(usize, RawToken)>
     requires { IfSome index (λ at. at < length tokens.now) }

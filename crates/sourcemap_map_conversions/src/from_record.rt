@@ -76,7 +76,7 @@ pub fn parts_of_record(alloc: Global, rsm: RawSourceMap) -> Result<Parts>
     }
     let sources = lists.sources.len() as u32;
     let names = lists.names.len() as u32;
-    // prover: `match` in place of `?`
+    // prover: `match` instead of `?`
     match token_list(alloc, texts, sources, names) {
         Err(error) => Err(error),
         Ok(tokens) => parts_with(alloc, metadata, lists, tokens),
@@ -115,7 +115,6 @@ fn have_few_items(lists: &RecordLists) -> bool
     names & sources & contents
 }
 
-// Consumes the texts.
 fn token_list(alloc: Global, texts: RecordTexts, sources: u32, names: u32) -> Result<TokenList>
     ensures answer { IsAnswer (λ list. list)
         (MappingsAnswer (string_bytes texts.mappings) (string_bytes texts.ranges)

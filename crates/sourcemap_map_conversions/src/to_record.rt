@@ -86,13 +86,13 @@ pub fn record_of(
     ensures rising { IsStrictlySortedBy nat_cmp metadata.now.ignored }
 {
     // prover: ids are sorted
-    let _ = metadata.ignored();
+    let _ = metadata.ignore_list();
     let texts = token_texts(alloc, tokens.as_slice(), names.len() as u32)?;
     let others = OtherParts {
         metadata: metadata.clone(alloc)?,
         names: copy_texts(alloc, names)?,
         root: copy_text(alloc, sources.root())?,
-        sources: copy_texts(alloc, sources.given())?,
+        sources: copy_texts(alloc, sources.unresolved())?,
         contents: contents.texts()?,
     };
     record_of_texts(alloc, texts, others)
@@ -112,7 +112,7 @@ pub fn into_record(alloc: Global, parts: Parts) -> Result<RawSourceMap>
         contents,
     } = parts;
     let contents = contents.into_texts()?;
-    let (root, sources) = sources.into_given();
+    let (root, sources) = sources.into_unresolved();
     let others = OtherParts {
         metadata,
         names,
@@ -142,7 +142,6 @@ fn token_texts(alloc: Global, tokens: &[RawToken], names: u32) -> Result<TokenTe
     Ok(TokenTexts { mappings, ranges })
 }
 
-// Consumes the tokens.
 fn into_token_texts(alloc: Global, tokens: TokenList, names: u32) -> Result<TokenTexts>
     ensures texts { IfOk result (AreWritten names tokens) }
     ensures memory { IfErr result (λ e. e ≡ OutOfMemory) }

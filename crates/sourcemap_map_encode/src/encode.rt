@@ -32,9 +32,8 @@ use std::io::Write;
 /// Writes a map as compact JSON, the same bytes as `encode_to`, to a borrowed writer.
 ///
 /// The text is never in memory as a whole: it is written in pieces of some 16 KB, and a longer
-/// string of the map in a piece of its own. A map with a `sourceRoot` is copied while its sources
-/// are written. After an error, which is `OutOfMemory` or the writer's `Io`, the writer may hold any
-/// part of the text.
+/// string of the map in a piece of its own. After an error, which is `OutOfMemory` or the writer's
+/// `Io`, the writer may hold any part of the text.
 pub fn encode_in_parts<W: Write>(alloc: Global, map: &SourceMap, writer: &mut W) -> Result<()>
     ensures written { OnOk result ((text : List ℕ) × IsEncoded (RecordAnswer map.now) text
         × Appends (W.contents writer.old) (W.contents writer.new) text) }
@@ -222,8 +221,6 @@ fn put_sources<W: Write>(
     put_contents(alloc, writer, buffer, map)
 }
 
-// Writes the sources unresolved. A map returns them unresolved only without a `sourceRoot`, so a map
-// with one is copied and loses it.
 fn put_unresolved_sources<W: Write>(
     alloc: Global,
     writer: &mut W,
@@ -236,28 +233,7 @@ fn put_unresolved_sources<W: Write>(
     ensures is_plain { OnOk result (IsPlainValue (written_list string map.now.sources)) }
     ensures error { IfErr result (λ e. UnlessMemory e (IsIo e)) }
 {
-    let Some(_root) = map.get_source_root() else {
-        return put_rootless_sources(alloc, writer, buffer, map);
-    };
-    let mut copy = map.clone()?;
-    copy.set_source_root(None)?;
-    put_rootless_sources(alloc, writer, buffer, &copy)
-}
-
-fn put_rootless_sources<W: Write>(
-    alloc: Global,
-    writer: &mut W,
-    buffer: &mut String,
-    map: &SourceMap,
-) -> Result<()>
-    requires { map.now.root ≡ None }
-    ensures text { OnOk result (Grows (W.contents writer.old) (string_bytes buffer.old)
-        (W.contents writer.new) (string_bytes buffer.new)
-        (compact_text (written_list string map.now.sources))) }
-    ensures is_plain { OnOk result (IsPlainValue (written_list string map.now.sources)) }
-    ensures error { IfErr result (λ e. UnlessMemory e (IsIo e)) }
-{
-    put_texts(alloc, writer, buffer, map.lists().sources)
+    put_texts(alloc, writer, buffer, map.unresolved_sources())
 }
 
 fn has_contents(map: &SourceMap) -> bool

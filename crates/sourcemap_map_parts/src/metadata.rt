@@ -125,7 +125,7 @@ impl MapMetadata {
     }
 
     /// The source ids on the ignore list, in increasing order.
-    pub fn ignored(&self) -> &BTreeSet<u32>
+    pub fn ignore_list(&self) -> &BTreeSet<u32>
         ensures ids { result.now.keys ≡ self.now.ignored }
         ensures rising { IsStrictlySortedBy nat_cmp self.now.ignored }
     {

@@ -117,7 +117,7 @@ impl Sources {
     }
 
     /// All sources without the root.
-    pub fn given(&self) -> &[String]
+    pub fn unresolved(&self) -> &[String]
         ensures texts { map string_bytes result.now ≡ self.now.texts }
         ensures few { length result.now ≤ 4294967295 }
     {
@@ -168,7 +168,7 @@ impl Sources {
     }
 
     /// The root, and the sources without it.
-    pub fn into_given(self) -> (Option<String>, Vec<String>)
+    pub fn into_unresolved(self) -> (Option<String>, Vec<String>)
         ensures root { option_map string_bytes result.0 ≡ self.root }
         ensures texts { texts_of result.1 ≡ self.texts }
         ensures few { vec_len result.1 ≤ 4294967295 }
@@ -244,7 +244,6 @@ fn without_slash(text: &str) -> &str
     }
 }
 
-// One source, resolved against the root.
 fn resolve(alloc: Global, root: &str, source: &str) -> Result<String>
     ensures { Gives string_bytes result (Ok (resolved_against root.now source.now)) }
 {

@@ -14,7 +14,7 @@ pub use Rattle.sourcemap_map_conversions.specs.ToRecord.{written_contents, writt
 abbrev pub record_with : MapValue → List ℕ → Option (List ℕ) → Fields
 record_with m mappings ranges = parts_written (parts_in m) mappings ranges
 
--- the tree is the record of the map
+-- the tree is the record of the map, with a `mappings` and a `rangeMappings` text of its tokens
 abbrev pub IsRecordOf : MapValue → Tree → Type 0
 IsRecordOf m t =
     (mappings : List ℕ) × (ranges : Option (List ℕ))

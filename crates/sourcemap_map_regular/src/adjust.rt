@@ -19,9 +19,10 @@ impl SourceMap {
     /// are `IncompatibleSourceMap` if a token moves beyond column 4294967295, and `OutOfMemory`; they
     /// leave the map unchanged.
     ///
-    /// A position that is moved keeps its meaning if the map is well-formed, its tokens have distinct
-    /// generated positions, the token closest to the position is on its line, and no other pair of
-    /// tokens of both maps leads to the new position.
+    /// A position that a stretch of `adjustment` moves keeps its meaning if the map is well-formed, no
+    /// two of its tokens have one generated position, the token closest to the position is on its
+    /// line, and no other stretch gives a token from the moved start of this stretch up to the moved
+    /// position.
     pub fn adjust_mappings(&mut self, adjustment: &SourceMap) -> Result<()>
         ensures value { Gives (λ _. self.new) result (adjusted self.old adjustment.now) }
         ensures unchanged { OnErr result (self.new ≡ self.old) }

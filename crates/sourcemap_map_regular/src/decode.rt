@@ -28,7 +28,7 @@ pub fn decode_regular(alloc: Global, rsm: RawSourceMap) -> Result<SourceMap>
         → RecordDecodes (flat (tree rsm)) due → Gives (λ m. m) result due }
     ensures well_formed { IfOk result IsWellFormed }
 {
-    // prover: match in place of `?`
+    // prover: `match` instead of `?`
     match parts_of_record(alloc, rsm) {
         Err(error) => Err(error),
         Ok(parts) => Ok(map_of(parts)),

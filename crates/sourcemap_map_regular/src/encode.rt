@@ -12,7 +12,7 @@ use sourcemap_map_conversions::parts::Parts;
 use sourcemap_map_conversions::to_record::{into_record, record_of};
 use sourcemap_records::jsontypes::RawSourceMap;
 
-/// A map that can be encoded as a record.
+/// Encoding as a record, by each kind of map.
 pub trait Encodable {
     ghost use Rattle.std.specs.Prelude.{Result};
     ghost use Rattle.sourcemap_errors.specs.declared.errors.Error.{Error};
@@ -69,7 +69,7 @@ impl SourceMap {
     {
         // prover: there are at most 4294967295 sources, and the ignore list is sorted
         let _ = self.sources.len();
-        let _ = self.metadata.ignored();
+        let _ = self.metadata.ignore_list();
         let alloc = self.allocator();
         into_record(alloc, self.into_parts())
     }

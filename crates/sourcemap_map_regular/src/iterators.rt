@@ -206,7 +206,7 @@ impl SourceMap {
         ensures rising { IsStrictlySortedBy nat_cmp (ids_left result) }
     {
         IgnoreListIter {
-            ids: self.metadata.ignored().iter(),
+            ids: self.metadata.ignore_list().iter(),
         }
     }
 }

@@ -1,4 +1,5 @@
 //! Borrows all lists of a map for bulk iteration.
+ghost use Rattle.std.specs.Prelude.{◌≡◌, map, string_bytes};
 
 use crate::map::SourceMap;
 use sourcemap_source_views::sourceview::SourceView;
@@ -34,7 +35,14 @@ impl SourceMap {
             names: self.names.as_slice(),
             sources: self.sources.resolved(),
             contents: self.contents.as_slice(),
-            ignored: self.metadata.ignored(),
+            ignored: self.metadata.ignore_list(),
         }
+    }
+
+    /// Borrows the sources as they are written, not resolved against `sourceRoot`, indexed by id.
+    pub fn unresolved_sources(&self) -> &[String]
+        ensures { map string_bytes result.now ≡ self.now.sources }
+    {
+        self.sources.unresolved()
     }
 }

@@ -191,10 +191,10 @@ fn position_text(line: u32, column: u32, buffer: &mut [u8; POSITION_LENGTH]) -> 
 }
 
 impl fmt::Display for Token<'_> {
-    ghost use Rattle.std.specs.Prelude.{Some as Known};
+    ghost use Rattle.std.specs.Prelude.{Some as Stated};
     ghost use Rattle.sourcemap_map_regular.specs.Token.{meaning_of_token, token_text};
 
-    ghost output = { λ token. Known (token_text (meaning_of_token token)) };
+    ghost output = { λ token. Stated (token_text (meaning_of_token token)) };
 
     /// `source:line:column`, with `<unknown>` for no source, and ` name=NAME` if there is a name. The
     /// alternate form adds ` (line:column)`, the generated position, and ` (range)` for a range token.

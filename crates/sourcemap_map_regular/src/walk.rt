@@ -18,7 +18,7 @@ impl<'a> WalkedToken for Token<'a> {
 
     ghost seen = { token_value };
 
-    ghost place_of = { position_of };
+    ghost position_value = { position_of };
 
     ghost name_of = { name_of };
 
@@ -26,7 +26,7 @@ impl<'a> WalkedToken for Token<'a> {
 
     ghost before = { λ token. tokens_before (token_value token).map_of (token_value token).index };
 
-    fn place(&self) -> (u32, u32) {
+    fn generated_position(&self) -> (u32, u32) {
         self.get_dst()
     }
 

@@ -3,11 +3,11 @@ use Rattle.std.specs.Prelude.{◌≡◌, ℕ, ◌<◌, Bool, false, ◌==◌, co
 use Rattle.sourcemap_tokens.specs.Items.{item_at}
 use Rattle.sourcemap_map_rewrite.specs.Numbering.{first_some}
 
--- the new number of `id` is this one
+-- the new id of the item with the old id `id` is `number`
 abbrev pub has_number : List ℕ → ℕ → ℕ → Bool
 has_number numbers number id = unwrap_or (option_map (λ n. n == number) (slice_get numbers id)) false
 
--- the contents of the old number `id`, if its new number is this one
+-- the contents of the item with the old id `id`, if its new id is `number`
 abbrev pub contents_with_number : List ℕ → List (Option (List ℕ)) → ℕ → ℕ → Option (List ℕ)
 contents_with_number numbers contents number id = cond (has_number numbers number id) (item_at contents id) None
 

@@ -76,7 +76,7 @@ fn with_one_more(mut texts: Vec<String>, text: Option<String>) -> Result<Vec<Str
     Ok(texts)
 }
 
-fn cut(alloc: Global, text: &mut String, prefixes: &[String]) -> Result<()>
+fn cut_text(alloc: Global, text: &mut String, prefixes: &[String]) -> Result<()>
     ensures ok { OnOk result
         (string_bytes text.new ≡ without_prefix (map string_bytes prefixes.now) (string_bytes text.old)) }
     ensures memory { IsOkUnless result OutOfMemory }
@@ -93,7 +93,7 @@ fn cut_all(alloc: Global, texts: &mut [String], prefixes: &[String]) -> Result<(
     ensures memory { IsOkUnless result OutOfMemory }
 {
     for text in texts.iter_mut() {
-        cut(alloc, text, prefixes)?;
+        cut_text(alloc, text, prefixes)?;
     }
     Ok(())
 }

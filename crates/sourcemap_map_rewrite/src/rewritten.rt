@@ -17,7 +17,6 @@ use sourcemap_source_views::sourceview::SourceView;
 use std::alloc::Global;
 use std::rt::Files;
 
-// The sources resolved against `sourceRoot`.
 fn resolved_sources<'a>(rooted: &'a Option<Vec<String>>, sources: &'a Vec<String>) -> &'a [String]
     ensures { map string_bytes result.now ≡ texts_of (unwrap_or rooted.now sources.now) }
 {

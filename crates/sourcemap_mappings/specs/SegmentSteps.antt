@@ -48,14 +48,14 @@ abbrev pub error_in_part : Error → Error
 error_in_part (InvalidBase64 c) = if c == comma then VlqLeftover else InvalidBase64 c
 error_in_part e = e
 
--- the sums over all lines, after some segments
+-- the sums that do not restart at a line, after these segments: source, line, source column and name
 pub record AreTextSums (segments : List Segment) (sums : Sums) : Type 0 where
   pub source : sums.source ≡ sum_at 1 segments
   pub line : sums.line ≡ sum_at 2 segments
   pub source_column : sums.source_column ≡ sum_at 3 segments
   pub name : sums.name ≡ sum_at 4 segments
 
--- the sums after the segments `before` of earlier lines and `here` of this line
+-- all sums after the segments `before` of earlier lines and `here` of this line; that of columns restarts at each line
 pub record AreSums (before here : List Segment) (sums : Sums) : Type 0 where
   pub column : sums.column ≡ sum_at 0 here
   pub text : AreTextSums (before ++ here) sums

@@ -43,7 +43,7 @@ const START: Sums = Sums {
 /// Splits off the first line of a text. Returns it without its `;`, and the text after the `;` if
 /// there is one.
 #[inline]
-pub fn cut(text: &str) -> (&str, Option<&str>)
+pub fn split_line(text: &str) -> (&str, Option<&str>)
     ensures split { lines_of text.now ≡ result.0.now ∷ lines_left result.1 }
     ensures shorter { option_map_or (λ rest. length rest.now + 1) result.1 0 ≤ length text.now }
 {
@@ -193,7 +193,7 @@ fn next_bits(ranges: Option<&str>) -> (&str, Option<&str>)
         ≡ (line, result.0.now) ∷ beside lines (lines_left result.1) }
 {
     match ranges {
-        Some(text) => cut(text),
+        Some(text) => split_line(text),
         None => ("", None),
     }
 }
@@ -233,7 +233,7 @@ fn read_lines(alloc: Global, mappings: &str, ranges: &str, limits: Limits) -> Re
     let mut ranges = Some(ranges);
     let mut number = 0;
     while let Some(text) = lines {
-        let (line, later) = cut(text);
+        let (line, later) = split_line(text);
         let (bits, later_bits) = next_bits(ranges);
         let first = tokens.len();
         sums = add_line(

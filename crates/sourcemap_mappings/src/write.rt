@@ -304,8 +304,8 @@ fn range_text(alloc: Global, tokens: &[RawToken]) -> Result<String>
     Ok(text)
 }
 
-/// A law: tokens have exactly one encoding as `mappings`, for a number of names, and exactly one as
-/// `rangeMappings`.
+/// A law: a list of tokens has exactly one `mappings` text, for a given count of names, and exactly
+/// one `rangeMappings` text.
 pub fn written_texts_are_determined()
     ensures one_text { (names : ℕ) (tokens : List RawToken) (a b : List ℕ)
         → IsWritten names tokens a → IsWritten names tokens b → a ≡ b }

@@ -17,8 +17,8 @@ four (Some a) (Some b) None d make k = refl
 four (Some a) (Some b) (Some c) None make k = refl
 four (Some a) (Some b) (Some c) (Some d) make k = refl
 
-abbrev heading_made : Option ℕ → Option Data → Option (List (Option (List ℕ))) → Option (List ℕ) → FileKeys
-heading_made version file sources source_root = record { version = version; file = file; sources = sources; source_root = source_root }
+abbrev file_keys_made : Option ℕ → Option Data → Option (List (Option (List ℕ))) → Option (List ℕ) → FileKeys
+file_keys_made version file sources source_root = record { version = version; file = file; sources = sources; source_root = source_root }
 
 abbrev content_made : Option (List (Option (List ℕ))) → Option (List Data) → Option (List ℕ) → Option (List ℕ) → ContentKeys
 content_made sources_content names range_mappings mappings =
@@ -33,7 +33,7 @@ pub fields_grouped : (ms : Members)
     ≡ fields_in ms
 fields_grouped ms =
     λ i. with (debug_id_in ms) (λ id.
-    four (at (codes "version") small_number ms) (at (codes "file") any ms) (at (codes "sources") (list (or_null text)) ms) (at (codes "sourceRoot") text ms) heading_made
+    four (at (codes "version") small_number ms) (at (codes "file") any ms) (at (codes "sources") (list (or_null text)) ms) (at (codes "sourceRoot") text ms) file_keys_made
     (λ h. four (at (codes "sourcesContent") (list (or_null text)) ms) (at (codes "names") (list any) ms) (at (codes "rangeMappings") text ms) (at (codes "mappings") text ms) content_made
     (λ c. four (at (codes "ignoreList") (list small_number) ms) (at (codes "x_facebook_offsets") (list (or_null small_number)) ms) (at (codes "x_metro_module_paths") (list text) ms) (at (codes "x_facebook_sources") (list (or_null (list scopes))) ms) extras_made
     (λ x. Some (fields_from h c x id)) i) i) i)
@@ -49,8 +49,8 @@ id_names = codes "debugId" ∷ codes "debug_id" ∷ []
 ids_kept : (a b : Members) → TakesIds a b → KeepsBut id_names a b
 ids_kept a b ids = kept_but_two (codes "debugId") (codes "debug_id") a b ids
 
-pub heading_kept : (a b : Members) → KeepsBut id_names a b → file_keys_in b ≡ file_keys_in a
-heading_kept a b kept = rw (kept (codes "version") refl, kept (codes "file") refl, kept (codes "sources") refl, kept (codes "sourceRoot") refl) refl
+pub file_keys_kept : (a b : Members) → KeepsBut id_names a b → file_keys_in b ≡ file_keys_in a
+file_keys_kept a b kept = rw (kept (codes "version") refl, kept (codes "file") refl, kept (codes "sources") refl, kept (codes "sourceRoot") refl) refl
 
 pub content_kept : (names : List (List ℕ)) (a b : Members) → KeepsBut names a b
     → list_any (bytes_eq (codes "sourcesContent")) names ≡ false
@@ -72,32 +72,32 @@ extras_kept names a b kept h0 h1 h2 h3 =
 
 -- ---- the fields, from what is left after each group
 
-pub from_heading : (ms m1 : Members) (id : Option (List ℕ)) → debug_id_in ms ≡ Some id → TakesIds ms m1
+pub from_file_keys : (ms m1 : Members) (id : Option (List ℕ)) → debug_id_in ms ≡ Some id → TakesIds ms m1
     → fields_in ms ≡ with (file_keys_in m1) (λ h. with (content_keys_in ms) (λ c. with (extra_keys_in ms) (λ x. Some (fields_from h c x id))))
-from_heading ms m1 id has_id ids =
+from_file_keys ms m1 id has_id ids =
     sym (fields_grouped ms)
     ∙ ap (λ o. with o (λ id. with (file_keys_in ms) (λ h. with (content_keys_in ms) (λ c. with (extra_keys_in ms) (λ x. Some (fields_from h c x id)))))) has_id
     ∙ ap (λ o. with o (λ h. with (content_keys_in ms) (λ c. with (extra_keys_in ms) (λ x. Some (fields_from h c x id)))))
-    (sym (heading_kept ms m1 (ids_kept ms m1 ids)))
+    (sym (file_keys_kept ms m1 (ids_kept ms m1 ids)))
 
 pub from_content : (ms m1 m2 : Members) (id : Option (List ℕ)) (h : FileKeys) → debug_id_in ms ≡ Some id → TakesIds ms m1
     → file_keys_in m1 ≡ Some h → KeepsBut file_key_names m1 m2
     → fields_in ms ≡ with (content_keys_in m2) (λ c. with (extra_keys_in ms) (λ x. Some (fields_from h c x id)))
-from_content ms m1 m2 id h has_id ids has_heading headings =
-    from_heading ms m1 id has_id ids
-    ∙ ap (λ o. with o (λ h. with (content_keys_in ms) (λ c. with (extra_keys_in ms) (λ x. Some (fields_from h c x id))))) has_heading
+from_content ms m1 m2 id h has_id ids has_file_keys file_keys =
+    from_file_keys ms m1 id has_id ids
+    ∙ ap (λ o. with o (λ h. with (content_keys_in ms) (λ c. with (extra_keys_in ms) (λ x. Some (fields_from h c x id))))) has_file_keys
     ∙ ap (λ o. with o (λ c. with (extra_keys_in ms) (λ x. Some (fields_from h c x id))))
-    (sym (content_kept file_key_names m1 m2 headings refl refl refl refl
+    (sym (content_kept file_key_names m1 m2 file_keys refl refl refl refl
     ∙ content_kept id_names ms m1 (ids_kept ms m1 ids) refl refl refl refl))
 
 pub from_extras : (ms m1 m2 m3 : Members) (id : Option (List ℕ)) (h : FileKeys) (c : ContentKeys) → debug_id_in ms ≡ Some id → TakesIds ms m1
     → file_keys_in m1 ≡ Some h → KeepsBut file_key_names m1 m2
     → content_keys_in m2 ≡ Some c → KeepsBut content_key_names m2 m3
     → fields_in ms ≡ with (extra_keys_in m3) (λ x. Some (fields_from h c x id))
-from_extras ms m1 m2 m3 id h c has_id ids has_heading headings has_content contents =
-    from_content ms m1 m2 id h has_id ids has_heading headings
+from_extras ms m1 m2 m3 id h c has_id ids has_file_keys file_keys has_content contents =
+    from_content ms m1 m2 id h has_id ids has_file_keys file_keys
     ∙ ap (λ o. with o (λ c. with (extra_keys_in ms) (λ x. Some (fields_from h c x id)))) has_content
     ∙ ap (λ o. with o (λ x. Some (fields_from h c x id)))
     (sym (extras_kept content_key_names m2 m3 contents refl refl refl refl
-    ∙ extras_kept file_key_names m1 m2 headings refl refl refl refl
+    ∙ extras_kept file_key_names m1 m2 file_keys refl refl refl refl
     ∙ extras_kept id_names ms m1 (ids_kept ms m1 ids) refl refl refl refl))

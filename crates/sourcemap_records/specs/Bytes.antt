@@ -73,7 +73,7 @@ AreSame (Ok m) (Ok n) = m ≡ n
 AreSame (Err e) (Err f) = IsSameError e f
 AreSame _ _ = ⊥
 
--- the fact, unless the error is a failed read or out of memory; a read that ran out of memory is `OutOfMemory`, not `Io`
+-- `P`, unless the error is a failed read or out of memory; a read that ran out of memory is `OutOfMemory`, not `Io`
 abbrev pub UnlessReadFails : Error → Type 0 → Type 0
 UnlessReadFails (Io cause) P = P ⊎ FromIo cause (Io cause)
 UnlessReadFails e P = UnlessMemory e P
@@ -83,6 +83,6 @@ abbrev pub IsAnswerRead : {X Y : Type 0} → (X → Y) → (Result Y Error → T
 IsAnswerRead view Answers (Ok x) = Answers (Ok (view x))
 IsAnswerRead view Answers (Err e) = UnlessReadFails e (Answers (Err e))
 
--- a fact of a reader's bytes: of those that it specifies, or of some bytes if it specifies none
+-- `P` of a reader's bytes: of those that it specifies, or of some bytes if it specifies none
 abbrev pub Reading : Option (List ℕ) → (List ℕ → Type 0) → Type 0
 Reading known P = (bytes : List ℕ) × IfSome known (λ remaining. bytes ≡ remaining) × P bytes

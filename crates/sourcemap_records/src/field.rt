@@ -211,7 +211,6 @@ fn items_to_json<T: Field>(alloc: Global, fields: Vec<T>) -> Result<Vec<Value>>
     Ok(items)
 }
 
-// Removes the value of a key.
 pub(crate) fn remove_value(members: &mut Map<String, Value>, key: &str) -> Option<Value>
     ensures value { option_map view result
         ≡ get_member key.now (members_view members.old.entries) }

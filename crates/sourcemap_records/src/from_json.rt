@@ -121,7 +121,6 @@ fn read_section_head(
     Ok(RawSection { offset, url, map })
 }
 
-// The record of a value.
 #[cycle(from_json)]
 pub(crate) fn read_map(alloc: Global, value: Value) -> Result<RawSourceMap>
     ensures { GivesReading tree result (record_of (view value)) }

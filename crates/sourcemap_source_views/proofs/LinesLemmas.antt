@@ -8,7 +8,7 @@ use Rattle.std.proofs.lemmas.Bool.Decides.{nat_tests}
 use Rattle.std.proofs.lemmas.Bool.{false_from_ne_true}
 use Rattle.std.proofs.lemmas.List.{length-take-le, length-drop, take_rest, drop-drop, drop_at, take_at, length-append, length-map, get_or-drop, get_or-append-add, get_or_append_left}
 use Rattle.memchr.specs.Find.{NoneBefore, Nowhere, Passes, is_byte2}
-use Rattle.sourcemap_source_views.specs.Lines.{Line, ended_by, with_body, with_return, is_terminator, is_pair, starts_with_pair, lines_of, joined, ranges_from, line_ranges, line_bodies, count_ends, HasNoTerminator, IsPartialTable}
+use Rattle.sourcemap_source_views.specs.Lines.{Line, ended_by, with_body, with_return, is_terminator, is_crlf, starts_with_crlf, lines_of, joined, ranges_from, line_ranges, line_bodies, count_ends, HasNoTerminator, IsPartialTable}
 use Rattle.std.specs.List.{AllByRecursion, prefix_len}
 use Rattle.std.proofs.lemmas.Simd.{length-chunk, trailing_mask_l, zip2_splat, zip2_of_maps, map-map, mask_l-mod, run_in_chunk_fails, run_in_chunk_stops, none_from_empty_mask}
 use Rattle.std.proofs.lemmas.List.{drop-take}
@@ -20,7 +20,7 @@ use lib.Count.{count_trailing_zeros}
 
 -- the length in bytes of a terminator at the front of a text
 abbrev pub terminator_len : List ℕ → ℕ
-terminator_len text = cond (starts_with_pair text) 2 1
+terminator_len text = cond (starts_with_crlf text) 2 1
 
 -- the first byte that ends a line is at this offset
 pub record EndsAt (text : List ℕ) (at : ℕ) : Type 0 where
@@ -28,7 +28,7 @@ pub record EndsAt (text : List ℕ) (at : ℕ) : Type 0 where
   pub ends : is_terminator (get_or text at 0) ≡ true
   pub before : (k : ℕ) → k < at → is_terminator (get_or text k 0) ≡ false
 
-no_pair : (byte : ℕ) (text : List ℕ) → is_terminator byte ≡ false → is_pair byte text ≡ false
+no_pair : (byte : ℕ) (text : List ℕ) → is_terminator byte ≡ false → is_crlf byte text ≡ false
 no_pair byte text e = grind (arith, nat_tests)
 
 lines_of-more : (byte : ℕ) (text : List ℕ) → is_terminator byte ≡ false → lines_of (byte ∷ text) ≡ with_body byte (lines_of text)
@@ -42,12 +42,12 @@ lines_of-end : (text : List ℕ) → 0 < length text → is_terminator (get_or t
     → lines_of text ≡ ended_by (take (terminator_len text) text) (lines_of (drop (terminator_len text) text))
 lines_of-end [] l e = absurd (omega arith)
 lines_of-end (byte ∷ []) l e =
-    elim (cases_Bool (is_pair byte [])) [
+    elim (cases_Bool (is_crlf byte [])) [
       | inl p ↦ absurd (grind (arith, nat_tests))
       | inr p ↦ rw (p, e) refl
     ]
 lines_of-end (byte ∷ next ∷ text) l e =
-    elim (cases_Bool (is_pair byte (next ∷ text))) [
+    elim (cases_Bool (is_crlf byte (next ∷ text))) [
       | inl p ↦
           let both = and_parts (byte == 13) (next == 10) p in
           let is = eqb-true byte 13 both.0 in
@@ -80,14 +80,14 @@ some_bytes true = omega arith
 some_bytes false = omega arith
 
 pub terminator-some : (text : List ℕ) → 0 < terminator_len text
-terminator-some text = some_bytes (starts_with_pair text)
+terminator-some text = some_bytes (starts_with_crlf text)
 
 pub terminator-inside : (text : List ℕ) → 0 < length text → terminator_len text ≤ length text
 terminator-inside [] l = absurd (omega arith)
 terminator-inside (byte ∷ []) l =
-    elim (cases_Bool (is_pair byte [])) [ inl p ↦ absurd (grind (arith, nat_tests)) | inr p ↦ rw p (omega arith) ]
+    elim (cases_Bool (is_crlf byte [])) [ inl p ↦ absurd (grind (arith, nat_tests)) | inr p ↦ rw p (omega arith) ]
 terminator-inside (byte ∷ next ∷ text) l =
-    elim (cases_Bool (is_pair byte (next ∷ text))) [ inl p ↦ rw p (omega arith) | inr p ↦ rw p (omega arith) ]
+    elim (cases_Bool (is_crlf byte (next ∷ text))) [ inl p ↦ rw p (omega arith) | inr p ↦ rw p (omega arith) ]
 
 terminator-fits : (rest : List ℕ) (at : ℕ) → EndsAt rest at → length (take (terminator_len (drop at rest)) (drop at rest)) ≡ terminator_len (drop at rest)
 terminator-fits rest at e =
@@ -343,7 +343,7 @@ some_lines (byte ∷ text) =
     let later = some_lines text in
     let body = length-with_body byte (lines_of text) in
     let return = length-with_return (lines_of text) in
-    elim (cases_Bool (is_pair byte text)) [
+    elim (cases_Bool (is_crlf byte text)) [
       | inl p ↦ rw p (omega arith)
       | inr p ↦ elim (cases_Bool (is_terminator byte)) [ inl e ↦ rw (p, e) (omega arith) | inr e ↦ rw (p, e) (omega arith) ]
     ]
@@ -359,18 +359,18 @@ ascii_two : (byte next : ℕ) → byte < 128 → next < 128 → IsAscii (byte �
 ascii_two byte next l m zero = l
 ascii_two byte next l m (suc i) = ascii_one next m i
 
-lines_of-pair : (byte next : ℕ) (text : List ℕ) → is_pair byte (next ∷ text) ≡ true → lines_of (byte ∷ next ∷ text) ≡ ended_by (13 ∷ 10 ∷ []) (lines_of text)
+lines_of-pair : (byte next : ℕ) (text : List ℕ) → is_crlf byte (next ∷ text) ≡ true → lines_of (byte ∷ next ∷ text) ≡ ended_by (13 ∷ 10 ∷ []) (lines_of text)
 lines_of-pair byte next text p =
     let both = and_parts (byte == 13) (next == 10) p in
     subst₂ (λ b n. lines_of (b ∷ n ∷ text) ≡ ended_by (13 ∷ 10 ∷ []) (lines_of text)) (sym (eqb-true byte 13 both.0)) (sym (eqb-true next 10 both.1)) refl
 
-no_pair_alone : (byte : ℕ) → is_pair byte [] ≡ false
-no_pair_alone byte = elim (cases_Bool (is_pair byte [])) [ inl p ↦ absurd (grind (arith, nat_tests)) | inr p ↦ p ]
+no_pair_alone : (byte : ℕ) → is_crlf byte [] ≡ false
+no_pair_alone byte = elim (cases_Bool (is_crlf byte [])) [ inl p ↦ absurd (grind (arith, nat_tests)) | inr p ↦ p ]
 
-lines_of-one : (byte : ℕ) (text : List ℕ) → is_pair byte text ≡ false → is_terminator byte ≡ true → lines_of (byte ∷ text) ≡ ended_by (byte ∷ []) (lines_of text)
+lines_of-one : (byte : ℕ) (text : List ℕ) → is_crlf byte text ≡ false → is_terminator byte ≡ true → lines_of (byte ∷ text) ≡ ended_by (byte ∷ []) (lines_of text)
 lines_of-one byte text p e = rw (p, e) refl
 
-AreEnded-cut : (byte : ℕ) (text : List ℕ) → is_pair byte text ≡ false → AreEnded (lines_of text) → AreEnded (lines_of (byte ∷ text))
+AreEnded-cut : (byte : ℕ) (text : List ℕ) → is_crlf byte text ≡ false → AreEnded (lines_of text) → AreEnded (lines_of (byte ∷ text))
 AreEnded-cut byte text p a =
     elim (cases_Bool (is_terminator byte)) [
       | inl e ↦ subst AreEnded (sym (lines_of-one byte text p e)) (AreEnded-more (byte ∷ []) (lines_of text) (omega arith, ascii_one byte (ascii_end byte e)) (some_lines text) a)
@@ -383,7 +383,7 @@ AreEnded-lines_of (byte ∷ []) = AreEnded-cut byte [] (no_pair_alone byte) refl
 AreEnded-lines_of (byte ∷ next ∷ text) =
     let later = AreEnded-lines_of text in
     let after = AreEnded-lines_of (next ∷ text) in
-    elim (cases_Bool (is_pair byte (next ∷ text))) [
+    elim (cases_Bool (is_crlf byte (next ∷ text))) [
       | inl p ↦ subst AreEnded (sym (lines_of-pair byte next text p)) (AreEnded-more (13 ∷ 10 ∷ []) (lines_of text) (omega arith, ascii_two 13 10 (omega arith) (omega arith)) (some_lines text) later)
       | inr p ↦ AreEnded-cut byte (next ∷ text) p after
     ]
@@ -401,7 +401,7 @@ joined_after next text then e =
     let here : joined (lines_of (10 ∷ text)) ≡ 10 ∷ text = subst (λ n. joined (lines_of (n ∷ text)) ≡ n ∷ text) then e in
     tail_same 10 10 (joined (lines_of text)) text here
 
-joined-pair : (byte : ℕ) (text : List ℕ) → is_pair byte text ≡ true → joined (lines_of text) ≡ text → joined (lines_of (byte ∷ text)) ≡ byte ∷ text
+joined-pair : (byte : ℕ) (text : List ℕ) → is_crlf byte text ≡ true → joined (lines_of text) ≡ text → joined (lines_of (byte ∷ text)) ≡ byte ∷ text
 joined-pair byte [] p e = absurd (both_ways _ (no_pair_alone byte) p)
 joined-pair byte (next ∷ text) p e =
     let both = and_parts (byte == 13) (next == 10) p in
@@ -415,7 +415,7 @@ joined-lines_of [] = refl
 joined-lines_of (byte ∷ text) =
     let later = joined-lines_of text in
     let some = some_lines text in
-    elim (cases_Bool (is_pair byte text)) [
+    elim (cases_Bool (is_crlf byte text)) [
       | inl p ↦ joined-pair byte text p later
       | inr p ↦ elim (cases_Bool (is_terminator byte)) [
         | inl e ↦ ap joined (lines_of-one byte text p e) ∙ ap (λ t. byte ∷ t) later
@@ -524,7 +524,7 @@ line-missing text row e = slice_get_past (line_bodies text) row (past_length (li
 
 -- ---- laws
 
-pair_ends : (byte : ℕ) (text : List ℕ) → is_pair byte text ≡ true → is_terminator byte ≡ true
+pair_ends : (byte : ℕ) (text : List ℕ) → is_crlf byte text ≡ true → is_terminator byte ≡ true
 pair_ends byte text p = grind (arith, nat_tests)
 
 pub count-lines_of : (text : List ℕ) → length (lines_of text) ≡ count_ends text + 1
@@ -533,7 +533,7 @@ count-lines_of (byte ∷ text) =
     let later = count-lines_of text in
     let return = length-with_return (lines_of text) in
     let body = length-with_body byte (lines_of text) in
-    elim (cases_Bool (is_pair byte text)) [
+    elim (cases_Bool (is_crlf byte text)) [
       | inl p ↦ (let some = pair_ends byte text p in rw (p, some) (return ∙ later))
       | inr p ↦ elim (cases_Bool (is_terminator byte)) [
         | inl e ↦ rw (p, e) (ap suc later ∙ sym (add-one (count_ends text + 1)))
@@ -553,7 +553,7 @@ pub uncut-lines_of : (text : List ℕ) → AllByRecursion HasNoTerminator (lines
 uncut-lines_of [] = (refl, tt)
 uncut-lines_of (byte ∷ text) =
     let later = uncut-lines_of text in
-    elim (cases_Bool (is_pair byte text)) [
+    elim (cases_Bool (is_crlf byte text)) [
       | inl p ↦ rw p (uncut_return (lines_of text) later)
       | inr p ↦ elim (cases_Bool (is_terminator byte)) [
         | inl e ↦ rw (p, e) (refl, later)

@@ -25,17 +25,17 @@ abbrev pub is_terminator : ℕ → Bool
 is_terminator byte = (byte == 10) || (byte == 13)
 
 -- these two are `\r\n`, which is one terminator
-abbrev pub is_pair : ℕ → List ℕ → Bool
-is_pair byte text = (byte == 13) && (slice_index text 0 == 10)
+abbrev pub is_crlf : ℕ → List ℕ → Bool
+is_crlf byte text = (byte == 13) && (slice_index text 0 == 10)
 
-abbrev pub starts_with_pair : List ℕ → Bool
-starts_with_pair text = is_pair (slice_index text 0) (drop 1 text)
+abbrev pub starts_with_crlf : List ℕ → Bool
+starts_with_crlf text = is_crlf (slice_index text 0) (drop 1 text)
 
 -- a text split at each terminator: one line more than there are terminators
 abbrev pub lines_of : List ℕ → List Line
 lines_of [] = ended_by [] []
 lines_of (byte ∷ text) =
-    cond (is_pair byte text) (with_return (lines_of text))
+    cond (is_crlf byte text) (with_return (lines_of text))
     (cond (is_terminator byte) (ended_by (byte ∷ []) (lines_of text)) (with_body byte (lines_of text)))
 
 -- lines with their terminators, joined
@@ -60,7 +60,7 @@ line_bodies text = map (λ line. line.body) (lines_of text)
 -- the number of line terminators: each `\n`, and each `\r` that no `\n` follows
 abbrev pub count_ends : List ℕ → ℕ
 count_ends [] = 0
-count_ends (byte ∷ text) = cond (is_terminator byte && not (is_pair byte text)) (count_ends text + 1) (count_ends text)
+count_ends (byte ∷ text) = cond (is_terminator byte && not (is_crlf byte text)) (count_ends text + 1) (count_ends text)
 
 -- a line whose text contains no terminator
 abbrev pub HasNoTerminator : Line → Type 0

@@ -40,8 +40,8 @@ IsWordEnd line word end = IsCharBoundary line end × (end ≡ word + length (enc
 
 -- tokens, each with the identifier at its position
 abbrev pub walked : {S : Type 0} → (S → ℕ × ℕ) → List ℕ → List S → List (S × Option (List ℕ))
-walked place_of source [] = []
-walked place_of source (token ∷ tokens) = (token, identifier_at source (place_of token)) ∷ walked place_of source tokens
+walked position_value source [] = []
+walked position_value source (token ∷ tokens) = (token, identifier_at source (position_value token)) ∷ walked position_value source tokens
 
 -- the first of the tokens that has this identifier, if the one after it has `function`
 abbrev pub function_token : {S : Type 0} → List ℕ → List (S × Option (List ℕ)) → Option S
@@ -52,5 +52,5 @@ function_token name (item ∷ next ∷ items) =
 
 -- the name of that token among 128, if the given name is an identifier
 abbrev pub guessed_name : {S : Type 0} → (S → ℕ × ℕ) → (S → Option (List ℕ)) → List ℕ → List ℕ → List S → Option (List ℕ)
-guessed_name place_of name_of source name tokens =
-    cond (is_identifier (chars name)) (option_and_then name_of (function_token name (take 128 (walked place_of source tokens)))) None
+guessed_name position_value name_of source name tokens =
+    cond (is_identifier (chars name)) (option_and_then name_of (function_token name (take 128 (walked position_value source tokens)))) None

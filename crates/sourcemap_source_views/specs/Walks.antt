@@ -16,4 +16,4 @@ tokens_from seen before (Some token) = seen token ∷ before token
 
 -- the items that are left
 abbrev pub walk_left : {T S : Type 0} → (T → S) → (T → List S) → (S → ℕ × ℕ) → RevTokenIter T → List (S × Option (List ℕ))
-walk_left seen before place_of it = walked place_of it.view.now (tokens_from seen before it.token)
+walk_left seen before position_value it = walked position_value it.view.now (tokens_from seen before it.token)

@@ -5,7 +5,7 @@ ghost use Rattle.std.specs.Simd.Lanes.{mask_l};
 ghost use Rattle.sourcemap_errors.specs.Answer.{Changes, Gives};
 ghost use Rattle.sourcemap_errors.specs.declared.errors.Error.TheVariants.{OutOfMemory};
 ghost use Rattle.sourcemap_source_views.specs.Columns.{column_offset};
-ghost use Rattle.sourcemap_source_views.specs.Lines.{IsPartialTable, HasNoTerminator, count_ends, is_terminator, joined, line_ranges, lines_of, starts_with_pair};
+ghost use Rattle.sourcemap_source_views.specs.Lines.{IsPartialTable, HasNoTerminator, count_ends, is_terminator, joined, line_ranges, lines_of, starts_with_crlf};
 
 use crate::columns::reach;
 use memchr::memchr2;
@@ -114,7 +114,6 @@ impl LineTable {
         Ok(end + terminator_length(&bytes[end..]))
     }
 
-    // Appends a line.
     #[inline(always)]
     fn push(&mut self, start: usize, end: usize) -> Result<()>
         requires { start ≤ end }
@@ -147,7 +146,6 @@ impl LineTable {
         self.near.len() + self.far.len()
     }
 
-    // A copy of the table. The only error is out of memory.
     pub(crate) fn copy(&self) -> Result<LineTable>
         ensures { Gives (λ table. table) result (Ok self.now) }
     {
@@ -203,7 +201,7 @@ fn is_end(byte: u8) -> bool
 
 // The length in bytes of the line terminator at the start of a text.
 fn terminator_length(text: &[u8]) -> usize
-    ensures { result ≡ (cond (starts_with_pair text.now) 2 1) }
+    ensures { result ≡ (cond (starts_with_crlf text.now) 2 1) }
 {
     match text {
         [b'\r', b'\n', ..] => 2,

@@ -23,7 +23,7 @@ pub trait WalkedToken: Copy + Drop {
 
     ghost seen: { Self → Seen };
 
-    ghost place_of: { Seen → ℕ × ℕ };
+    ghost position_value: { Seen → ℕ × ℕ };
 
     ghost name_of: { Seen → Option (List ℕ) };
 
@@ -34,8 +34,8 @@ pub trait WalkedToken: Copy + Drop {
     ghost before: { Self → List Seen };
 
     /// The generated line and column, both 0-based, the column in UTF-16 units.
-    fn place(&self) -> (u32, u32)
-        ensures { result ≡ place_of (seen self.now) };
+    fn generated_position(&self) -> (u32, u32)
+        ensures { result ≡ position_value (seen self.now) };
 
     /// The name, if the token has one.
     fn name(&self) -> Option<Self::Name>
@@ -253,10 +253,10 @@ fn next_word<'view>(
     }
 }
 
-/// An iterator over a token of a map and all tokens before it, the closest first, each with the
-/// identifier at its position in a view. That is the longest identifier at the start of the first
-/// word from there on in its line, `None` if the view has no such position, or no identifier is
-/// there.
+/// An iterator over a token of a map and all tokens before it, the closest first. With each token it
+/// returns the identifier at the token's generated position in a view: of the first word from there
+/// to the end of the line, its longest start that is an identifier. `None` if the view has no such
+/// position, or the word starts with no identifier.
 #[derive(Drop)]
 pub struct RevTokenIter<'view, T> {
     view: &'view SourceView,
@@ -271,14 +271,14 @@ impl<'view, T: WalkedToken> Iterator for RevTokenIter<'view, T> {
     ghost use Rattle.std.specs.Iterator.{YieldsFirstBy, item_count};
     ghost use Rattle.sourcemap_source_views.specs.Walks.{item_seen, walk_left};
 
-    ghost next_gives = { YieldsFirstBy (item_seen T.seen) (walk_left T.seen T.before T.place_of) };
+    ghost next_gives = { YieldsFirstBy (item_seen T.seen) (walk_left T.seen T.before T.position_value) };
 
-    ghost remaining = { item_count (walk_left T.seen T.before T.place_of) };
+    ghost remaining = { item_count (walk_left T.seen T.before T.position_value) };
 
     fn next(&mut self) -> Option<(T, Option<&'view str>)> {
         let token = self.token?;
         self.token = token.previous();
-        let (line, col) = token.place();
+        let (line, col) = token.generated_position();
         let word = next_word(self.view, self.word, line, col);
         self.word = word;
         Some((token, identifier_of(word, col)))
@@ -311,7 +311,7 @@ fn is_named(cursor: Option<Cursor<'_>>, col: u32, name: &str) -> bool
 fn function_token<T: WalkedToken>(view: &SourceView, token: T, name: &str) -> Option<T>
     requires { is_identifier (chars name.now) ≡ true }
     ensures { option_map T.seen result ≡ function_token name.now
-        (take 128 (walked T.place_of view.now (T.seen token ∷ T.before token))) }
+        (take 128 (walked T.position_value view.now (T.seen token ∷ T.before token))) }
 {
     let mut left = Some(token);
     let mut cursor = None;
@@ -319,7 +319,7 @@ fn function_token<T: WalkedToken>(view: &SourceView, token: T, name: &str) -> Op
     for _passed in 0..128u32 {
         let token = left?;
         left = token.previous();
-        let (line, col) = token.place();
+        let (line, col) = token.generated_position();
         cursor = next_cursor(view, cursor, line, col);
         if called.is_some() && is_named(cursor, col, "function") {
             return called;
@@ -339,8 +339,8 @@ impl SourceView {
     /// Iterates over this token of a map and all tokens before it, the closest first, each with the
     /// identifier at its position in the view.
     pub fn rev_token_iter<T: WalkedToken>(&self, token: T) -> RevTokenIter<'_, T>
-        ensures { walk_left T.seen T.before T.place_of result
-            ≡ walked T.place_of self.now (T.seen token ∷ T.before token) }
+        ensures { walk_left T.seen T.before T.position_value result
+            ≡ walked T.position_value self.now (T.seen token ∷ T.before token) }
     {
         RevTokenIter {
             view: self,
@@ -358,7 +358,7 @@ impl SourceView {
         token: T,
         minified_name: &str,
     ) -> Option<T::Name>
-        ensures { option_map T.text_of result ≡ guessed_name T.place_of T.name_of self.now
+        ensures { option_map T.text_of result ≡ guessed_name T.position_value T.name_of self.now
             minified_name.now (T.seen token ∷ T.before token) }
     {
         if !is_valid_javascript_identifier(minified_name) {

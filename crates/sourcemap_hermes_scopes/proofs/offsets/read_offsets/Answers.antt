@@ -16,20 +16,20 @@ loop-lines-init c = record {
 
 pub returns-in_err-last-clause-error : goal.returns-in_err-last-clause-error
 returns-in_err-last-clause-error c =
-    let error = rw (c.in-Some.is, c.cut.ensures.split) at c.loop-lines.invariant.error in
+    let error = rw (c.in-Some.is, c.split_line.ensures.split) at c.loop-lines.invariant.error in
     let p = err_from_is_err_and c.from_residual-in_err-last.result c.from_residual-in_err-last.ensures.1 in
     let line = rw c.as_bytes.ensures.value at c.in_err-last.ensures.error in
     rw (p.1, p.2)
     (UnlessMemory-weaker c.in_err-last.field-0.0
-    (λ any. error (Any-here (λ line. Any IsUnreadable (parts_of line)) c.cut.result.0.now (lines_left c.cut.result.1) any)) line)
+    (λ any. error (Any-here (λ line. Any IsUnreadable (parts_of line)) c.split_line.result.0.now (lines_left c.split_line.result.1) any)) line)
 
 pub loop-lines-preserved : goal.loop-lines-preserved
 loop-lines-preserved c =
-    let so_far = rw (c.in-Some.is, c.cut.ensures.split) at c.loop-lines.invariant.so_far in
-    let error = rw (c.in-Some.is, c.cut.ensures.split) at c.loop-lines.invariant.error in
+    let so_far = rw (c.in-Some.is, c.split_line.ensures.split) at c.loop-lines.invariant.so_far in
+    let error = rw (c.in-Some.is, c.split_line.ensures.split) at c.loop-lines.invariant.error in
     record {
-      so_far = PageSoFar-more _ c.cut.result.0.now _ _ _ _ _ so_far (rw c.as_bytes.ensures.value at (c.in_ok-last.ensures.added so_far.before so_far.is_last));
-      error = λ any. error (Any-later (λ line. Any IsUnreadable (parts_of line)) c.cut.result.0.now (lines_left c.cut.result.1) any);
+      so_far = PageSoFar-more _ c.split_line.result.0.now _ _ _ _ _ so_far (rw c.as_bytes.ensures.value at (c.in_ok-last.ensures.added so_far.before so_far.is_last));
+      error = λ any. error (Any-later (λ line. Any IsUnreadable (parts_of line)) c.split_line.result.0.now (lines_left c.split_line.result.1) any);
     }
 
 pub returns-clause-read : goal.returns-clause-read

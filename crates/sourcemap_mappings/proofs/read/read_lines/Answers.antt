@@ -17,10 +17,10 @@ loop-lines-init c = record {
 
 pub loop-lines-preserved : goal.loop-lines-preserved
 loop-lines-preserved c = record {
-  numbers = let left = rw c.in-Some.is at c.loop-lines.invariant.numbers in omega (arith, c.cut.ensures.shorter);
+  numbers = let left = rw c.in-Some.is at c.loop-lines.invariant.numbers in omega (arith, c.split_line.ensures.shorter);
   so_far =
-      let so_far = rw (c.in-Some.is, c.cut.ensures.split, c.next_bits.ensures) at c.loop-lines.invariant.so_far in
-      PageSoFar-more _ _ _ (c.cut.result.0.now, c.next_bits.result.0.now) _ _ _ _ _ so_far
+      let so_far = rw (c.in-Some.is, c.split_line.ensures.split, c.next_bits.ensures) at c.loop-lines.invariant.so_far in
+      PageSoFar-more _ _ _ (c.split_line.result.0.now, c.next_bits.result.0.now) _ _ _ _ _ so_far
       (rw (c.as_bytes.ensures.value, c.as_bytes-in-Some.ensures.value) at (c.in_ok-sums.ensures.added so_far.before so_far.sums_after));
   below = below_next c.loop-lines.number c.loop-lines.tokens.items _ c.loop-lines.invariant.below c.in_ok-sums.ensures.on_line;
   table =

@@ -2,12 +2,12 @@ use Rattle.std.proofs.Common.{◌∙◌, ap, Some, rules}
 use Rattle.serde_json.specs.View.{members_view}
 use Rattle.sourcemap_records.specs.Field.{with}
 use Rattle.sourcemap_records.specs.Keys.{fields_from, file_keys_view, content_keys_view}
-use Rattle.sourcemap_records.proofs.KeysLemmas.{from_heading, from_content, from_extras}
+use Rattle.sourcemap_records.proofs.KeysLemmas.{from_file_keys, from_content, from_extras}
 use Rattle.sourcemap_records.proofs.from_json.read_groups.Goals as goal
 
 pub returns-in_err-file_keys : goal.returns-in_err-file_keys
 returns-in_err-file_keys c =
-    rw (from_heading (members_view c.args.members.entries) (members_view c.read_debug_id.new.members.entries) c.in_ok-debug_id.debug_id
+    rw (from_file_keys (members_view c.args.members.entries) (members_view c.read_debug_id.new.members.entries) c.in_ok-debug_id.debug_id
     c.in_ok-debug_id.ensures.value c.in_ok-debug_id.ensures.others)
     (search rules)
 

@@ -18,11 +18,11 @@ pub returns-then-is_named : goal.returns-then-is_named
 returns-then-is_named g c =
     let seen = g.T.WalkedToken.seen in
     let tokens = tokens_from seen g.T.WalkedToken.before in
-    let items = walked g.T.WalkedToken.place_of c.args.view.now in
-    let position = g.T.WalkedToken.place_of (seen c.in_ok-token.token) in
+    let items = walked g.T.WalkedToken.position_value c.args.view.now in
+    let position = g.T.WalkedToken.position_value (seen c.in_ok-token.token) in
     let item : g.T.WalkedToken.Seen × Option (List ℕ) = (seen c.in_ok-token.token, identifier_at c.args.view.now position) in
-    let located = ap (option_and_then (λ (found : List ℕ × ℕ). token_at_start (drop found.1 found.0))) (c.next_cursor-cursor.ensures.value ∙ ap (position_in c.args.view.now) c.place-line.ensures) in
-    let named = c.is_named.ensures ∙ ap (is_text (codes "function")) (identifier_at_cursor (λ s. s.line.now) (λ s. reached_offset c.place-line.result.1 s.at.offset s.at.units) c.next_cursor-cursor.result ∙ located) in
+    let located = ap (option_and_then (λ (found : List ℕ × ℕ). token_at_start (drop found.1 found.0))) (c.next_cursor-cursor.ensures.value ∙ ap (position_in c.args.view.now) c.generated_position-line.ensures) in
+    let named = c.is_named.ensures ∙ ap (is_text (codes "function")) (identifier_at_cursor (λ s. s.line.now) (λ s. reached_offset c.generated_position-line.result.1 s.at.offset s.at.units) c.next_cursor-cursor.result ∙ located) in
     let left : items (tokens c.loop-passed.left) ≡ item ∷ items (tokens c.previous-left.result) =
     ap (λ o. items (tokens o)) c.in_ok-token.was ∙ ap (λ ts. item ∷ items ts) (tokens_before seen g.T.WalkedToken.before c.previous-left.result _ c.previous-left.ensures) in
     found_after-fired c.args.name.now (option_map seen c.loop-passed.called) item _ _ (128 - c.loop-passed._passed) _ (omega arith) left
@@ -32,11 +32,11 @@ pub loop-passed-preserved : goal.loop-passed-preserved
 loop-passed-preserved g c =
     let seen = g.T.WalkedToken.seen in
     let tokens = tokens_from seen g.T.WalkedToken.before in
-    let items = walked g.T.WalkedToken.place_of c.args.view.now in
-    let position = g.T.WalkedToken.place_of (seen c.in_ok-token.token) in
+    let items = walked g.T.WalkedToken.position_value c.args.view.now in
+    let position = g.T.WalkedToken.position_value (seen c.in_ok-token.token) in
     let item : g.T.WalkedToken.Seen × Option (List ℕ) = (seen c.in_ok-token.token, identifier_at c.args.view.now position) in
-    let located = ap (option_and_then (λ (found : List ℕ × ℕ). token_at_start (drop found.1 found.0))) (c.next_cursor-cursor.ensures.value ∙ ap (position_in c.args.view.now) c.place-line.ensures) in
-    let is = identifier_at_cursor (λ s. s.line.now) (λ s. reached_offset c.place-line.result.1 s.at.offset s.at.units) c.next_cursor-cursor.result ∙ located in
+    let located = ap (option_and_then (λ (found : List ℕ × ℕ). token_at_start (drop found.1 found.0))) (c.next_cursor-cursor.ensures.value ∙ ap (position_in c.args.view.now) c.generated_position-line.ensures) in
+    let is = identifier_at_cursor (λ s. s.line.now) (λ s. reached_offset c.generated_position-line.result.1 s.at.offset s.at.units) c.next_cursor-cursor.result ∙ located in
     let left : items (tokens c.loop-passed.left) ≡ item ∷ items (tokens c.previous-left.result) =
     ap (λ o. items (tokens o)) c.in_ok-token.was ∙ ap (λ ts. item ∷ items ts) (tokens_before seen g.T.WalkedToken.before c.previous-left.result _ c.previous-left.ensures) in
     let other : (option_map seen c.loop-passed.called ≡ None) ⊎ (is_text (codes "function") item.1 ≡ false) =
@@ -61,7 +61,7 @@ loop-passed-preserved g c =
 pub returns : goal.returns
 returns g c =
     let seen = g.T.WalkedToken.seen in
-    let items = walked g.T.WalkedToken.place_of c.args.view.now in
+    let items = walked g.T.WalkedToken.position_value c.args.view.now in
     let none : 0 ≡ 128 - c.loop-passed._passed = omega arith in
     sym (found_after-none c.args.name.now (option_map seen c.loop-passed.called))
     ∙ ap (λ n. found_after c.args.name.now (option_map seen c.loop-passed.called) (take n (items (tokens_from seen g.T.WalkedToken.before c.loop-passed.left)))) none

@@ -2,7 +2,7 @@ use Rattle.std.proofs.Common.{Some, None, lit<}
 use Rattle.std.proofs.lemmas.Str.Pattern.{split_parts}
 use Rattle.sourcemap_mappings.specs.Segment.{semicolon}
 use Rattle.sourcemap_mappings.proofs.ReadLemmas.{lines_of-last, lines_of-first}
-use Rattle.sourcemap_mappings.proofs.read.cut.Goals as goal
+use Rattle.sourcemap_mappings.proofs.read.split_line.Goals as goal
 
 pub returns-in-Some-clause-split : goal.returns-in-Some-clause-split
 returns-in-Some-clause-split c =
