@@ -19,7 +19,7 @@ pub use sourcemap_hermes_scopes::offsets::scope_mappings_are_determined;
 pub use sourcemap_hermes_scopes::source_scopes::{
     entries_determine_function_maps, picked_scopes_answer_alike,
 };
-pub use sourcemap_index::decode::{answers_are_determined, no_other_fault_is_of_urls};
+pub use sourcemap_index::decode::{answers_are_determined, only_urls_give_invalid_data_url};
 pub use sourcemap_index::laws::{
     encoded_texts_are_compact, encoded_texts_read_back, hermes_maps_are_of_a_kind,
     maps_of_forty_levels_are_shallow, read_maps_are_well_formed, regular_maps_are_of_a_kind,

@@ -163,8 +163,8 @@ impl SourceMapBuilder {
         self.names.add(name)
     }
 
-    /// Replaces the source with this id, which must exist. `add_source` of the source that was added
-    /// first still returns this id. The only error is `OutOfMemory`.
+    /// Replaces the source with this id, which must exist. `add_source` of the replaced text still
+    /// returns this id. The only error is `OutOfMemory`.
     pub fn set_source(&mut self, id: u32, source: &str) -> Result<()>
         requires { id < length self.old.sources }
         ensures { Changes result self.old self.new

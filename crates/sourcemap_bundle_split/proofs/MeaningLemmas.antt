@@ -81,29 +81,29 @@ module _ (flat : MapValue) (name : List ℕ) (line : ℕ) (end p : ℕ × ℕ) (
   found = closest-map moved destination destination position_cmp p (lowered_to line p) tokens
       (orders line end p (sources_in flat line end) (names_in flat line end) flat.tokens later) ∙ ap (option_map moved) kept
 
-  place : (k : ℕ) × (slice_get tokens k ≡ Some t)
-  place = closest-among destination position_cmp p tokens t kept
+  found_at : (k : ℕ) × (slice_get tokens k ≡ Some t)
+  found_at = closest-among destination position_cmp p tokens t kept
 
-  source_id : slice_get (map (λ (t : RawToken). t.src_id) tokens) place.0 ≡ Some t.src_id
-  source_id = slice_get-map (λ (t : RawToken). t.src_id) tokens place.0 ∙ ap (option_map (λ (t : RawToken). t.src_id)) place.1
+  source_id : slice_get (map (λ (t : RawToken). t.src_id) tokens) found_at.0 ≡ Some t.src_id
+  source_id = slice_get-map (λ (t : RawToken). t.src_id) tokens found_at.0 ∙ ap (option_map (λ (t : RawToken). t.src_id)) found_at.1
 
-  name_id : slice_get (map (λ (t : RawToken). t.name_id) tokens) place.0 ≡ Some t.name_id
-  name_id = slice_get-map (λ (t : RawToken). t.name_id) tokens place.0 ∙ ap (option_map (λ (t : RawToken). t.name_id)) place.1
+  name_id : slice_get (map (λ (t : RawToken). t.name_id) tokens) found_at.0 ≡ Some t.name_id
+  name_id = slice_get-map (λ (t : RawToken). t.name_id) tokens found_at.0 ∙ ap (option_map (λ (t : RawToken). t.name_id)) found_at.1
 
-  shown_few : length (resolved_sources flat) ≤ 4294967295
-  shown_few = omega (arith, length-map flat.sources (resolved flat.root))
+  few_resolved : length (resolved_sources flat) ≤ 4294967295
+  few_resolved = omega (arith, length-map flat.sources (resolved flat.root))
 
   source_text : slice_get new.sources (moved t).src_id ≡ source_of flat t.src_id
   source_text = subst (λ n. slice_get (texts_at (resolved_sources flat) (used_ids n (map (λ (t : RawToken). t.src_id) tokens)))
       (unwrap_or (number_of (used_ids n (map (λ (t : RawToken). t.src_id) tokens)) t.src_id) no_id) ≡ source_of flat t.src_id)
       (length-map flat.sources (resolved flat.root))
-      (text_by_number (resolved_sources flat) (map (λ (t : RawToken). t.src_id) tokens) place.0 t.src_id shown_few source_id)
+      (text_by_number (resolved_sources flat) (map (λ (t : RawToken). t.src_id) tokens) found_at.0 t.src_id few_resolved source_id)
 
   source_same : source_of new (moved t).src_id ≡ source_of flat t.src_id
   source_same = ap (λ texts. slice_get texts (moved t).src_id) (map-resolved_against_nothing [] new.sources refl) ∙ source_text
 
   name_same : name_of new (moved t).name_id ≡ name_of flat t.name_id
-  name_same = text_by_number flat.names (map (λ (t : RawToken). t.name_id) tokens) place.0 t.name_id few_names name_id
+  name_same = text_by_number flat.names (map (λ (t : RawToken). t.name_id) tokens) found_at.0 t.name_id few_names name_id
 
   distance_same : distance (moved t) (lowered_to line p) ≡ distance t p
   distance_same = distance-relative_position line p (sources_in flat line end) (names_in flat line end) t (in-later line end (destination t) within) later

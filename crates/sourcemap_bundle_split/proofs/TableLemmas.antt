@@ -77,7 +77,7 @@ push-get [] x k (suc n) at = cc
 push-get (y ∷ xs) x k zero at = inl at
 push-get (y ∷ xs) x k (suc n) at = elim (push-get xs x k n at) [ inl before ↦ inl before | inr last ↦ inr (ap suc last.0, last.1) ]
 
--- a new id that is written to its place stands there beside the others
+-- `Stand` still holds once a new id has got the next number
 pub stand_push : (numbers order : List ℕ) (id : ℕ) → Stand numbers order → id < length numbers → number_of order id ≡ None
     → Stand (set numbers id (length order)) (order ++ id ∷ [])
 stand_push numbers order id stand inside none n k at =

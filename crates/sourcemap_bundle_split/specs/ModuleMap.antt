@@ -1,4 +1,4 @@
--- The map of a module: what a flat map says of the lines that the module's text has there.
+-- The map of a module: it has the same answers as the flat map on the lines of the module's text.
 use Rattle.std.specs.Prelude.{◌≡◌, ℕ, ◌+◌, ◌-◌, ◌==◌, ◌&&◌, Bool, not, nat_lt, if◌then◌else◌, List, [], ◌∷◌, ◌++◌, length, map, filter, fold, slice_get, Option, Some, None, is_none, option_map, unwrap_or}
 use Rattle.std.specs.Ordering.{is_lt}
 use Rattle.std.specs.Str.{chars}

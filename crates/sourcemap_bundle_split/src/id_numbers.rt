@@ -84,7 +84,6 @@ impl IdNumbers {
     }
 }
 
-// Whether an id is at this index of a list.
 fn is_at(ids: &[u32], index: usize, id: u32) -> bool
     ensures { Decides result (slice_get ids.now index ≡ Some id) }
 {

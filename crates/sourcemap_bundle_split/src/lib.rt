@@ -1,5 +1,5 @@
-//! Bundles split: the text of each module, and a map of it that says what the flat map of the whole
-//! bundle says on the lines of the module.
+//! Bundles split: the text of each module, and a map of it with the same answers as the flat map of
+//! the whole bundle has on the lines of the module.
 #![tactic(auto)]
 
 mod id_numbers;

@@ -60,7 +60,6 @@ fn first_at(tokens: &[RawToken], bound: Bound) -> usize
     tokens.partition_point(|token| stands_before(token, bound))
 }
 
-// Whether the token is before a bound.
 fn stands_before(token: &RawToken, bound: Bound) -> bool
     ensures { (b : ℕ × ℕ) → IsBound bound b
         → result ≡ is_lt (position_cmp (destination token.now) b) }

@@ -83,7 +83,7 @@ impl ModuleMaps {
         let own = tokens_in(lists.tokens, line, end_of(line, view));
         self.sources.clear();
         self.names.clear();
-        let tokens = moved(alloc, own, line, &mut self.sources, &mut self.names)?;
+        let tokens = move_tokens(alloc, own, line, &mut self.sources, &mut self.names)?;
         let tokens = TokenList::of_sorted(tokens)?;
         map_over(
             alloc,
@@ -138,7 +138,7 @@ fn map_over(
 }
 
 // The tokens with lines that count from this one, and with new numbers of their sources and names.
-fn moved(
+fn move_tokens(
     alloc: Global,
     tokens: &[RawToken],
     line: u32,
@@ -171,7 +171,6 @@ fn moved(
     Ok(moved)
 }
 
-// Copies of the texts of these ids.
 fn texts_at(alloc: Global, texts: &[String], ids: &[u32]) -> Result<Vec<String>>
     requires { All (λ id. id < length texts.now) ids.now }
     ensures { Gives texts_of result (Ok (texts_at (map string_bytes texts.now) ids.now)) }
@@ -183,7 +182,6 @@ fn texts_at(alloc: Global, texts: &[String], ids: &[u32]) -> Result<Vec<String>>
     Ok(copies)
 }
 
-// Copies of the contents of these ids, where there are some.
 fn contents_at(
     alloc: Global,
     contents: &[Option<SourceView>],

@@ -14,12 +14,12 @@ use Rattle.sourcemap_errors.specs.declared.errors.Error.TheVariants.{Io, Invalid
 use Rattle.sourcemap_bundles.specs.Modules.{BundleValue, FilesValue, files, indexed}
 
 -- why a file bundle is refused; a read that failed for memory is `OutOfMemory`, and no `Io`
-abbrev pub IsFileFault : Error → Type 0
-IsFileFault OutOfMemory = Unit {0}
-IsFileFault (Io cause) = FromIo cause (Io cause)
-IsFileFault NotARamBundle = Unit {0}
-IsFileFault InvalidRamBundleIndex = Unit {0}
-IsFileFault _ = ⊥
+abbrev pub IsFileError : Error → Type 0
+IsFileError OutOfMemory = Unit {0}
+IsFileError (Io cause) = FromIo cause (Io cause)
+IsFileError NotARamBundle = Unit {0}
+IsFileError InvalidRamBundleIndex = Unit {0}
+IsFileError _ = ⊥
 
 -- a file's name has this number: ASCII digits and `.js`, and the number is not the greatest of 64 bits
 abbrev pub IsNumbered : List ℕ → ℕ → Type 0

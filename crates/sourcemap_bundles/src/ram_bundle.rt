@@ -3,7 +3,7 @@ ghost use Rattle.std.specs.Prelude.{◌≡◌, ◌≤◌, ◌↔◌, IfErr, IfOk
 ghost use Rattle.sourcemap_errors.specs.Answer.{Gives};
 ghost use Rattle.sourcemap_bundle_bytes.specs.Bundle.{Returns};
 ghost use Rattle.sourcemap_bundles.specs.Modules.{IsBundle, IsOfFile, bundle_count, bundle_module, bundle_startup, indexed_bundle, modules_of};
-ghost use Rattle.sourcemap_bundles.specs.Folder.{IsFileBundle, IsFileFault};
+ghost use Rattle.sourcemap_bundles.specs.Folder.{IsFileBundle, IsFileError};
 ghost use Rattle.sourcemap_bundles.specs.Stored.{module_value, type_of};
 
 use crate::indexed::IndexedRamBundle;
@@ -48,7 +48,7 @@ impl<'a> Model for RamBundle<'a> {
     ghost view = { λ bundle. bundle_value bundle.repr };
 }
 
-// By hand, for the prover: a drop is one step of a function that owns one, not one a field.
+// prover: one drop
 impl Drop for RamBundle<'_> {
     fn drop(self) {
         let RamBundle { repr: _ } = self;
@@ -93,7 +93,7 @@ impl<'a> RamBundle<'a> {
     /// `usize`, is `InvalidRamBundleIndex`; a failed read or listing is `Io`.
     pub fn parse_unbundle_from_path<F: Files>(rt: &F, alloc: Global, path: &str) -> Result<Self>
         ensures files { IfOk result IsFileBundle }
-        ensures refused { IfErr result IsFileFault }
+        ensures refused { IfErr result IsFileError }
     {
         let files = UnbundleRamBundle::parse(rt, alloc, path)?;
         Ok(RamBundle {

@@ -6,7 +6,7 @@ ghost use Rattle.std.specs.String.{string_cmp};
 ghost use Rattle.std.specs.Str.Parse.{IsNumeral, digits_value};
 ghost use Rattle.sourcemap_errors.specs.Answer.{Gives};
 ghost use Rattle.sourcemap_errors.specs.declared.errors.Error.TheVariants.{InvalidRamBundleIndex, OutOfMemory};
-ghost use Rattle.sourcemap_bundles.specs.Folder.{IsFileFault, IsFolder, IsNumbered, IsReadBy, with_file};
+ghost use Rattle.sourcemap_bundles.specs.Folder.{IsFileError, IsFolder, IsNumbered, IsReadBy, with_file};
 ghost use Rattle.sourcemap_bundles.specs.Modules.{file_module};
 ghost use Rattle.sourcemap_bundles.specs.Stored.{files_value, module_value};
 
@@ -34,7 +34,7 @@ impl UnbundleRamBundle {
     /// Reads the startup code at `path` and the modules beside it.
     pub(crate) fn parse<F: Files>(rt: &F, alloc: Global, path: &str) -> Result<Self>
         ensures files { IfOk result (λ bundle. IsFolder (files_value bundle)) }
-        ensures refused { IfErr result IsFileFault }
+        ensures refused { IfErr result IsFileError }
     {
         if !is_unbundle_path(rt, alloc, path)? {
             return Err(Error::NotARamBundle);
@@ -156,7 +156,7 @@ fn false_unless_memory(cause: io::Error) -> Result<bool>
 /// link is none.
 fn file_names<F: Files>(rt: &F, alloc: Global, folder: Path<'_>) -> Result<Vec<String>>
     ensures sorted { IfOk result (λ names. IsSorted string_cmp names.items) }
-    ensures refused { IfErr result IsFileFault }
+    ensures refused { IfErr result IsFileError }
 {
     let mut names = Vec::new(alloc);
     for entry in fs::read_dir(&(rt, alloc), folder)? {
@@ -178,7 +178,7 @@ fn read_modules<F: Files>(
     names: &[String],
 ) -> Result<UnbundleRamBundle>
     ensures files { IfOk result (λ bundle. IsReadBy (map string_bytes names.now) startup_code.items (files_value bundle)) }
-    ensures refused { IfErr result IsFileFault }
+    ensures refused { IfErr result IsFileError }
 {
     let mut bundle = UnbundleRamBundle {
         startup_code,

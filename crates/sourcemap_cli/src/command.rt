@@ -1,5 +1,5 @@
 //! The commands of the program and their parser.
-ghost use Rattle.std.specs.Prelude.{◌≡◌, List, [], ◌∷◌, ℕ, codes, map, string_bytes, MatchOption, MatchResult};
+ghost use Rattle.std.specs.Prelude.{◌≡◌, List, [], ◌∷◌, ℕ, map, string_bytes, MatchOption, MatchResult};
 ghost use Rattle.sourcemap.specs.declared.errors.Error.TheVariants.{OutOfMemory};
 ghost use Rattle.sourcemap_cli.specs.Command.{IsNumber, IsSameCommand, AskFor};
 
@@ -48,14 +48,6 @@ fn parse_verb(verb: &str) -> Option<Command>
     }
 }
 
-fn parse_shift(rows: &str) -> Option<Command>
-    ensures { MatchOption result
-        ((command : _) → ¬ AskFor (codes "shift" ∷ rows.now ∷ []) command)
-        (AskFor (codes "shift" ∷ rows.now ∷ [])) }
-{
-    Some(Command::Shift(parse_number(rows)?))
-}
-
 fn parse_verb_and_argument(alloc: Global, verb: &str, argument: &str) -> Result<Option<Command>>
     ensures { MatchResult result
         (λ found. MatchOption found
@@ -65,7 +57,7 @@ fn parse_verb_and_argument(alloc: Global, verb: &str, argument: &str) -> Result<
 {
     match verb {
         "compose" => Ok(Some(Command::Compose(String::from_str(alloc, argument)?))),
-        "shift" => Ok(parse_shift(argument)),
+        "shift" => Ok(parse_number(argument).map(Command::Shift)),
         "trace" => Ok(Some(Command::Trace(String::from_str(alloc, argument)?))),
         _ => Ok(None),
     }

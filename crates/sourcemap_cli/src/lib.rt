@@ -2,7 +2,7 @@
 #![tactic(auto)]
 
 pub mod command;
-pub mod files;
+mod files;
 pub mod maps;
 pub mod output;
 pub mod program;

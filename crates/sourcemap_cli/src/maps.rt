@@ -1,6 +1,5 @@
 //! Checks that a map has the kind that a command needs; adjusts a regular map by another one.
 ghost use Rattle.std.specs.Prelude.{◌≡◌, MatchResult, Some};
-ghost use Rattle.sourcemap.specs.Adjust.{adjusted as adjusted_values};
 ghost use Rattle.sourcemap.specs.Answer.{Gives};
 ghost use Rattle.sourcemap.specs.AnyMap.{index_value, map_tree};
 ghost use Rattle.sourcemap.specs.Trees.{index_tree, leaf, regular};
@@ -45,19 +44,13 @@ pub fn into_index(map: DecodedMap) -> Result<SourceMapIndex>
     }
 }
 
-fn adjust_regular(mut map: SourceMap, adjustment: &SourceMap) -> Result<SourceMap>
-    ensures { Gives (λ m. m) result (adjusted_values map adjustment.now) }
-{
-    map.adjust_mappings(adjustment)?;
-    Ok(map)
-}
-
 /// Adjusts the map as by `SourceMap::adjust_mappings`. Returns `IncompatibleSourceMap` unless both
 /// maps are regular.
 pub fn adjust(map: DecodedMap, adjustment: &DecodedMap) -> Result<SourceMap>
     ensures { Gives (λ m. m) result (adjusted_by (map_tree map) (Some (map_tree adjustment.now))) }
 {
-    let map = into_regular(map)?;
+    let mut map = into_regular(map)?;
     let adjustment = as_regular(adjustment)?;
-    adjust_regular(map, adjustment)
+    map.adjust_mappings(adjustment)?;
+    Ok(map)
 }

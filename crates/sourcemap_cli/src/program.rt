@@ -7,7 +7,6 @@ ghost use Rattle.sourcemap.specs.Decoder.{Reading};
 ghost use Rattle.sourcemap.specs.Trees.{IsInOrder};
 ghost use Rattle.sourcemap.specs.declared.errors.Error.{Error};
 ghost use Rattle.sourcemap.specs.declared.errors.Error.TheVariants.{OutOfMemory};
-ghost use Rattle.sourcemap_cli.specs.Command.{AskFor};
 ghost use Rattle.sourcemap_cli.specs.declared.command.Command.TheVariants.{Compose};
 ghost use Rattle.sourcemap_cli.specs.declared.program.Reply.{Reply};
 ghost use Rattle.sourcemap_cli.specs.Program.{AskForNone, Ending, Ends, IsCutShort, IsPrinted, IsRefusal, IsReply, IsReplyOf, IsReplyTo, IsWriteError, PrintsRefusal, ReturnsOnBytes, ReturnsWithFile, Runs, WithFile, file_read, misused, traced};
@@ -114,20 +113,6 @@ fn usage_reply(alloc: Global) -> Result<Reply>
     Ok(Reply { text, status: 2 })
 }
 
-fn reply_to_command<F: Files>(
-    rt: &F,
-    alloc: Global,
-    command: &Command,
-    bytes: Vec<u8>,
-    preloaded: Option<Result<Vec<u8>>>,
-) -> Result<Reply>
-    ensures { (words : _) → AskFor words command.now → WithFile (option_map file_read preloaded)
-        (λ file. MatchResult result (IsReplyTo words bytes.items file) (λ e. e ≡ OutOfMemory)) }
-{
-    let answer = execute(rt, alloc, command, bytes, preloaded);
-    into_reply(alloc, answer)
-}
-
 /// Returns the reply of a run, given the bytes of the map and those of the file that `Compose` or
 /// `Trace` names, or the error of reading that file. Other commands ignore the file.
 ///
@@ -154,7 +139,10 @@ pub fn reply_to<F: Files>(
         → IsReply due reply) }
 {
     match parse_words(alloc, words)? {
-        Some(command) => reply_to_command(rt, alloc, &command, bytes, Some(file)),
+        Some(command) => {
+            let answer = execute(rt, alloc, &command, bytes, Some(file));
+            into_reply(alloc, answer)
+        }
         None => usage_reply(alloc),
     }
 }
@@ -175,7 +163,8 @@ fn reply_to_input<F: Files, R: Read>(
     match parse_words(alloc, words)? {
         Some(command) => {
             let bytes = read_all(alloc, input)?;
-            reply_to_command(rt, alloc, &command, bytes, None)
+            let answer = execute(rt, alloc, &command, bytes, None);
+            into_reply(alloc, answer)
         }
         None => usage_reply(alloc),
     }

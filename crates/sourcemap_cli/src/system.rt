@@ -1,5 +1,7 @@
 //! The program's arguments, and errors reported on standard error.
 ghost use Rattle.std.specs.Prelude.{◌≡◌, IfErr, OnOk, IsTrue, ◌↔◌};
+ghost use Rattle.sourcemap.specs.Answer.{UnlessMemory};
+ghost use Rattle.sourcemap.specs.Written.{IsIo};
 ghost use Rattle.sourcemap_cli.specs.Program.{IsWriteError};
 ghost use Rattle.sourcemap_cli.specs.System.{IsErrorPrinted, IsReaderGone};
 
@@ -9,8 +11,11 @@ use std::io::{ErrorKind, Write};
 use std::{env, io};
 
 /// Returns the arguments of the process after the program's name. If one is not UTF-8, returns an
-/// empty list: neither is a command. Returns `OutOfMemory` if memory runs out.
-pub fn words<R: Env + AllocGlobal>(rt: &R) -> Result<Vec<String>> {
+/// empty list: neither is a command. Returns `OutOfMemory` if memory runs out. Any other error of the
+/// environment is `Io`.
+pub fn words<R: Env + AllocGlobal>(rt: &R) -> Result<Vec<String>>
+    ensures error { IfErr result (λ e. UnlessMemory e (IsIo e)) }
+{
     match env::args(rt) {
         Ok(all) => Ok(all.skip(1).collect(rt.alloc())?),
         Err(error) if error.kind() == ErrorKind::InvalidData => Ok(Vec::new(rt.alloc())),

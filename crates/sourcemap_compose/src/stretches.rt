@@ -91,7 +91,6 @@ pub(crate) fn sorted_copy(
     Ok(Some(sort_stably(side, copy)?))
 }
 
-// The copy, or the list itself if there is none.
 pub(crate) fn copy_or<'a>(tokens: &'a [RawToken], copy: &'a Option<Vec<RawToken>>) -> &'a [RawToken]
     ensures { result.now ≡ copy_or tokens.now copy.now }
 {

@@ -3,7 +3,7 @@ use Rattle.std.specs.Prelude.{◌≡◌, Result, Ok, Err, MatchResult}
 use Rattle.sourcemap_errors.specs.declared.errors.Error.{Error}
 use Rattle.sourcemap_errors.specs.declared.errors.Error.TheVariants.{OutOfMemory}
 
--- the fact, unless the error is `OutOfMemory`
+-- `P`, unless the error is `OutOfMemory`
 abbrev pub UnlessMemory : Error → Type 0 → Type 0
 UnlessMemory OutOfMemory P = Unit {0}
 UnlessMemory _ P = P

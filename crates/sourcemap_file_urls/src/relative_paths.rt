@@ -107,7 +107,6 @@ fn next_folder(path: &str) -> Option<(&str, &str)>
     Some((folder, later))
 }
 
-// The first part of a path, and the rest.
 fn next_part(path: &str) -> Option<(&str, &str)>
     ensures next { MatchOption result (parts path.now ≡ [])
         (λ p. parts path.now ≡ p.0.now ∷ parts p.1.now) }
@@ -115,7 +114,7 @@ fn next_part(path: &str) -> Option<(&str, &str)>
 {
     let mut rest = path;
     while !rest.is_empty() {
-        let (part, later) = cut(rest);
+        let (part, later) = split_first_part(rest);
         if !part.is_empty() {
             return Some((part, later));
         }
@@ -125,7 +124,7 @@ fn next_part(path: &str) -> Option<(&str, &str)>
 }
 
 // The path before its first separator, and the rest after it.
-fn cut(path: &str) -> (&str, &str)
+fn split_first_part(path: &str) -> (&str, &str)
     ensures before { result.0.now ≡ before_first separates path.now }
     ensures after { result.1.now ≡ after_first separates path.now }
 {
@@ -148,7 +147,6 @@ fn first_separator(path: &[u8]) -> usize
     path.len()
 }
 
-// Whether this byte ends a part of a path.
 fn is_separator(byte: u8) -> bool
     ensures { result ≡ separates byte }
 {

@@ -1,4 +1,4 @@
-//! InHeader headers in a slice of bytes.
+//! Junk headers in a slice of bytes.
 ghost use Rattle.std.specs.Prelude.{◌≡◌, Some, None, IfOk, IfErr};
 ghost use Rattle.std.specs.IoError.{error_kind};
 ghost use Rattle.std.specs.declared.io.ErrorKind.TheVariants.{InvalidData};

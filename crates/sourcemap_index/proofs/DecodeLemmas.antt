@@ -35,8 +35,8 @@ of_no_record None e answer so is = let same : e ≡ BadJson Shape = cc in so ∙
 of_no_record (Some t) e answer so is = cc
 
 -- a value that stands for no record stands for no map
-pub fault_of_value : (d : Data) (e : Error) → UnlessMemory e (due (record_of d) ≡ Err e) → UnlessMemory e (ValueDecodes d (Err e))
-fault_of_value d e h = UnlessMemory-weaker e (of_no_record (record_of d) e (Err e) refl) h
+pub error_of_value : (d : Data) (e : Error) → UnlessMemory e (due (record_of d) ≡ Err e) → UnlessMemory e (ValueDecodes d (Err e))
+error_of_value d e h = UnlessMemory-weaker e (of_no_record (record_of d) e (Err e) refl) h
 
 -- a value's answer is the only one
 pub value_only : (d : Data) (r : Result DecodedMap Error) → IsAnswer map_tree (ValueDecodes d) r

@@ -5,7 +5,7 @@ use Rattle.std.specs.Option.{option_eq}
 use Rattle.std.specs.Cmp.Lexicographic.{pointwise}
 use Rattle.std.proofs.Math.Bool.{and_assoc, and-false, and-true}
 use Rattle.sourcemap_records.specs.Jsontypes.{SectionHead}
-use Rattle.sourcemap_index_model.specs.Equality.{same_parts, same_place, same_tree, same_sections}
+use Rattle.sourcemap_index_model.specs.Equality.{same_parts, same_section_head, same_tree, same_sections}
 use Rattle.sourcemap_index_model.specs.MapTree.{MapTree, MapSections, no_sections, MapSection, IndexValue, index_tree, section_list, section_with, sections_from}
 use Rattle.sourcemap_index_model.proofs.EqualityLemmas.{trees_decide, sections_decide}
 use Rattle.sourcemap_index_model.proofs.MapTreeLemmas.{section_list-from}
@@ -20,11 +20,11 @@ same_none head None rest = refl
 same_none head (Some t) rest = refl
 
 both_same : (p q : SectionHead) (m n : Option MapTree) (rest rest' : MapSections)
-    → same_sections (section_with p m rest) (section_with q n rest') ≡ (same_place p q && option_eq same_tree m n) && same_sections rest rest'
-both_same p q None None rest rest' = sym (and_assoc (same_place p q) true (same_sections rest rest'))
-both_same p q None (Some u) rest rest' = sym (ap (λ b. b && same_sections rest rest') (and-false (same_place p q)))
-both_same p q (Some t) None rest rest' = sym (ap (λ b. b && same_sections rest rest') (and-false (same_place p q)))
-both_same p q (Some t) (Some u) rest rest' = sym (and_assoc (same_place p q) (same_tree t u) (same_sections rest rest'))
+    → same_sections (section_with p m rest) (section_with q n rest') ≡ (same_section_head p q && option_eq same_tree m n) && same_sections rest rest'
+both_same p q None None rest rest' = sym (and_assoc (same_section_head p q) true (same_sections rest rest'))
+both_same p q None (Some u) rest rest' = sym (ap (λ b. b && same_sections rest rest') (and-false (same_section_head p q)))
+both_same p q (Some t) None rest rest' = sym (ap (λ b. b && same_sections rest rest') (and-false (same_section_head p q)))
+both_same p q (Some t) (Some u) rest rest' = sym (and_assoc (same_section_head p q) (same_tree t u) (same_sections rest rest'))
 
 sections_same : (ss ts : List MapSection) → same_sections (sections_from ss) (sections_from ts) ≡ pointwise same_section ss ts
 sections_same [] [] = refl

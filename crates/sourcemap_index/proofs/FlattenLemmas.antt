@@ -20,7 +20,7 @@ use Rattle.sourcemap_index_flatten.specs.Errors.{GivesReason, Refuses}
 use Rattle.sourcemap_index_flatten.specs.Gathering.{Gathers, GathersMore, IsFlat, RefusesFor}
 use Rattle.sourcemap_index_flatten.specs.declared.gathering.Gathering.{Gathering}
 use Rattle.sourcemap_index_flatten.specs.declared.gathering.FlatMap.{FlatMap}
-use Rattle.sourcemap_index.specs.Flatten.{map_added, place_added, section_added, AnswersLess, Gathered, IsSectionInOrder, MadeFlat}
+use Rattle.sourcemap_index.specs.Flatten.{map_added, section_map_added, section_added, AnswersLess, Gathered, IsSectionInOrder, IsFlatOf}
 use Rattle.sourcemap_index.specs.Family.{section_value}
 use Rattle.sourcemap_index.specs.declared.family.SourceMapSection.{SourceMapSection}
 use Rattle.sourcemap_index.proofs.LookupLemmas.{indexes, indexes_below}
@@ -46,11 +46,11 @@ refused-as due other e is refused = UnlessMemory-weaker e (λ h. (h.0, is ∙ h.
 -- ---- one section
 
 pub section-filled : (before : List Piece) (s : MapSection) (offset : ℕ × ℕ) (t : MapTree) → s.map ≡ Some t → offset_of s.head ≡ offset → section_added before s ≡ map_added before offset t
-section-filled before s offset t is at = ap (place_added before s.head) is ∙ ap (λ o. map_added before o t) at
+section-filled before s offset t is at = ap (section_map_added before s.head) is ∙ ap (λ o. map_added before o t) at
 
 pub section-hollow : (before : List Piece) (s : MapSection) (url : Option (List ℕ)) (e : Error) → s.map ≡ None → url ≡ s.head.url → Refuses (unresolved url) e → RefusesFor (section_added before s) e
 section-hollow before s url e is same refused =
-    UnlessMemory-weaker e (λ says. (unresolved url, ap (place_added before s.head) is ∙ ap (λ u. Err (unresolved u)) (sym same), says)) refused
+    UnlessMemory-weaker e (λ says. (unresolved url, ap (section_map_added before s.head) is ∙ ap (λ u. Err (unresolved u)) (sym same), says)) refused
 
 -- ---- all sections
 
@@ -62,7 +62,7 @@ pieces-next before s rest = by_map s.map
     by_flat (Ok m) = refl
     by_flat (Err e) = refl
 
-    by_map : (m : Option MapTree) → pieces_after before (section_with s.head m (sections_from rest)) ≡ on_ok (place_added before s.head m) (λ pieces. pieces_after pieces (sections_from rest))
+    by_map : (m : Option MapTree) → pieces_after before (section_with s.head m (sections_from rest)) ≡ on_ok (section_map_added before s.head m) (λ pieces. pieces_after pieces (sections_from rest))
     by_map None = refl
     by_map (Some t) = by_flat (flat t)
 
@@ -85,8 +85,8 @@ so_far-refused all s rest old e so_far refuses =
     UnlessMemory-weaker e (λ h. (h.0, so_far.1 ∙ pieces-next so_far.0 s rest ∙ ap (λ r. on_ok r (λ pieces. pieces_after pieces (sections_from rest))) h.1, h.2))
     (refuses so_far.0 so_far.2)
 
-pub made_flat : (all : List MapSection) (g : Gathering) (f : FlatMap) → SoFar all [] g → ((pieces : List Piece) → Gathers pieces g → IsFlat pieces f) → MadeFlat (pieces_after [] (sections_from all)) f
-made_flat all g f so_far finish = (so_far.0, so_far.1, finish so_far.0 so_far.2)
+pub flat_of_gathering : (all : List MapSection) (g : Gathering) (f : FlatMap) → SoFar all [] g → ((pieces : List Piece) → Gathers pieces g → IsFlat pieces f) → IsFlatOf (pieces_after [] (sections_from all)) f
+flat_of_gathering all g f so_far finish = (so_far.0, so_far.1, finish so_far.0 so_far.2)
 
 -- ---- what is answered
 

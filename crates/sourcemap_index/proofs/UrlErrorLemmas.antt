@@ -123,12 +123,12 @@ no_bytes_error bytes (inr h) = no_json_error bytes h
 
 -- Texts.
 
-pub fault_of_no_url : (url : List ℕ) → UrlDecodes url (Err InvalidDataUrl) → IsNoUrl url
-fault_of_no_url url (inl (bytes, holds, h)) = absurd (no_bytes_error bytes h)
-fault_of_no_url url (inr (is, none)) = none
+pub error_of_no_url : (url : List ℕ) → UrlDecodes url (Err InvalidDataUrl) → IsNoUrl url
+error_of_no_url url (inl (bytes, holds, h)) = absurd (no_bytes_error bytes h)
+error_of_no_url url (inr (is, none)) = none
 
 -- a text that was refused as no data URL is none
 pub refused_as_no_url : (url : List ℕ) (r : Result DecodedMap Error) → IsAnswer map_tree (UrlDecodes url) r
     → IfErr r (λ e. e ≡ InvalidDataUrl → IsNoUrl url)
 refused_as_no_url url (Ok m) h = tt
-refused_as_no_url url (Err e) h = λ is. fault_of_no_url url (subst (λ f. UnlessMemory f (UrlDecodes url (Err f))) is h)
+refused_as_no_url url (Err e) h = λ is. error_of_no_url url (subst (λ f. UnlessMemory f (UrlDecodes url (Err f))) is h)

@@ -6,14 +6,14 @@ use Rattle.std.specs.Cmp.{IsEquivalence}
 use Rattle.std.specs.Cmp.Rules.{comparing}
 use Rattle.std.specs.Cmp.Lexicographic.{pointwise}
 use Rattle.std.proofs.Common.{rules}
-use Rattle.sourcemap_index_model.specs.Equality.{same_parts, same_place, same_tree}
+use Rattle.sourcemap_index_model.specs.Equality.{same_parts, same_section_head, same_tree}
 use Rattle.sourcemap_index_model.specs.MapTree.{MapSection, IndexValue}
 use Rattle.sourcemap_index_model.proofs.EqualityLemmas.{same_tree_equiv}
 
 abbrev pub same_section : MapSection → MapSection → Bool
 same_section =
     eq_of_both
-    (on (λ s. s.head) same_place)
+    (on (λ s. s.head) same_section_head)
     (on (λ s. s.map) (option_eq same_tree))
 
 abbrev pub same_index : IndexValue → IndexValue → Bool

@@ -19,20 +19,20 @@ abbrev pub map_added : List Piece → ℕ × ℕ → MapTree → Result (List Pi
 map_added before offset t = on_ok (flat t) (λ m. with_piece before (offset, m))
 
 -- with that of one more section
-abbrev pub place_added : List Piece → SectionHead → Option MapTree → Result (List Piece) (List ℕ)
-place_added before head None = Err (unresolved head.url)
-place_added before head (Some t) = map_added before (offset_of head) t
+abbrev pub section_map_added : List Piece → SectionHead → Option MapTree → Result (List Piece) (List ℕ)
+section_map_added before head None = Err (unresolved head.url)
+section_map_added before head (Some t) = map_added before (offset_of head) t
 
 abbrev pub section_added : List Piece → MapSection → Result (List Piece) (List ℕ)
-section_added before s = place_added before s.head s.map
+section_added before s = section_map_added before s.head s.map
 
 -- these pieces were due, and they are gathered
 abbrev pub Gathered : Result (List Piece) (List ℕ) → Gathering → Type 0
 Gathered due g = (pieces : List Piece) × (due ≡ Ok pieces) × Gathers pieces g
 
 -- and made one
-abbrev pub MadeFlat : Result (List Piece) (List ℕ) → FlatMap → Type 0
-MadeFlat due flat = (pieces : List Piece) × (due ≡ Ok pieces) × IsFlat pieces flat
+abbrev pub IsFlatOf : Result (List Piece) (List ℕ) → FlatMap → Type 0
+IsFlatOf due flat = (pieces : List Piece) × (due ≡ Ok pieces) × IsFlat pieces flat
 
 -- the tokens of each map in a section are in order
 abbrev pub IsSectionInOrder : MapSection → Type 0

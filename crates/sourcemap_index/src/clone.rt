@@ -8,7 +8,6 @@ use sourcemap_errors::errors::Result;
 use sourcemap_map_parts::text_lists::{copy_string, copy_texts};
 use std::alloc::Global;
 
-// A copy of the list of lines, if there is one.
 pub(crate) fn copy_lines(
     alloc: Global,
     lines: &Option<Vec<Option<u32>>>,
@@ -25,7 +24,6 @@ pub(crate) fn copy_lines(
     }
 }
 
-// A copy of the list of paths, if there is one.
 pub(crate) fn copy_paths(alloc: Global, paths: &Option<Vec<String>>) -> Result<Option<Vec<String>>>
     ensures { Gives (option_map (λ v. map string_bytes v.items)) result
         (Ok (option_map (λ v. map string_bytes v.items) paths.now)) }
@@ -56,7 +54,6 @@ impl SourceMapSection {
     }
 }
 
-// Copies of the sections, in order.
 #[cycle(clone)]
 fn copy_sections(alloc: Global, sections: &Vec<SourceMapSection>) -> Result<Vec<SourceMapSection>>
     ensures { Gives (λ v. map section_value v.items) result

@@ -23,7 +23,6 @@ use sourcemap_records::jsontypes::RawSourceMap;
 use std::alloc::Global;
 use std::io::Read;
 
-// The map of a JSON value.
 pub(crate) fn decode_value(alloc: Global, value: &Value) -> Result<DecodedMap>
     ensures answer { IsAnswer map_tree (ValueDecodes (view value.now)) result }
     ensures well_formed { IfOk result (λ m. IsWellFormed (map_tree m)) }
@@ -32,7 +31,6 @@ pub(crate) fn decode_value(alloc: Global, value: &Value) -> Result<DecodedMap>
     decode_map(alloc, raw)
 }
 
-// The map of bytes.
 fn decode_bytes(alloc: Global, bytes: &[u8]) -> Result<DecodedMap>
     ensures answer { IsAnswer map_tree (BytesDecode bytes.now) result }
     ensures well_formed { IfOk result (λ m. IsWellFormed (map_tree m)) }
@@ -91,7 +89,6 @@ pub fn decode<R: Read + Drop>(alloc: Global, reader: R) -> Result<DecodedMap>
     decode_owned(alloc, bytes)
 }
 
-// The map of a data URL.
 fn decode_url(alloc: Global, url: &str) -> Result<DecodedMap>
     ensures answer { IsAnswer map_tree (UrlDecodes url.now) result }
     ensures well_formed { IfOk result (λ m. IsWellFormed (map_tree m)) }
@@ -114,7 +111,6 @@ pub fn decode_data_url(alloc: Global, url: &str) -> Result<DecodedMap>
     decode_url(alloc, url)
 }
 
-// The index of bytes.
 fn index_in(alloc: Global, bytes: &[u8]) -> Result<SourceMapIndex>
     ensures answer { IsAnswer index_value (BytesHaveResult IndexDecodes bytes.now) result }
     ensures well_formed { IfOk result (λ i. IsWellFormed (index_tree (index_value i))) }
@@ -174,7 +170,7 @@ pub fn answers_are_determined()
 
 /// A law: a text is `InvalidDataUrl` exactly if it is no data URL. No JSON value, no bytes and no
 /// payload are.
-pub fn no_other_fault_is_of_urls()
+pub fn only_urls_give_invalid_data_url()
     ensures values { (d : Data) → ¬ ValueDecodes d (Err InvalidDataUrl) }
     ensures bytes { (bytes : List ℕ) → ¬ BytesDecode bytes (Err InvalidDataUrl) }
     ensures urls { (url : List ℕ) → UrlDecodes url (Err InvalidDataUrl) → IsNoUrl url }

@@ -117,7 +117,6 @@ fn sort_sections(sections: &mut Vec<SourceMapSection>) -> Result<()>
     Ok(())
 }
 
-// The index of a record's keys and of these sections.
 fn index_of(
     alloc: Global,
     raw: RawSourceMap,

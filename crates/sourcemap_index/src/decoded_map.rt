@@ -27,7 +27,6 @@ impl DecodedMap {
     ghost use Rattle.sourcemap_index.specs.DecodedMap.{IsValueOf, debug_id_of, with_debug_id};
     ghost use Rattle.sourcemap_index.specs.Decode.{ValueDecodes, BytesDecode, AreSame, IsAnswerRead, Reading};
 
-    // The allocator that the map keeps.
     pub(crate) fn allocator(&self) -> Global {
         match self {
             DecodedMap::Regular(map) => map.allocator(),

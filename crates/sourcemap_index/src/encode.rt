@@ -190,7 +190,6 @@ fn section_into_record(part: SourceMapSection) -> Result<RawSection>
     })
 }
 
-// The record of an index with these sections.
 fn copied_with(index: &SourceMapIndex, sections: Vec<RawSection>) -> Result<RawSourceMap>
     ensures value { Gives tree result (Ok (indexed (index_fields (index_value index.now).parts)
         (sections_from (map section sections.items)))) }
@@ -203,7 +202,6 @@ fn copied_with(index: &SourceMapIndex, sections: Vec<RawSection>) -> Result<RawS
     Ok(record_with(file, index.debug_id, offsets, paths, sections))
 }
 
-// The record of an index of these parts and sections.
 fn record_with(
     file: Option<String>,
     debug_id: Option<DebugId>,
@@ -256,12 +254,12 @@ fn look_at(numbers: &[Option<u32>])
     ensures { AllByRecursion (λ n. IfSome n FitsU32) numbers.now }
 {
     for number in numbers {
-        let _ = checked(*number);
+        let _ = check_number(*number);
     }
 }
 
 // The same number: it is below 2^32.
-fn checked(number: Option<u32>) -> Option<u32>
+fn check_number(number: Option<u32>) -> Option<u32>
     ensures value { result ≡ number }
     ensures small { IfSome result FitsU32 }
 {

@@ -14,7 +14,6 @@ ghost use Rattle.sourcemap_index.specs.Family.{index_value, map_tree, section_va
 use crate::family::{DecodedMap, SourceMapIndex, SourceMapSection};
 use sourcemap_map_parts::text_lists::{same_optional_texts, same_texts};
 
-// Whether both lists of lines are missing, or both are there and hold the same.
 fn same_lines(a: &Option<Vec<Option<u32>>>, b: &Option<Vec<Option<u32>>>) -> bool
     ensures { result ≡ option_eq (pointwise (option_eq nat_eq))
         (option_map (λ v. v.items) a.now) (option_map (λ v. v.items) b.now) }
@@ -22,7 +21,6 @@ fn same_lines(a: &Option<Vec<Option<u32>>>, b: &Option<Vec<Option<u32>>>) -> boo
     a == b
 }
 
-// Whether both lists of paths are missing, or both are there and hold the same.
 fn same_paths(a: &Option<Vec<String>>, b: &Option<Vec<String>>) -> bool
     ensures { result ≡ option_eq (pointwise same_text)
         (option_map (λ v. map string_bytes v.items) a.now)

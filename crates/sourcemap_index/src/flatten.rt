@@ -9,11 +9,11 @@ ghost use Rattle.sourcemap_index_model.specs.MapTree.{index_tree, sections_from}
 ghost use Rattle.sourcemap_index_model.specs.WellFormed.{HasTokensInOrder, IsWellFormed};
 ghost use Rattle.sourcemap_index_flatten.specs.Gathering.{Gathers, RefusesFor};
 ghost use Rattle.sourcemap_index.specs.Family.{index_value, map_tree, section_value};
-ghost use Rattle.sourcemap_index.specs.Flatten.{AnswersLess, Gathered, IsSectionInOrder, MadeFlat, MeansFlatLess, RewriteAnswer, SaysFlatLess, map_added, section_added};
+ghost use Rattle.sourcemap_index.specs.Flatten.{AnswersLess, Gathered, IsSectionInOrder, IsFlatOf, MeansFlatLess, RewriteAnswer, SaysFlatLess, map_added, section_added};
 
 use crate::family::{DecodedMap, SourceMapIndex, SourceMapSection};
 use sourcemap_errors::errors::Result;
-use sourcemap_index_flatten::errors::unresolved;
+use sourcemap_index_flatten::errors::unresolved_error;
 use sourcemap_index_flatten::gathering::{FlatMap, Gathering};
 use sourcemap_map_regular::map::SourceMap;
 use sourcemap_map_regular::rewrite::RewriteOptions;
@@ -39,7 +39,7 @@ impl SourceMapIndex {
         ensures well_formed { IfOk result (λ m. IsWellFormed (index_tree (index_value self.now))
             → IsWellFormedRegular m) }
     {
-        let flat = self.gathered()?;
+        let flat = self.gather_all()?;
         flat.into_map(self.alloc, self.get_file())
     }
 
@@ -74,11 +74,10 @@ impl SourceMapIndex {
         flat.rewrite(rt, options)
     }
 
-    // The maps of all sections, gathered.
     #[cycle(flatten)]
-    fn gathered(&self) -> Result<FlatMap<'_>>
+    fn gather_all(&self) -> Result<FlatMap<'_>>
         ensures ok { IfOk result
-            (MadeFlat (pieces_after [] (sections_from (index_value self.now).sections))) }
+            (IsFlatOf (pieces_after [] (sections_from (index_value self.now).sections))) }
         ensures in_order { IfOk result (λ _. HasTokensInOrder (index_tree (index_value self.now))) }
         ensures refused { IfErr result
             (RefusesFor (pieces_after [] (sections_from (index_value self.now).sections))) }
@@ -104,7 +103,6 @@ impl SourceMapIndex {
 }
 
 impl SourceMapSection {
-    // Adds the section's map to the gathered ones.
     #[cycle(flatten)]
     fn gather<'a>(&'a self, gathering: &mut Gathering<'a>) -> Result<()>
         ensures ok { (before : List Piece) → Gathers before gathering.old
@@ -116,7 +114,7 @@ impl SourceMapSection {
         let alloc = self.alloc;
         let (line, col) = self.offset;
         match &self.map {
-            None => Err(unresolved(alloc, self.get_url())),
+            None => Err(unresolved_error(alloc, self.get_url())),
             Some(map) => map.gather(gathering, alloc, line, col),
         }
     }
@@ -152,7 +150,7 @@ impl DecodedMap {
             DecodedMap::Regular(map) => gathering.add(alloc, line, col, &map.lists()),
             DecodedMap::Hermes(map) => gathering.add(alloc, line, col, &map.lists()),
             DecodedMap::Index(index) => {
-                let flat = index.gathered()?;
+                let flat = index.gather_all()?;
                 gathering.add_flat(alloc, line, col, &flat)
             }
         }

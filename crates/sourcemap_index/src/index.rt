@@ -68,14 +68,12 @@ impl SourceMapIndex {
         Ok(())
     }
 
-    // The debug id.
     pub(crate) fn debug_id(&self) -> Option<DebugId>
         ensures { result ≡ (index_value self.now).parts.debug_id }
     {
         self.debug_id
     }
 
-    // Sets the debug id.
     pub(crate) fn set_debug_id(&mut self, debug_id: Option<DebugId>)
         ensures { index_value self.new ≡ with_debug_id (index_value self.old) debug_id }
     {

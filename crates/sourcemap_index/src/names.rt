@@ -62,7 +62,6 @@ impl DecodedMap {
     }
 }
 
-// The name by a Hermes map.
 fn name_in_bytecode(map: &SourceMapHermes, line: u32, col: u32) -> Option<&str>
     ensures { IsInOrderInBytecode (hermes_value map.now) (line, col)
         → option_copied result ≡ name_in_bytecode (hermes_value map.now) (line, col) }

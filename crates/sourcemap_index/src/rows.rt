@@ -19,7 +19,6 @@ fn have_rows_left(sections: &[SourceMapSection], rows: u32) -> bool
     true
 }
 
-// Moves each section down by so many rows.
 fn move_down(sections: &mut [SourceMapSection], rows: u32)
     ensures { HaveRowsLeft rows (map section_value sections.old)
         → map section_value sections.new ≡ shifted rows (map section_value sections.old) }

@@ -11,8 +11,7 @@ use sourcemap_errors::errors::Result;
 use sourcemap_texts::copies::copy_text;
 use std::alloc::Global;
 
-// A map on the heap.
-fn boxed(alloc: Global, map: Option<DecodedMap>) -> Result<Option<Box<DecodedMap>>>
+fn box_map(alloc: Global, map: Option<DecodedMap>) -> Result<Option<Box<DecodedMap>>>
     ensures { Gives (λ kept. option_map (λ b. b.value) kept) result (Ok map) }
 {
     match map {
@@ -36,7 +35,7 @@ impl SourceMapSection {
         ensures { Gives section_value result
             (Ok (section_made offset (text_view url) (option_map map_tree map))) }
     {
-        let map = boxed(alloc, map)?;
+        let map = box_map(alloc, map)?;
         Ok(SourceMapSection {
             offset,
             url,
@@ -108,7 +107,7 @@ impl SourceMapSection {
         ensures { Changes result (section_value self.old) (section_value self.new)
             (with_map (section_value self.old) (option_map map_tree map)) }
     {
-        self.map = boxed(self.alloc, map)?;
+        self.map = box_map(self.alloc, map)?;
         Ok(())
     }
 }

@@ -12,7 +12,6 @@ use sourcemap_source_views::sourceview::SourceView;
 use sourcemap_tokens::items::item_at;
 use std::alloc::Global;
 
-// Sources with their contents.
 pub(crate) fn sources_of<'a>(
     alloc: Global,
     sources: &'a [String],

@@ -39,7 +39,7 @@ fn unresolved_text(alloc: Global, url: Option<&str>) -> Result<String>
 
 /// The error for a section without a map, with the URL of its map if it has one. `OutOfMemory` if
 /// the text of the error cannot be allocated.
-pub fn unresolved(alloc: Global, url: Option<&str>) -> Error
+pub fn unresolved_error(alloc: Global, url: Option<&str>) -> Error
     ensures { Refuses (unresolved (option_copied url.entry)) result }
 {
     match unresolved_text(alloc, url) {

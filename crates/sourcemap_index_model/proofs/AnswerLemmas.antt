@@ -46,8 +46,8 @@ answer_in entries p = option_map (meaning_at p) (closest_item entry_position pos
 abbrev say : MapValue → RawToken → Entry
 say m t = (destination t, meaning_of m t 0)
 
-column_later : (column behind : ℕ) → column_after (column_after column 0) behind ≡ column_after column behind
-column_later column behind = omega arith
+column_later : (column distance : ℕ) → column_after (column_after column 0) distance ≡ column_after column distance
+column_later column distance = omega arith
 
 pub meaning_in : (m : MapValue) (p : ℕ × ℕ) → meaning_regular m p ≡ answer_in (token_meanings m) p
 unfolding of_item
@@ -155,7 +155,7 @@ alone s p m e =
       | inl here ↦ (reached_here p s.0 here, rw here at e)
       | inr apart ↦ elim (cases_Bool (is_lt (position_cmp s.0 p))) [
         | inl before ↦ (not_after s.0 p before, rw (apart, before) at e)
-        | inr behind ↦ let none : None ≡ Some m = rw (apart, behind) at e in cc
+        | inr after ↦ let none : None ≡ Some m = rw (apart, after) at e in cc
       ]
     ]
 

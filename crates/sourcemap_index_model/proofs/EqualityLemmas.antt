@@ -9,7 +9,7 @@ use Rattle.sourcemap_map_parts.proofs.TextListsLemmas.{options_decide, texts_dec
 use Rattle.sourcemap_records.specs.Jsontypes.{SectionHead}
 use Rattle.sourcemap_map_regular.proofs.EqualityLemmas.{same_map_decides}
 use Rattle.sourcemap_hermes.proofs.EqualityLemmas.{same_hermes_decides}
-use Rattle.sourcemap_index_model.specs.Equality.{same_leaf, same_parts, same_place, same_tree, same_sections}
+use Rattle.sourcemap_index_model.specs.Equality.{same_leaf, same_parts, same_section_head, same_tree, same_sections}
 use Rattle.sourcemap_index_model.specs.MapTree.{LeafMap, regular, hermes, IndexParts, MapTree, leaf, index, MapSections, no_sections, hollow, filled}
 
 parts_decide : (a b : IndexParts) → Decides (same_parts a b) (a ≡ b)
@@ -35,8 +35,8 @@ parts_decide a b =
       ),
     )
 
-places_decide : (a b : SectionHead) → Decides (same_place a b) (a ≡ b)
-places_decide a b =
+heads_decide : (a b : SectionHead) → Decides (same_section_head a b) (a ≡ b)
+heads_decide a b =
     let all =
     decides_both (decides_both (unsigned_Decides a.line b.line) (unsigned_Decides a.column b.column))
     (options_decide texts_decide a.url b.url) in (
@@ -73,7 +73,7 @@ mutual
   sections_decide no_sections (filled head t rest) = (λ h. cc, λ h. cc)
   sections_decide (hollow head rest) no_sections = (λ h. cc, λ h. cc)
   sections_decide (hollow head rest) (hollow head' rest') =
-      let all = decides_both (places_decide head head') (sections_decide rest rest') in (
+      let all = decides_both (heads_decide head head') (sections_decide rest rest') in (
         λ h. let p = all.0 h in λ i. hollow (p.0 i) (p.1 i),
         λ h. let e : head ≡ head' = cc in let f : rest ≡ rest' = cc in all.1 (e, f),
       )
@@ -81,7 +81,7 @@ mutual
   sections_decide (filled head t rest) no_sections = (λ h. cc, λ h. cc)
   sections_decide (filled head t rest) (hollow head' rest') = (λ h. cc, λ h. cc)
   sections_decide (filled head t rest) (filled head' t' rest') =
-      let all = decides_both (places_decide head head') (decides_both (trees_decide t t') (sections_decide rest rest')) in (
+      let all = decides_both (heads_decide head head') (decides_both (trees_decide t t') (sections_decide rest rest')) in (
         λ h. let p = all.0 h in λ i. filled (p.0 i) (p.1.0 i) (p.1.1 i),
         λ h. let e : head ≡ head' = cc in let f : t ≡ t' = cc in let g : rest ≡ rest' = cc in all.1 (e, (f, g)),
       )

@@ -26,15 +26,15 @@ pub well_formed_in_order : (t : MapTree) → IsWellFormed t → IsInOrder t
 well_formed_in_order t h = each_level-weaker (λ m h. tt) (λ ss h. h.1) t h
 
 record_well : (r : Fields) (m : MapValue) → RecordDecodes r (Ok m) → IsWellFormedRegular m
-record_well r m (room, (page, reads, is), same) =
+record_well r m (bounds, (page, reads, is), same) =
     let tokens = AllWithin-sorted (listed r.mappings) (listed r.range_mappings) (record { sources = length (listed r.sources); names = length (listed r.names) })
-    (page_tokens 0 [] page) page reads refl room.names in
+    (page_tokens 0 [] page) page reads refl bounds.names in
     let sources : length m.sources ≡ length (listed r.sources) = ap (λ (m : MapValue). length m.sources) same ∙ length-map (listed r.sources) source_read in
     let names : length m.names ≡ length (listed r.names) = ap (λ (m : MapValue). length m.names) same ∙ length-map (listed r.names) name_read in
     rw (sources, names, is) tokens
 
 record_in_order : (r : Fields) (m : MapValue) → RecordDecodes r (Ok m) → AreInOrder m.tokens
-record_in_order r m (room, (page, reads, is), same) = subst AreInOrder (sym is) (AreInOrder-in_order (page_tokens 0 [] page))
+record_in_order r m (bounds, (page, reads, is), same) = subst AreInOrder (sym is) (AreInOrder-in_order (page_tokens 0 [] page))
 
 -- what holds for a decoded map
 abbrev IsReadLeaf : LeafMap → Type 0

@@ -68,7 +68,7 @@ abbrev mutual
   KeepSections (filled head t rest) (filled head' t' rest') = (head ≡ head') × KeepsParts t t' × KeepSections rest rest'
   KeepSections _ _ = ⊥
 
--- `back` has the meaning of `t` at every position, and all its parts
+-- `back` has the same meaning as `t` at every position, and the same parts
 abbrev pub Restores : (t back : MapTree) → Type 0
 Restores t back = MeansTheSame back t × KeepsParts back t
 

@@ -17,8 +17,8 @@ same_parts =
     (on (λ parts. parts.x_facebook_offsets) (option_eq (pointwise (option_eq nat_eq)))))
     (on (λ parts. parts.x_metro_module_paths) (option_eq (pointwise same_text)))
 
-abbrev pub same_place : SectionHead → SectionHead → Bool
-same_place =
+abbrev pub same_section_head : SectionHead → SectionHead → Bool
+same_section_head =
     eq_of_both (eq_of_both
     (on (λ head. head.line) nat_eq)
     (on (λ head. head.column) nat_eq))
@@ -37,7 +37,7 @@ abbrev mutual
 
   pub same_sections : MapSections → MapSections → Bool
   same_sections no_sections no_sections = true
-  same_sections (hollow head rest) (hollow head' rest') = same_place head head' && same_sections rest rest'
+  same_sections (hollow head rest) (hollow head' rest') = same_section_head head head' && same_sections rest rest'
   same_sections (filled head t rest) (filled head' t' rest') =
-      same_place head head' && (same_tree t t' && same_sections rest rest')
+      same_section_head head head' && (same_tree t t' && same_sections rest rest')
   same_sections _ _ = false

@@ -68,7 +68,7 @@ pub record IndexValue : Type 0 where
 abbrev pub index_tree : IndexValue → MapTree
 index_tree i = index i.parts (sections_from i.sections)
 
--- a fact of each map without sections, and one of the sections of each index map, at every depth
+-- `OfMap` of each map without sections, and `OfSections` of the sections of each index map, at every depth
 abbrev mutual
   pub AtEachLevel : (LeafMap → Type 0) → (MapSections → Type 0) → MapTree → Type 0
   AtEachLevel OfMap OfSections (leaf l) = OfMap l

@@ -228,7 +228,6 @@ fn read_line<R: Read + Drop>(reader: &mut BufReader<R>, line: &mut Vec<u8>) -> R
     Ok(true)
 }
 
-// Removes the newline at the end of a line.
 fn strip_newline(line: &mut Vec<u8>)
     ensures { line.new.items ≡ strip_last 10 line.old.items }
 {
@@ -247,7 +246,6 @@ fn reference_in_bytes(alloc: Global, line: &[u8]) -> Result<Option<SourceMapRef>
     }
 }
 
-// The error for bytes that are not UTF-8.
 fn not_utf8() -> Error
     ensures { IsInvalidData result }
 {

@@ -71,6 +71,13 @@ bare_refused options e P no_files = unless_memory e (LacksFolder options e) P (�
 
 -- Default options.
 
+pub default_removal : (options : RewriteOptions) → IsDefault options → removal_of options ≡ no_removal
+default_removal options defaults = λ i. record {
+  with_names = defaults.names i;
+  with_contents = defaults.contents i;
+  prefixes = map (λ prefix. prefix.now) (defaults.no_prefixes i);
+}
+
 pub default_whole : (options : RewriteOptions) (m : MapValue) (r : Result MapValue Error) → IsDefault options → removal_of options ≡ no_removal
     → IsAnswer (λ m. m) (Rewrites options m) r → IfOk r (λ small. small ≡ rewritten no_removal m)
 default_whole options m r defaults removal answered =

@@ -1,8 +1,8 @@
 -- The first module of a split bundle, and the meaning of its map.
-use Rattle.std.proofs.Common.{◌≡◌, ◌∙◌, refl, sym, ap, subst, ℕ, List, ◌∷◌, ◌&&◌, Bool, true, false, Option, Some, is_some, Result, Ok, Err, ◌⊎◌, inl, inr, map, filter_map}
+use Rattle.std.proofs.Common.{◌≡◌, ◌∙◌, refl, sym, ap, ℕ, List, ◌∷◌, ◌&&◌, Bool, true, false, is_some, Result, Ok, inl, inr, map}
 use Rattle.std.specs.Str.{is_utf8}
 use Rattle.sourcemap.specs.BundleModules.{ModuleValue}
-use Rattle.sourcemap.specs.Split.{ModuleParts, SplitValue, Splits, due_of, dues_in, laid, parts_at, parts_on, with_offsets}
+use Rattle.sourcemap.specs.Split.{ModuleParts, SplitValue, Splits, due_of, dues_in, parts_at, parts_on, with_offsets}
 use Rattle.sourcemap.specs.Trees.{IndexValue}
 use Rattle.sourcemap.specs.Types.{MapValue, meaning}
 use Rattle.sourcemap.specs.declared.errors.Error.{Error}

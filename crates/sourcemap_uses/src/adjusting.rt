@@ -1,12 +1,12 @@
 //! Looks up positions after a later build step.
 ghost use Rattle.std.specs.Option.{option_copied};
-ghost use Rattle.std.specs.Prelude.{◌≡◌, ℕ, Err, IfErr, IfOk, IsOkUnless, option_map, string_bytes};
+ghost use Rattle.std.specs.Prelude.{◌≡◌, ℕ, Err, IfErr, IfOk, IsOkUnless, Ok, option_map, string_bytes};
 ghost use Rattle.sourcemap.specs.Adjust.{adjusted};
 ghost use Rattle.sourcemap.specs.Answer.{UnlessMemory};
 ghost use Rattle.sourcemap.specs.Composition.{moved};
 ghost use Rattle.sourcemap.specs.Moved.{IsMovedAlone};
 ghost use Rattle.sourcemap.specs.Token.{meaning_of_token};
-ghost use Rattle.sourcemap.specs.Types.{IsWellFormed, meaning};
+ghost use Rattle.sourcemap.specs.Types.{IsWellFormed, MapValue, meaning};
 ghost use Rattle.sourcemap.specs.declared.compose.Stretch.{Stretch};
 ghost use Rattle.sourcemap.specs.declared.errors.Error.TheVariants.{OutOfMemory};
 ghost use Rattle.sourcemap_uses.specs.Adjusting.{position_meaning};
@@ -26,9 +26,13 @@ pub struct OriginalPosition {
 }
 
 /// Returns the original position of a position in the output of a later step, or `None` if no token
-/// is at or before it. `adjustment` maps that output to the generated text of `map`. If exactly one
-/// position was moved there, the result is what `map` returned for that one. Returns the errors of
-/// `adjust_mappings`.
+/// is at or before it: the result of the adjusted map. `adjustment` maps that output to the generated
+/// text of `map`. Returns the errors of `adjust_mappings`.
+///
+/// Where a stretch of `adjustment` moves a position of `map` to this one, the result is what `map`
+/// returned for that position, if the map is well-formed, no two of its tokens have one generated
+/// position, the token closest to the position is on its line, and no other stretch gives a token
+/// from the moved start of this stretch up to the moved position.
 pub fn lookup_adjusted(
     alloc: Global,
     mut map: SourceMap,
@@ -36,6 +40,9 @@ pub fn lookup_adjusted(
     line: u32,
     col: u32,
 ) -> Result<Option<OriginalPosition>>
+    ensures answer { IfOk result
+        (λ found. (new : MapValue) × (adjusted map adjustment.now ≡ Ok new)
+        × (option_map position_meaning found ≡ meaning new (line, col))) }
     ensures meaning { (a : Stretch) (q : ℕ × ℕ) → IsWellFormed map
         → IsMovedAlone map.tokens adjustment.now.tokens a q → moved a q ≡ (line, col)
         → IfOk result (λ found. option_map position_meaning found ≡ meaning map q) }

@@ -34,7 +34,7 @@ pub fn lookup_once_written(
     ensures memory { IsOkUnless result OutOfMemory }
 {
     well_formed_maps_are_in_order();
-    let text = written(alloc, source, tokens)?;
+    let text = write_tokens(alloc, source, tokens)?;
     let map = decode_slice(alloc, text.as_slice())?;
     Ok(lookup_source_position(&map, line, col))
 }
@@ -51,7 +51,7 @@ fn lookup_source_position(map: &DecodedMap, line: u32, col: u32) -> Option<(u32,
 
 /// Returns the encoded map of these tokens, each of which refers to `source` or to no source. The
 /// bytes decode to that map, without repeated tokens. The only error is `OutOfMemory`.
-pub fn written(alloc: Global, source: &str, tokens: Vec<RawToken>) -> Result<Vec<u8>>
+pub fn write_tokens(alloc: Global, source: &str, tokens: Vec<RawToken>) -> Result<Vec<u8>>
     requires { AllWithin 1 0 tokens.items }
     ensures reads_back { IfOk result (λ text. ReadsBack (BytesDecode text.items)
         (Restores (leaf (regular (made_of None tokens.items [] (source.now ∷ []) []))))) }

@@ -1,14 +1,18 @@
-//! The function that contains a bytecode offset.
-ghost use Rattle.std.specs.Prelude.{Err, IfErr, IfOk, IsOkUnless, option_map, string_bytes};
-ghost use Rattle.sourcemap.specs.Answer.{UnlessMemory};
+//! The function that contains a bytecode offset, and a rewriting that keeps it.
+ghost use Rattle.std.specs.Prelude.{Err, IfErr, IfOk, IsOkUnless, Ok, option_map, string_bytes};
+ghost use Rattle.sourcemap.specs.Answer.{Gives, UnlessMemory};
 ghost use Rattle.sourcemap.specs.Hermes.{hermes_value};
 ghost use Rattle.sourcemap.specs.HermesDecoder.{OnlyHermesDecodes};
+ghost use Rattle.sourcemap.specs.HermesRewrite.{HasDistinctSources, KeepsScopes, rewritten};
 ghost use Rattle.sourcemap.specs.Reading.{BytesHaveResult};
+ghost use Rattle.sourcemap.specs.Rewrite.{no_removal};
+ghost use Rattle.sourcemap.specs.Types.{IsWellFormed};
 ghost use Rattle.sourcemap.specs.declared.errors.Error.TheVariants.{OutOfMemory};
 ghost use Rattle.sourcemap_uses.specs.Functions.{IsNameAt, IsNameIn};
 
-use sourcemap::{Result, SourceMapHermes};
+use sourcemap::{Result, RewriteOptions, SourceMapHermes};
 use std::alloc::Global;
+use std::rt::Files;
 
 /// Returns the name of the function that contains a bytecode offset, by the Hermes map in these
 /// bytes. Requires sorted functions in its source. Returns the errors of
@@ -36,4 +40,19 @@ fn name_at(alloc: Global, map: &SourceMapHermes, offset: u32) -> Result<Option<S
         None => Ok(None),
         Some(name) => Ok(Some(String::from_str(alloc, name)?)),
     }
+}
+
+/// Returns a copy that is rewritten with default options: without unused sources and names. Each
+/// token keeps its scope, and each bytecode offset its function name, if the regular map is
+/// well-formed and no two sources resolve to the same text. The only error is `OutOfMemory`.
+pub fn shrink_copy<F: Files>(rt: &F, map: &SourceMapHermes) -> Result<SourceMapHermes>
+    ensures value { Gives hermes_value result (Ok (rewritten no_removal (hermes_value map.now))) }
+    ensures scopes { IsWellFormed (hermes_value map.now).map
+        → HasDistinctSources (hermes_value map.now)
+        → IfOk result (λ small. KeepsScopes (hermes_value map.now) (hermes_value small)) }
+{
+    // prover: scopes are few, and function maps are theirs
+    let _ = map.scope_count();
+    let copy = map.clone()?;
+    copy.rewrite(rt, &RewriteOptions::default())
 }

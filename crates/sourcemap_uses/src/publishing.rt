@@ -12,7 +12,7 @@ use std::rt::Files;
 
 /// Removes names and source contents from the map in `bytes`. The result maps each position to the
 /// same original position. Returns the errors of `SourceMap::from_slice`.
-pub fn published<F: Files>(rt: &F, alloc: Global, bytes: &[u8]) -> Result<Vec<u8>>
+pub fn publish<F: Files>(rt: &F, alloc: Global, bytes: &[u8]) -> Result<Vec<u8>>
     ensures published { IfOk result (λ text. Publishes bytes.now text.items) }
     ensures error { IfErr result
         (λ e. UnlessMemory e (BytesHaveResult RegularDecodes bytes.now (Err e))) }

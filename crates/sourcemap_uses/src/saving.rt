@@ -14,7 +14,7 @@ use std::alloc::Global;
 
 /// Encodes a map. If the map is well-formed and at most 40 index maps are nested, the bytes decode to
 /// a map of the same parts and the same meaning at every position. The only error is `OutOfMemory`.
-pub fn saved(alloc: Global, map: &DecodedMap) -> Result<Vec<u8>>
+pub fn save(alloc: Global, map: &DecodedMap) -> Result<Vec<u8>>
     ensures reads_back { IfOk result (λ text. IsWellFormed (map_tree map.now)
         → levels (map_tree map.now) ≤ 40
         → ReadsBack (BytesDecode text.items) (Restores (map_tree map.now))) }

@@ -14,7 +14,7 @@ use std::rt::Files;
 /// Removes unused sources and names. Each used one is kept once, in the order of first use; sources
 /// are resolved. Every position keeps its meaning. All else is as by `rewrite`; shrinking again
 /// changes nothing. The only error is `OutOfMemory`.
-pub fn shrunk<F: Files>(rt: &F, map: SourceMap) -> Result<SourceMap>
+pub fn shrink<F: Files>(rt: &F, map: SourceMap) -> Result<SourceMap>
     ensures means { IfOk result (λ small. MeansTheSame small map) }
     ensures root { IfOk result (λ small. small.root ≡ None) }
     ensures sources { IfOk result (λ small. small.sources ≡ used_sources map) }
@@ -42,6 +42,6 @@ pub fn lookup_once_shrunk<F: Files>(
     ensures position { IfOk result (λ found. option_map position_meaning found ≡ meaning map (line, col)) }
     ensures memory { IsOkUnless result OutOfMemory }
 {
-    let small = shrunk(rt, map)?;
+    let small = shrink(rt, map)?;
     position_at(alloc, &small, line, col)
 }

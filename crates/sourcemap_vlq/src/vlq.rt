@@ -53,7 +53,7 @@ pub fn glyph_of(value: u8) -> u8
 }
 
 /// The digit of a value below 64, as a character.
-// The remainder tells the compiler that the character is ASCII.
+// `% 128` lets the compiler see that the character is ASCII.
 #[inline]
 pub fn glyph_char(value: u8) -> char
     requires { value < 64 }

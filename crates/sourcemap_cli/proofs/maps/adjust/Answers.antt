@@ -1,4 +1,5 @@
 -- Both maps are regular, or the error for another kind.
+use Rattle.std.proofs.Common.{Ok, Err}
 use Rattle.std.proofs.lemmas.Result.{err_from_is_err_and}
 use Rattle.sourcemap.specs.AnyMap.{map_tree}
 use Rattle.sourcemap_cli.proofs.MapsLemmas.{adjusted_trees, refused_adjustment}
@@ -10,7 +11,15 @@ returns-in_err-adjustment c =
     let p = err_from_is_err_and r.result r.ensures.1 in
     rw (p.1, p.2) (refused_adjustment (map_tree c.args.map) (map_tree c.args.adjustment.now) c.in_ok-map.map _ c.in_ok-map.ensures c.in_err-adjustment.ensures)
 
+pub returns-in_err-adjust_mappings : goal.returns-in_err-adjust_mappings
+returns-in_err-adjust_mappings c =
+    let r = c.from_residual-in_err-adjust_mappings in
+    let p = err_from_is_err_and r.result r.ensures.1 in
+    rw (p.1, p.2)
+    (adjusted_trees (map_tree c.args.map) (map_tree c.args.adjustment.now) c.in_ok-map.map c.in_ok-adjustment.adjustment.now (Err _)
+    c.in_ok-map.ensures c.in_ok-adjustment.ensures c.in_err-adjust_mappings.ensures.value)
+
 pub returns : goal.returns
 returns c =
-    adjusted_trees (map_tree c.args.map) (map_tree c.args.adjustment.now) c.in_ok-map.map c.in_ok-adjustment.adjustment.now c.adjust_regular.result
-    c.in_ok-map.ensures c.in_ok-adjustment.ensures c.adjust_regular.ensures
+    adjusted_trees (map_tree c.args.map) (map_tree c.args.adjustment.now) c.in_ok-map.map c.in_ok-adjustment.adjustment.now (Ok c.adjust_mappings.new.self)
+    c.in_ok-map.ensures c.in_ok-adjustment.ensures c.in_ok-adjust_mappings.ensures.value

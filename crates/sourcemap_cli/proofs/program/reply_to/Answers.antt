@@ -1,17 +1,18 @@
 -- The reply to a command, or the usage; no other reply is right.
 use Rattle.std.proofs.Common.{Some, map, string_bytes}
 use Rattle.sourcemap_cli.specs.Program.{file_read}
-use Rattle.sourcemap_cli.proofs.ProgramLemmas.{only_reply, reply_to_others}
+use Rattle.sourcemap_cli.proofs.ProgramLemmas.{only_reply, reply_of_command, reply_to_others}
 use Rattle.sourcemap_cli.proofs.program.reply_to.Goals as goal
 
 pub returns-in-Some-clause-answer : goal.returns-in-Some-clause-answer
 returns-in-Some-clause-answer g c =
-    c.reply_to_command.ensures (map string_bytes c.args.words.now) (rw c.in-Some.is at c.in_ok-command.ensures)
+    reply_of_command (Some (file_read c.args.file)) (map string_bytes c.args.words.now) c.args.bytes.items c.in-Some.command c.execute-answer.result
+    c.into_reply.result (rw c.in-Some.is at c.in_ok-command.ensures) c.execute-answer.ensures c.into_reply.ensures
 
 pub returns-in-Some-clause-only : goal.returns-in-Some-clause-only
 returns-in-Some-clause-only g c =
-    only_reply (map string_bytes c.args.words.now) c.args.bytes.items (file_read c.args.file) c.reply_to_command.result
-    (c.reply_to_command.ensures (map string_bytes c.args.words.now) (rw c.in-Some.is at c.in_ok-command.ensures))
+    only_reply (map string_bytes c.args.words.now) c.args.bytes.items (file_read c.args.file) c.into_reply.result
+    (returns-in-Some-clause-answer g c)
 
 pub returns-in-None-clause-answer : goal.returns-in-None-clause-answer
 returns-in-None-clause-answer g c =

@@ -1,14 +1,15 @@
 -- The input is read only for a command; then the reply is that to its bytes.
 use Rattle.std.proofs.Common.{Err, None, [], inl, inr, ◌∙◌, ap, map, string_bytes}
 use Rattle.std.proofs.lemmas.Result.{err_from_is_err_and}
-use Rattle.sourcemap_cli.proofs.ProgramLemmas.{cut_short, out_of_memory, reading_failed, reply_of_reader, reply_to_others}
+use Rattle.sourcemap_cli.proofs.ProgramLemmas.{cut_short, out_of_memory, reading_failed, reply_of_command, reply_of_reader, reply_to_others}
 use Rattle.sourcemap_cli.proofs.program.reply_to_input.Goals as goal
 
 pub returns-in_ok-bytes-in-Some-clause-answer : goal.returns-in_ok-bytes-in-Some-clause-answer
 returns-in_ok-bytes-in-Some-clause-answer g c =
     reply_of_reader (map string_bytes c.args.words.now) (g.R.Read.remaining c.args.input.now) c.in_ok-bytes-in-Some.bytes.items
-    c.reply_to_command.result (inr c.in_ok-bytes-in-Some.ensures)
-    (c.reply_to_command.ensures (map string_bytes c.args.words.now) (rw c.in-Some.is at c.in_ok-command.ensures))
+    c.into_reply.result (inr c.in_ok-bytes-in-Some.ensures)
+    (reply_of_command None (map string_bytes c.args.words.now) c.in_ok-bytes-in-Some.bytes.items c.in-Some.command c.execute-answer.result
+    c.into_reply.result (rw c.in-Some.is at c.in_ok-command.ensures) c.execute-answer.ensures c.into_reply.ensures)
 
 pub returns-in_err-bytes-in-Some-clause-answer : goal.returns-in_err-bytes-in-Some-clause-answer
 returns-in_err-bytes-in-Some-clause-answer g c =

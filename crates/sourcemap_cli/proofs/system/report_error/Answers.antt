@@ -1,4 +1,4 @@
--- The found proof, written down so that a wrong body fails fast.
+-- prover: explicit search
 use Rattle.std.proofs.Common.{rules}
 use Rattle.sourcemap_cli.proofs.system.report_error.Goals as goal
 

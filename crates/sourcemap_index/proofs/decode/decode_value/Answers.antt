@@ -5,7 +5,7 @@ use Rattle.sourcemap_records.specs.Jsontypes.{tree}
 use Rattle.sourcemap_records.proofs.BytesLemmas.{answer_of_record}
 use Rattle.sourcemap_index.specs.Family.{map_tree}
 use Rattle.sourcemap_index_model.specs.Decode.{TreeDecodes}
-use Rattle.sourcemap_index.proofs.DecodeLemmas.{fault_of_value}
+use Rattle.sourcemap_index.proofs.DecodeLemmas.{error_of_value}
 use Rattle.sourcemap_index.proofs.decode.decode_value.Goals as goal
 
 pub returns-clause-answer : goal.returns-clause-answer
@@ -16,4 +16,4 @@ returns-clause-answer c =
 pub returns-in_err-raw-clause-answer : goal.returns-in_err-raw-clause-answer
 returns-in_err-raw-clause-answer c =
     let p = err_from_is_err_and c.from_residual.result c.from_residual.ensures.1 in
-    rw (p.1, p.2) (fault_of_value (view c.args.value.now) _ c.in_err-raw.ensures)
+    rw (p.1, p.2) (error_of_value (view c.args.value.now) _ c.in_err-raw.ensures)

@@ -10,8 +10,8 @@ loop-number-preserved c =
     let xs = c.args.numbers.now in
     let i = c.loop-number.number-index in
     subst (AllByRecursion (λ n. IfSome n FitsU32))
-    (sym (take_more xs i None c.loop-number-test.true ∙ ap (λ n. take i xs ++ n ∷ []) (sym c.checked.ensures.value)))
-    (All-append (λ n. IfSome n FitsU32) (take i xs) (c.checked.result ∷ []) c.loop-number.invariant (c.checked.ensures.small, tt))
+    (sym (take_more xs i None c.loop-number-test.true ∙ ap (λ n. take i xs ++ n ∷ []) (sym c.check_number.ensures.value)))
+    (All-append (λ n. IfSome n FitsU32) (take i xs) (c.check_number.result ∷ []) c.loop-number.invariant (c.check_number.ensures.small, tt))
 
 pub returns : goal.returns
 returns c =

@@ -39,8 +39,8 @@ DecodedMap::gather-returns-in_ok-flat-in-Index-clause-ok t c = λ before g.
     (gathered-more _ before ((c.args.line, c.args.col), merged v.parts.file made.0) c.add_flat.new.self (ap (map_added before (c.args.line, c.args.col)) (index_tree-of c.in-Index.index) ∙ index_added v before (c.args.line, c.args.col) made.0 made.1))
     (c.add_flat.ensures.ok before made.0 v.parts.file g made.2))
 
-pub SourceMapIndex::gathered-gather-requires : goal.SourceMapIndex::gathered-gather-requires
-SourceMapIndex::gathered-gather-requires t c =
+pub SourceMapIndex::gather_all-gather-requires : goal.SourceMapIndex::gather_all-gather-requires
+SourceMapIndex::gather_all-gather-requires t c =
     let v : IndexValue = index_value c.args.self.now in
     let items = c.deref-section-items.result.now in
     let same : map section_value items ≡ v.sections = ap (map section_value) c.deref-section-items.ensures.value ∙ sym (ap (λ (v : IndexValue). v.sections) (index-out c.args.self.now)) in
@@ -48,8 +48,8 @@ SourceMapIndex::gathered-gather-requires t c =
     (ap (λ ss. slice_get ss c.loop-section.section-index) (sym same) ∙ item-at items c.loop-section.section-index c.section-item.result c.loop-section-test.true c.section-item.is) in
     (omega (arith, less), tt)
 
-pub SourceMapIndex::gathered-loop-section-preserved : goal.SourceMapIndex::gathered-loop-section-preserved
-SourceMapIndex::gathered-loop-section-preserved t c =
+pub SourceMapIndex::gather_all-loop-section-preserved : goal.SourceMapIndex::gather_all-loop-section-preserved
+SourceMapIndex::gather_all-loop-section-preserved t c =
     let items = c.deref-section-items.result.now in
     let i = c.loop-section.section-index in
     let item = c.section-item.result in
@@ -62,9 +62,9 @@ SourceMapIndex::gathered-loop-section-preserved t c =
           (All-append IsSectionInOrder (map section_value (take i items)) (section_value item ∷ []) c.loop-section.invariant.in_order (c.in_ok-gather.ensures.in_order, tt));
     }
 
-pub SourceMapIndex::gathered-returns-in_err-gather-clause-refused :
-    goal.SourceMapIndex::gathered-returns-in_err-gather-clause-refused
-SourceMapIndex::gathered-returns-in_err-gather-clause-refused t c =
+pub SourceMapIndex::gather_all-returns-in_err-gather-clause-refused :
+    goal.SourceMapIndex::gather_all-returns-in_err-gather-clause-refused
+SourceMapIndex::gather_all-returns-in_err-gather-clause-refused t c =
     let items = c.deref-section-items.result.now in
     let i = c.loop-section.section-index in
     let item = c.section-item.result in
@@ -77,8 +77,8 @@ SourceMapIndex::gathered-returns-in_err-gather-clause-refused t c =
     (subst (λ rest. SoFar all rest c.loop-section.gathering) (item-next items i item c.loop-section-test.true c.section-item.is) c.loop-section.invariant.so_far)
     c.in_err-gather.ensures.refused))
 
-pub SourceMapIndex::gathered-returns-clause-ok : goal.SourceMapIndex::gathered-returns-clause-ok
-SourceMapIndex::gathered-returns-clause-ok t c =
+pub SourceMapIndex::gather_all-returns-clause-ok : goal.SourceMapIndex::gather_all-returns-clause-ok
+SourceMapIndex::gather_all-returns-clause-ok t c =
     let items = c.deref-section-items.result.now in
     let all : List MapSection = map section_value items in
     let same : all ≡ (index_value c.args.self.now).sections = ap (map section_value) c.deref-section-items.ensures.value ∙ sym (ap (λ (v : IndexValue). v.sections) (index-out c.args.self.now)) in
@@ -86,9 +86,9 @@ SourceMapIndex::gathered-returns-clause-ok t c =
     subst (λ rest. SoFar all rest c.loop-section.gathering) (none-left items c.loop-section.section-index c.loop-section-test.false) c.loop-section.invariant.so_far in
     if_ok_then c.finish.result (λ f h. (so_far.0, ap (λ ss. pieces_after [] (sections_from ss)) (sym same) ∙ so_far.1, h)) (c.finish.ensures.ok so_far.0 so_far.2)
 
-pub SourceMapIndex::gathered-returns-clause-in_order :
-    goal.SourceMapIndex::gathered-returns-clause-in_order
-SourceMapIndex::gathered-returns-clause-in_order t c =
+pub SourceMapIndex::gather_all-returns-clause-in_order :
+    goal.SourceMapIndex::gather_all-returns-clause-in_order
+SourceMapIndex::gather_all-returns-clause-in_order t c =
     let items = c.deref-section-items.result.now in
     let same : map section_value items ≡ (index_value c.args.self.now).sections = ap (map section_value) c.deref-section-items.ensures.value ∙ sym (ap (λ (v : IndexValue). v.sections) (index-out c.args.self.now)) in
     if_ok_any c.finish.result (in_order-all (index_value c.args.self.now) items c.loop-section.section-index c.loop-section-test.false same c.loop-section.invariant.in_order)

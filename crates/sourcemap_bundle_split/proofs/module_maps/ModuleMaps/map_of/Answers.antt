@@ -20,7 +20,7 @@ returns-clause-map c =
     c.ids-2.ensures.ids ∙ c.in_ok-tokens.ensures.names ∙ ap (λ n. used_ids n (map (λ (t : RawToken). t.name_id) own)) name_count in
     let same : c.in_ok-tokens-2.tokens ≡ c.in_ok-tokens.tokens.items = (let held = c.in_ok-tokens-2.ensures in cc) in
     let tokens_are : c.in_ok-tokens-2.tokens ≡ map (moved_by line c.ids.result.now c.ids-2.result.now) own =
-    same ∙ c.in_ok-tokens.ensures.tokens ∙ ap (λ ids. map (moved_by line ids c.moved.new.names.ids) own) (sym c.ids.ensures.ids) ∙ ap (λ ids. map (moved_by line c.ids.result.now ids) own) (sym c.ids-2.ensures.ids) in
+    same ∙ c.in_ok-tokens.ensures.tokens ∙ ap (λ ids. map (moved_by line ids c.move_tokens.new.names.ids) own) (sym c.ids.ensures.ids) ∙ ap (λ ids. map (moved_by line c.ids.result.now ids) own) (sym c.ids-2.ensures.ids) in
     let made = map_made flat c.lists-lists.result c.args.name.now line end own c.in_ok-tokens-2.tokens c.ids.result.now c.ids-2.result.now
     c.lists-lists.ensures.lists own_is sources_are names_are tokens_are in
     subst (λ m. Gives (λ m. m) c.map_over.result (Ok (module_map m c.args.name.now line end))) c.self.view_is

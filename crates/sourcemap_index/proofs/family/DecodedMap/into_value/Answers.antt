@@ -1,4 +1,4 @@
--- What the search finds, so that a wrong body is refused fast.
+-- prover: explicit search
 use Rattle.std.proofs.Common.{rules}
 use Rattle.sourcemap_index.proofs.family.DecodedMap.into_value.Goals as goal
 

@@ -1,4 +1,4 @@
--- What the search finds, so that a wrong body is refused fast.
+-- prover: explicit search
 use Rattle.std.proofs.Common.{rules}
 use Rattle.sourcemap_index.proofs.FamilyLemmas.{index-roll}
 use Rattle.sourcemap_index.proofs.family.SourceMapIndex.new_ram_bundle_compatible.Goals as goal

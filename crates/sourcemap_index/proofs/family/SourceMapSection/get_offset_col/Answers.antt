@@ -1,4 +1,4 @@
--- What the search finds, so that a wrong body is refused fast.
+-- prover: explicit search
 use Rattle.std.proofs.Common.{rules}
 use Rattle.sourcemap_index.proofs.FamilyLemmas.{section_offset_and_url}
 use Rattle.sourcemap_index.proofs.family.SourceMapSection.get_offset_col.Goals as goal

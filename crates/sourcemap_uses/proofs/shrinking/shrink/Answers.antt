@@ -2,7 +2,7 @@
 use Rattle.std.proofs.Common.{◌≡◌, refl, None, arith}
 use Rattle.sourcemap.specs.Rewrite.{no_removal, rewritten, used_names, used_sources}
 use Rattle.sourcemap_uses.proofs.RewritingLemmas.{default_memory, default_whole, sources_uncut, whole_so}
-use Rattle.sourcemap_uses.proofs.shrinking.shrunk.Goals as goal
+use Rattle.sourcemap_uses.proofs.shrinking.shrink.Goals as goal
 
 pub returns-clause-whole : goal.returns-clause-whole
 returns-clause-whole g c =

@@ -1,7 +1,7 @@
 -- The law of written maps, for the map of these tokens.
 use Rattle.std.proofs.Common.{◌∙◌, ap, map, string_bytes, [], ◌∷◌}
 use Rattle.sourcemap_uses.proofs.BuildingLemmas.{made, reads_back}
-use Rattle.sourcemap_uses.proofs.building.written.Goals as goal
+use Rattle.sourcemap_uses.proofs.building.write_tokens.Goals as goal
 
 pub returns-clause-reads_back : goal.returns-clause-reads_back
 returns-clause-reads_back c =

@@ -3,7 +3,7 @@ use Rattle.std.specs.List.{position_or_len}
 use Rattle.std.specs.Str.{IsUtf8}
 use Rattle.sourcemap_file_urls.specs.RelativePaths.{is_separator}
 use Rattle.sourcemap_file_urls.proofs.RelativePathsLemmas.{separator-first, boundary-before, boundary-after}
-use Rattle.sourcemap_file_urls.proofs.relative_paths.cut.Goals as goal
+use Rattle.sourcemap_file_urls.proofs.relative_paths.split_first_part.Goals as goal
 
 pub range-requires-clause-end_boundary : goal.range-requires-clause-end_boundary
 range-requires-clause-end_boundary c =

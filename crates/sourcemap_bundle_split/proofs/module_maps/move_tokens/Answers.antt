@@ -5,7 +5,7 @@ use Rattle.sourcemap_tokens.specs.declared.tokens.RawToken.{RawToken}
 use Rattle.sourcemap_bundle_split.specs.ModuleMap.{moved_by, used_ids, with_id}
 use Rattle.sourcemap_bundle_split.proofs.LinesLemmas.{in_order-moved}
 use Rattle.sourcemap_bundle_split.proofs.MovedLemmas.{moved-step, used-step}
-use Rattle.sourcemap_bundle_split.proofs.module_maps.moved.Goals as goal
+use Rattle.sourcemap_bundle_split.proofs.module_maps.move_tokens.Goals as goal
 
 pub loop-token-preserved : goal.loop-token-preserved
 loop-token-preserved c =

@@ -1,7 +1,7 @@
 use Rattle.std.proofs.Common.{◌≡◌, map, take}
 use Rattle.sourcemap_tokens.specs.declared.tokens.RawToken.{RawToken}
 use Rattle.sourcemap_bundle_split.specs.ModuleMap.{moved_by, used_ids}
-use Rattle.sourcemap_bundle_split.proofs.module_maps.moved.Given as goal
+use Rattle.sourcemap_bundle_split.proofs.module_maps.move_tokens.Given as goal
 
 abbrev pub invariant-loop-token : goal.invariant-loop-token
 invariant-loop-token l = record {

@@ -4,7 +4,7 @@ use Rattle.std.proofs.lemmas.Result.{err_from_is_err_and}
 use Rattle.sourcemap.specs.Reading.{BytesHaveResult, RegularDecodes}
 use Rattle.sourcemap_uses.proofs.RefusalLemmas.{unwritten}
 use Rattle.sourcemap_uses.proofs.RewritingLemmas.{bare_due, bare_refused, but_details, published_as}
-use Rattle.sourcemap_uses.proofs.publishing.published.Goals as goal
+use Rattle.sourcemap_uses.proofs.publishing.publish.Goals as goal
 
 pub returns-clause-published : goal.returns-clause-published
 returns-clause-published g c =
