@@ -48,12 +48,12 @@ def main(path, count=20_000):
     read = min(len(map), int(count))
     print(f'{least(lambda: list(islice(map, read))) / read:10.3f} us  a token, of {read} read in order')
     positions = drawn_positions(map, int(count))
-    for order, ordered in ('random', positions), ('sorted', sorted(positions)):
-        words = array('I', chain.from_iterable(ordered))
-        for what, run in [('lookup', lambda: each(map, ordered)), ('lookup_many, arrays', lambda: map.lookup_many(words)),
-                          ('lookup_many, pairs', lambda: map.lookup_many(ordered)),
+    for order, queries in ('random', positions), ('sorted', sorted(positions)):
+        words = array('I', chain.from_iterable(queries))
+        for what, run in [('lookup', lambda: each(map, queries)), ('lookup_many, arrays', lambda: map.lookup_many(words)),
+                          ('lookup_many, pairs', lambda: map.lookup_many(queries)),
                           ('lookup_many, arrays to tokens', lambda: list(map.lookup_many(words)))]:
-            print(f'{least(run) / len(ordered):10.3f} us  a position, {order}: {what}')
+            print(f'{least(run) / len(queries):10.3f} us  a position, {order}: {what}')
 
 
 if __name__ == '__main__':

@@ -26,6 +26,7 @@ fn main() {
             );
         }
     } else if !link_from(&beside()) && !link_by_pkg_config() {
+        println!("cargo:warning=libsourcemap is left to the linker: bindings/c/build makes it, {LIBRARY_DIR} names its folder");
         println!("cargo:rustc-link-lib=sourcemap");
     }
 }
@@ -69,20 +70,12 @@ fn link_from(folder: &Path) -> bool {
 /// Links the library that pkg-config knows, and returns whether it knows one.
 fn link_by_pkg_config() -> bool {
     let output = Command::new("pkg-config")
-        .args(["--libs", "sourcemap"])
+        .args(["--variable=libdir", "sourcemap"])
         .output();
-    let Ok(output) = output else {
-        return false;
-    };
-    if !output.status.success() {
-        return false;
-    }
-    for word in String::from_utf8_lossy(&output.stdout).split_whitespace() {
-        if let Some(folder) = word.strip_prefix("-L") {
-            println!("cargo:rustc-link-search=native={folder}");
-        } else if let Some(library) = word.strip_prefix("-l") {
-            println!("cargo:rustc-link-lib={library}");
+    match output {
+        Ok(output) if output.status.success() => {
+            link_from(Path::new(String::from_utf8_lossy(&output.stdout).trim()))
         }
+        _ => false,
     }
-    true
 }

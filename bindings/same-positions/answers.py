@@ -10,8 +10,8 @@ from sourcemap import Map  # noqa: E402
 def main(path, positions):
     sys.stdout.reconfigure(encoding='utf-8')
     with Map.load(path) as source_map, open(positions, encoding='utf-8') as rows:
-        wanted = [tuple(map(int, row.split('\t')[0].split(':'))) for row in rows]
-        for token in source_map.lookup_many(wanted):
+        pairs = [tuple(map(int, row.split('\t')[0].split(':'))) for row in rows]
+        for token in source_map.lookup_many(pairs):
             print('none' if token is None else token)
 
 

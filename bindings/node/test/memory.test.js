@@ -82,8 +82,8 @@ test('workers load the addon side by side, and close their maps when they end', 
   // columns 0, 1, then 2 for 2 to 8: 15 of 9 in turn
   const expected = { sum: 22222 * 15 + 0 + 1, error: 'INCOMPATIBLE' };
   for (let round = 0; round < 3; round++) {
-    const answer = await Promise.all([1, 2, 3].map(() => inWorker(WORK, data)));
-    assert.deepEqual(answer, [expected, expected, expected]);
+    const answers = await Promise.all([1, 2, 3].map(() => inWorker(WORK, data)));
+    assert.deepEqual(answers, [expected, expected, expected]);
   }
   assert.ok(native.openCount() <= before);
 });

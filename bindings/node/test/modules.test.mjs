@@ -1,6 +1,6 @@
 import assert from 'node:assert/strict';
 import { spawnSync } from 'node:child_process';
-import { cpSync, existsSync, mkdirSync, mkdtempSync, rmSync, symlinkSync, writeFileSync } from 'node:fs';
+import { cpSync, existsSync, mkdirSync, mkdtempSync, readFileSync, rmSync, symlinkSync, writeFileSync } from 'node:fs';
 import { createRequire } from 'node:module';
 import { tmpdir } from 'node:os';
 import path from 'node:path';
@@ -47,6 +47,13 @@ test('is required and imported by its name', () => {
       console.log(Object.keys(required).sort().every((key) => required[key] === imported[key]));
       console.log(Object.keys(imported).sort().join() === Object.keys(required).sort().join());`), 'true\ntrue\n');
   });
+});
+
+test('the five lines of README.md print what it says', () => {
+  const text = readFileSync(path.join(folder, 'README.md'), 'utf8');
+  const [, code, printed] = /\n## Five lines\n\n((?: {4}.*\n|\n)+)prints `(.*?)`/.exec(text);
+  assert.equal(code.trim().split('\n').length, 5);
+  inUsersFolder((user) => assert.equal(run(user, 'a.mjs', code), `${printed}\n`));
 });
 
 test('has the calls of the package that it replaces', async (t) => {

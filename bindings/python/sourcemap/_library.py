@@ -145,6 +145,10 @@ bytes_text = _call(_short, 'sm_bytes_text', CODE, P, P)
 section_start_of = _call(_short, 'sm_section_start_of', CODE, P, c_uint32, P)
 section_url = _call(_short, 'sm_section_url', CODE, P, c_uint32, P)
 section = _call(_long, 'sm_section', CODE, P, c_uint32, P, P)
+sections_new = _call(_short, 'sm_sections_new', CODE, P, P)
+sections_add = _call(_long, 'sm_sections_add', CODE, P, c_uint32, c_uint32, c_bool, P, c_size_t, c_bool, P, P)
+sections_finish = _call(_long, 'sm_sections_finish', CODE, P, P, c_bool, P, c_size_t, c_bool, P, c_size_t, c_bool, P,
+                        c_size_t, P)
 
 builder_new = _call(_short, 'sm_builder_new', CODE, P, c_bool, P, c_size_t, P)
 builder_set_source_root = _call(_short, 'sm_builder_set_source_root', CODE, P, c_bool, P, c_size_t, P)

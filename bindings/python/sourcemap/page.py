@@ -76,7 +76,7 @@ def add_arguments(parser: argparse.ArgumentParser) -> None:
 
 
 def run(arguments: argparse.Namespace) -> int:
-    """Writes the page. Returns the exit status; errors are absolute_position."""
+    """Writes the page. Returns the exit status; errors are raised."""
     text = arguments.generated.read_bytes()
     with _map_for(arguments.generated, text, arguments.map) as map:
         page = page_text(arguments.generated.name, text.decode('utf-8'), map)

@@ -5,7 +5,7 @@ from pathlib import Path
 
 from .header import HEADER, declared_functions
 
-HANDLES = {'sm_handle', 'sm_map', 'sm_builder', 'sm_view', 'sm_bundle', 'sm_split', 'sm_bytes'}
+HANDLES = {'sm_handle', 'sm_map', 'sm_builder', 'sm_sections', 'sm_view', 'sm_bundle', 'sm_split', 'sm_bytes'}
 BEGIN_AS_ZEROS = {'sm_error', 'sm_counts', 'sm_debug_id', 'sm_section_start'}
 
 

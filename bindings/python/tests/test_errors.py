@@ -1,4 +1,4 @@
-"""Each error, absolute_position by a call where a call of this package can."""
+"""Each error, raised by a call where a call of this package can."""
 import subprocess
 import sys
 import unittest
@@ -68,9 +68,9 @@ class Errors(unittest.TestCase):
     def test_each_is_raised(self):
         for kind, code, number, text, call in RAISED:
             with self.subTest(kind.__name__):
-                with self.assertRaises(SourceMapError) as absolute_position:
+                with self.assertRaises(SourceMapError) as raised:
                     call()
-                error = absolute_position.exception
+                error = raised.exception
                 self.assertIs(type(error), kind)
                 self.assertEqual((error.code, error.number), (code, number))
                 self.assertEqual(str(error), text or str(error))
@@ -97,11 +97,11 @@ class Errors(unittest.TestCase):
 
     def test_long_texts_are_cut(self):
         url = 300 * 'é'
-        with self.assertRaises(errors.CannotFlatten) as absolute_position:
+        with self.assertRaises(errors.CannotFlatten) as raised:
             Map.loads(index({'offset': {'line': 0, 'column': 0}, 'url': url})).flatten()
         begin = 'cannot flatten the indexed sourcemap: Section has an unresolved sourcemap: '
         kept = (255 - len(begin)) // 2
-        self.assertEqual(str(absolute_position.exception), begin + kept * 'é' + '...')
+        self.assertEqual(str(raised.exception), begin + kept * 'é' + '...')
 
     def test_out_of_memory(self):
         error = _library.Error(code=_library.OUT_OF_MEMORY)

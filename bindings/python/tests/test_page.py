@@ -41,6 +41,16 @@ def arguments(*words: str) -> argparse.Namespace:
     return parser.parse_args(words)
 
 
+def vlq(number: int) -> str:
+    """A number of a segment."""
+    digits, left = '', number << 1 if number >= 0 else -number << 1 | 1
+    while True:
+        left, digit = left >> 5, left & 31
+        digits += 'ABCDEFGHIJKLMNOPQRSTUVWXYZabcdefghijklmnopqrstuvwxyz0123456789+/'[digit | (32 if left else 0)]
+        if not left:
+            return digits
+
+
 class InFolder(unittest.TestCase):
     """Tests with a folder of their own."""
 
@@ -115,6 +125,43 @@ class Written(InFolder):
         text = path.read_bytes().decode('utf-8')
         self.assertEqual(text.count('</script>'), 2)
         self.assertIn('<h1>&lt;script&gt;{{DATA}}</h1>', text)
+
+    def test_five_megabytes(self) -> None:
+        """Texts of 5 MB together: the page holds all of them, and the mappings."""
+        count, a_line, a_source = 95_000, 200, 9_500
+        statements = [f'f("<p>\u00e9\U0001f600{n:06}</p>");' for n in range(count)]
+        width = 22  # a statement has as many UTF-16 units
+        lines = [''.join(statements[at:at + a_line]) for at in range(0, count, a_line)]
+        generated = '\n'.join(lines) + '\n//# sourceMappingURL=big.js.map\n'
+        contents = [''.join(f'  {each}\n' for each in statements[at:at + a_source]) for at in range(0, count, a_source)]
+        names = [f'{n}.js' for n in range(len(contents))]
+        size = len(generated.encode('utf-8')) + sum(len(each.encode('utf-8')) for each in contents)
+        self.assertGreaterEqual(size, 5_000_000)
+
+        def segment(n: int) -> str:
+            """Statement `n`, as it follows the one before. Each begins at column 2 of its line in its source."""
+            column = width if n % a_line else 0
+            if n % a_source == 0 and n > 0:
+                return vlq(column) + vlq(1) + vlq(1 - a_source) + vlq(0)
+            return vlq(column) + vlq(0) + vlq(1 if n else 0) + vlq(0 if n else 2)
+
+        mappings = ';'.join(','.join(map(segment, range(at, at + a_line))) for at in range(0, count, a_line))
+        (self.folder / 'big.js').write_text(generated, 'utf-8')
+        (self.folder / 'big.js.map').write_text(json.dumps({
+            'version': 3, 'sources': names, 'sourcesContent': contents, 'names': [], 'mappings': mappings,
+        }), 'utf-8')
+        out = self.folder / 'out.html'
+        command = [sys.executable, '-m', 'sourcemap', 'page', str(self.folder / 'big.js'), '-o', str(out)]
+        subprocess.run(command, check=True, cwd=FOLDER)
+        expected = {'generated': generated, 'mappings': mappings, 'sources': names, 'contents': contents, 'names': []}
+        data = self.data_of(out)
+        self.assertEqual(list(data), list(expected))
+        for key, value in expected.items():
+            self.assertTrue(data[key] == value, key)  # no difference of megabytes is printed
+        # in the page `<` takes six bytes, a quote and a line end two: 25 bytes more for the two texts of a statement
+        least = size + len(mappings) + 25 * count
+        self.assertGreater(out.stat().st_size, least)
+        self.assertLess(out.stat().st_size, least + 100_000)
 
     def test_line_too_far_down(self) -> None:
         """Ten million lines are too many: the mappings would have a byte for each."""
@@ -430,7 +477,7 @@ class InBrowser(InFolder):
             self.browser.use_colours(scheme)
             self.open(example.GENERATED, example.MAP)
             self.browser.click(self.middle('generated', 'Error('))
-            parts = '.token, .number, #status, h1, .metadata'
+            parts = '.token, .number, #status, h1, .heading'
             colours = self.ask(f'''Array.from(document.querySelectorAll("{parts}"), (each) => {{
                 let below = each;
                 while (getComputedStyle(below).backgroundColor === "rgba(0, 0, 0, 0)") below = below.parentElement;

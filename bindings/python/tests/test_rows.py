@@ -174,9 +174,9 @@ class Refused(unittest.TestCase):
                 ('g', [], errors.VlqLeftover, None), (12 * 'g' + 'I', [], errors.VlqOverflow, None),
                 (13 * 'g' + 'A', [], errors.VlqOverflow, None), (13 * 'g', [], errors.VlqLeftover, None)]:
             with self.subTest(mappings):
-                with self.assertRaises(error) as absolute_position:
+                with self.assertRaises(error) as raised:
                     Map.loads(regular(mappings, sources))
-                self.assertEqual(absolute_position.exception.number, number)
+                self.assertEqual(raised.exception.number, number)
 
     def test_range_mappings(self):
         with self.assertRaises(errors.InvalidBase64):
@@ -186,19 +186,19 @@ class Refused(unittest.TestCase):
     def test_json(self):
         for text, number in ('', 0), ('[]', 1):
             with self.subTest(text):
-                with self.assertRaises(errors.BadJson) as absolute_position:
+                with self.assertRaises(errors.BadJson) as raised:
                     Map.loads(text)
-                self.assertEqual(absolute_position.exception.number, number)
+                self.assertEqual(raised.exception.number, number)
 
     def test_flatten(self):
         past = index(section(4294967295, 0, regular(';AAAA')))
-        with self.assertRaises(errors.CannotFlatten) as absolute_position:
+        with self.assertRaises(errors.CannotFlatten) as raised:
             Map.loads(past).flatten()
-        self.assertEqual(str(absolute_position.exception),
+        self.assertEqual(str(raised.exception),
                          'cannot flatten the indexed sourcemap: a position passes 4294967295')
-        with self.assertRaises(errors.CannotFlatten) as absolute_position:
+        with self.assertRaises(errors.CannotFlatten) as raised:
             Map.loads(index({'offset': {'line': 0, 'column': 0}, 'url': 'u'})).flatten()
-        self.assertEqual(str(absolute_position.exception),
+        self.assertEqual(str(raised.exception),
                          'cannot flatten the indexed sourcemap: Section has an unresolved sourcemap: u')
 
     def test_shift(self):
@@ -223,14 +223,14 @@ class Bundles(unittest.TestCase):
                 bundle[1]
 
     def test_cut_bundles(self):
-        with self.assertRaises(errors.Scroll) as absolute_position:
+        with self.assertRaises(errors.Scroll) as raised:
             Bundle(BUNDLE[:24])[0]
-        error = absolute_position.exception
+        error = raised.exception
         self.assertEqual((error.start, error.size, error.length), (22, 3, 24))
         self.assertEqual(str(error), 'parse error: 22+3 past 24')
-        with self.assertRaises(errors.Scroll) as absolute_position:
+        with self.assertRaises(errors.Scroll) as raised:
             Bundle(BUNDLE[:11])
-        self.assertEqual(str(absolute_position.exception), 'parse error: 0+12 past 11')
+        self.assertEqual(str(raised.exception), 'parse error: 0+12 past 11')
 
     def test_split(self):
         map = Map.loads(index(section(0, 0, regular(';;;;;AAAA,EAAE;AAAA')), x_facebook_offsets=[5]))

@@ -38,21 +38,21 @@ pub use crate::types::{
 };
 pub use crate::utils::make_relative_path;
 
-pub mod builder;
+mod builder;
 mod debug_id;
-pub mod decoder;
-pub mod detector;
-pub mod errors;
+mod decoder;
+mod detector;
+mod errors;
 #[allow(unsafe_code)]
 mod ffi;
 #[allow(unsafe_code)]
 mod handle;
-pub mod hermes;
+mod hermes;
 mod local;
 pub mod ram_bundle;
-pub mod sourceview;
-pub mod types;
-pub mod utils;
+mod sourceview;
+mod types;
+mod utils;
 pub mod vlq;
 
 #[cfg(doctest)]

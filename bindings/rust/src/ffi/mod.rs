@@ -1,6 +1,6 @@
 //! The declarations of `sourcemap.h`, in its order.
 //!
-//! It lists what a caller owes, and the module `handle` keeps to it.
+//! The header lists what a caller owes, and the module `handle` keeps to it.
 
 // The header is declared whole, so that a test can compare both.
 #![allow(dead_code)]
@@ -50,6 +50,7 @@ pub const SM_KIND_VIEW: u32 = 5;
 pub const SM_KIND_BUNDLE: u32 = 6;
 pub const SM_KIND_SPLIT: u32 = 7;
 pub const SM_KIND_BYTES: u32 = 8;
+pub const SM_KIND_SECTIONS: u32 = 9;
 
 /// `sm_handle` and its other names.
 #[repr(C)]
@@ -200,6 +201,9 @@ extern "C" {
     pub fn sm_section_start_of(map: *mut Handle, id: u32, start: *mut SectionStart) -> Code;
     pub fn sm_section_url(map: *mut Handle, id: u32, text: *mut Text) -> Code;
     pub fn sm_section(map: *mut Handle, id: u32, section: *mut Handle, error: *mut Error) -> Code;
+    pub fn sm_sections_new(sections: *mut Handle, error: *mut Error) -> Code;
+    pub fn sm_sections_add(sections: *mut Handle, line: u32, column: u32, has_url: bool, url: *const u8, length: usize, has_map: bool, map: *mut Handle, error: *mut Error) -> Code;
+    pub fn sm_sections_finish(sections: *mut Handle, map: *mut Handle, has_file: bool, file: *const u8, length: usize, has_offsets: bool, offsets: *const u32, offset_count: usize, has_paths: bool, paths: *const Text, path_count: usize, error: *mut Error) -> Code;
 
     pub fn sm_builder_new(builder: *mut Handle, has_file: bool, file: *const u8, length: usize, error: *mut Error) -> Code;
     pub fn sm_builder_set_source_root(builder: *mut Handle, present: bool, text: *const u8, length: usize, error: *mut Error) -> Code;

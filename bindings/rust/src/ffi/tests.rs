@@ -34,7 +34,7 @@ fn rust_type(c_type: &str) -> String {
         .trim();
     let base = match name {
         "sm_handle" | "sm_map" | "sm_builder" | "sm_view" | "sm_bundle" | "sm_split"
-        | "sm_bytes" => "Handle",
+        | "sm_bytes" | "sm_sections" => "Handle",
         "sm_error" => "Error",
         "sm_text" => "Text",
         "sm_token" => "RawToken",

@@ -10,6 +10,7 @@ mod bundle;
 mod change;
 mod map;
 mod reference;
+mod sections;
 mod view;
 
 use std::cell::UnsafeCell;
@@ -23,6 +24,7 @@ pub(crate) use self::map::{is_source_map, Kind, MapHandle};
 pub(crate) use self::reference::{
     locate_reference, relative_path, resolve, resolve_path, Reference,
 };
+pub(crate) use self::sections::SectionsHandle;
 pub(crate) use self::view::ViewHandle;
 
 use crate::errors::{Error, Result};

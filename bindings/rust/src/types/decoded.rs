@@ -30,6 +30,14 @@ impl DecodedMap {
         }
     }
 
+    pub(crate) fn handle(&self) -> &MapHandle {
+        match self {
+            DecodedMap::Regular(sm) => sm.regular_handle(),
+            DecodedMap::Index(smi) => smi.handle(),
+            DecodedMap::Hermes(smh) => smh.handle(),
+        }
+    }
+
     /// Reads a map, as [`decode`] does.
     pub fn from_reader<R: Read>(rdr: R) -> Result<DecodedMap> {
         decode(rdr)

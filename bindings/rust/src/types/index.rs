@@ -7,7 +7,7 @@ use std::io::{Read, Write};
 use crate::debug_id::DebugId;
 use crate::decoder::{decode, decode_slice};
 use crate::errors::{Error, Result};
-use crate::handle::MapHandle;
+use crate::handle::{MapHandle, SectionsHandle};
 use crate::sourceview::SourceView;
 use crate::types::{DecodedMap, RewriteOptions, SourceMap, Token};
 use crate::utils::{must, write_all};
@@ -28,8 +28,11 @@ pub struct SourceMapSectionIter<'a> {
 
 /// An index map: a list of sections with a map each.
 pub struct SourceMapIndex {
-    handle: MapHandle,
-    // What follows is read from the handle on first use.
+    // Either the handle is there, and the lists are read from it on first use; or
+    // all that follows is there, and the handle is made of it on first use.
+    handle: OnceCell<MapHandle>,
+    file: Option<String>,
+    debug_id: Option<DebugId>,
     sections: OnceCell<Vec<SourceMapSection>>,
     module_offsets: OnceCell<Option<Vec<Option<u32>>>>,
     module_paths: OnceCell<Option<Vec<String>>>,
@@ -38,15 +41,79 @@ pub struct SourceMapIndex {
 impl SourceMapIndex {
     pub(crate) fn of_handle(handle: MapHandle) -> SourceMapIndex {
         SourceMapIndex {
-            handle,
+            handle: OnceCell::from(handle),
+            file: None,
+            debug_id: None,
             sections: OnceCell::new(),
             module_offsets: OnceCell::new(),
             module_paths: OnceCell::new(),
         }
     }
 
+    /// Makes an index map of its parts. Lookups ask for sections in the order of
+    /// their offsets.
+    ///
+    /// ```
+    /// use sourcemap::{SourceMapIndex, SourceMapSection};
+    /// let section = SourceMapSection::new((0, 3), Some("a.map".into()), None);
+    /// let index = SourceMapIndex::new(Some("all.js".into()), vec![section]);
+    /// assert_eq!(index.get_section(0).unwrap().get_url(), Some("a.map"));
+    /// ```
+    pub fn new(file: Option<String>, sections: Vec<SourceMapSection>) -> SourceMapIndex {
+        SourceMapIndex::new_ram_bundle_compatible(file, sections, None, None)
+    }
+
+    /// Makes an index map of its parts, and of the lists of a RAM bundle.
+    pub fn new_ram_bundle_compatible(
+        file: Option<String>,
+        sections: Vec<SourceMapSection>,
+        x_facebook_offsets: Option<Vec<Option<u32>>>,
+        x_metro_module_paths: Option<Vec<String>>,
+    ) -> SourceMapIndex {
+        SourceMapIndex {
+            handle: OnceCell::new(),
+            file,
+            debug_id: None,
+            sections: OnceCell::from(sections),
+            module_offsets: OnceCell::from(x_facebook_offsets),
+            module_paths: OnceCell::from(x_metro_module_paths),
+        }
+    }
+
     pub(crate) fn handle(&self) -> &MapHandle {
-        &self.handle
+        self.handle.get_or_init(|| must(self.made()))
+    }
+
+    fn handle_mut(&mut self) -> &mut MapHandle {
+        self.handle();
+        self.handle.get_mut().expect("the handle was made")
+    }
+
+    /// A handle of the parts, where they are all here.
+    fn made(&self) -> Result<MapHandle> {
+        let mut sections = SectionsHandle::new()?;
+        for section in self.section_list() {
+            let map = section.get_sourcemap().map(DecodedMap::handle);
+            sections.add(section.offset, section.get_url(), map)?;
+        }
+        let file = self.file.as_deref();
+        let mut map =
+            sections.finish(file, self.x_facebook_offsets(), self.x_metro_module_paths())?;
+        if self.debug_id.is_some() {
+            map.set_debug_id(self.debug_id)?;
+        }
+        Ok(map)
+    }
+
+    /// Takes all parts out of the handle, which is made anew on its next use.
+    fn let_go(&mut self) {
+        self.section_list();
+        self.x_facebook_offsets();
+        self.x_metro_module_paths();
+        if let Some(handle) = self.handle.take() {
+            self.file = handle.file().map(str::to_owned);
+            self.debug_id = handle.debug_id();
+        }
     }
 
     /// Reads an index map from its JSON text, after a junk header if there is
@@ -70,35 +137,43 @@ impl SourceMapIndex {
 
     /// Writes the map as JSON.
     pub fn to_writer<W: Write>(&self, w: W) -> Result<()> {
-        self.handle.written(|text| write_all(w, text))?
+        self.handle().written(|text| write_all(w, text))?
     }
 
     pub(crate) fn debug_id(&self) -> Option<DebugId> {
-        self.handle.debug_id()
+        self.handle().debug_id()
     }
 
     pub(crate) fn set_debug_id(&mut self, debug_id: Option<DebugId>) {
-        must(self.handle.set_debug_id(debug_id));
+        must(self.handle_mut().set_debug_id(debug_id));
     }
 
     /// Returns the name of the generated file.
     pub fn get_file(&self) -> Option<&str> {
-        self.handle.file()
+        self.handle().file()
     }
 
     /// Sets or removes the name of the generated file.
     pub fn set_file(&mut self, value: Option<&str>) {
-        must(self.handle.set_file(value));
+        must(self.handle_mut().set_file(value));
     }
 
     /// Returns how many sections there are.
     pub fn get_section_count(&self) -> u32 {
-        self.handle.counts().sections
+        self.handle().counts().sections
     }
 
     /// Returns the section of this index.
     pub fn get_section(&self, idx: u32) -> Option<&SourceMapSection> {
         self.section_list().get(idx as usize)
+    }
+
+    /// Returns the section of this index, to be changed. The index map is then
+    /// made anew when it is next asked.
+    pub fn get_section_mut(&mut self, idx: u32) -> Option<&mut SourceMapSection> {
+        self.get_section(idx)?;
+        self.let_go();
+        self.sections.get_mut()?.get_mut(idx as usize)
     }
 
     /// Returns the sections.
@@ -115,7 +190,7 @@ impl SourceMapIndex {
         minified_name: &str,
         sv: &SourceView,
     ) -> Option<&str> {
-        self.handle
+        self.handle()
             .function_name((line, col), minified_name, sv.handle())
     }
 
@@ -149,7 +224,7 @@ impl SourceMapIndex {
 
     /// Returns the regular map that answers alike. Each section needs its map.
     pub fn flatten(&self) -> Result<SourceMap> {
-        let mut flat = self.handle.share()?;
+        let mut flat = self.handle().share()?;
         flat.flatten()?;
         Ok(SourceMap::of_handle(flat))
     }
@@ -168,7 +243,7 @@ impl SourceMapIndex {
     pub fn x_facebook_offsets(&self) -> Option<&[Option<u32>]> {
         let offsets = self
             .module_offsets
-            .get_or_init(|| self.handle.module_offsets());
+            .get_or_init(|| self.handle().module_offsets());
         offsets.as_deref()
     }
 
@@ -176,14 +251,14 @@ impl SourceMapIndex {
     pub fn x_metro_module_paths(&self) -> Option<&[String]> {
         let paths = self
             .module_paths
-            .get_or_init(|| read_module_paths(&self.handle));
+            .get_or_init(|| read_module_paths(self.handle()));
         paths.as_deref()
     }
 
     /// Moves each section so many lines further down. Returns false, and changes
     /// nothing, if one would pass line 4294967295.
     pub fn adjust_sections_offset_rows(&mut self, amount: u32) -> bool {
-        let is_possible = must(self.handle.shift(amount));
+        let is_possible = must(self.handle_mut().shift(amount));
         if is_possible {
             for section in self.sections.get_mut().into_iter().flatten() {
                 section.offset.0 += amount;
@@ -194,7 +269,7 @@ impl SourceMapIndex {
 
     fn section_list(&self) -> &[SourceMapSection] {
         self.sections
-            .get_or_init(|| must(read_sections(&self.handle)))
+            .get_or_init(|| must(read_sections(self.handle())))
     }
 }
 
@@ -221,6 +296,19 @@ fn read_sections(handle: &MapHandle) -> Result<Vec<SourceMapSection>> {
 }
 
 impl SourceMapSection {
+    /// Makes a section of its parts.
+    pub fn new(
+        offset: (u32, u32),
+        url: Option<String>,
+        map: Option<DecodedMap>,
+    ) -> SourceMapSection {
+        SourceMapSection {
+            offset,
+            url,
+            map: map.map(Box::new),
+        }
+    }
+
     /// Returns the line where the section begins.
     pub fn get_offset_line(&self) -> u32 {
         self.offset.0
@@ -241,9 +329,24 @@ impl SourceMapSection {
         self.url.as_deref()
     }
 
+    /// Sets or removes the URL of the map.
+    pub fn set_url(&mut self, value: Option<&str>) {
+        self.url = value.map(str::to_owned);
+    }
+
     /// Returns the map.
     pub fn get_sourcemap(&self) -> Option<&DecodedMap> {
         self.map.as_deref()
+    }
+
+    /// Returns the map, to be changed.
+    pub fn get_sourcemap_mut(&mut self) -> Option<&mut DecodedMap> {
+        self.map.as_deref_mut()
+    }
+
+    /// Sets or removes the map.
+    pub fn set_sourcemap(&mut self, sm: Option<DecodedMap>) {
+        self.map = sm.map(Box::new);
     }
 }
 
@@ -259,8 +362,11 @@ impl<'a> Iterator for SourceMapSectionIter<'a> {
 
 impl Clone for SourceMapIndex {
     fn clone(&self) -> SourceMapIndex {
+        let handle = self.handle.get().map(|handle| must(handle.share()));
         SourceMapIndex {
-            handle: must(self.handle.share()),
+            handle: handle.map_or_else(OnceCell::new, OnceCell::from),
+            file: self.file.clone(),
+            debug_id: self.debug_id,
             sections: self.sections.clone(),
             module_offsets: self.module_offsets.clone(),
             module_paths: self.module_paths.clone(),

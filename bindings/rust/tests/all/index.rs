@@ -1,4 +1,6 @@
-use sourcemap::{decode_slice, DecodedMap, Error, RewriteOptions, SourceMapIndex, SourceView};
+use sourcemap::{
+    decode_slice, DecodedMap, Error, RewriteOptions, SourceMapIndex, SourceMapSection, SourceView,
+};
 
 use crate::{of_mappings, regular, written, written_any};
 
@@ -306,4 +308,132 @@ fn function_names_of_an_index_map() {
     assert!(of_mappings("AAAA", "")
         .get_original_function_name(0, 9, "f", &view)
         .is_none());
+}
+
+/// A section with a map of this source.
+fn section_of(offset: (u32, u32), source: &str) -> SourceMapSection {
+    SourceMapSection::new(offset, None, Some(decoded_map(&of_source(source))))
+}
+
+/// The same sections as of [`two_sections`].
+fn two_made() -> SourceMapIndex {
+    let sections = vec![section_of((0, 0), "a.js"), section_of((10, 4), "b.js")];
+    SourceMapIndex::new(None, sections)
+}
+
+fn written_index(index: &SourceMapIndex) -> String {
+    written_any(&DecodedMap::Index(index.clone()))
+}
+
+#[test]
+fn an_index_that_is_made_is_that_of_its_text() {
+    let made = two_made();
+    assert_eq!(made, two_sections());
+    assert_eq!(written_index(&made), written_index(&two_sections()));
+    assert_eq!(made.get_section_count(), 2);
+    let token = made.lookup_token(10, 9).expect("a token");
+    assert_eq!(token.to_string(), "b.js:0:0");
+    let flat = made.flatten().expect("a regular map");
+    assert!(written(&flat).contains(r#""mappings":"AAAA;;;;;;;;;;ICAA""#));
+    assert_eq!(SourceMapIndex::new(None, vec![]).get_section_count(), 0);
+}
+
+#[test]
+fn an_index_of_a_bundle_is_made() {
+    let offsets = vec![Some(0), None, Some(7)];
+    let paths = vec![String::from("a.js"), String::from("bé.js")];
+    let made = SourceMapIndex::new_ram_bundle_compatible(
+        Some("all.js".into()),
+        vec![SourceMapSection::new((0, 3), Some("a.map".into()), None)],
+        Some(offsets.clone()),
+        Some(paths.clone()),
+    );
+    assert!(made.is_for_ram_bundle());
+    let read = SourceMapIndex::from_slice(written_index(&made).as_bytes()).expect("an index map");
+    for index in [&made, &read] {
+        assert_eq!(index.get_file(), Some("all.js"));
+        assert_eq!(index.x_facebook_offsets(), Some(&offsets[..]));
+        assert_eq!(index.x_metro_module_paths(), Some(&paths[..]));
+        let section = index.get_section(0).expect("a section");
+        assert_eq!(
+            (section.get_offset(), section.get_url()),
+            ((0, 3), Some("a.map"))
+        );
+        assert!(section.get_sourcemap().is_none());
+    }
+    assert_eq!(made, read);
+}
+
+#[test]
+fn sections_of_any_kind_are_nested() {
+    let hermes = r#"{"version":3,"sources":["h.js"],"names":[],"mappings":"AAAA",
+        "x_facebook_sources":[[{"names":["f"],"mappings":"AAA"}]]}"#;
+    let made = SourceMapIndex::new(
+        None,
+        vec![
+            SourceMapSection::new((0, 0), None, Some(DecodedMap::Index(two_made()))),
+            SourceMapSection::new((20, 0), None, Some(decoded_map(hermes))),
+        ],
+    );
+    let token = made.lookup_token(10, 4).expect("a token");
+    assert_eq!(token.get_source(), Some("b.js"));
+    let token = made.lookup_token(20, 0).expect("a token");
+    assert_eq!(token.get_source(), Some("h.js"));
+    let read = SourceMapIndex::from_slice(written_index(&made).as_bytes()).expect("an index map");
+    assert_eq!(made, read);
+}
+
+#[test]
+fn sections_are_changed_in_their_index() {
+    for mut index in [two_sections(), two_made()] {
+        index.set_file(Some("all.js"));
+        let copy = index.clone();
+        let text = written_index(&index);
+        let section = index.get_section_mut(1).expect("a section");
+        section.set_url(Some("b.map"));
+        match section.get_sourcemap_mut() {
+            Some(DecodedMap::Regular(map)) => map.set_source(0, "c.js"),
+            _ => panic!("a regular map"),
+        }
+        assert_eq!(index.get_file(), Some("all.js"));
+        assert_eq!(
+            index.get_section(1).expect("a section").get_url(),
+            Some("b.map")
+        );
+        let token = index.lookup_token(10, 4).expect("a token");
+        assert_eq!(token.get_source(), Some("c.js"));
+        let flat = index.flatten().expect("a regular map");
+        assert_eq!(flat.get_source(1), Some("c.js"));
+        let changed = written_index(&index);
+        assert_eq!(
+            changed,
+            text.replace("b.js", "c.js")
+                .replacen(r#"10},"url":null"#, r#"10},"url":"b.map""#, 1)
+        );
+        // A copy does not change along.
+        assert_eq!(written_index(&copy), text);
+        assert_ne!(index, copy);
+
+        index
+            .get_section_mut(0)
+            .expect("a section")
+            .set_sourcemap(None);
+        assert!(index.lookup_token(0, 0).is_none());
+        assert!(index.flatten().is_err());
+        let other = decoded_map(&of_source("d.js"));
+        index
+            .get_section_mut(0)
+            .expect("a section")
+            .set_sourcemap(Some(other));
+        let token = index.lookup_token(0, 0).expect("a token");
+        assert_eq!(token.get_source(), Some("d.js"));
+        assert!(index.adjust_sections_offset_rows(2));
+        assert_eq!(
+            index.get_section(1).expect("a section").get_offset(),
+            (12, 4)
+        );
+        assert!(written_index(&index).contains(r#""line":12"#));
+        assert!(index.get_section_mut(2).is_none());
+        assert_eq!(index.get_file(), Some("all.js"));
+    }
 }

@@ -100,6 +100,23 @@ fn the_common_prefix_of_absolute_sources() {
     );
 }
 
+#[test]
+fn the_common_prefix_of_sources_on_a_drive() {
+    assert_eq!(
+        stripped(&["C:/foo/a.js", "C:/foo/sub/b.js", "c.js"], &["~"]),
+        ["a.js", "sub/b.js", "c.js"]
+    );
+    // The folders `C:\foo` are the prefix, which a slash completes.
+    assert_eq!(
+        stripped(&["C:\\foo/a.js", "C:\\foo/b.js"], &["~"]),
+        ["a.js", "b.js"]
+    );
+    let both = ["C:\\foo\\a.js", "C:\\foo\\b.js"];
+    assert_eq!(stripped(&both, &["~"]), both);
+    let drives = ["C:/foo/a.js", "D:/foo/b.js"];
+    assert_eq!(stripped(&drives, &["~"]), drives);
+}
+
 /// A folder of files, which is removed when it is dropped.
 struct Folder(PathBuf);
 

@@ -129,6 +129,8 @@ signatures! {
 }
 
 signatures! {
+    SourceMapIndex::new: fn(Option<String>, Vec<SourceMapSection>) -> SourceMapIndex;
+    SourceMapIndex::new_ram_bundle_compatible: fn(Option<String>, Vec<SourceMapSection>, Option<Vec<Option<u32>>>, Option<Vec<String>>) -> SourceMapIndex;
     SourceMapIndex::from_reader::<Reader>: fn(Reader) -> Result<SourceMapIndex>;
     SourceMapIndex::from_slice: fn(&[u8]) -> Result<SourceMapIndex>;
     SourceMapIndex::to_writer::<Writer>: fn(&SourceMapIndex, Writer) -> Result<()>;
@@ -136,6 +138,7 @@ signatures! {
     SourceMapIndex::set_file: fn(&mut SourceMapIndex, Option<&str>);
     SourceMapIndex::get_section_count: fn(&SourceMapIndex) -> u32;
     SourceMapIndex::get_section: fn(&SourceMapIndex, u32) -> Option<&SourceMapSection>;
+    SourceMapIndex::get_section_mut: fn(&mut SourceMapIndex, u32) -> Option<&mut SourceMapSection>;
     SourceMapIndex::sections: for<'a> fn(&'a SourceMapIndex) -> SourceMapSectionIter<'a>;
     SourceMapIndex::lookup_token: for<'a> fn(&'a SourceMapIndex, u32, u32) -> Option<Token<'a>>;
     SourceMapIndex::flatten: fn(&SourceMapIndex) -> Result<SourceMap>;
@@ -145,11 +148,15 @@ signatures! {
     SourceMapIndex::x_metro_module_paths: fn(&SourceMapIndex) -> Option<&[String]>;
     SourceMapIndex::adjust_sections_offset_rows: fn(&mut SourceMapIndex, u32) -> bool;
 
+    SourceMapSection::new: fn(Position, Option<String>, Option<DecodedMap>) -> SourceMapSection;
     SourceMapSection::get_offset_line: fn(&SourceMapSection) -> u32;
     SourceMapSection::get_offset_col: fn(&SourceMapSection) -> u32;
     SourceMapSection::get_offset: fn(&SourceMapSection) -> Position;
     SourceMapSection::get_url: fn(&SourceMapSection) -> Option<&str>;
+    SourceMapSection::set_url: fn(&mut SourceMapSection, Option<&str>);
     SourceMapSection::get_sourcemap: fn(&SourceMapSection) -> Option<&DecodedMap>;
+    SourceMapSection::get_sourcemap_mut: fn(&mut SourceMapSection) -> Option<&mut DecodedMap>;
+    SourceMapSection::set_sourcemap: fn(&mut SourceMapSection, Option<DecodedMap>);
 
     SourceMapBuilder::new: fn(Option<&str>) -> SourceMapBuilder;
     SourceMapBuilder::set_file::<&str>: fn(&mut SourceMapBuilder, Option<&'static str>);

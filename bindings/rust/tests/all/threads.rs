@@ -2,8 +2,8 @@ use std::thread;
 
 use sourcemap::ram_bundle::RamBundle;
 use sourcemap::{
-    DecodedMap, Error, SourceMap, SourceMapBuilder, SourceMapHermes, SourceMapIndex, SourceView,
-    Token,
+    DecodedMap, Error, NameIter, SourceContentsIter, SourceIter, SourceMap, SourceMapBuilder,
+    SourceMapHermes, SourceMapIndex, SourceMapSectionIter, SourceView, Token, TokenIter,
 };
 
 use crate::{regular, COOLSTUFF};
@@ -20,6 +20,16 @@ struct IsSync;
 
 impl<T: ?Sized> NotSync<()> for T {}
 impl<T: ?Sized + Sync> NotSync<IsSync> for T {}
+
+/// The same for a type that is not `Send`.
+trait NotSend<Kind> {
+    fn is_not_send() {}
+}
+
+struct IsSend;
+
+impl<T: ?Sized> NotSend<()> for T {}
+impl<T: ?Sized + Send> NotSend<IsSend> for T {}
 
 #[test]
 fn what_may_move_and_what_may_not_be_shared() {
@@ -38,6 +48,13 @@ fn what_may_move_and_what_may_not_be_shared() {
     <SourceView as NotSync<_>>::is_not_sync();
     <RamBundle<'static> as NotSync<_>>::is_not_sync();
     <Token<'static> as NotSync<_>>::is_not_sync();
+    <&SourceMap as NotSend<_>>::is_not_send();
+    <Token<'static> as NotSend<_>>::is_not_send();
+    <TokenIter<'static> as NotSend<_>>::is_not_send();
+    <SourceIter<'static> as NotSend<_>>::is_not_send();
+    <SourceContentsIter<'static> as NotSend<_>>::is_not_send();
+    <NameIter<'static> as NotSend<_>>::is_not_send();
+    <SourceMapSectionIter<'static> as NotSend<_>>::is_not_send();
 }
 
 /// The sum of the source columns that answer.

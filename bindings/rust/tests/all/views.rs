@@ -1,6 +1,6 @@
-use sourcemap::{SourceMapRef, SourceView};
+use sourcemap::{RawToken, SourceMap, SourceMapRef, SourceView};
 
-use crate::{regular, COOLSTUFF};
+use crate::{regular, token, COOLSTUFF};
 
 fn view(text: &str) -> SourceView {
     SourceView::new(text.into())
@@ -118,4 +118,30 @@ fn function_names_are_guessed_from_the_generated_text() {
         text.get_original_function_name(token, "f"),
         Some("original")
     );
+}
+
+#[test]
+fn function_names_may_have_letters_past_ascii() {
+    for minified in [
+        "한글변수",
+        "变量名",
+        "ひらがな",
+        "결제사_연결",
+        "é\u{200c}$1",
+    ] {
+        let text = view(&format!("function {minified}(){{}}"));
+        let end = 13 + minified.encode_utf16().count() as u32;
+        let named = RawToken {
+            name_id: 0,
+            ..token((0, 9), (0, 9))
+        };
+        let tokens = vec![token((0, 0), (0, 0)), named, token((0, end), (1, 0))];
+        let names = vec!["original".into()];
+        let map = SourceMap::new(None, tokens, names, vec!["a.js".into()], None);
+        let name = |minified| map.get_original_function_name(0, end, minified, &text);
+        assert_eq!(name(minified), Some("original"), "of {minified}");
+        let (last, _) = minified.char_indices().last().expect("a character");
+        assert_eq!(name(&minified[..last]), None, "of a part of {minified}");
+        assert_eq!(name(&format!("{minified}-")), None);
+    }
 }
