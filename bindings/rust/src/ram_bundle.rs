@@ -208,9 +208,11 @@ impl Unbundle {
             .map_or(1, |(&last, _)| last + 1)
     }
 
-    /// The same modules as an indexed bundle, which is what the library splits.
+    /// The same modules as an indexed bundle, which is what the library splits. It
+    /// has 8 bytes for each number up to the largest.
     fn image(&self) -> Result<Vec<u8>> {
-        let mut table = vec![0; self.table_size()?];
+        let count = number_bytes(self.module_count())?;
+        let mut table = zeros(self.table_size()?)?;
         let mut code = self.startup_code.clone();
         for (id, module) in &self.modules {
             let entry = &mut table[HEADER_SIZE + id * ENTRY_SIZE..][..ENTRY_SIZE];
@@ -220,7 +222,7 @@ impl Unbundle {
             code.push(0);
         }
         table[..4].copy_from_slice(&RAM_BUNDLE_MAGIC.to_le_bytes());
-        table[4..8].copy_from_slice(&number_bytes(self.module_count())?);
+        table[4..8].copy_from_slice(&count);
         table[8..12].copy_from_slice(&number_bytes(self.startup_code.len())?);
         table.append(&mut code);
         Ok(table)
@@ -231,6 +233,15 @@ impl Unbundle {
         let size = entries.and_then(|entries| entries.checked_add(HEADER_SIZE));
         size.ok_or(Error::InvalidRamBundleEntry)
     }
+}
+
+/// Zero bytes, which take no memory before they are written.
+fn zeros(size: usize) -> Result<Vec<u8>> {
+    // `vec!` aborts where it gets no memory.
+    Vec::<u8>::new()
+        .try_reserve_exact(size)
+        .map_err(|_| Error::OutOfMemory)?;
+    Ok(vec![0; size])
 }
 
 /// A number of an indexed bundle.
@@ -287,6 +298,12 @@ impl<'a> Iterator for RamBundleModuleIter<'a> {
 
     fn next(&mut self) -> Option<Self::Item> {
         let ram_bundle = self.ram_bundle;
+        // The numbers of files may be far apart.
+        if let Repr::Unbundle(unbundle) = &ram_bundle.repr {
+            let (&id, data) = unbundle.modules.range(self.ids.clone()).next()?;
+            self.ids.start = id + 1;
+            return Some(Ok(RamBundleModule { id, data }));
+        }
         self.ids
             .find_map(|id| ram_bundle.get_module(id).transpose())
     }

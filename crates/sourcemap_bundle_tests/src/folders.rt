@@ -13,7 +13,7 @@ static MAGIC: [u8; 5] = [0xe5, 0xd1, 0x0b, 0xfb, 0];
 // What a row is about, names in `js-modules`, where a slash at the end is a folder's, an at sign a
 // link's to the startup code, and a file holds its own name; whether that is a bundle, and all that
 // the bundle answers.
-static FOLDERS: [(&str, &[&str], &str); 17] = [
+static FOLDERS: [(&str, &[&str], &str); 18] = [
     (
         "two modules",
         &["UNBUNDLE", "0.js", "2.js"],
@@ -81,6 +81,11 @@ static FOLDERS: [(&str, &[&str], &str); 17] = [
         "a number without a successor",
         &["UNBUNDLE", "18446744073709551615.js"],
         "true invalid module index in ram bundle",
+    ),
+    (
+        "the greatest number with a successor",
+        &["UNBUNDLE", "18446744073709551614.js", "0.js"],
+        "true Unbundle 18446744073709551615 [main] 0=0.js 18446744073709551614=18446744073709551614.js",
     ),
     (
         "a number past the greatest",

@@ -1,7 +1,8 @@
 -- The modules of a bundle in turn.
-use Rattle.std.proofs.Common.{◌≡◌, ℕ, zero, suc, ◌+◌, ◌-◌, ◌<◌, ◌≤◌, List, [], ◌∷◌, length, Option, None, Some, Result, Ok, Err, refl, arith}
+use Rattle.std.proofs.Common.{◌≡◌, ℕ, zero, suc, ◌+◌, ◌-◌, ◌<◌, ◌≤◌, List, [], ◌∷◌, length, ◌⊎◌, inl, inr, Option, None, Some, Result, Ok, Err, refl, ap, ◌∙◌, arith}
+use Rattle.std.proofs.lemmas.Bool.{cases_lt}
 use Rattle.sourcemap_errors.specs.declared.errors.Error.{Error}
-use Rattle.sourcemap_bundles.specs.Modules.{BundleValue, ModuleValue, bundle_module, modules_from, with_item}
+use Rattle.sourcemap_bundles.specs.Modules.{BundleValue, FilesValue, ModuleValue, bundle_module, file_module, files, modules_from, with_item}
 
 -- the module of the next number, if it has one, and those after it
 pub modules_next : (bundle : BundleValue) (id end : ℕ) → id < end
@@ -10,6 +11,43 @@ modules_next bundle id end below = let left : end - id ≡ suc (end - (id + 1)) 
 
 pub modules_end : (bundle : BundleValue) (id end : ℕ) → end ≤ id → modules_from bundle (end - id) id ≡ []
 modules_end bundle id end past = let left : end - id ≡ zero = omega arith in rw left refl
+
+-- numbers without a module give no item
+modules_skip : (bundle : BundleValue) (gap id n end : ℕ) → id + gap ≡ n → n ≤ end
+    → ((k : ℕ) → id ≤ k → k < n → bundle_module bundle k ≡ Ok None)
+    → modules_from bundle (end - id) id ≡ modules_from bundle (end - n) n
+modules_skip bundle zero id n end at fits none =
+    let same : id ≡ n = omega (arith, at) in ap (λ k. modules_from bundle (end - k) k) same
+modules_skip bundle (suc gap) id n end at fits none =
+    let below : id < n = omega (arith, at) in
+    let inside : id < end = omega (arith, at, fits) in
+    let next : (id + 1) + gap ≡ n = omega (arith, at) in
+    modules_next bundle id end inside
+    ∙ ap (λ item. with_item item (modules_from bundle (end - (id + 1)) (id + 1))) (none id (omega arith) below)
+    ∙ modules_skip bundle gap (id + 1) n end next fits (λ k from past. none k (omega (arith, from)) past)
+
+-- the first file from a number on is the next module
+pub modules_file : (folder : FilesValue) (id n end : ℕ) (found : ModuleValue) → id ≤ n → n < end
+    → file_module folder n ≡ Some found → ((k : ℕ) → id ≤ k → k < n → file_module folder k ≡ None)
+    → modules_from (files folder) (end - id) id ≡ Ok found ∷ modules_from (files folder) (end - (n + 1)) (n + 1)
+modules_file folder id n end found from below is none =
+    let gap : id + (n - id) ≡ n = omega (arith, from) in
+    let fits : n ≤ end = omega (arith, below) in
+    modules_skip (files folder) (n - id) id n end gap fits (λ k at past. ap Ok (none k at past))
+    ∙ modules_next (files folder) n end below
+    ∙ ap (λ item. with_item (Ok item) (modules_from (files folder) (end - (n + 1)) (n + 1))) is
+
+-- no file from a number on is no module
+pub modules_no_file : (folder : FilesValue) (id end : ℕ)
+    → ((k : ℕ) → id ≤ k → k < end → file_module folder k ≡ None) → modules_from (files folder) (end - id) id ≡ []
+modules_no_file folder id end none = by (cases_lt id end)
+  where
+    by : (id < end) ⊎ (end ≤ id) → modules_from (files folder) (end - id) id ≡ []
+    by (inr past) = modules_end (files folder) id end past
+    by (inl below) =
+        let gap : id + (end - id) ≡ end = omega (arith, below) in
+        modules_skip (files folder) (end - id) id end end gap (omega arith) (λ k at past. ap Ok (none k at past))
+        ∙ modules_end (files folder) end end (omega arith)
 
 with_item-length : (item : Result (Option ModuleValue) Error) (items : List (Result ModuleValue Error))
     → length (with_item item items) ≤ length items + 1

@@ -28,8 +28,8 @@ pub data BundleValue : Type 0 where
   files : FilesValue → BundleValue
 
 -- bytes that begin with the header of a bundle
-abbrev pub IsBundle : List ℕ → Type 0
-IsBundle bytes = (12 ≤ length bytes) × (number_after 0 bytes ≡ bundle_magic)
+abbrev pub HasBundleHeader : List ℕ → Type 0
+HasBundleHeader bytes = (12 ≤ length bytes) × (number_after 0 bytes ≡ bundle_magic)
 
 -- the indexed bundle that bytes are
 abbrev pub indexed_bundle : List ℕ → Result BundleValue Error

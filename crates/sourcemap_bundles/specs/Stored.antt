@@ -25,14 +25,14 @@ abbrev pub indexed_value : IndexedRamBundle → BundleValue
 indexed_value bundle = indexed bundle.header (cow_slice_items bundle.bytes)
 
 -- a file by its number
-abbrev pub entry_value : ℕ × Vec ℕ Global → ℕ × List ℕ
-entry_value entry = (entry.0, entry.1.items)
+abbrev pub numbered_file_value : ℕ × Vec ℕ Global → ℕ × List ℕ
+numbered_file_value entry = (entry.0, entry.1.items)
 
 abbrev pub files_value : UnbundleRamBundle → FilesValue
 files_value bundle = record {
   startup = bundle.startup_code.items;
   count = bundle.module_count;
-  modules = map entry_value bundle.modules.entries;
+  modules = map numbered_file_value bundle.modules.entries;
 }
 
 abbrev pub bundle_value : RamBundleImpl → BundleValue

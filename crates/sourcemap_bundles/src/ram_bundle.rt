@@ -2,7 +2,7 @@
 ghost use Rattle.std.specs.Prelude.{◌≡◌, ◌≤◌, ◌↔◌, IfErr, IfOk, IsTrue, Ok, length, option_map};
 ghost use Rattle.sourcemap_errors.specs.Answer.{Gives};
 ghost use Rattle.sourcemap_bundle_bytes.specs.Bundle.{Returns};
-ghost use Rattle.sourcemap_bundles.specs.Modules.{IsBundle, IsOfFile, bundle_count, bundle_module, bundle_startup, indexed_bundle, modules_of};
+ghost use Rattle.sourcemap_bundles.specs.Modules.{HasBundleHeader, IsOfFile, bundle_count, bundle_module, bundle_startup, indexed_bundle, modules_of};
 ghost use Rattle.sourcemap_bundles.specs.Folder.{IsFileBundle, IsFileError};
 ghost use Rattle.sourcemap_bundles.specs.Stored.{module_value, type_of};
 
@@ -190,10 +190,19 @@ impl<'a> Iterator for RamBundleModuleIter<'a> {
 
     ghost remaining = { item_count modules_left };
 
-    #[tactic(auto, using(crate::proofs::ModulesLemmas::modules_next, crate::proofs::ModulesLemmas::modules_end))]
+    #[tactic(auto, using(crate::proofs::ModulesLemmas::modules_next, crate::proofs::ModulesLemmas::modules_end, crate::proofs::ModulesLemmas::modules_no_file))]
     fn next(&mut self) -> Option<Result<RamBundleModule<'a>>> {
         let bundle = self.bundle;
         let end = self.end;
+        // The numbers of files may be far apart.
+        if let RamBundleImpl::Unbundle(files) = &bundle.repr {
+            let found = files.module_from(self.next)?;
+            if found.id() >= end {
+                return None;
+            }
+            self.next = found.id() + 1;
+            return Some(Ok(found));
+        }
         for id in self.next..end {
             self.next = id + 1;
             match bundle.get_module(id) {
@@ -209,7 +218,7 @@ impl<'a> Iterator for RamBundleModuleIter<'a> {
 /// Whether these bytes are an indexed bundle: there are at least 12, and they begin with its magic
 /// number.
 pub fn is_ram_bundle_slice(bytes: &[u8]) -> bool
-    ensures { IsTrue result ↔ IsBundle bytes.now }
+    ensures { IsTrue result ↔ HasBundleHeader bytes.now }
 {
     match RamBundleHeader::read(bytes) {
         Ok(header) => header.is_valid_magic(),

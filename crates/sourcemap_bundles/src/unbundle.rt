@@ -1,5 +1,5 @@
 //! A file bundle: a folder with a file for each module, beside the file of the startup code.
-ghost use Rattle.std.specs.Prelude.{◌≡◌, ◌<◌, ◌+◌, ◌^◌, ℕ, Ok, IfErr, IfOk, IsOkUnless, OnOk, map, option_map, string_bytes};
+ghost use Rattle.std.specs.Prelude.{◌≡◌, ◌<◌, ◌≤◌, ◌+◌, ◌^◌, ℕ, None, Ok, Some, IfErr, IfOk, IfSome, IsOkUnless, OnOk, map, option_map, string_bytes};
 ghost use Rattle.std.specs.List.Sorted.{IsSorted};
 ghost use Rattle.std.specs.Option.{SomeIff};
 ghost use Rattle.std.specs.String.{string_cmp};
@@ -67,6 +67,18 @@ impl UnbundleRamBundle {
         let text = self.modules.get(&id)?;
         Some(RamBundleModule {
             id,
+            text: text.as_slice(),
+        })
+    }
+
+    /// Returns the module with the least number from `from` on that a file has, or none.
+    pub(crate) fn module_from(&self, from: usize) -> Option<RamBundleModule<'_>>
+        ensures found { IfSome result (λ found. (from ≤ found.id) × (file_module (files_value self.now) found.id ≡ Some (module_value found))) }
+        ensures least { (id : ℕ) → from ≤ id → IfSome result (λ found. id < found.id) → file_module (files_value self.now) id ≡ None }
+    {
+        let (id, text) = self.modules.range(from..).next()?;
+        Some(RamBundleModule {
+            id: *id,
             text: text.as_slice(),
         })
     }

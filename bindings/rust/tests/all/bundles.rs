@@ -213,6 +213,26 @@ fn a_bundle_of_files() {
 }
 
 #[test]
+fn numbers_of_files_may_be_far_apart() {
+    let folder = Folder::new(
+        "apart",
+        &[("0.js", b"a"), ("18446744073709551614.js", b"b")],
+    );
+    let bundle = RamBundle::parse_unbundle_from_path(&folder.main()).expect("a bundle");
+    assert_eq!(bundle.module_count(), usize::MAX);
+    let ids: Vec<_> = bundle
+        .iter_modules()
+        .map(|module| module.expect("a module").id())
+        .collect();
+    assert_eq!(ids, [0, 18446744073709551614]);
+    let index = index_of("AAAA;CACA;AACA", "[0,null,null,2]");
+    assert!(matches!(
+        split_ram_bundle(&bundle, &index),
+        Err(Error::InvalidRamBundleEntry)
+    ));
+}
+
+#[test]
 fn what_is_no_bundle_of_files() {
     let folder = Folder::new("no-bundle", &[("+1.js", b"")]);
     assert!(is_unbundle_path(&folder.main()));
