@@ -329,6 +329,12 @@ sm_code sm_lookup(sm_map *map, uint32_t line, uint32_t column, sm_found *found);
 ** `positions[i]` has a token. The rest of `found` is as it was. Allocates nothing. */
 size_t sm_lookup_many(sm_map *map, const sm_position *positions, size_t count, sm_found *found, size_t length);
 
+/* Writes the number of the closest token among the tokens of a map, as sm_tokens()
+** counts them: SM_NONE also if it is greater. SM_ABSENT if there is no token;
+** SM_WRONG_KIND of an index map, and if the handle holds no map. Then `index` is as
+** it was. Allocates nothing. */
+sm_code sm_lookup_index(sm_map *map, uint32_t line, uint32_t column, uint32_t *index);
+
 /* The source of the closest token, resolved against `sourceRoot`, of a map of any
 ** kind. The text is borrowed from `map`. SM_ABSENT if there is no token, or it has
 ** no source; SM_WRONG_KIND if the handle holds no map. Then `text` is as it was. */
@@ -502,9 +508,9 @@ sm_code sm_sections_finish(sm_sections *sections, sm_map *map, bool has_file, co
 /*
 ** BUILD
 **
-** The calls change `builder`, and return SM_OK. The library copies the texts. Ids
-** count from 0. Each call but sm_builder_new() returns SM_WRONG_KIND if the handle
-** holds no builder.
+** The calls return SM_OK, and each but sm_builder_source() changes `builder`. The
+** library copies the texts. Ids count from 0. Each call but sm_builder_new() returns
+** SM_WRONG_KIND if the handle holds no builder.
 */
 
 /* Fills `builder` with a builder that has no items yet. `has_file` says whether
@@ -530,6 +536,23 @@ sm_code sm_builder_add_source(sm_builder *builder, const uint8_t *text, size_t l
 ** had. SM_UTF8 if the text is not UTF-8; SM_INCOMPATIBLE past 4294967295 names;
 ** SM_WRONG_KIND if the handle holds no builder. Then `id` is as it was. */
 sm_code sm_builder_add_name(sm_builder *builder, const uint8_t *text, size_t length, uint32_t *id, sm_error *error);
+
+/* The source of this id, before it is resolved against `sourceRoot`. The text is
+** borrowed from `builder`. SM_ABSENT if there is no source of that id; SM_WRONG_KIND
+** if the handle holds no builder. */
+sm_code sm_builder_source(sm_builder *builder, uint32_t id, sm_text *text);
+
+/* Sets the text of a source, before it is resolved against `sourceRoot`. The source
+** that was added still has this id when it is added again. SM_UTF8 if the text is
+** not UTF-8; SM_ABSENT if there is no source of that id; SM_WRONG_KIND if the handle
+** holds no builder. */
+sm_code sm_builder_set_source(sm_builder *builder, uint32_t id, const uint8_t *source, size_t length, sm_error *error);
+
+/* Cuts from each source the first of the `count` texts in `prefixes` that it begins
+** with, completed by `/`. The prefix `~` has no special meaning. The sources that
+** were added still have their ids when they are added again. SM_UTF8 if a prefix is
+** not UTF-8; SM_WRONG_KIND if the handle holds no builder. */
+sm_code sm_builder_strip_prefixes(sm_builder *builder, const sm_text *prefixes, size_t count, sm_error *error);
 
 /* Sets or removes the contents of a source. SM_UTF8 if `present` is true and the
 ** text is not UTF-8; SM_ABSENT if there is no source of that id; SM_WRONG_KIND if
@@ -609,6 +632,29 @@ sm_code sm_resolve_path(const uint8_t *url, size_t length, const uint8_t *base, 
 ** the file `target`. Returns SM_OK, or SM_UTF8 if either is not UTF-8. */
 sm_code sm_relative_path(const uint8_t *base, size_t base_length, const uint8_t *target, size_t target_length,
                          sm_bytes *path, sm_error *error);
+
+/*
+** SEGMENTS
+**
+** A segment of `mappings` is a list of numbers, each of one or more digits. sm_open()
+** and sm_write() read and write those of a map; these calls are for a single one.
+*/
+
+/* Writes the numbers of a segment, the first `capacity` if it has more, and to
+** `count` how many it has: with a capacity of 0 it counts them. A segment has no more
+** numbers than bytes. The rest of `numbers` is as it was. Returns SM_OK; SM_UTF8 if
+** the segment is not UTF-8; else the first error from the left: SM_INVALID_BASE64 of
+** a byte that is no digit, SM_VLQ_OVERFLOW if the magnitude of a number is 2^62 or
+** more or it has a fourteenth digit, SM_VLQ_LEFTOVER if the segment ends within a
+** number, SM_VLQ_NO_VALUES if it is empty. Then `numbers` and `count` are as they
+** were. */
+sm_code sm_parse_segment(const uint8_t *segment, size_t length, int64_t *numbers, size_t capacity, size_t *count,
+                         sm_error *error);
+
+/* Fills `text` with the segment of these numbers, each with its shortest digits; of
+** no numbers it is the empty text. Returns SM_OK, or SM_VLQ_OVERFLOW if the magnitude
+** of a number is 2^62 or more. sm_bytes_text() reads the segment. */
+sm_code sm_write_segment(const int64_t *numbers, size_t count, sm_bytes *text, sm_error *error);
 
 /*
 ** RAM BUNDLES

@@ -50,6 +50,7 @@ WRITING(get_debug_id, sm_debug_id, id, (id.bytes[0] = 0, sm_get_debug_id(handle,
 ASKING(source, sm_source(handle, 0, &text))
 ASKING(name_of, sm_name(handle, 0, &text))
 ASKING(contents, sm_contents(handle, 0, &text))
+WRITING(lookup_index, uint32_t, index, sm_lookup_index(handle, 0, 0, &index))
 ASKING(lookup_source, sm_lookup_source(handle, 0, 0, &text))
 ASKING(lookup_name, sm_lookup_name(handle, 0, 0, &text))
 ASKING(hermes_function_name, sm_hermes_function_name(handle, 0, &text))
@@ -77,6 +78,9 @@ ASKING(builder_set_source_root, sm_builder_set_source_root(handle, false, NO_BYT
 WRITING(builder_set_debug_id, sm_debug_id, id, (id.bytes[0] = 0, sm_builder_set_debug_id(handle, false, &id, &error)))
 WRITING(builder_add_source, uint32_t, id, sm_builder_add_source(handle, BYTES("a.js"), &id, &error))
 WRITING(builder_add_name, uint32_t, id, sm_builder_add_name(handle, BYTES("n"), &id, &error))
+ASKING(builder_source, sm_builder_source(handle, 0, &text))
+ASKING(builder_set_source, sm_builder_set_source(handle, 0, BYTES("a"), &error))
+ASKING(builder_strip_prefixes, sm_builder_strip_prefixes(handle, &text, 0, &error))
 ASKING(builder_set_contents, sm_builder_set_contents(handle, 0, false, NO_BYTES, 0, &error))
 ASKING(builder_ignore_source, sm_builder_ignore_source(handle, 0, &error))
 FILLING(builder_finish, map, sm_builder_finish(handle, &map, &error))
@@ -217,6 +221,7 @@ const struct export_row EXPORTS[] = {
     { "sm_tokens", tokens, LISTS, false },
     { "sm_lookup", lookup, MAPS, false },
     { "sm_lookup_many", lookup_many, MAPS, false },
+    { "sm_lookup_index", lookup_index, LISTS, false },
     { "sm_lookup_source", lookup_source, MAPS, false },
     { "sm_lookup_name", lookup_name, MAPS, false },
     { "sm_trace", trace, MAPS, false },
@@ -250,6 +255,9 @@ const struct export_row EXPORTS[] = {
     { "sm_builder_set_debug_id", builder_set_debug_id, KIND(SM_KIND_BUILDER), true },
     { "sm_builder_add_source", builder_add_source, KIND(SM_KIND_BUILDER), true },
     { "sm_builder_add_name", builder_add_name, KIND(SM_KIND_BUILDER), true },
+    { "sm_builder_source", builder_source, KIND(SM_KIND_BUILDER), false },
+    { "sm_builder_set_source", builder_set_source, KIND(SM_KIND_BUILDER), true },
+    { "sm_builder_strip_prefixes", builder_strip_prefixes, KIND(SM_KIND_BUILDER), true },
     { "sm_builder_set_contents", builder_set_contents, KIND(SM_KIND_BUILDER), true },
     { "sm_builder_ignore_source", builder_ignore_source, KIND(SM_KIND_BUILDER), true },
     { "sm_builder_add_tokens", builder_add_tokens, KIND(SM_KIND_BUILDER), true },

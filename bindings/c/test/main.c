@@ -28,6 +28,7 @@ int main(int count, char **words)
     test_building();
     test_assembling();
     test_texts();
+    test_segments();
     test_bundles();
     test_wrong_kinds();
     test_threads(false);

@@ -79,6 +79,53 @@ static void test_removed_parts(void)
     sm_close(&map);
 }
 
+static void check_source(sm_builder *builder, uint32_t id, const char *wanted)
+{
+    sm_text text = SM_TEXT_EMPTY;
+    CHECK_NUMBER(sm_builder_source(builder, id, &text), SM_OK);
+    CHECK_TEXT(text, wanted);
+}
+
+/* Sources that are replaced and cut. The text that was added finds its id, and a refused call changes nothing. */
+static void test_changed_sources(void)
+{
+    sm_builder builder = SM_EMPTY;
+    sm_map map = SM_EMPTY;
+    sm_error error = { 0 };
+    sm_text prefixes[3], text = text_of("before");
+    prefixes[0] = text_of("/src/lib");
+    prefixes[1] = text_of("/src/");
+    prefixes[2] = text_of("\xff");
+    CHECK_NUMBER(sm_builder_new(&builder, false, NO_BYTES, 0, &error), SM_OK);
+    CHECK_NUMBER(add(sm_builder_add_source, &builder, "/src/src/a.js"), 0);
+    CHECK_NUMBER(add(sm_builder_add_source, &builder, "/srcs/b.js"), 1);
+    CHECK_NUMBER(add(sm_builder_add_source, &builder, "c.js"), 2);
+    CHECK_NUMBER(add(sm_builder_add_source, &builder, "~/d.js"), 3);
+    CHECK_NUMBER(sm_builder_set_source(&builder, 2, BYTES("/src/lib/c.js"), &error), SM_OK);
+    check_source(&builder, 2, "/src/lib/c.js");
+    CHECK_NUMBER(sm_builder_set_source(&builder, 2, BYTES("\xff"), &error), SM_UTF8);
+    memset(&error, 0, sizeof error);
+    CHECK_ERROR(sm_builder_set_source(&builder, 4, BYTES("e.js"), &error), &error, SM_ABSENT, "there is none");
+    CHECK_NUMBER(sm_builder_source(&builder, 4, &text), SM_ABSENT);
+    CHECK_TEXT(text, "before");
+    CHECK_NUMBER(sm_builder_strip_prefixes(&builder, prefixes, 3, &error), SM_UTF8);
+    CHECK_NUMBER(sm_builder_strip_prefixes(&builder, prefixes, 0, &error), SM_OK);
+    check_source(&builder, 0, "/src/src/a.js");
+    prefixes[2] = text_of("~");
+    CHECK_NUMBER(sm_builder_strip_prefixes(&builder, prefixes, 3, &error), SM_OK);
+    check_source(&builder, 0, "src/a.js");
+    check_source(&builder, 1, "/srcs/b.js");
+    check_source(&builder, 2, "c.js");
+    check_source(&builder, 3, "d.js");
+    CHECK_NUMBER(add(sm_builder_add_source, &builder, "/src/src/a.js"), 0);
+    CHECK_NUMBER(add(sm_builder_add_source, &builder, "c.js"), 2);
+    CHECK_NUMBER(add(sm_builder_add_source, &builder, "d.js"), 4);
+    CHECK_NUMBER(sm_builder_finish(&builder, &map, &error), SM_OK);
+    CHECK_HOLDS(&map, "{\"mappings\":\"\",\"names\":[],\"sources\":[\"src/a.js\",\"/srcs/b.js\",\"c.js\",\"d.js\","
+                      "\"d.js\"],\"version\":3}");
+    sm_close(&map);
+}
+
 /* Ids that name nothing are kept. */
 static void test_foreign_ids(void)
 {
@@ -120,6 +167,7 @@ void test_building(void)
 {
     test_all_parts();
     test_removed_parts();
+    test_changed_sources();
     test_foreign_ids();
     test_handles();
 }

@@ -90,6 +90,47 @@ static void test_many(void)
     sm_close(&map);
 }
 
+/* The number of the closest token of a position is this one. */
+static void check_index(sm_map *map, uint32_t line, uint32_t column, uint32_t index)
+{
+    uint32_t found = 99;
+    CHECK_NUMBER(sm_lookup_index(map, line, column, &found), SM_OK);
+    CHECK_NUMBER(found, index);
+}
+
+static void check_no_index(sm_map *map, uint32_t line, uint32_t column, sm_code code)
+{
+    uint32_t found = 99;
+    CHECK_NUMBER(sm_lookup_index(map, line, column, &found), code);
+    CHECK_NUMBER(found, 99);
+}
+
+static void test_indexes_of_position(void)
+{
+    sm_map map = SM_EMPTY;
+    sm_error error = { 0 };
+    check_no_index(&map, 0, 0, SM_WRONG_KIND);
+    /* tokens at 0:1, twice at 0:2, at 0:4 and at 1:2 */
+    OPEN(&map, "{\"version\":3,\"sources\":[\"a.js\"],\"mappings\":\"CAAA,CACA,AACA,EACA;EACA\"}");
+    check_no_index(&map, 0, 0, SM_ABSENT);
+    check_index(&map, 0, 1, 0);
+    check_index(&map, 0, 2, 1);
+    check_index(&map, 0, 3, 2);
+    check_index(&map, 0, 4, 3);
+    check_index(&map, 1, 1, 3);
+    check_index(&map, 1, 2, 4);
+    check_index(&map, SM_NONE, SM_NONE, 4);
+    OPEN(&map, HERMES_MAP);
+    check_index(&map, 0, 7, 1);
+    OPEN(&map, INDEX_MAP);
+    check_no_index(&map, 10, 4, SM_WRONG_KIND);
+    CHECK_NUMBER(sm_flatten(&map, &error), SM_OK);
+    check_index(&map, 10, 4, 1);
+    OPEN(&map, "{\"version\":3,\"mappings\":\"\"}");
+    check_no_index(&map, 0, 0, SM_ABSENT);
+    sm_close(&map);
+}
+
 static void test_texts_of_position(void)
 {
     sm_map map = SM_EMPTY;
@@ -167,6 +208,7 @@ void test_lookups(void)
     test_index();
     test_none();
     test_many();
+    test_indexes_of_position();
     test_texts_of_position();
     test_trace();
     test_function_names();

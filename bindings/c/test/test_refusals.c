@@ -48,6 +48,10 @@ static uint64_t with_answer(uint64_t sum, sm_code code, sm_handle *handle)
 #define BASE_PATH "/a/b/c"
 #define BASE_FILE "/a/b/c.js"
 #define TARGET_FILE "/a/d/e.map"
+#define SEGMENT "GAAIA"
+
+static const int64_t NUMBERS[5] = { 3, 0, 0, 4, 0 };
+static const int64_t TOO_LARGE[2] = { 1, INT64_MIN };
 
 /* The exports that no row of EXPORTS calls, since they take no full handle. fill() calls those that fill one. */
 static uint64_t with_free_exports(uint64_t sum)
@@ -55,6 +59,8 @@ static uint64_t with_free_exports(uint64_t sum)
     sm_handle out = SM_EMPTY;
     sm_error error = { 0 };
     bool is_map = false;
+    int64_t numbers[5] = { 0 };
+    size_t count = 0, at;
     sum = with_value(sum, sm_interface());
     sum = with_value(sum, sm_is_source_map(BYTES(FULL_MAP), &is_map, &error));
     sum = with_value(sum, is_map);
@@ -63,6 +69,11 @@ static uint64_t with_free_exports(uint64_t sum)
     sum = with_answer(sum, sm_resolve(BYTES(REFERENCE), BYTES(BASE_URL), &out, &error), &out);
     sum = with_answer(sum, sm_resolve_path(BYTES(PATH_REFERENCE), BYTES(BASE_PATH), &out, &error), &out);
     sum = with_answer(sum, sm_relative_path(BYTES(BASE_FILE), BYTES(TARGET_FILE), &out, &error), &out);
+    sum = with_value(sum, sm_parse_segment(BYTES(SEGMENT), numbers, 5, &count, &error));
+    sum = with_value(sum, count);
+    for (at = 0; at < 5; at++)
+        sum = with_value(sum, (uint64_t)numbers[at]);
+    sum = with_answer(sum, sm_write_segment(NUMBERS, 5, &out, &error), &out);
     sm_close(&out);
     return with_value(sum, sm_kind(&out));
 }
@@ -232,6 +243,8 @@ CALL(view_open, sm_view_open(&h->out, BYTES("a\nb\r\nc"), error))
 CALL(resolve, sm_resolve(BYTES(REFERENCE), BYTES(BASE_URL), &h->out, error))
 CALL(resolve_path, sm_resolve_path(BYTES(PATH_REFERENCE), BYTES(BASE_PATH), &h->out, error))
 CALL(relative_path, sm_relative_path(BYTES(BASE_FILE), BYTES(TARGET_FILE), &h->out, error))
+CALL(write_segment, sm_write_segment(NUMBERS, 5, &h->out, error))
+CALL(write_too_large, sm_write_segment(TOO_LARGE, 2, &h->out, error))
 CALL(bundle_open, sm_bundle_open(&h->out, BYTES(BUNDLE), error))
 CALL(bundle_split, sm_bundle_split(&h->subject, &h->other, &h->out, error))
 CALL(split_map, sm_split_map(&h->subject, 0, &h->out, error))
@@ -276,6 +289,21 @@ static sm_code locate(struct handles *h, sm_error *error)
     bool is_legacy = false;
     return sm_locate_reference(BYTES("let a;\n//# sourceMappingURL=a.map"), &h->out, &is_legacy, error);
 }
+
+/* A call that parses a segment, and writes its numbers or nothing. */
+static sm_code parse(const uint8_t *segment, size_t length, sm_error *error)
+{
+    static const int64_t BEFORE[5] = { 9, 9, 9, 9, 9 };
+    int64_t numbers[5] = { 9, 9, 9, 9, 9 };
+    size_t count = 9;
+    sm_code code = sm_parse_segment(segment, length, numbers, 5, &count, error);
+    CHECK_NUMBER(count, code == SM_OK ? 5 : 9);
+    CHECK(memcmp(numbers, code == SM_OK ? NUMBERS : BEFORE, sizeof numbers) == 0);
+    return code;
+}
+
+CALL(parse_segment, parse(BYTES(SEGMENT), error))
+CALL(parse_bad_segment, parse(BYTES("GAAI!"), error))
 
 #define FULL_MAP_WITH(file, ignored, mappings, names, root, source, contents)                                          \
     "{\"debugId\":\"00000000-0000-0000-0000-00000000002a\",\"file\":\"" file "\",\"ignoreList\":[" ignored "],"       \
@@ -347,6 +375,10 @@ static const struct refusal_row ROWS[] = {
     { "resolve", prepare_none, resolve, SM_OK, NULL, "http://x.com/a/b%20c" },
     { "resolve a path", prepare_none, resolve_path, SM_OK, NULL, "/a/b" },
     { "path to a file", prepare_none, relative_path, SM_OK, NULL, "../d/e.map" },
+    { "parse a segment", prepare_none, parse_segment, SM_OK, NULL, NULL },
+    { "parse a bad segment", prepare_none, parse_bad_segment, SM_INVALID_BASE64, NULL, NULL },
+    { "write a segment", prepare_none, write_segment, SM_OK, NULL, SEGMENT },
+    { "write a number that is too large", prepare_none, write_too_large, SM_VLQ_OVERFLOW, NULL, NULL },
     { "open a bundle", prepare_none, bundle_open, SM_OK, NULL, "a bundle of 1" },
     { "split a bundle", prepare_bundle, bundle_split, SM_OK, NULL, "a split of 1" },
     { "startup code past the end", prepare_short_bundle, bundle_startup, SM_RANGE, NULL, NULL },
@@ -442,7 +474,7 @@ static void test_row(const struct refusal_row *row, unsigned long most, uint64_t
 #define BUILT                                                                                                     \
     "{\"debugId\":\"00000000-0000-0000-0000-00000000002a\",\"file\":\"out.js\",\"ignoreList\":[1],"               \
     "\"mappings\":\"AAAA,ICCEA;E\",\"names\":[\"n\"],\"rangeMappings\":\"C;\",\"sourceRoot\":\"root\","           \
-    "\"sources\":[\"a.js\",\"b.js\"],\"sourcesContent\":[null,\"let b;\"],\"version\":3}"
+    "\"sources\":[\"root/a.js\",\"b.js\"],\"sourcesContent\":[null,\"let b;\"],\"version\":3}"
 
 /* Whether a call of a builder is to be made again: memory ran out. Checks that every export answers as before, or
 ** that the call succeeded. */
@@ -478,10 +510,13 @@ static void build(sm_map *map, unsigned long *failures, uint64_t answers)
     REPEAT(sm_builder_new(&builder, true, BYTES("out.js"), &error));
     REPEAT(sm_builder_set_source_root(&builder, true, BYTES("root"), &error));
     REPEAT(sm_builder_set_debug_id(&builder, true, &ID, &error));
-    REPEAT(sm_builder_add_source(&builder, BYTES("a.js"), &id, &error));
+    REPEAT(sm_builder_add_source(&builder, BYTES("root/root/a.js"), &id, &error));
     CHECK_NUMBER(id, 0);
-    REPEAT(sm_builder_add_source(&builder, BYTES("b.js"), &id, &error));
+    REPEAT(sm_builder_add_source(&builder, BYTES("c.js"), &id, &error));
     CHECK_NUMBER(id, 1);
+    REPEAT(sm_builder_set_source(&builder, 1, BYTES("root/b.js"), &error));
+    /* a call that failed and cut a prefix would cut a second one when it is made again */
+    REPEAT(sm_builder_strip_prefixes(&builder, &PREFIX, 1, &error));
     REPEAT(sm_builder_add_name(&builder, BYTES("n"), &id, &error));
     CHECK_NUMBER(id, 0);
     REPEAT(sm_builder_set_contents(&builder, 1, true, BYTES("let b;"), &error));
@@ -618,8 +653,9 @@ static void test_without_memory(void)
 {
     static const char *const FREE[] = { "sm_count", "sm_file", "sm_source_root", "sm_get_debug_id", "sm_source", "sm_name",
                                         "sm_contents", "sm_ignore_list", "sm_tokens", "sm_lookup", "sm_lookup_many",
-                                        "sm_lookup_source", "sm_lookup_name", "sm_hermes_function_name", "sm_bytes_text",
-                                        "sm_section_start_of", "sm_section_url", "sm_module_offsets", "sm_module_path", "sm_view_text", "sm_view_count",
+                                        "sm_lookup_index", "sm_lookup_source", "sm_lookup_name", "sm_hermes_function_name", "sm_bytes_text",
+                                        "sm_section_start_of", "sm_section_url", "sm_module_offsets", "sm_module_path",
+                                        "sm_builder_source", "sm_view_text", "sm_view_count",
                                         "sm_view_line", "sm_view_slice", "sm_bundle_count", "sm_split_count" };
     size_t row, name;
     uint32_t kind;

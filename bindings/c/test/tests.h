@@ -11,6 +11,7 @@ void test_changes(void);
 void test_building(void);
 void test_assembling(void);
 void test_texts(void);
+void test_segments(void);
 void test_bundles(void);
 void test_wrong_kinds(void);
 /* With `keeps_map` the first handle is closed after all threads, so none of them ever is the only one on the map: a

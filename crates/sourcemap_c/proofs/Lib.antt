@@ -1,7 +1,7 @@
 pub mod CodesLemmas
 pub mod OpeningLemmas
-pub mod MakingLemmas
-pub mod IdsLemmas
+pub mod ReplacingLemmas
+pub mod IgnoreListsLemmas
 pub mod BuildingLemmas
 pub mod SettersLemmas
 pub mod Steps

@@ -10,7 +10,7 @@ use Rattle.sourcemap_c_handles.specs.declared.errors.Failure.{Failure}
 use Rattle.sourcemap_c_handles.specs.declared.errors.Failure.TheVariants.{Library}
 use Rattle.sourcemap_c_handles.specs.declared.held.Held.{Held}
 use Rattle.sourcemap_c_handles.specs.declared.held.Held.TheVariants.{Sections}
-use Rattle.sourcemap_c.specs.Making.{HasNoText}
+use Rattle.sourcemap_c.specs.Replacing.{HasNoText}
 
 -- the sections of a handle, if it has a list of them
 abbrev pub list_in : Option Held → Option (List MapSection)
@@ -37,7 +37,7 @@ section_due start url given tree = option_map (section_made start url) (map_due 
 abbrev pub with_section : Option (List MapSection) → Option MapSection → Option (List MapSection)
 with_section sections section = option_and_then (λ s. option_map (λ ss. ss ++ s ∷ []) sections) section
 
--- the first line of a module; `SM_NONE` is a number without a module
+-- the line at which a module begins, as C passes it: 4294967295 (`SM_NONE`) for a number without a module
 abbrev pub line_of : ℕ → Option ℕ
 line_of offset = if offset == 4294967295 then None else Some offset
 

@@ -6,6 +6,7 @@ use Rattle.std.specs.Ordering.{nat_cmp}
 use Rattle.sourcemap_builder.specs.Builder.{BuilderValue}
 use Rattle.sourcemap_interning.specs.Interner.{id_for}
 use Rattle.sourcemap_map_regular.specs.Map.{fitted}
+use Rattle.sourcemap_texts.specs.Prefixes.{without_prefix}
 use Rattle.sourcemap_errors.specs.declared.errors.Error.TheVariants.{OutOfMemory}
 use Rattle.sourcemap_c_handles.specs.Errors.{Reports}
 use Rattle.sourcemap_c_handles.specs.Layout.{raw_token}
@@ -16,7 +17,7 @@ use Rattle.sourcemap_c_handles.specs.declared.held.Held.{Held}
 use Rattle.sourcemap_c_handles.specs.declared.layout.MapToken.{MapToken}
 use Rattle.sourcemap_c.specs.Kinds.{builder_in}
 use Rattle.sourcemap_c.specs.declared.building.Step.{Step}
-use Rattle.sourcemap_c.specs.declared.building.Step.TheVariants.{Root, Id, Contents, Ignored}
+use Rattle.sourcemap_c.specs.declared.building.Step.TheVariants.{Root, Id, Source, Prefixes, Contents, Ignored}
 
 -- the result of a change of a builder
 abbrev pub OnSource : ℕ → BuilderValue → BuilderValue → Result BuilderValue Failure → Type 0
@@ -29,6 +30,13 @@ HasRoot root old due = due ≡ Ok (record old { root = root })
 abbrev pub HasId : Option (List ℕ) → BuilderValue → Result BuilderValue Failure → Type 0
 HasId id old due = due ≡ Ok (record old { debug_id = id })
 
+abbrev pub HasSource : ℕ → List ℕ → BuilderValue → Result BuilderValue Failure → Type 0
+HasSource id source old = OnSource id old (record old { sources = slice_set old.sources id source })
+
+-- each source after the first prefix that it starts with
+abbrev pub IsStripped : List (List ℕ) → BuilderValue → Result BuilderValue Failure → Type 0
+IsStripped prefixes old due = due ≡ Ok (record old { sources = map (without_prefix prefixes) old.sources })
+
 abbrev pub HasContents : ℕ → Option (List ℕ) → BuilderValue → Result BuilderValue Failure → Type 0
 HasContents id contents old =
     OnSource id old (record old { contents = slice_set (fitted (length old.sources) old.contents) id contents })
@@ -39,6 +47,8 @@ Ignores id old = OnSource id old (record old { ignored = insert_key nat_cmp old.
 abbrev pub StepsTo : Step → BuilderValue → Result BuilderValue Failure → Type 0
 StepsTo (Root root) = HasRoot (option_copied root)
 StepsTo (Id id) = HasId id
+StepsTo (Source id source) = HasSource id source.now
+StepsTo (Prefixes prefixes) = IsStripped (map (λ prefix. prefix.now) prefixes.now)
 StepsTo (Contents id contents) = HasContents id (option_copied contents)
 StepsTo (Ignored id) = Ignores id
 

@@ -52,7 +52,7 @@ items_in _ = None
 abbrev pub Makes : Result (Result SplitModule Error) Error → (Result ModuleParts Error → Type 0) → Type 0
 Makes made Due = MatchResult made (λ item. (due : Result ModuleParts Error) → Due due → item_value item ≡ due_value due) (λ e. e ≡ OutOfMemory)
 
--- the handle has the items of a bundle split by an index
+-- `held` has the items of `bundle` split by the index map `tree`: one for each module that is not skipped
 abbrev pub IsSplit : Option BundleValue → Option MapTree → Option Held → Type 0
 IsSplit bundle tree held = (b : BundleValue) × (i : IndexValue) × (split : SplitValue) × (bundle ≡ Some b) × (tree ≡ Some (index_tree i))
     × Splits i (modules_of b) (Ok split) × (items_in held ≡ Some (map due_value (dues_in split)))

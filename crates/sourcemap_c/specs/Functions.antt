@@ -2,7 +2,7 @@
 use Rattle.std.specs.Prelude.{◌≡◌, ℕ, List, Option, Some, None, IfSome}
 use Rattle.std.specs.Str.{IsUtf8}
 use Rattle.sourcemap_hermes.specs.Map.{function_name as name_at_offset}
-use Rattle.sourcemap_index.specs.Names.{AreNamesInOrder, function_name}
+use Rattle.sourcemap_index.specs.Names.{IsInOrderForName, function_name}
 use Rattle.sourcemap_map_regular.specs.Map.{lookup}
 use Rattle.sourcemap_hermes_scopes.specs.SourceScopes.{IsInOrderAt}
 use Rattle.sourcemap_trace.specs.Trace.{trace_of}
@@ -24,12 +24,12 @@ Refuses due code old new = (code ≡ due) × (new ≡ old)
 abbrev pub Guesses : MapTree → (source minified : List ℕ) → ℕ × ℕ → ℕ → (old new : List ℕ) → Type 0
 Guesses t source minified p code old new = (¬ IsUtf8 minified → Refuses 2 code old new)
     × (IsUtf8 minified → IsAbsentUnlessOk code old new)
-    × (IsUtf8 minified → AreNamesInOrder t (Some source) (Some minified) p → ReturnsValue (Some (function_name t (Some source) (Some minified) p)) code old new)
+    × (IsUtf8 minified → IsInOrderForName t (Some source) (Some minified) p → ReturnsValue (Some (function_name t (Some source) (Some minified) p)) code old new)
 
 -- the name of a function: a Hermes map has it, other maps guess it and need a text
 abbrev pub Names : MapTree → (source : Option (List ℕ)) → (minified : List ℕ) → ℕ × ℕ → ℕ → (old new : List ℕ) → Type 0
 Names (leaf (hermes h)) source minified p code old new = IsAbsentUnlessOk code old new
-    × (AreNamesInOrder (leaf (hermes h)) None None p → ReturnsValue (Some (function_name (leaf (hermes h)) None None p)) code old new)
+    × (IsInOrderForName (leaf (hermes h)) None None p → ReturnsValue (Some (function_name (leaf (hermes h)) None None p)) code old new)
 Names t None minified p code old new = Refuses 33 code old new
 Names t (Some source) minified p code old new = Guesses t source minified p code old new
 

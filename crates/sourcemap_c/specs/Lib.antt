@@ -5,12 +5,13 @@ pub mod Lookup
 pub mod Writing
 pub mod Getters
 pub mod Changing
-pub mod Making
+pub mod Replacing
 pub mod Building
 pub mod Sections
 pub mod Bundles
 pub mod References
 pub mod Functions
-pub mod Ids
+pub mod IgnoreLists
 pub mod Offsets
 pub mod Assembling
+pub mod Segments

@@ -12,8 +12,8 @@ ghost use Rattle.sourcemap_c.specs.Kinds.{tree_in};
 
 use crate::codes::text_if;
 use crate::kinds::{map_in, put_map};
-use crate::making::texts_in;
 use crate::offsets::NONE;
+use crate::replacing::texts_in;
 use sourcemap::{DecodedMap, Result, SourceMapIndex, SourceMapSection};
 use sourcemap_c_handles::errors::{ErrorReport, Failure, Outcome, finish};
 use sourcemap_c_handles::{Handle, Held};

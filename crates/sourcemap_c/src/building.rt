@@ -1,17 +1,22 @@
 //! Builders.
-ghost use Rattle.std.specs.Prelude.{◌≡◌, ◌<◌, ◌≤◌, Err, IfSome, IsSomeAnd, None, Ok, Some, is_some, length, true};
+ghost use Rattle.std.specs.Prelude.{◌≡◌, ◌<◌, ◌≤◌, Err, IfSome, IsSomeAnd, None, Ok, Some, is_some, length, map as list_map, option_map, slice_get, true};
+ghost use Rattle.std.specs.Borrow.{sem};
+ghost use Rattle.std.specs.List.{All};
 ghost use Rattle.std.specs.Option.{option_copied};
+ghost use Rattle.std.specs.Str.{IsUtf8};
 ghost use Rattle.sourcemap_builder.specs.Builder.{built, empty_builder, with_name, with_source, with_token};
 ghost use Rattle.sourcemap_errors.specs.Answer.{Changes};
-ghost use Rattle.sourcemap_c_handles.specs.Handles.{held_in};
+ghost use Rattle.sourcemap_c_handles.specs.Handles.{EndsAsBefore, held_in};
 ghost use Rattle.sourcemap_c_handles.specs.Layout.{raw_token};
 ghost use Rattle.sourcemap_index_model.specs.MapTree.{leaf, regular};
-ghost use Rattle.sourcemap_c.specs.Building.{Adds, AddsAll, AddsNot, AreAdded, FailsStep, HasContents, HasId, HasRoot, HoldsStep, Ignores, StepsTo, with_tokens};
-ghost use Rattle.sourcemap_c.specs.Codes.{Answers, Does, NoError, OfLibrary, OfLibraryOrKind, OrNoText, text_if};
+ghost use Rattle.sourcemap_c.specs.Building.{Adds, AddsAll, AddsNot, AreAdded, FailsStep, HasContents, HasId, HasRoot, HasSource, HoldsStep, Ignores, IsStripped, StepsTo, with_tokens};
+ghost use Rattle.sourcemap_c.specs.Codes.{Answers, Does, NoError, OfLibrary, OfLibraryOrKind, OrNoText, ReturnsValue, text_if};
 ghost use Rattle.sourcemap_c.specs.Kinds.{builder_in, tree_in};
+ghost use Rattle.sourcemap_c.specs.Replacing.{OrNoPrefix};
 
-use crate::codes::{id_if, text_if, text_in};
+use crate::codes::{WRONG_KIND, id_if, put_text, text_if, text_in};
 use crate::kinds::put_map;
+use crate::replacing::texts_in;
 use sourcemap::jsontypes::DebugId;
 use sourcemap::{DecodedMap, RawToken, Result, SourceMapBuilder};
 use sourcemap_c_handles::errors::{ErrorReport, Failure, Outcome, finish};
@@ -24,6 +29,8 @@ use std::alloc::Global;
 enum Step<'a> {
     Root(Option<&'a str>),
     Id(Option<DebugId>),
+    Source(u32, &'a str),
+    Prefixes(&'a [&'a str]),
     Contents(u32, Option<&'a str>),
     Ignored(u32),
 }
@@ -244,6 +251,91 @@ fn add_name_to(held: &mut Held, text: &str, id: &mut u32) -> Outcome<()>
     }
 }
 
+/// Borrows the source with this id, without the root.
+#[unsafe(no_mangle)]
+pub extern "C" fn sm_builder_source<'a>(
+    builder: &'a mut Handle,
+    id: u32,
+    text: &mut &'a [u8],
+) -> u32
+    ensures* after { sem 𝓛 (EndsAsBefore builder.entry) }
+    ensures value { ReturnsValue (option_map (λ b. slice_get b.sources id) (builder_in (held_in builder.old)))
+        result text.old.now text.new.now }
+{
+    put_source(builder.get(), id, text)
+}
+
+fn put_source<'a>(held: Option<&'a Held>, id: u32, text: &mut &'a [u8]) -> u32
+    ensures { ReturnsValue
+        (option_map (λ b. slice_get b.sources id) (builder_in (option_copied held.entry)))
+        result text.old.now text.new.now }
+{
+    match held {
+        Some(Held::Builder(builder)) => put_text(builder.get_source(id), text),
+        _ => WRONG_KIND,
+    }
+}
+
+/// Sets a source, without the root. The text that was added keeps its id.
+#[unsafe(no_mangle)]
+pub extern "C" fn sm_builder_set_source(
+    alloc: Global,
+    builder: &mut Handle,
+    id: u32,
+    source: &[u8],
+    error: &mut ErrorReport,
+) -> u32
+    ensures { Answers result error.old error.new
+        (HoldsStep (HasSource id source.now) (held_in builder.old) (held_in builder.new))
+        (OrNoText true source.now (FailsStep (HasSource id source.now) (builder_in (held_in builder.old))))
+        (held_in builder.new ≡ held_in builder.old) }
+{
+    finish(alloc, set_source(alloc, builder, id, source), error)
+}
+
+fn set_source(alloc: Global, builder: &mut Handle, id: u32, source: &[u8]) -> Outcome<()>
+    ensures { Does result
+        (HoldsStep (HasSource id source.now) (held_in builder.old) (held_in builder.new))
+        (OrNoText true source.now (FailsStep (HasSource id source.now) (builder_in (held_in builder.old))))
+        (held_in builder.new ≡ held_in builder.old) }
+{
+    match text_in(source) {
+        Ok(source) => step_in(alloc, builder, &Step::Source(id, source)),
+        Err(error) => Err(Failure::Library(error)),
+    }
+}
+
+/// Cuts from each source the first of these prefixes that it starts with. The text that was added
+/// keeps its id.
+#[unsafe(no_mangle)]
+pub extern "C" fn sm_builder_strip_prefixes(
+    alloc: Global,
+    builder: &mut Handle,
+    prefixes: &[&[u8]],
+    error: &mut ErrorReport,
+) -> u32
+    ensures { let texts = list_map (λ prefix. prefix.now) prefixes.now in
+        Answers result error.old error.new
+        (All IsUtf8 texts × HoldsStep (IsStripped texts) (held_in builder.old) (held_in builder.new))
+        (OrNoPrefix texts (FailsStep (IsStripped texts) (builder_in (held_in builder.old))))
+        (held_in builder.new ≡ held_in builder.old) }
+{
+    finish(alloc, strip_prefixes(alloc, builder, prefixes), error)
+}
+
+fn strip_prefixes(alloc: Global, builder: &mut Handle, prefixes: &[&[u8]]) -> Outcome<()>
+    ensures { let texts = list_map (λ prefix. prefix.now) prefixes.now in
+        Does result
+        (All IsUtf8 texts × HoldsStep (IsStripped texts) (held_in builder.old) (held_in builder.new))
+        (OrNoPrefix texts (FailsStep (IsStripped texts) (builder_in (held_in builder.old))))
+        (held_in builder.new ≡ held_in builder.old) }
+{
+    match texts_in(alloc, prefixes) {
+        Ok(prefixes) => step_in(alloc, builder, &Step::Prefixes(prefixes.as_slice())),
+        Err(error) => Err(Failure::Library(error)),
+    }
+}
+
 /// Sets or removes the contents of a source.
 #[unsafe(no_mangle)]
 pub extern "C" fn sm_builder_set_contents(
@@ -337,9 +429,24 @@ fn step_builder(builder: &mut SourceMapBuilder, step: &Step<'_>) -> Outcome<()>
     match step {
         Step::Root(root) => builder.set_source_root(*root)?,
         Step::Id(id) => builder.set_debug_id(*id),
+        Step::Source(id, source) => return replace_source(builder, *id, source),
+        Step::Prefixes(prefixes) => builder.strip_prefixes(*prefixes)?,
         Step::Contents(id, contents) => return put_contents(builder, *id, *contents),
         Step::Ignored(id) => return ignore(builder, *id),
     }
+    Ok(())
+}
+
+fn replace_source(builder: &mut SourceMapBuilder, id: u32, source: &str) -> Outcome<()>
+    ensures { Does result
+        (HasSource id source.now builder.old (Ok builder.new))
+        (λ failure. HasSource id source.now builder.old (Err failure))
+        (builder.new ≡ builder.old) }
+{
+    if builder.get_source(id).is_none() {
+        return Err(Failure::Absent);
+    }
+    builder.set_source(id, source)?;
     Ok(())
 }
 

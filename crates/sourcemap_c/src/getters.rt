@@ -8,11 +8,11 @@ ghost use Rattle.sourcemap_index.specs.DecodedMap.{debug_id_of};
 ghost use Rattle.sourcemap_index.specs.Family.{index_value, map_tree};
 ghost use Rattle.sourcemap_c.specs.Getters.{AreFrom, contents_in, counts_of, counts_of_map, counts_of_sections, file_of, leaf_in, name_in, root_of, source_in};
 ghost use Rattle.sourcemap_c.specs.Codes.{ReturnsValue};
-ghost use Rattle.sourcemap_c.specs.Ids.{AreIdsFrom};
+ghost use Rattle.sourcemap_c.specs.IgnoreLists.{AreIdsFrom};
 ghost use Rattle.sourcemap_c.specs.Kinds.{tree_in, tree_of};
 
 use crate::codes::{ABSENT, OK, WRONG_KIND, put_text};
-use crate::ids::put_ignored;
+use crate::ignore_lists::put_ignored;
 use crate::kinds::map_in;
 use sourcemap::{DecodedMap, RawToken, SourceMap, SourceMapIndex};
 use sourcemap_c_handles::Handle;

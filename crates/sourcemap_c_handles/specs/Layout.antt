@@ -1,4 +1,4 @@
--- Conversions of the structs of the header.
+-- The tokens, answers and ids that the structs of the C header stand for.
 use Rattle.std.specs.Prelude.{Option, Some, None, false, true}
 use Rattle.sourcemap_tokens.specs.declared.tokens.RawToken.{RawToken}
 use Rattle.sourcemap_map_regular.specs.Token.{TokenValue, says}

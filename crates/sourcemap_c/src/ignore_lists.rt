@@ -1,7 +1,7 @@
 //! Writes the ignore list to an array.
 ghost use Rattle.std.specs.Prelude.{◌≡◌, ◌≤◌, ◌<◌, ◌-◌, ℕ, drop, length, min, slice_get};
 ghost use Rattle.sourcemap_map_regular.specs.Iterators.{ids_left};
-ghost use Rattle.sourcemap_c.specs.Ids.{AreIdsFrom};
+ghost use Rattle.sourcemap_c.specs.IgnoreLists.{AreIdsFrom};
 
 use sourcemap::SourceMap;
 use sourcemap_map_regular::iterators::IgnoreListIter;

@@ -1,6 +1,6 @@
 use Rattle.std.proofs.Common.{◌≡◌, ◌≤◌, ◌-◌, drop}
 use Rattle.sourcemap_map_regular.specs.Iterators.{ids_left}
-use Rattle.sourcemap_c.proofs.ids.skip_ids.Given as goal
+use Rattle.sourcemap_c.proofs.ignore_lists.skip_ids.Given as goal
 
 abbrev pub invariant-loop-passed : goal.invariant-loop-passed
 invariant-loop-passed l = record {

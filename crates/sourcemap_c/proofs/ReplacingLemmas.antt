@@ -15,7 +15,7 @@ use Rattle.sourcemap_map_regular.specs.Rewrite.{removal_of}
 use Rattle.sourcemap_map_rewrite.specs.declared.options.RewriteOptions.{RewriteOptions}
 use Rattle.sourcemap_c.proofs.CodesLemmas.{weaker}
 use Rattle.sourcemap_c.specs.Codes.{Does}
-use Rattle.sourcemap_c.specs.Making.{OrNoPrefix}
+use Rattle.sourcemap_c.specs.Replacing.{OrNoPrefix}
 
 value_in : HermesValue → Result HermesValue Error → HermesValue
 value_in other (Ok y) = y

@@ -14,7 +14,7 @@ ghost use Rattle.sourcemap_index_model.specs.MapTree.{leaf, regular};
 ghost use Rattle.sourcemap_c.specs.Changing.{FailsAs, HoldsNew, IsAdjustedBy, IsFlat, IsRewritten};
 ghost use Rattle.sourcemap_c.specs.Codes.{Answers, Does, UnlessMemory};
 ghost use Rattle.sourcemap_c.specs.Kinds.{tree_in};
-ghost use Rattle.sourcemap_c.specs.Making.{HasNoText, OrNoPrefix, removal};
+ghost use Rattle.sourcemap_c.specs.Replacing.{HasNoText, OrNoPrefix, removal};
 
 use crate::codes::text_in;
 use crate::kinds::{map_in, put_map};

@@ -1,6 +1,6 @@
 use Rattle.std.proofs.Common.{◌≡◌, ◌≤◌, ◌<◌, ◌-◌, ℕ, drop, length, slice_get}
 use Rattle.sourcemap_map_regular.specs.Iterators.{ids_left}
-use Rattle.sourcemap_c.proofs.ids.write_ids.Given as goal
+use Rattle.sourcemap_c.proofs.ignore_lists.write_ids.Given as goal
 
 abbrev pub invariant-loop-count : goal.invariant-loop-count
 invariant-loop-count l = record {

@@ -1,7 +1,7 @@
 use Rattle.std.proofs.Common.{arith, ◌≤◌, ◌∙◌, length, sym}
 use Rattle.sourcemap_map_regular.specs.Iterators.{ids_left}
-use Rattle.sourcemap_c.proofs.IdsLemmas.{all_left, all_space, at_front, each_more, one_less, past, rest_kept, space_kept, within}
-use Rattle.sourcemap_c.proofs.ids.write_ids.Goals as goal
+use Rattle.sourcemap_c.proofs.IgnoreListsLemmas.{all_left, all_space, at_front, each_more, one_less, past, rest_kept, space_kept, within}
+use Rattle.sourcemap_c.proofs.ignore_lists.write_ids.Goals as goal
 
 pub returns-in-None-clause-count : goal.returns-in-None-clause-count
 returns-in-None-clause-count c =

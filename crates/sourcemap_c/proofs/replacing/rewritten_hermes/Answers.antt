@@ -1,8 +1,8 @@
 use Rattle.sourcemap_errors.specs.Due.{Gives-given}
 use Rattle.std.proofs.Common.{Ok}
 use Rattle.sourcemap_hermes.specs.Map.{hermes_value}
-use Rattle.sourcemap_c.proofs.MakingLemmas.{hermes_due}
-use Rattle.sourcemap_c.proofs.making.rewritten_hermes.Goals as goal
+use Rattle.sourcemap_c.proofs.ReplacingLemmas.{hermes_due}
+use Rattle.sourcemap_c.proofs.replacing.rewritten_hermes.Goals as goal
 
 pub returns : goal.returns
 returns c =

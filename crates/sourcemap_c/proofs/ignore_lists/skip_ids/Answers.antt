@@ -1,7 +1,7 @@
 use Rattle.std.proofs.Common.{arith, ◌∙◌, sym}
 use Rattle.sourcemap_map_regular.specs.Iterators.{ids_left}
-use Rattle.sourcemap_c.proofs.IdsLemmas.{all_past, one_less}
-use Rattle.sourcemap_c.proofs.ids.skip_ids.Goals as goal
+use Rattle.sourcemap_c.proofs.IgnoreListsLemmas.{all_past, one_less}
+use Rattle.sourcemap_c.proofs.ignore_lists.skip_ids.Goals as goal
 
 pub loop-passed-preserved : goal.loop-passed-preserved
 loop-passed-preserved c = record {

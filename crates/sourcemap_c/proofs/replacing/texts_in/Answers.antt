@@ -2,7 +2,7 @@ use Rattle.std.proofs.Common.{arith, rules, ◌≡◌, ◌∷◌, ◌++◌, [], 
 use Rattle.std.specs.Str.{IsUtf8}
 use Rattle.std.proofs.lemmas.List.Elements.{All-map, All-push, All-same}
 use Rattle.std.proofs.lemmas.Grind.{common_steps}
-use Rattle.sourcemap_c.proofs.making.texts_in.Goals as goal
+use Rattle.sourcemap_c.proofs.replacing.texts_in.Goals as goal
 
 abbrev now_utf8 : Bor (List ℕ) → Type 0
 now_utf8 text = IsUtf8 text.now

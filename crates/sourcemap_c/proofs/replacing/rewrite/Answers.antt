@@ -5,9 +5,9 @@ use Rattle.std.specs.Str.{IsUtf8}
 use Rattle.sourcemap_c_handles.specs.Handles.{held_in}
 use Rattle.sourcemap_c.specs.Changing.{FailsAs, HoldsNew, IsRewritten}
 use Rattle.sourcemap_c.specs.Kinds.{tree_in}
-use Rattle.sourcemap_c.specs.Making.{removal}
-use Rattle.sourcemap_c.proofs.MakingLemmas.{of_texts}
-use Rattle.sourcemap_c.proofs.making.rewrite.Goals as goal
+use Rattle.sourcemap_c.specs.Replacing.{removal}
+use Rattle.sourcemap_c.proofs.ReplacingLemmas.{of_texts}
+use Rattle.sourcemap_c.proofs.replacing.rewrite.Goals as goal
 
 abbrev bytes_of : List (Bor (List ℕ)) → List (List ℕ)
 bytes_of texts = list_map (λ (text : Bor (List ℕ)). text.now) texts

@@ -1,0 +1,31 @@
+-- Segments of mappings, as numbers and as texts.
+use Rattle.std.specs.Prelude.{◌≡◌, ◌⊎◌, ◌++◌, ℕ, ℤ, List, Option, Some, None, Result, Ok, Err, drop, length, min, take}
+use Rattle.std.specs.Str.{IsUtf8}
+use Rattle.sourcemap_errors.specs.declared.errors.Error.{Error}
+use Rattle.sourcemap_vlq.specs.Vlq.{SegmentAnswers, Spells}
+use Rattle.sourcemap_c.specs.Codes.{IsNoText}
+
+-- how many numbers fit into an array
+abbrev pub fitting : (numbers array : List ℤ) → ℕ
+fitting numbers array = min (length numbers) (length array)
+
+-- the array with these numbers over its first ones, as many as fit
+abbrev pub overwritten : (numbers array : List ℤ) → List ℤ
+overwritten numbers array = take (fitting numbers array) numbers ++ drop (fitting numbers array) array
+
+-- the result of decoding bytes as a segment: its numbers, its first error, or that the bytes are not UTF-8
+abbrev pub ParsingAnswers : List ℕ → Result (List ℤ) Error → Type 0
+ParsingAnswers bytes (Ok numbers) = IsUtf8 bytes × SegmentAnswers bytes (Ok numbers)
+ParsingAnswers bytes (Err e) = IsNoText bytes e ⊎ (IsUtf8 bytes × SegmentAnswers bytes (Err e))
+
+-- the numbers of a segment were written, as many as fit, and how many it has
+pub record WritesNumbers (segment : List ℕ) (old new : List ℤ) (count : ℕ) : Type 0 where
+  pub numbers : List ℤ
+  pub parsed : ParsingAnswers segment (Ok numbers)
+  pub written : new ≡ overwritten numbers old
+  pub counted : count ≡ length numbers
+
+-- the segment of the numbers
+abbrev pub HoldsSegment : List ℤ → Option (List ℕ) → Type 0
+HoldsSegment numbers (Some text) = Spells numbers text
+HoldsSegment numbers None = ⊥
