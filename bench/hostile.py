@@ -71,6 +71,9 @@ def of_calls(*words):
 
 FLAT = of_tool(*FLAT_COMMANDS) + of_bench(*FLAT_WORDS) + of_calls('encode-in-parts', 'to-data-url')
 INDEX = of_tool(*INDEX_COMMANDS) + of_bench(*INDEX_WORDS) + of_calls('flatten-and-rewrite')
+# a map that is copied, printed, made a value and read back, and whose tokens are copied into a builder
+VALUES = of_calls('copy', 'print', 'value')
+COPIES = VALUES + of_calls('builder-tokens')
 DECODES = of_tool('lookup 0 5', 'tokens') + of_bench('decode 1', 'decode-reader 1') + of_calls('detect', 'detect-reader')
 
 
@@ -84,6 +87,10 @@ def by_size(size, given, written):
 
 def by_square(size, given, written):
     return size * size + given
+
+
+def lines_of(numbers, front=b''):
+    return b''.join(b'%b%d\n' % (front, number) for number in numbers)
 
 
 def text_of(record):
@@ -151,6 +158,11 @@ def _(size):
     return flat('g' * size)
 
 
+@kind('a segment of many numbers', 1_000_000, of_calls('vlq'), 12)
+def _(size):
+    return b'C' * size
+
+
 # it has no token to look up, while the small map has
 @kind('empty segments and lines', 1_000_000, [run for run in FLAT if run.words != ['lookup', '1']], 4)
 def _(size):
@@ -158,6 +170,7 @@ def _(size):
 
 
 @kind('falling tokens', 200_000, FLAT, 56)
+@kind('falling tokens that are copied and printed', 200_000, COPIES, 120)
 def _(size):
     return flat('D,' * size + 'A')
 
@@ -190,11 +203,13 @@ def _(size):
 # records
 
 @kind('numbers as names', 200_000, FLAT, 80)
+@kind('numbers as names that are copied and printed', 200_000, COPIES, 110)
 def _(size):
     return text_of({'version': 3, 'sources': ['a.js'], 'names': [0] * size, 'mappings': 'AAAA'})
 
 
 @kind('empty contents', 100_000, FLAT, 48)
+@kind('empty contents that are copied and printed', 100_000, COPIES, 60)
 def _(size):
     return text_of({'version': 3, 'sources': ['a'] * size, 'sourcesContent': [''] * size, 'names': [],
                     'mappings': 'AAAA,' + 'CCAA,' * (size - 1) + 'C'})
@@ -251,6 +266,7 @@ def _(size):
 
 
 @kind('ids to ignore', 200_000, FLAT, 24)
+@kind('ids to ignore that are copied and printed', 200_000, COPIES, 24)
 def _(size):
     return flat('AAAA', ignoreList=[0] * size)
 
@@ -264,6 +280,7 @@ def rooted(size):
 
 
 @kind('sourceRoot times sources', 2_000, FLAT, 2.2, by_square)
+@kind('sourceRoot times sources, copied and printed', 2_000, COPIES, 2.5, by_square)
 def _(size):
     return text_of(rooted(size))
 
@@ -319,22 +336,82 @@ def _(size):
     return text_of(rooted(size)) + b'\n' + b's' * size
 
 
+PREFIX = 'p' * 40
+
+
 @kind('prefixes times sources', 1_000, of_calls('strip'), 0.1, by_square)
 def _(size):
-    return b' '.join(b'p' * 40 + b'%d' % number for number in range(size)) + b'\n' + b''.join(
-        b'p' * 40 + b'/%d\n' % number for number in range(size))
+    prefixes = ' '.join(f'{PREFIX}{number}' for number in range(size)).encode()
+    return prefixes + b'\n' + lines_of(range(size), PREFIX.encode() + b'/')
+
+
+@kind('prefixes times sources of a map', 1_000, of_calls('rewrite-strip'), 0.1, by_square)
+def _(size):
+    sources = [f'{PREFIX}/{number}' for number in range(size)]
+    return text_of({**rooted(size), 'sourceRoot': None, 'sources': sources}) + b'\n' + lines_of(range(size), PREFIX.encode())
+
+
+@kind('a root of a builder', 2_000, of_calls('builder-root'), 1.25, by_square)
+def _(size):
+    return b'r' * size + b'\n' + lines_of(range(size))
 
 
 # what is set
 
 @kind('a line for each source', 100_000, of_calls('set-sources', 'set-contents', 'set-file', 'ignore'), 20)
 def _(size):
-    return text_of({**rooted(size), 'sourceRoot': 'r'}) + b'\n' + b''.join(b'%d\n' % (size - number) for number in range(size))
+    return text_of({**rooted(size), 'sourceRoot': 'r'}) + b'\n' + lines_of(range(size, 0, -1))
 
 
 @kind('one long line to set', 1_000_000, of_calls('set-root', 'set-sources', 'set-contents', 'set-file', 'ignore'), 4)
 def _(size):
     return flat('AAAA', sourceRoot='r') + b'\n' + b'x' * size
+
+
+BUILDS = of_calls('builder-raw', 'builder-sources', 'builder-contents', 'builder-file', 'builder-ids', 'builder-ignore')
+
+
+@kind('a line for each source of a builder', 100_000, BUILDS + of_calls('sections'), 50)
+def _(size):
+    return lines_of(range(size, 0, -1))
+
+
+@kind('one long line for a builder', 1_000_000, BUILDS + of_calls('builder-root', 'sections'), 4)
+def _(size):
+    return b'x' * size
+
+
+@kind('debug ids', 50_000, of_calls('builder-ids'), 2)
+def _(size):
+    return b''.join(b'%032x\n' % number for number in range(size))
+
+
+# contents from files
+
+@kind('a file for each source of a builder', 500, of_calls('builder-load'), 6)
+def _(size):
+    return lines_of(range(size)), {f'{number}': b'a\n' * 2_000 for number in range(size)}
+
+
+@kind('a file for each source', 500, of_calls('rewrite-load'), 6)
+def _(size):
+    return text_of({**rooted(size), 'sourceRoot': None}), {f'{number}': b'a\n' * 2_000 for number in range(size)}
+
+
+@kind('a source for each file that is missing', 20_000, of_calls('rewrite-load'), 20)
+def _(size):
+    return text_of({**rooted(size), 'sourceRoot': None})
+
+
+# each source is another text that names the same file
+@kind('sources of a builder times one file', 1_000, of_calls('builder-load'), 1.25, by_square)
+def _(size):
+    return b''.join(b'%d/../FILE\n' % number for number in range(size)), b'a' * size
+
+
+@kind('sources times one file', 1_000, of_calls('rewrite-load'), 1.25, by_square)
+def _(size):
+    return text_of({**rooted(size), 'sourceRoot': None, 'sources': [f'{number}/../FILE' for number in range(size)]}), b'a' * size
 
 
 # index maps
@@ -355,6 +432,7 @@ def _(size):
 
 
 @kind('sections of nothing', 50_000, INDEX, 70)
+@kind('sections of nothing that are copied and printed', 50_000, VALUES, 135)
 def _(size):
     return b'{"version":3,"sections":[' + b'{"offset":{"line":0,"column":0}},' * size + b'{"offset":{"line":0,"column":0}}]}'
 
@@ -365,6 +443,31 @@ def _(size):
     for _ in range(40):
         record = '{"version":3,"sections":[{"offset":{"line":0,"column":0},"map":' + record + '}]}'
     return record.encode()
+
+
+def unresolved(size):
+    return index([(number, 0, {'url': 'u'}) for number in range(size)])
+
+
+@kind('a line for each section', 50_000, of_calls('index-file', 'section-urls'), 48)
+def _(size):
+    return unresolved(size) + b'\n' + lines_of(range(size))
+
+
+@kind('one long line for an index', 1_000_000, of_calls('index-file', 'index-rows', 'section-urls', 'section-maps'), 4)
+def _(size):
+    return unresolved(1) + b'\n' + b'x' * size
+
+
+@kind('a map for each section', 10_000, of_calls('section-maps'), 16)
+def _(size):
+    return unresolved(size) + b'\n' + (README.encode() + b'\n') * size
+
+
+# each line moves all sections
+@kind('sections moved down by a row for each', 2_000, [Run(BENCH_CALLS, ['index-rows'], count=by_square)], 60)
+def _(size):
+    return unresolved(size) + b'\n' + b'1\n' * size
 
 
 @kind('indexes too deep for text', 20_000, DECODES, 4)
@@ -387,7 +490,7 @@ def _(size):
                     'x_facebook_sources': [[{'names': [], 'mappings': ';'}]] * size})
 
 
-@kind('a token in each of many functions', 100_000, of_calls('scopes'), 7.5)
+@kind('a token in each of many functions', 100_000, of_calls('scopes', 'bytecode-names'), 7.5)
 def _(size):
     scopes = [[{'names': ['f', 'g'], 'mappings': 'AAA,' + 'CCA,CDA,' * (size // 2) + 'C'}]]
     return flat('AAAA,' + 'CAAC,' * size + 'C', x_facebook_sources=scopes)
@@ -456,7 +559,7 @@ def _(size):
     return b'\n' * size
 
 
-@kind('one line of letters', 1_000_000, of_calls('view', 'slices'), 2.5)
+@kind('one line of letters', 1_000_000, of_calls('view', 'slices', 'identifier'), 2.5)
 def _(size):
     return b'a' * size
 
@@ -520,6 +623,27 @@ def _(size):
     return bundle(size, 0, [(0, 0)] * size)
 
 
+@kind('a bundle in a file', 100_000, of_calls('bundle-path'), 2)
+def _(size):
+    return b'FILE', bundle(size, 0, [(0, 2)] * size, b'x\0')
+
+
+def bundle_of_files(modules):
+    """The path of a bundle of files, and its files by their names."""
+    return b'FILE', {'FILE': b'', 'js-modules/UNBUNDLE': struct.pack('<I', 0xFB0BD1E5), **{f'js-modules/{name}.js': text for name, text in modules}}
+
+
+@kind('a bundle of many files', 500, of_calls('bundle-path'), 2)
+def _(size):
+    return bundle_of_files((number, b'a' * 4_000) for number in range(size))
+
+
+# numbers from 0 to the greatest that a bundle may have
+@kind('a bundle of files whose numbers are far apart', 500, of_calls('bundle-path'), 2)
+def _(size):
+    return bundle_of_files((number * (2**64 - 2) // (size - 1), b'a' * 4_000) for number in range(size))
+
+
 SPLITS = [Run(BENCH_BUNDLES, ['split', '1'])]
 
 
@@ -567,14 +691,15 @@ def made_of(make, size):
 
 
 def inputs_of(made, folder):
-    """The input, and the words for the file beside it."""
-    source, beside = made if isinstance(made, tuple) else (made, None)
-    pathlib.Path(folder, 'small.map').write_text(README)
-    pathlib.Path(folder, 'small.txt').write_text('0:5\n1:0\n')
-    if beside is not None:
-        pathlib.Path(folder, 'FILE').write_bytes(beside)
-    pathlib.Path(folder, 'input').write_bytes(source)
-    return len(source) + len(beside or b'')
+    """Writes the input, and the files beside it: FILE, or those of a table of names. Answers the bytes of all."""
+    source, beside = made if isinstance(made, tuple) else (made, {})
+    files = beside if isinstance(beside, dict) else {'FILE': beside}
+    given = {'small.map': README.encode(), 'small.txt': b'0:5\n1:0\n', 'input': source, **files}
+    for name, data in given.items():
+        path = pathlib.Path(folder, name)
+        path.parent.mkdir(exist_ok=True)
+        path.write_bytes(data)
+    return len(source) + sum(map(len, files.values()))
 
 
 def with_stack(stack):

@@ -1,13 +1,18 @@
 //! The measured calls and their words.
 
+use sourcemap::Result;
+use std::alloc::Global;
+
 /// A measured call.
-#[derive(Clone, Copy, Debug, PartialEq, Eq)]
+#[derive(Clone, Copy)]
 pub enum Call {
     /// `walk`: `SourceView::rev_token_iter` from the last token of the map on the first line, in the
     /// text after it.
     Walk,
     /// `view`: a view of the text, and its lines.
     View,
+    /// `slices`: `SourceView::get_line_slice` of each line.
+    Slices,
     /// `locate`: `locate_sourcemap_reference_slice`.
     Locate,
     /// `locate-reader`: `locate_sourcemap_reference`.
@@ -30,77 +35,194 @@ pub enum Call {
     Relative,
     /// `prefix`: `find_common_prefix` of all lines.
     Prefix,
-    /// `builder`: a token with a source and a name of its own for each line.
-    Builder,
+    /// `vlq`: `parse_vlq_segment`, and `generate_vlq_segment` of its numbers.
+    Vlq,
+    /// `identifier`: `get_javascript_token`.
+    Identifier,
     /// `intern`: `Interner::add` of each line.
     Intern,
     /// `bundle`: all modules of a RAM bundle, and its startup code.
     Bundle,
+    /// `bundle-path`: all modules of the bundle at a path, of one file or of files.
+    BundlePath,
+    /// `scopes`: `SourceMapHermes::get_scope_for_token` of each token.
+    Scopes,
+    /// `bytecode-names`: `SourceMapHermes::get_original_function_name` at each token.
+    BytecodeNames,
+    /// A call on a builder.
+    Builder(BuilderCall),
+    /// A call on an index map.
+    Index(IndexCall),
+    /// A call on a whole map.
+    Map(MapCall),
+    /// A setter of a regular map.
+    Setter(Setter),
+}
+
+/// A call on a builder.
+#[derive(Clone, Copy)]
+pub enum BuilderCall {
+    /// `builder`: a token with a source and a name of its own for each line.
+    Add,
+    /// `builder-raw`: `add_raw` of a token for each line, with the number on it as column and ids.
+    AddRaw,
+    /// `builder-tokens`: `add_token` of each token of a map.
+    AddTokens,
+    /// `builder-sources`: `add_source` and `set_source` of each line.
+    SetSources,
+    /// `builder-contents`: `add_source` and `set_source_contents` of each line.
+    SetContents,
+    /// `builder-file`: `set_file` of each line.
+    SetFile,
+    /// `builder-root`: `set_source_root` of the first line, with a source for each line after it.
+    SetRoot,
+    /// `builder-ids`: `set_debug_id` of each line.
+    SetDebugIds,
+    /// `builder-ignore`: `add_to_ignore_list` of the number on each line.
+    Ignore,
+    /// `builder-load`: `load_local_source_contents` from the current folder, with a source for each
+    /// line.
+    Load,
+    /// `strip`: `strip_prefixes` with the words of the first line, of a source for each line after
+    /// it.
+    Strip,
+}
+
+/// A call on an index map.
+#[derive(Clone, Copy)]
+pub enum IndexCall {
     /// `nest`: nested index maps, looked up, printed, copied, compared, read back from their value,
     /// flattened and dropped.
     Nest,
+    /// `flatten-and-rewrite`: `SourceMapIndex::flatten_and_rewrite`.
+    FlattenAndRewrite,
+    /// `sections`: `SourceMapIndex::new` of a section for each line, with the line as its URL.
+    Sections,
+    /// `index-file`: `SourceMapIndex::set_file` of the map on the first line to each line after it.
+    SetFile,
+    /// `index-rows`: `adjust_sections_offset_rows` of the same by the number on each line.
+    AdjustRows,
+    /// `section-urls`: `SourceMapSection::set_url` of its sections to the lines after it.
+    SetUrls,
+    /// `section-maps`: `SourceMapSection::set_sourcemap` of its sections to the maps on the lines
+    /// after it.
+    SetMaps,
+}
+
+/// A call on a whole map.
+#[derive(Clone, Copy)]
+pub enum MapCall {
     /// `encode`: `encode_to` of a map, which is flattened if it is an index map.
     Encode,
     /// `encode-in-parts`: `encode_in_parts` of the same.
     EncodeInParts,
     /// `to-data-url`: `to_data_url` of the same.
     ToDataUrl,
-    /// `flatten-and-rewrite`: `SourceMapIndex::flatten_and_rewrite`.
-    FlattenAndRewrite,
-    /// `slices`: `SourceView::get_line_slice` of each line.
-    Slices,
-    /// `scopes`: `SourceMapHermes::get_scope_for_token` of each token.
-    Scopes,
-    /// `set-root`: `set_source_root` of the map on the first line to what follows.
-    SetRoot,
-    /// `set-sources`: `set_source` of the map on the first line to each line after it.
-    SetSources,
-    /// `set-contents`: `set_source_contents` of the same.
-    SetContents,
-    /// `set-file`: `set_file` of the same.
-    SetFile,
-    /// `ignore`: `add_to_ignore_list` of the number on each line after the map.
-    Ignore,
-    /// `strip`: `SourceMapBuilder::strip_prefixes` with the words of the first line, of a source for
-    /// each line after it.
-    Strip,
+    /// `copy`: `clone` of a map, compared with the map.
+    Copy,
+    /// `print`: a map as `Debug` prints it.
+    Print,
+    /// `value`: `DecodedMap::to_value`, and `from_value` of it.
+    Value,
+    /// `rewrite-strip`: `rewrite` of the map on the first line, with each line after it as a prefix
+    /// to cut.
+    RewriteStripping,
+    /// `rewrite-load`: `rewrite` with contents from the current folder.
+    RewriteLoading,
 }
+
+/// A setter of a regular map, which is on the first line.
+#[derive(Clone, Copy)]
+pub enum Setter {
+    /// `set-root`: `set_source_root` to what follows the first line.
+    Root,
+    /// `set-sources`: `set_source` to each line after it.
+    Sources,
+    /// `set-contents`: `set_source_contents` of the same.
+    Contents,
+    /// `set-file`: `set_file` of the same.
+    File,
+    /// `ignore`: `add_to_ignore_list` of the number on each line after it.
+    Ignore,
+}
+
+static WORDS: [(&str, Call); 52] = [
+    ("walk", Call::Walk),
+    ("view", Call::View),
+    ("slices", Call::Slices),
+    ("locate", Call::Locate),
+    ("locate-reader", Call::LocateReader),
+    ("locate-view", Call::LocateView),
+    ("resolve", Call::Resolve),
+    ("resolve-path", Call::ResolvePath),
+    ("data-url", Call::DataUrl),
+    ("embedded", Call::Embedded),
+    ("detect", Call::Detect),
+    ("detect-reader", Call::DetectReader),
+    ("relative", Call::Relative),
+    ("prefix", Call::Prefix),
+    ("vlq", Call::Vlq),
+    ("identifier", Call::Identifier),
+    ("intern", Call::Intern),
+    ("bundle", Call::Bundle),
+    ("bundle-path", Call::BundlePath),
+    ("scopes", Call::Scopes),
+    ("bytecode-names", Call::BytecodeNames),
+    ("builder", Call::Builder(BuilderCall::Add)),
+    ("builder-raw", Call::Builder(BuilderCall::AddRaw)),
+    ("builder-tokens", Call::Builder(BuilderCall::AddTokens)),
+    ("builder-sources", Call::Builder(BuilderCall::SetSources)),
+    ("builder-contents", Call::Builder(BuilderCall::SetContents)),
+    ("builder-file", Call::Builder(BuilderCall::SetFile)),
+    ("builder-root", Call::Builder(BuilderCall::SetRoot)),
+    ("builder-ids", Call::Builder(BuilderCall::SetDebugIds)),
+    ("builder-ignore", Call::Builder(BuilderCall::Ignore)),
+    ("builder-load", Call::Builder(BuilderCall::Load)),
+    ("strip", Call::Builder(BuilderCall::Strip)),
+    ("nest", Call::Index(IndexCall::Nest)),
+    (
+        "flatten-and-rewrite",
+        Call::Index(IndexCall::FlattenAndRewrite),
+    ),
+    ("sections", Call::Index(IndexCall::Sections)),
+    ("index-file", Call::Index(IndexCall::SetFile)),
+    ("index-rows", Call::Index(IndexCall::AdjustRows)),
+    ("section-urls", Call::Index(IndexCall::SetUrls)),
+    ("section-maps", Call::Index(IndexCall::SetMaps)),
+    ("encode", Call::Map(MapCall::Encode)),
+    ("encode-in-parts", Call::Map(MapCall::EncodeInParts)),
+    ("to-data-url", Call::Map(MapCall::ToDataUrl)),
+    ("copy", Call::Map(MapCall::Copy)),
+    ("print", Call::Map(MapCall::Print)),
+    ("value", Call::Map(MapCall::Value)),
+    ("rewrite-strip", Call::Map(MapCall::RewriteStripping)),
+    ("rewrite-load", Call::Map(MapCall::RewriteLoading)),
+    ("set-root", Call::Setter(Setter::Root)),
+    ("set-sources", Call::Setter(Setter::Sources)),
+    ("set-contents", Call::Setter(Setter::Contents)),
+    ("set-file", Call::Setter(Setter::File)),
+    ("ignore", Call::Setter(Setter::Ignore)),
+];
 
 /// Parses a call. `None` for other words.
 pub fn parse_words(words: &[String]) -> Option<Call> {
-    let [word] = words else {
+    let [given] = words else {
         return None;
     };
-    match word.as_str() {
-        "walk" => Some(Call::Walk),
-        "view" => Some(Call::View),
-        "locate" => Some(Call::Locate),
-        "locate-reader" => Some(Call::LocateReader),
-        "locate-view" => Some(Call::LocateView),
-        "resolve" => Some(Call::Resolve),
-        "resolve-path" => Some(Call::ResolvePath),
-        "data-url" => Some(Call::DataUrl),
-        "embedded" => Some(Call::Embedded),
-        "detect" => Some(Call::Detect),
-        "detect-reader" => Some(Call::DetectReader),
-        "relative" => Some(Call::Relative),
-        "prefix" => Some(Call::Prefix),
-        "builder" => Some(Call::Builder),
-        "intern" => Some(Call::Intern),
-        "bundle" => Some(Call::Bundle),
-        "nest" => Some(Call::Nest),
-        "encode" => Some(Call::Encode),
-        "encode-in-parts" => Some(Call::EncodeInParts),
-        "to-data-url" => Some(Call::ToDataUrl),
-        "flatten-and-rewrite" => Some(Call::FlattenAndRewrite),
-        "slices" => Some(Call::Slices),
-        "scopes" => Some(Call::Scopes),
-        "set-root" => Some(Call::SetRoot),
-        "set-sources" => Some(Call::SetSources),
-        "set-contents" => Some(Call::SetContents),
-        "set-file" => Some(Call::SetFile),
-        "ignore" => Some(Call::Ignore),
-        "strip" => Some(Call::Strip),
-        _ => None,
+    for (word, call) in WORDS.iter() {
+        if *word == given.as_str() {
+            return Some(*call);
+        }
     }
+    None
+}
+
+/// The words of all calls, each after a space.
+pub fn list_words(alloc: Global) -> Result<String> {
+    let mut list = String::new(alloc);
+    for (word, _) in WORDS.iter() {
+        list.push_str(" ")?;
+        list.push_str(word)?;
+    }
+    Ok(list)
 }

@@ -1,5 +1,8 @@
-//! Index maps: nested deeper than the decoder allows, or flattened and rewritten.
+//! Index maps: nested deeper than the decoder allows, flattened and rewritten, made and changed.
 
+use crate::call::IndexCall;
+use crate::lines::{number_in, split_first_line};
+use crate::maps::{debug_size, equals_copy, equals_read_back};
 use sourcemap::{
     DecodedMap, Result, RewriteOptions, SourceMapIndex, SourceMapSection, decode_slice,
 };
@@ -8,6 +11,19 @@ use std::rt::Files;
 use std::str;
 
 const INNER: &[u8] = b"{\"version\":3,\"sources\":[\"a.js\"],\"names\":[],\"mappings\":\"AAAA\"}";
+
+/// A size of the result of a call on an index map.
+pub fn size_of<F: Files>(rt: &F, alloc: Global, call: IndexCall, bytes: &[u8]) -> Result<usize> {
+    match call {
+        IndexCall::Nest => count_nested_tokens(alloc, bytes),
+        IndexCall::FlattenAndRewrite => flatten_and_rewrite(rt, alloc, bytes),
+        IndexCall::Sections => make_sections(alloc, bytes),
+        IndexCall::SetFile => set_file(alloc, bytes),
+        IndexCall::AdjustRows => adjust_rows(alloc, bytes),
+        IndexCall::SetUrls => set_urls(alloc, bytes),
+        IndexCall::SetMaps => set_maps(alloc, bytes),
+    }
+}
 
 // An index map with one section at its start.
 fn index_over(alloc: Global, map: DecodedMap) -> Result<SourceMapIndex> {
@@ -27,22 +43,6 @@ fn levels(alloc: Global, depth: u32) -> Result<SourceMapIndex> {
     Ok(index)
 }
 
-// The number of bytes of a map as `Debug` prints it.
-fn debug_size(alloc: Global, map: &DecodedMap) -> Result<usize> {
-    Ok(format!(in alloc; "{map:?}")?.len())
-}
-
-// Whether a copy of a map equals it.
-fn equals_copy(map: &DecodedMap) -> Result<bool> {
-    Ok(map.clone()? == *map)
-}
-
-// Whether the map that is read back from the value of a map equals it.
-fn equals_read_back(alloc: Global, map: &DecodedMap) -> Result<bool> {
-    let value = map.to_value()?;
-    Ok(DecodedMap::from_value(alloc, &value)? == *map)
-}
-
 // The number of tokens of a map, flattened if it is an index map.
 fn count_flat_tokens(map: &DecodedMap) -> Result<usize> {
     match map {
@@ -51,10 +51,10 @@ fn count_flat_tokens(map: &DecodedMap) -> Result<usize> {
     }
 }
 
-/// Makes nested index maps, as many as the number in `bytes` says. Returns the number of tokens of
-/// the flattened map, and 1 more for each of these: a token is found at 0:0, the map is printed, a
-/// copy equals it, and so does the map that is read back from its value.
-pub fn count_nested_tokens(alloc: Global, bytes: &[u8]) -> Result<usize> {
+// Makes nested index maps, as many as the number in `bytes` says. Returns the number of tokens of
+// the flattened map, and 1 more for each of these: a token is found at 0:0, the map is printed, a
+// copy equals it, and so does the map that is read back from its value.
+fn count_nested_tokens(alloc: Global, bytes: &[u8]) -> Result<usize> {
     let depth = str::from_utf8(bytes)?.trim().parse().unwrap_or(1);
     let map = DecodedMap::Index(levels(alloc, depth)?);
     let is_found = map.lookup_token(0, 0).is_some();
@@ -64,10 +64,96 @@ pub fn count_nested_tokens(alloc: Global, bytes: &[u8]) -> Result<usize> {
     Ok(count_flat_tokens(&map)?.wrapping_add(extra + equal))
 }
 
-/// The number of tokens of an index map, flattened and rewritten, plus that of its sources.
-pub fn flatten_and_rewrite<F: Files>(rt: &F, alloc: Global, bytes: &[u8]) -> Result<usize> {
+// The number of tokens of an index map, flattened and rewritten, plus that of its sources.
+fn flatten_and_rewrite<F: Files>(rt: &F, alloc: Global, bytes: &[u8]) -> Result<usize> {
     let index = SourceMapIndex::from_slice(alloc, bytes)?;
     let map = index.flatten_and_rewrite(rt, &RewriteOptions::default())?;
     let tokens = map.get_token_count() as usize;
     Ok(tokens.wrapping_add(map.get_source_count() as usize))
+}
+
+// The number of sections, one for each line.
+fn make_sections(alloc: Global, bytes: &[u8]) -> Result<usize> {
+    let mut sections = Vec::new(alloc);
+    for line in str::from_utf8(bytes)?.lines() {
+        let url = String::from_str(alloc, line)?;
+        sections.push(SourceMapSection::new(alloc, (number_in(line), 0), Some(url), None)?)?;
+    }
+    let index = SourceMapIndex::new(alloc, None, sections);
+    Ok(index.get_section_count() as usize)
+}
+
+// The index map on the first line, and the text after it.
+fn index_and_text(alloc: Global, bytes: &[u8]) -> Result<(SourceMapIndex, &str)> {
+    let (line, text) = split_first_line(bytes)?;
+    let index = SourceMapIndex::from_slice(alloc, line.as_bytes())?;
+    Ok((index, text))
+}
+
+// The length of the file once each line was the file.
+fn set_file(alloc: Global, bytes: &[u8]) -> Result<usize> {
+    let (mut index, text) = index_and_text(alloc, bytes)?;
+    for line in text.lines() {
+        index.set_file(Some(line))?;
+    }
+    Ok(index.get_file().map_or(0, |file| file.len()))
+}
+
+// The number of lines by which all sections were moved down.
+fn adjust_rows(alloc: Global, bytes: &[u8]) -> Result<usize> {
+    let (mut index, text) = index_and_text(alloc, bytes)?;
+    let mut count = 0usize;
+    for line in text.lines() {
+        let is_moved = index.adjust_sections_offset_rows(number_in(line));
+        count = count.wrapping_add(usize::from(is_moved));
+    }
+    Ok(count)
+}
+
+fn set_url(index: &mut SourceMapIndex, id: u32, url: &str) -> Result<()> {
+    match index.get_section_mut(id) {
+        Some(section) => section.set_url(Some(url)),
+        None => Ok(()),
+    }
+}
+
+// The bytes of all URLs once each line is the URL of a section.
+fn set_urls(alloc: Global, bytes: &[u8]) -> Result<usize> {
+    let (mut index, text) = index_and_text(alloc, bytes)?;
+    for (id, line) in (0..u32::MAX).zip(text.lines()) {
+        set_url(&mut index, id, line)?;
+    }
+    Ok(url_size(&index))
+}
+
+fn url_size(index: &SourceMapIndex) -> usize {
+    let mut size = 0usize;
+    for section in index.sections() {
+        size = size.wrapping_add(section.get_url().map_or(0, |url| url.len()));
+    }
+    size
+}
+
+fn set_map(alloc: Global, index: &mut SourceMapIndex, id: u32, line: &str) -> Result<()> {
+    match index.get_section_mut(id) {
+        Some(section) => section.set_sourcemap(Some(decode_slice(alloc, line.as_bytes())?)),
+        None => Ok(()),
+    }
+}
+
+// The number of sections with a map once each line is the map of a section.
+fn set_maps(alloc: Global, bytes: &[u8]) -> Result<usize> {
+    let (mut index, text) = index_and_text(alloc, bytes)?;
+    for (id, line) in (0..u32::MAX).zip(text.lines()) {
+        set_map(alloc, &mut index, id, line)?;
+    }
+    Ok(count_maps(&index))
+}
+
+fn count_maps(index: &SourceMapIndex) -> usize {
+    let mut count = 0usize;
+    for section in index.sections() {
+        count = count.wrapping_add(usize::from(section.get_sourcemap().is_some()));
+    }
+    count
 }

@@ -1,0 +1,92 @@
+//! Whole maps: copied, compared, printed, made a value and read back, rewritten.
+
+use crate::call::MapCall;
+use crate::encoding::{count_encoded, count_encoded_in_parts, measure_data_url};
+use crate::lines::{contents_size, source_size, split_first_line};
+use sourcemap::{DecodedMap, Result, RewriteOptions, SourceMap, decode_slice};
+use std::alloc::Global;
+use std::env;
+use std::env::Env;
+use std::rt::Files;
+
+/// A size of the result of a call on a whole map.
+pub fn size_of<R: Files + Env + AllocGlobal>(
+    rt: &R,
+    alloc: Global,
+    call: MapCall,
+    bytes: &[u8],
+) -> Result<usize> {
+    match call {
+        MapCall::Encode => count_encoded(alloc, bytes),
+        MapCall::EncodeInParts => count_encoded_in_parts(alloc, bytes),
+        MapCall::ToDataUrl => measure_data_url(alloc, bytes),
+        MapCall::Copy => copy(alloc, bytes),
+        MapCall::Print => print(alloc, bytes),
+        MapCall::Value => read_back(alloc, bytes),
+        MapCall::RewriteStripping => rewrite_stripping(rt, alloc, bytes),
+        MapCall::RewriteLoading => rewrite_loading(rt, alloc, bytes),
+    }
+}
+
+/// The number of bytes of a map as `Debug` prints it.
+pub fn debug_size(alloc: Global, map: &DecodedMap) -> Result<usize> {
+    Ok(format!(in alloc; "{map:?}")?.len())
+}
+
+/// Whether a copy of a map equals it.
+pub fn equals_copy(map: &DecodedMap) -> Result<bool> {
+    Ok(map.clone()? == *map)
+}
+
+/// Whether the map that is read back from the value of a map equals it.
+pub fn equals_read_back(alloc: Global, map: &DecodedMap) -> Result<bool> {
+    let value = map.to_value()?;
+    Ok(DecodedMap::from_value(alloc, &value)? == *map)
+}
+
+// 1 if a copy of a map equals it.
+fn copy(alloc: Global, bytes: &[u8]) -> Result<usize> {
+    let map = decode_slice(alloc, bytes)?;
+    Ok(usize::from(equals_copy(&map)?))
+}
+
+// The number of bytes of a map that is printed.
+fn print(alloc: Global, bytes: &[u8]) -> Result<usize> {
+    let map = decode_slice(alloc, bytes)?;
+    debug_size(alloc, &map)
+}
+
+// 1 if the map that is read back equals the map.
+fn read_back(alloc: Global, bytes: &[u8]) -> Result<usize> {
+    let map = decode_slice(alloc, bytes)?;
+    Ok(usize::from(equals_read_back(alloc, &map)?))
+}
+
+// The map on the first line is rewritten, with each line after it as a prefix to strip. Returns the
+// bytes of its sources.
+fn rewrite_stripping<F: Files>(rt: &F, alloc: Global, bytes: &[u8]) -> Result<usize> {
+    let (line, text) = split_first_line(bytes)?;
+    let map = SourceMap::from_slice(alloc, line.as_bytes())?;
+    let prefixes: Vec<&str> = text.lines().collect(alloc)?;
+    let options = RewriteOptions {
+        strip_prefixes: prefixes.as_slice(),
+        ..RewriteOptions::default()
+    };
+    Ok(source_size(&map.rewrite(rt, &options)?))
+}
+
+// The bytes of all contents, those of the files in the current folder among them.
+fn rewrite_loading<R: Files + Env + AllocGlobal>(
+    rt: &R,
+    alloc: Global,
+    bytes: &[u8],
+) -> Result<usize> {
+    let map = SourceMap::from_slice(alloc, bytes)?;
+    let folder = env::current_dir(rt)?.into_string();
+    let options = RewriteOptions {
+        load_local_source_contents: true,
+        current_dir: Some(folder.as_str()),
+        ..RewriteOptions::default()
+    };
+    Ok(contents_size(&map.rewrite(rt, &options)?))
+}

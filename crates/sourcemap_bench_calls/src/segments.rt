@@ -1,0 +1,20 @@
+//! Numbers of a segment, and identifiers.
+
+use sourcemap::Result;
+use sourcemap::js_identifiers::get_javascript_token;
+use sourcemap::vlq::{generate_vlq_segment, parse_vlq_segment};
+use std::alloc::Global;
+use std::str;
+
+/// The length of the segment that is written of the numbers of a segment.
+pub fn segment_size(alloc: Global, bytes: &[u8]) -> Result<usize> {
+    let numbers = parse_vlq_segment(alloc, str::from_utf8(bytes)?)?;
+    let segment = generate_vlq_segment(alloc, numbers.as_slice())?;
+    Ok(segment.len())
+}
+
+/// The length of the identifier that a text begins with.
+pub fn identifier_size(bytes: &[u8]) -> Result<usize> {
+    let found = get_javascript_token(str::from_utf8(bytes)?);
+    Ok(found.map_or(0, |name| name.len()))
+}
