@@ -5,15 +5,15 @@ use Rattle.std.specs.Str.{IsUtf8, is_utf8}
 use Rattle.std.proofs.lemmas.Str.{IsUtf8-from_is_utf8, is_utf8-from_IsUtf8}
 use Rattle.sourcemap_errors.specs.declared.errors.Error.{Error}
 use Rattle.sourcemap_errors.specs.declared.errors.Error.TheVariants.{InvalidRamBundleEntry}
-use Rattle.sourcemap_bundle_split.specs.Split.{text_of}
+use Rattle.sourcemap_bundle_split.specs.Split.{utf8_text}
 
-pub text-utf8 : (text : List ℕ) → IsUtf8 text → text_of text ≡ Ok text
+pub text-utf8 : (text : List ℕ) → IsUtf8 text → utf8_text text ≡ Ok text
 text-utf8 text utf8 = rw (is_utf8-from_IsUtf8 text utf8) refl
 
-pub text-not_utf8 : (text : List ℕ) → (IsUtf8 text → ⊥) → text_of text ≡ Err InvalidRamBundleEntry
+pub text-not_utf8 : (text : List ℕ) → (IsUtf8 text → ⊥) → utf8_text text ≡ Err InvalidRamBundleEntry
 text-not_utf8 text other = by_cases (is_utf8 text) refl
   where
-    by_cases : (b : Bool) → is_utf8 text ≡ b → text_of text ≡ Err InvalidRamBundleEntry
+    by_cases : (b : Bool) → is_utf8 text ≡ b → utf8_text text ≡ Err InvalidRamBundleEntry
     by_cases true b = absurd (other (IsUtf8-from_is_utf8 text b))
     by_cases false b = rw b refl
 

@@ -35,8 +35,8 @@ parts_on flat line m = record {
 }
 
 -- bytes as a text, which are to be UTF-8
-abbrev pub text_of : List ℕ → Result (List ℕ) Error
-text_of bytes = if is_utf8 bytes then Ok bytes else Err InvalidRamBundleEntry
+abbrev pub utf8_text : List ℕ → Result (List ℕ) Error
+utf8_text bytes = if is_utf8 bytes then Ok bytes else Err InvalidRamBundleEntry
 
 -- the module that begins at this line of the flat map, if the map answers there and the text is UTF-8
 abbrev pub parts_at : MapValue → ℕ → ModuleValue → Result ModuleParts Error
@@ -49,9 +49,9 @@ with_line m None = Some (Err InvalidRamBundleEntry)
 with_line m (Some None) = None
 with_line m (Some (Some line)) = Some (Ok (m, line))
 
-abbrev pub laid : List (Option ℕ) → Result ModuleValue Error → Option (Result (ModuleValue × ℕ) Error)
-laid offsets (Ok m) = with_line m (slice_get offsets m.id)
-laid offsets (Err e) = Some (Err InvalidRamBundleEntry)
+abbrev pub with_first_line : List (Option ℕ) → Result ModuleValue Error → Option (Result (ModuleValue × ℕ) Error)
+with_first_line offsets (Ok m) = with_line m (slice_get offsets m.id)
+with_first_line offsets (Err e) = Some (Err InvalidRamBundleEntry)
 
 abbrev pub due_of : MapValue → Result (ModuleValue × ℕ) Error → Result ModuleParts Error
 due_of flat (Ok found) = parts_at flat found.1 found.0
@@ -59,7 +59,7 @@ due_of flat (Err e) = Err e
 
 -- the item of each of these modules that is not skipped
 abbrev pub dues_of : MapValue → List (Option ℕ) → List (Result ModuleValue Error) → List (Result ModuleParts Error)
-dues_of flat offsets modules = map (due_of flat) (filter_map (laid offsets) modules)
+dues_of flat offsets modules = map (due_of flat) (filter_map (with_first_line offsets) modules)
 
 -- a flat map, the first lines of modules, and modules that are still to come
 pub record SplitValue : Type 0 where

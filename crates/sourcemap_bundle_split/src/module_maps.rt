@@ -85,7 +85,7 @@ impl ModuleMaps {
         self.names.clear();
         let tokens = move_tokens(alloc, own, line, &mut self.sources, &mut self.names)?;
         let tokens = TokenList::of_sorted(tokens)?;
-        map_over(
+        map_of_tokens(
             alloc,
             name,
             tokens,
@@ -104,7 +104,7 @@ impl ModuleMaps {
 }
 
 // The map of these tokens, with the sources and the names of these ids.
-fn map_over(
+fn map_of_tokens(
     alloc: Global,
     name: &str,
     tokens: TokenList,

@@ -6,8 +6,8 @@ ghost use Rattle.sourcemap_bundles.specs.Iterators.{modules_left};
 ghost use Rattle.sourcemap_bundles.specs.Modules.{bundle_count, modules_of};
 ghost use Rattle.sourcemap_bundles.specs.Stored.{module_value};
 ghost use Rattle.sourcemap_index.specs.Family.{index_value};
-ghost use Rattle.sourcemap_bundle_split.specs.Iterators.{dues_left, laid_left, laid_value, split_value};
-ghost use Rattle.sourcemap_bundle_split.specs.Split.{HasFewTexts, Splits, parts_at, parts_value, text_of};
+ghost use Rattle.sourcemap_bundle_split.specs.Iterators.{dues_left, modules_and_lines_left, module_and_line, split_value};
+ghost use Rattle.sourcemap_bundle_split.specs.Split.{HasFewTexts, Splits, parts_at, parts_value, utf8_text};
 
 use crate::module_maps::ModuleMaps;
 use sourcemap_bundles::ram_bundle::{RamBundle, RamBundleModule, RamBundleModuleIter};
@@ -61,8 +61,9 @@ pub fn split_ram_bundle<'a>(
 
 impl<'a> SplitRamBundleModuleIter<'a> {
     // The next module that is not skipped, with its first line.
-    fn next_laid(&mut self) -> Option<Result<(RamBundleModule<'a>, u32)>>
-        ensures next { YieldsFirstBy laid_value laid_left self.old result self.new }
+    fn next_with_line(&mut self) -> Option<Result<(RamBundleModule<'a>, u32)>>
+        ensures next { YieldsFirstBy module_and_line modules_and_lines_left
+            self.old result self.new }
         ensures maps { self.new.maps ≡ self.old.maps }
     {
         while let Some(item) = self.modules.next() {
@@ -101,7 +102,7 @@ impl<'a> SplitRamBundleModuleIter<'a> {
 
 // A view of the module's text, which has to be UTF-8.
 fn view_of(found: &RamBundleModule<'_>, alloc: Global) -> Result<SourceView>
-    ensures { Gives (λ view. view) result (text_of found.now.text.now) }
+    ensures { Gives (λ view. view) result (utf8_text found.now.text.now) }
 {
     match str::from_utf8(found.data()) {
         Ok(text) => SourceView::new(alloc, text),
@@ -121,7 +122,7 @@ impl<'a> Iterator for SplitRamBundleModuleIter<'a> {
     ghost remaining = { item_count dues_left };
 
     fn next(&mut self) -> Option<Result<(String, SourceView, SourceMap)>> {
-        match self.next_laid()? {
+        match self.next_with_line()? {
             Ok((found, line)) => Some(self.parts_at(&found, line)),
             Err(e) => Some(Err(e)),
         }

@@ -9,7 +9,7 @@ abbrev pub IsNumber : List ℕ → ℕ → Type 0
 IsNumber word n =
     IsNumeral 10 word × (digits_value 10 word ≤ 4294967295) × (n ≡ digits_value 10 word)
 
--- the words that ask for a command
+-- the arguments of the program that ask for a command
 abbrev pub AskFor : List (List ℕ) → Command → Type 0
 AskFor words (Lookup line col) = (l c : List ℕ)
     × (words ≡ codes "lookup" ∷ l ∷ c ∷ []) × IsNumber l line × IsNumber c col

@@ -187,7 +187,7 @@ WithFile None P = (file : Result (List ℕ) Error) × MayBeRead file × P file
 abbrev pub IsCutShort : List (List ℕ) → Error → Type 0
 IsCutShort words e = UnlessMemory e ((command : Command) × AskFor words command × UnlessReadFails e ⊥)
 
--- how a run of these words on a reader's bytes may end
+-- how a run of the program may end: with these arguments, the bytes of standard input, and what reading its file gives
 abbrev pub MayEnd : List (List ℕ) → (bytes : List ℕ) → (file : Result (List ℕ) Error) → Ending → Type 0
 MayEnd words bytes file (answered (Err e)) = Ends words bytes file (answered (Err e)) ⊎ IsCutShort words e
 MayEnd words bytes file ending = Ends words bytes file ending
@@ -197,7 +197,8 @@ abbrev pub PrintsRefusal : Error → Option (List ℕ) → Option (List ℕ) →
 PrintsRefusal e old new = (reported : Error) × ((reported ≡ e) ⊎ (reported ≡ OutOfMemory))
     × ((printed : List ℕ) × IsRefusal reported printed × Appends old new printed)
 
--- the reply, or the error instead of it, was printed, and the run ended with this status
+-- The reply, or the error instead of it, was printed, and the run ended with this status.
+-- The last two are what standard output has before and after.
 abbrev pub IsPrinted : Result Reply Error → ℕ → Option (List ℕ) → Option (List ℕ) → Type 0
 IsPrinted (Ok reply) status old new =
     (status ≡ reply.status) × Appends old new (string_bytes reply.text)

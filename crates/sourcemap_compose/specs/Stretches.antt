@@ -38,7 +38,7 @@ abbrev pub stretches : (RawToken → ℕ × ℕ) → List RawToken → List Stre
 stretches position [] = []
 stretches position (token ∷ rest) = record { token = token; start = position token; end = end_before position token (slice_get rest 0) } ∷ stretches position rest
 
--- the stretches of a list in any order
+-- the stretches of tokens on one side, generated or original; the list of tokens may be in any order
 abbrev pub stretches_by : Side → List RawToken → List Stretch
 stretches_by side tokens = stretches (position_by side) (sorted_by (position_by side) position_cmp tokens)
 

@@ -1,5 +1,4 @@
-//! Tests of the crates below records and maps, with vectors from other implementations. A crate of
-//! its own, so that its tests are proved alone.
+//! Tests of the crates below records and maps, with vectors from other implementations.
 #![tactic(auto)]
 
 #[cfg(test)]

@@ -1,6 +1,5 @@
 //! Tests of calls that load source contents from files, over the facade `sourcemap`. Each test writes
-//! to a folder of its own, which it removes before and after. A crate of their own, so that no proof
-//! and no must-fail edit waits for them.
+//! to a folder of its own, which it removes before and after.
 #![tactic(auto)]
 
 #[cfg(test)]

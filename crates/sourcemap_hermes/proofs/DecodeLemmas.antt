@@ -13,7 +13,7 @@ use Rattle.sourcemap_map_regular.proofs.DecodeLemmas.{RecordDecodes-same}
 use Rattle.sourcemap_hermes_scopes.specs.ScopeLists.{ScopeEntry, entries_in}
 use Rattle.sourcemap_hermes_scopes.proofs.SourceScopesLemmas.{function_maps_same}
 use Rattle.sourcemap_hermes.specs.Map.{HermesValue, hermes_value}
-use Rattle.sourcemap_hermes.specs.Decode.{HermesDecodes, DecodesWith, EntriesDecode, OnlyHermesDecodes}
+use Rattle.sourcemap_hermes.specs.Decode.{HermesDecodes, DecodesWith, EntriesDecode, RecordDecodesAsHermes}
 use Rattle.sourcemap_hermes.specs.declared.map.SourceMapHermes.{SourceMapHermes}
 
 -- The result of decoding is determined.
@@ -41,7 +41,7 @@ with_same r (Some entries) a b h k = EntriesDecode-same r entries a b h k
 pub HermesDecodes-same : (r : Fields) (a b : Result HermesValue Error) → HermesDecodes r a → HermesDecodes r b → a ≡ b
 HermesDecodes-same r a b h k = with_same r r.x_facebook_sources a b h k
 
-pub only_once : (t : Tree) (a b : Result HermesValue Error) → OnlyHermesDecodes t a → OnlyHermesDecodes t b → a ≡ b
+pub only_once : (t : Tree) (a b : Result HermesValue Error) → RecordDecodesAsHermes t a → RecordDecodesAsHermes t b → a ≡ b
 only_once (plain r) a b h k = HermesDecodes-same r a b h k
 only_once (indexed r sections) a b h k = h ∙ sym k
 

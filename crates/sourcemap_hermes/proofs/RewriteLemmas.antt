@@ -11,7 +11,7 @@ use Rattle.sourcemap_interning.proofs.InternerLemmas.{slice_get-id_of}
 use Rattle.sourcemap_tokens.proofs.SearchLemmas.{closest-change, index-closest}
 use Rattle.sourcemap_map_parts.specs.Sources.{resolved}
 use Rattle.sourcemap_map_rewrite.specs.FirstIds.{first_of}
-use Rattle.sourcemap_map_rewrite.specs.Numbering.{HasNumberIfAny, kept_of}
+use Rattle.sourcemap_map_rewrite.specs.Numbering.{IsListedIfAny, texts_in_use}
 use Rattle.sourcemap_map_rewrite.specs.declared.options.RewriteOptions.{RewriteOptions}
 use Rattle.sourcemap_map_rewrite.proofs.FirstIdsLemmas.{first_names}
 use Rattle.sourcemap_map_regular.specs.Map.{MapValue, IsWellFormed as IsWellFormedRegular, resolved_sources, source_of, lookup, column_after, distance}
@@ -26,7 +26,7 @@ use Rattle.sourcemap_hermes_scopes.specs.SourceScopes.{IsInOrderAt, scope_at}
 use Rattle.sourcemap_hermes_scopes.specs.FunctionMap.{AreOffsetsInOrder, closest_offset}
 use Rattle.sourcemap_hermes_scopes.proofs.SourceScopesLemmas.{picked_of_entries}
 use Rattle.sourcemap_hermes.specs.Map.{HermesValue, IsWellFormed, token_scope, function_name}
-use Rattle.sourcemap_hermes.specs.Rewrite.{rewritten, Rewrites, HasDistinctSources, scope_after, IsInOrderOf, KeepsScopes}
+use Rattle.sourcemap_hermes.specs.Rewrite.{rewritten, Rewrites, HasDistinctSources, scope_at_distance, IsInOrderOf, KeepsScopes}
 
 -- Items selected by id.
 
@@ -59,7 +59,7 @@ module _ (removal : Removal) (h : HermesValue) (few : length h.map.sources ≤ 4
   pub few_ids : length (first_ids h.map) ≤ 4294967295
   few_ids =
       let many : length (first_ids h.map) ≡ length (used_sources h.map) =
-      length-map (kept_of (resolved_sources h.map) (map (λ t. t.src_id) h.map.tokens)) (first_of (resolved_sources h.map) (map (λ t. t.src_id) h.map.tokens))
+      length-map (texts_in_use (resolved_sources h.map) (map (λ t. t.src_id) h.map.tokens)) (first_of (resolved_sources h.map) (map (λ t. t.src_id) h.map.tokens))
       ∙ ap length (sources_used h.map removal) in
       let some = few_used_sources h.map removal few in
       omega (arith, many, some)
@@ -91,7 +91,7 @@ module _ (removal : Removal) (h : HermesValue) (few : length h.map.sources ≤ 4
         many_maps : length h.scopes.entries ≡ length h.scopes.function_maps
         many_maps = as_many EntryStandsFor h.scopes.entries h.scopes.function_maps well.of_entries
 
-        by_case : (o : Option (List ℕ)) → source_of h.map t.src_id ≡ o → HasNumberIfAny (used_sources h.map) (source_of h.map t.src_id)
+        by_case : (o : Option (List ℕ)) → source_of h.map t.src_id ≡ o → IsListedIfAny (used_sources h.map) (source_of h.map t.src_id)
             → StandsFor (number_in (used_sources h.map) (source_of h.map t.src_id)) t.src_id
         by_case None e has =
             let out : length h.map.sources ≤ t.src_id = unnamed (resolved h.map.root) h.map.sources t.src_id (sym (slice_get-map (resolved h.map.root) h.map.sources t.src_id) ∙ e) in
@@ -102,16 +102,16 @@ module _ (removal : Removal) (h : HermesValue) (few : length h.map.sources ≤ 4
               past h.scopes.function_maps t.src_id (omega (arith, none, well.few, many_maps)),
             )
         by_case (Some text) e has =
-            let numbered : (n : ℕ) × (id_of text (used_sources h.map) ≡ Some n) = subst (HasNumberIfAny (used_sources h.map)) e has in
+            let numbered : (n : ℕ) × (id_of text (used_sources h.map) ≡ Some n) = subst (IsListedIfAny (used_sources h.map)) e has in
             let number : number_in (used_sources h.map) (source_of h.map t.src_id) ≡ numbered.0 = ap (number_in (used_sources h.map)) e ∙ rw numbered.1 refl in
             let ids : List ℕ = map (λ t. t.src_id) h.map.tokens in
-            let at : slice_get (kept_of (resolved_sources h.map) ids) numbered.0 ≡ Some text =
+            let at : slice_get (texts_in_use (resolved_sources h.map) ids) numbered.0 ≡ Some text =
             ap (λ kept. slice_get kept numbered.0) (sources_used h.map removal) ∙ slice_get-id_of text (used_sources h.map) numbered.0 numbered.1 in
             let first : ℕ = first_of (resolved_sources h.map) ids text in
             let here : id_of text (resolved_sources h.map) ≡ Some first = distinct text first (first_names (resolved_sources h.map) ids numbered.0 text at) in
             let own : id_of text (resolved_sources h.map) ≡ Some t.src_id = distinct text t.src_id e in
             inl (ap (slice_get (first_ids h.map)) number
-            ∙ slice_get-map (first_of (resolved_sources h.map) ids) (kept_of (resolved_sources h.map) ids) numbered.0
+            ∙ slice_get-map (first_of (resolved_sources h.map) ids) (texts_in_use (resolved_sources h.map) ids) numbered.0
             ∙ ap (option_map (first_of (resolved_sources h.map) ids)) at
             ∙ sym here ∙ own)
 
@@ -145,7 +145,7 @@ module _ (removal : Removal) (h : HermesValue) (few : length h.map.sources ≤ 4
     abbrev scope_of_raw : HermesValue → ℕ → ℕ → Option RawToken → Option (List ℕ)
     scope_of_raw g index extra_columns o = option_and_then (λ (t : TokenValue). token_scope g.scopes (record t { extra_columns = extra_columns })) (option_map (indexed g.map index) o)
 
-    scopes_kept : (index extra_columns : ℕ) → scope_after (rewritten removal h) index extra_columns ≡ scope_after h index extra_columns
+    scopes_kept : (index extra_columns : ℕ) → scope_at_distance (rewritten removal h) index extra_columns ≡ scope_at_distance h index extra_columns
     scopes_kept index extra_columns =
         ap (scope_of_raw (rewritten removal h) index extra_columns) (slice_get-map (renumbered removal h.map) h.map.tokens index)
         ∙ by_case (slice_get h.map.tokens index) (at_index IsOwn h.map.tokens index all_own)
@@ -224,7 +224,7 @@ module _ (old new : HermesValue) (contents : List (Option (List ℕ))) where
   abbrev other : HermesValue
   other = record new { map = record new.map { contents = contents } }
 
-  same_scope_after : (index extra_columns : ℕ) → scope_after new index extra_columns ≡ scope_after other index extra_columns
+  same_scope_after : (index extra_columns : ℕ) → scope_at_distance new index extra_columns ≡ scope_at_distance other index extra_columns
   same_scope_after index extra_columns = by_case (slice_get new.map.tokens index)
     where
       by_case : (o : Option RawToken)

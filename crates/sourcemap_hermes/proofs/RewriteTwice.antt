@@ -5,9 +5,9 @@ use Rattle.sourcemap_interning.specs.Interner.{id_of}
 use Rattle.sourcemap_texts.specs.Prefixes.{without_prefix}
 use Rattle.sourcemap_map_parts.proofs.SourcesLemmas.{map-resolved_against_nothing}
 use Rattle.sourcemap_map_rewrite.specs.FirstIds.{first_of}
-use Rattle.sourcemap_map_rewrite.specs.Numbering.{kept_of}
+use Rattle.sourcemap_map_rewrite.specs.Numbering.{texts_in_use}
 use Rattle.sourcemap_map_rewrite.proofs.FirstIdsLemmas.{first_names}
-use Rattle.sourcemap_map_rewrite.proofs.NumberingLemmas.{distinct-kept_of}
+use Rattle.sourcemap_map_rewrite.proofs.NumberingLemmas.{distinct-texts_in_use}
 use Rattle.sourcemap_map_regular.specs.Map.{MapValue, resolved_sources}
 use Rattle.sourcemap_map_regular.specs.Rewrite.{no_removal, used_sources, first_ids, rewritten as map_rewritten}
 use Rattle.sourcemap_map_regular.proofs.RewriteLemmas.{sources_used}
@@ -63,32 +63,32 @@ module _ (m : MapValue) (few_sources : length m.sources ≤ 4294967295) (few_nam
       sym (cut_nothing (used_sources (map_rewritten no_removal m)))
       ∙ ap (λ (n : MapValue). n.sources) (rewritten-twice m few_sources few_names) ∙ cut_nothing (used_sources m)
 
-  kept_new : kept_of (resolved_sources new) ids ≡ used_sources m
+  kept_new : texts_in_use (resolved_sources new) ids ≡ used_sources m
   unfolding new ids
   kept_new = sources_used (map_rewritten no_removal m) no_removal ∙ same_used
 
-  resolved_new : resolved_sources new ≡ kept_of (resolved_sources new) ids
+  resolved_new : resolved_sources new ≡ texts_in_use (resolved_sources new) ids
   unfolding new ids
   resolved_new = map-resolved_against_nothing [] (map_rewritten no_removal m).sources refl ∙ cut_nothing (used_sources m) ∙ sym kept_new
 
-  own_index : (k : ℕ) (text : List ℕ) → slice_get (kept_of (resolved_sources new) ids) k ≡ Some text → first_of (resolved_sources new) ids text ≡ k
+  own_index : (k : ℕ) (text : List ℕ) → slice_get (texts_in_use (resolved_sources new) ids) k ≡ Some text → first_of (resolved_sources new) ids text ≡ k
   own_index k text at =
       let named = subst (λ texts. slice_get texts (first_of (resolved_sources new) ids text) ≡ Some text) resolved_new (first_names (resolved_sources new) ids k text at) in
-      one (distinct-kept_of (resolved_sources new) ids text (first_of (resolved_sources new) ids text) named) (distinct-kept_of (resolved_sources new) ids text k at)
+      one (distinct-texts_in_use (resolved_sources new) ids text (first_of (resolved_sources new) ids text) named) (distinct-texts_in_use (resolved_sources new) ids text k at)
     where
-      one : {i j : ℕ} → id_of text (kept_of (resolved_sources new) ids) ≡ Some i → id_of text (kept_of (resolved_sources new) ids) ≡ Some j → i ≡ j
+      one : {i j : ℕ} → id_of text (texts_in_use (resolved_sources new) ids) ≡ Some i → id_of text (texts_in_use (resolved_sources new) ids) ≡ Some j → i ≡ j
       one e f = cc
 
   select-again : {X : Type 0} (items : List (Option X)) → items_at (items_at items (first_ids m)) (first_ids (map_rewritten no_removal m)) ≡ items_at items (first_ids m)
   unfolding new ids
   select-again items =
-      select-own [] (items_at items (first_ids m)) (kept_of (resolved_sources new) ids) (first_of (resolved_sources new) ids) as_many
+      select-own [] (items_at items (first_ids m)) (texts_in_use (resolved_sources new) ids) (first_of (resolved_sources new) ids) as_many
       (λ k text at. let own = own_index k text at in omega (arith, own))
     where
-      as_many : length (kept_of (resolved_sources new) ids) ≡ length (items_at items (first_ids m))
+      as_many : length (texts_in_use (resolved_sources new) ids) ≡ length (items_at items (first_ids m))
       as_many =
           ap length (kept_new ∙ sym (sources_used m no_removal))
-          ∙ sym (length-map (kept_of (resolved_sources m) (map (λ t. t.src_id) m.tokens)) (first_of (resolved_sources m) (map (λ t. t.src_id) m.tokens)))
+          ∙ sym (length-map (texts_in_use (resolved_sources m) (map (λ t. t.src_id) m.tokens)) (first_of (resolved_sources m) (map (λ t. t.src_id) m.tokens)))
           ∙ sym (length-map (first_ids m) (item_at items))
 
 pub hermes-twice : (h : HermesValue) → length h.map.sources ≤ 4294967295 → length h.map.names ≤ 4294967295

@@ -11,7 +11,7 @@ use Rattle.sourcemap_map_regular.specs.Encode.{ReadsBack, record_with}
 use Rattle.sourcemap_map_regular.specs.Write.{IsText, IsEncoded}
 use Rattle.sourcemap_map_regular.proofs.WriteLemmas.{IsLow, EntriesAreLow, low_object, low_list, low_or_null, low_string, low_entries, entries_low, no_header}
 use Rattle.sourcemap_hermes_scopes.specs.ScopeLists.{ScopeEntry}
-use Rattle.sourcemap_hermes.specs.Decode.{HermesDecodes, OnlyHermesDecodes}
+use Rattle.sourcemap_hermes.specs.Decode.{HermesDecodes, RecordDecodesAsHermes}
 use Rattle.sourcemap_hermes.specs.Encode.{IsRecordOf, IsCompactTextOf, RecordAnswer, Restores, with_scopes, scoped}
 use Rattle.sourcemap_hermes.specs.Map.{HermesValue, IsWellFormed}
 
@@ -50,7 +50,7 @@ pub encoded-compact : (h : HermesValue) (text : List ℕ) → IsEncoded (RecordA
 encoded-compact h text (t, (is, fine, back), of_text) = (t, is, of_text.compact (record-low h t is).1)
 
 pub encoded-back : (h : HermesValue) (text : List ℕ) → IsEncoded (RecordAnswer h) text → IsWellFormed h
-    → ReadsBack (BytesHaveResult OnlyHermesDecodes text) (Restores h)
+    → ReadsBack (BytesHaveResult RecordDecodesAsHermes text) (Restores h)
 encoded-back h text (t, (is, fine, back), of_text) well =
     let (mappings, ranges, same) = record_plain h t is in
     text_back mappings ranges (subst IsFine same fine)
@@ -59,11 +59,11 @@ encoded-back h text (t, (is, fine, back), of_text) well =
   where
     text_back : (mappings : List ℕ) (ranges : Option (List ℕ)) → IsFine (plain (fields_with h mappings ranges))
         → ReadsBack (HermesDecodes (fields_with h mappings ranges)) (Restores h) → IsText (plain (fields_with h mappings ranges)) text
-        → ReadsBack (BytesHaveResult OnlyHermesDecodes text) (Restores h)
+        → ReadsBack (BytesHaveResult RecordDecodesAsHermes text) (Restores h)
     text_back mappings ranges fine back is =
         let t : Tree = plain (fields_with h mappings ranges) in
         let low : IsLow 5 (written t) = low_written h mappings ranges in
         let shallow : depth (written t) ≤ max_depth = let p = low.0 in omega arith in
         let bare = no_header text (written_fields (fields_with h mappings ranges)) (is.compact low.1) in
         let holds : HoldJson text (written t) = (text, bare, is.reads_back shallow) in
-        (back.0, inl (written t, holds, value_of_record OnlyHermesDecodes (written t) t (record-back t fine.0 fine.1) (Ok back.0) back.1), back.2)
+        (back.0, inl (written t, holds, value_of_record RecordDecodesAsHermes (written t) t (record-back t fine.0 fine.1) (Ok back.0) back.1), back.2)

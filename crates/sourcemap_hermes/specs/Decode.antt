@@ -8,7 +8,7 @@ use Rattle.sourcemap_hermes_scopes.specs.ScopeLists.{ScopeEntry}
 use Rattle.sourcemap_hermes_scopes.specs.SourceScopes.{AreOfEntries}
 use Rattle.sourcemap_hermes.specs.Map.{HermesValue, AreFewScopes}
 
--- what a record with these scopes of its sources decodes to: the error of too many comes first, then those of the regular map
+-- what a record with these scopes of its sources decodes to: first the error that there are too many scopes, then those of the regular map
 abbrev pub EntriesDecode : Fields → List ScopeEntry → Result HermesValue Error → Type 0
 EntriesDecode r entries (Ok h) =
     AreFewScopes entries × RecordDecodes r (Ok h.map) × (h.scopes.entries ≡ entries) × AreOfEntries h.scopes
@@ -25,6 +25,6 @@ abbrev pub HermesDecodes : Fields → Result HermesValue Error → Type 0
 HermesDecodes r answer = DecodesWith r r.x_facebook_sources answer
 
 -- what the record of a Hermes map decodes to; the record of an index map is an error
-abbrev pub OnlyHermesDecodes : Tree → Result HermesValue Error → Type 0
-OnlyHermesDecodes (plain fields) answer = HermesDecodes fields answer
-OnlyHermesDecodes (indexed _ _) answer = answer ≡ Err IncompatibleSourceMap
+abbrev pub RecordDecodesAsHermes : Tree → Result HermesValue Error → Type 0
+RecordDecodesAsHermes (plain fields) answer = HermesDecodes fields answer
+RecordDecodesAsHermes (indexed _ _) answer = answer ≡ Err IncompatibleSourceMap

@@ -26,8 +26,8 @@ abbrev pub HasDistinctSources : HermesValue → Type 0
 HasDistinctSources h = AreDistinct (resolved_sources h.map)
 
 -- the scope of the token at an index, looked up so many columns after it
-abbrev pub scope_after : HermesValue → (index extra_columns : ℕ) → Option (List ℕ)
-scope_after h index extra_columns =
+abbrev pub scope_at_distance : HermesValue → (index extra_columns : ℕ) → Option (List ℕ)
+scope_at_distance h index extra_columns =
     option_and_then (λ t. token_scope h.scopes (record t { extra_columns = extra_columns })) (token_at h.map index)
 
 -- the functions of the source of this token, if there is one, are sorted
@@ -36,7 +36,7 @@ IsInOrderOf h token = IfSome token (λ t. IsInOrderAt h.scopes t.raw.src_id)
 
 -- each token keeps its scope, each bytecode offset its function name, and sorted functions are still sorted
 pub record KeepsScopes (old new : HermesValue) : Type 0 where
-  pub scopes : (index extra_columns : ℕ) → scope_after new index extra_columns ≡ scope_after old index extra_columns
+  pub scopes : (index extra_columns : ℕ) → scope_at_distance new index extra_columns ≡ scope_at_distance old index extra_columns
   pub names : (offset : ℕ) → function_name new offset ≡ function_name old offset
   pub in_order : (index : ℕ) → IsInOrderOf old (token_at old.map index) → IsInOrderOf new (token_at new.map index)
   pub in_order_at : (p : ℕ × ℕ) → IsInOrderOf old (lookup old.map p) → IsInOrderOf new (lookup new.map p)

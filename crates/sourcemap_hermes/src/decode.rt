@@ -6,7 +6,7 @@ ghost use Rattle.sourcemap_records.specs.Bytes.{BytesHaveResult, AreSame, IsAnsw
 ghost use Rattle.sourcemap_records.specs.Jsontypes.{tree, flat};
 ghost use Rattle.sourcemap_hermes_scopes.specs.ScopeLists.{entries_in};
 ghost use Rattle.sourcemap_hermes.specs.Map.{HermesValue, IsWellFormed, hermes_value};
-ghost use Rattle.sourcemap_hermes.specs.Decode.{HermesDecodes, EntriesDecode, OnlyHermesDecodes};
+ghost use Rattle.sourcemap_hermes.specs.Decode.{HermesDecodes, EntriesDecode, RecordDecodesAsHermes};
 
 use crate::map::SourceMapHermes;
 use sourcemap_errors::errors::{Error, Result};
@@ -32,11 +32,11 @@ pub fn decode_hermes(alloc: Global, rsm: RawSourceMap) -> Result<SourceMapHermes
         → Gives hermes_value result due }
     ensures well_formed { IfOk result (λ h. IsWellFormed (hermes_value h)) }
 {
-    hermes_of(alloc, rsm)
+    decode_hermes_record(alloc, rsm)
 }
 
 // `decode_hermes` without the clause that the result is determined.
-fn hermes_of(alloc: Global, mut rsm: RawSourceMap) -> Result<SourceMapHermes>
+fn decode_hermes_record(alloc: Global, mut rsm: RawSourceMap) -> Result<SourceMapHermes>
     ensures answer { IsAnswer hermes_value (HermesDecodes (flat (tree rsm))) result }
     ensures well_formed { IfOk result (λ h. IsWellFormed (hermes_value h)) }
 {
@@ -59,31 +59,33 @@ fn decode_with(alloc: Global, rsm: RawSourceMap, entries: ScopeLists) -> Result<
     Ok(SourceMapHermes { sm, scopes })
 }
 
-fn only_hermes(alloc: Global, raw: RawSourceMap) -> Result<SourceMapHermes>
-    ensures answer { IsAnswer hermes_value (OnlyHermesDecodes (tree raw)) result }
+fn decode_unless_index(alloc: Global, raw: RawSourceMap) -> Result<SourceMapHermes>
+    ensures answer { IsAnswer hermes_value (RecordDecodesAsHermes (tree raw)) result }
     ensures well_formed { IfOk result (λ h. IsWellFormed (hermes_value h)) }
 {
     if raw.sections.is_some() {
         return Err(Error::IncompatibleSourceMap);
     }
-    hermes_of(alloc, raw)
+    decode_hermes_record(alloc, raw)
 }
 
 fn hermes_in(alloc: Global, bytes: &[u8]) -> Result<SourceMapHermes>
-    ensures answer { IsAnswer hermes_value (BytesHaveResult OnlyHermesDecodes bytes.now) result }
+    ensures answer { IsAnswer hermes_value
+        (BytesHaveResult RecordDecodesAsHermes bytes.now) result }
     ensures well_formed { IfOk result (λ h. IsWellFormed (hermes_value h)) }
 {
     let raw = read_record(alloc, bytes)?;
-    only_hermes(alloc, raw)
+    decode_unless_index(alloc, raw)
 }
 
 // `hermes_in` of bytes that are dropped as soon as their JSON value is read.
 fn hermes_in_owned(alloc: Global, bytes: Vec<u8>) -> Result<SourceMapHermes>
-    ensures answer { IsAnswer hermes_value (BytesHaveResult OnlyHermesDecodes bytes.items) result }
+    ensures answer { IsAnswer hermes_value
+        (BytesHaveResult RecordDecodesAsHermes bytes.items) result }
     ensures well_formed { IfOk result (λ h. IsWellFormed (hermes_value h)) }
 {
     let raw = read_record_owned(alloc, bytes)?;
-    only_hermes(alloc, raw)
+    decode_unless_index(alloc, raw)
 }
 
 impl SourceMapHermes {
@@ -93,10 +95,10 @@ impl SourceMapHermes {
     /// another kind, before anything of it is decoded. Other errors are those of `decode_hermes`.
     pub fn from_slice(alloc: Global, bytes: &[u8]) -> Result<Self>
         ensures answer { IsAnswer hermes_value
-            (BytesHaveResult OnlyHermesDecodes bytes.now) result }
+            (BytesHaveResult RecordDecodesAsHermes bytes.now) result }
         // The result is determined.
         ensures only { (due : Result HermesValue Error)
-            → BytesHaveResult OnlyHermesDecodes bytes.now due
+            → BytesHaveResult RecordDecodesAsHermes bytes.now due
             → IsAnswer hermes_value (AreSame due) result }
         ensures well_formed { IfOk result (λ h. IsWellFormed (hermes_value h)) }
     {
@@ -107,9 +109,10 @@ impl SourceMapHermes {
     /// the reader is `Io`. The bytes are dropped as soon as their JSON value is read.
     pub fn from_reader<R: Read + Drop>(alloc: Global, reader: R) -> Result<Self>
         ensures answer { Reading (R.remaining reader)
-            (λ bytes. IsAnswerRead hermes_value (BytesHaveResult OnlyHermesDecodes bytes) result) }
+            (λ bytes. IsAnswerRead hermes_value
+            (BytesHaveResult RecordDecodesAsHermes bytes) result) }
         ensures only { IfSome (R.remaining reader) (λ bytes. (due : Result HermesValue Error)
-            → BytesHaveResult OnlyHermesDecodes bytes due
+            → BytesHaveResult RecordDecodesAsHermes bytes due
             → IsAnswerRead hermes_value (AreSame due) result) }
         ensures well_formed { IfOk result (λ h. IsWellFormed (hermes_value h)) }
     {

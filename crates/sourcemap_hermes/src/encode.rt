@@ -6,7 +6,7 @@ ghost use Rattle.sourcemap_records.specs.Jsontypes.{tree, flat, Tree, IsFine};
 ghost use Rattle.sourcemap_map_regular.specs.Encode.{ReadsBack};
 ghost use Rattle.sourcemap_map_regular.specs.Write.{IsEncoded, IsIo};
 ghost use Rattle.sourcemap_hermes_scopes.specs.ScopeLists.{entries_in};
-ghost use Rattle.sourcemap_hermes.specs.Decode.{HermesDecodes, OnlyHermesDecodes};
+ghost use Rattle.sourcemap_hermes.specs.Decode.{HermesDecodes, RecordDecodesAsHermes};
 ghost use Rattle.sourcemap_hermes.specs.Encode.{IsCompactTextOf, IsRecordOf, RecordAnswer, Restores, scoped};
 ghost use Rattle.sourcemap_hermes.specs.Map.{HermesValue, IsWellFormed, function_name, hermes_value};
 
@@ -84,7 +84,7 @@ pub fn written_maps_are_compact()
 pub fn written_maps_read_back()
     ensures { (h : HermesValue) (text : List ℕ)
         → IsEncoded (RecordAnswer h) text → IsWellFormed h
-        → ReadsBack (BytesHaveResult OnlyHermesDecodes text) (Restores h) }
+        → ReadsBack (BytesHaveResult RecordDecodesAsHermes text) (Restores h) }
 {}
 
 /// A law: a map that restores another has the same function name at each bytecode offset.

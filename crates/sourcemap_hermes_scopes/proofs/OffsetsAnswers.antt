@@ -4,7 +4,7 @@ use Rattle.sourcemap_vlq.specs.Vlq.{Reads}
 use Rattle.sourcemap_mappings.specs.Segment.{Segment, parts_of}
 use Rattle.sourcemap_mappings.specs.Read.{lines_of}
 use Rattle.sourcemap_hermes_scopes.specs.declared.offsets.HermesScopeOffset.{HermesScopeOffset}
-use Rattle.sourcemap_hermes_scopes.specs.Offsets.{page_offsets, SegmentsRead, PageRead, IsUnreadable, StandsFor}
+use Rattle.sourcemap_hermes_scopes.specs.Offsets.{offsets_of_lines, SegmentsRead, ScopeLinesRead, IsUnreadable, StandsFor}
 use Rattle.sourcemap_mappings.proofs.ReadAnswers.{Reads-same, Reads-sound}
 
 Any-first : {A : Type 0} (P : A → Type 0) (x : A) (xs : List A) → Any P (x ∷ xs) → P x ⊎ Any P xs
@@ -39,24 +39,24 @@ SegmentsRead-sound ((c ∷ cs) ∷ parts) (s ∷ ss) h any = elim (Any-first IsU
   | inr later ↦ SegmentsRead-sound parts ss h.2 later
 ]
 
-PageRead-same : (lines : List (List ℕ)) (page other : List (List Segment)) → PageRead lines page → PageRead lines other → page ≡ other
-PageRead-same [] page other h k = h ∙ sym k
-PageRead-same (line ∷ lines) [] other h k = absurd h
-PageRead-same (line ∷ lines) (ss ∷ page) [] h k = absurd k
-PageRead-same (line ∷ lines) (ss ∷ page) (ts ∷ other) h k =
-    ap₂ ◌∷◌ (SegmentsRead-same (parts_of line) ss ts h.0 k.0) (PageRead-same lines page other h.1 k.1)
+ScopeLinesRead-same : (lines : List (List ℕ)) (decoded_lines other : List (List Segment)) → ScopeLinesRead lines decoded_lines → ScopeLinesRead lines other → decoded_lines ≡ other
+ScopeLinesRead-same [] decoded_lines other h k = h ∙ sym k
+ScopeLinesRead-same (line ∷ lines) [] other h k = absurd h
+ScopeLinesRead-same (line ∷ lines) (ss ∷ decoded_lines) [] h k = absurd k
+ScopeLinesRead-same (line ∷ lines) (ss ∷ decoded_lines) (ts ∷ other) h k =
+    ap₂ ◌∷◌ (SegmentsRead-same (parts_of line) ss ts h.0 k.0) (ScopeLinesRead-same lines decoded_lines other h.1 k.1)
 
-PageRead-sound : (lines : List (List ℕ)) (page : List (List Segment)) → PageRead lines page → Any (λ line. Any IsUnreadable (parts_of line)) lines → ⊥
-PageRead-sound [] page h any = Any-nil (λ line. Any IsUnreadable (parts_of line)) any
-PageRead-sound (line ∷ lines) [] h any = absurd h
-PageRead-sound (line ∷ lines) (ss ∷ page) h any = elim (Any-first (λ line. Any IsUnreadable (parts_of line)) line lines any) [
+ScopeLinesRead-sound : (lines : List (List ℕ)) (decoded_lines : List (List Segment)) → ScopeLinesRead lines decoded_lines → Any (λ line. Any IsUnreadable (parts_of line)) lines → ⊥
+ScopeLinesRead-sound [] decoded_lines h any = Any-nil (λ line. Any IsUnreadable (parts_of line)) any
+ScopeLinesRead-sound (line ∷ lines) [] h any = absurd h
+ScopeLinesRead-sound (line ∷ lines) (ss ∷ decoded_lines) h any = elim (Any-first (λ line. Any IsUnreadable (parts_of line)) line lines any) [
   | inl first ↦ SegmentsRead-sound (parts_of line) ss h.0 first
-  | inr later ↦ PageRead-sound lines page h.1 later
+  | inr later ↦ ScopeLinesRead-sound lines decoded_lines h.1 later
 ]
 
 pub StandsFor-same : (text : List ℕ) (a b : Option (List HermesScopeOffset)) → StandsFor text a → StandsFor text b → a ≡ b
-StandsFor-same text (Some os) (Some ps) (page, reads, is) (other, reads', is') =
-    ap Some (is ∙ ap (page_offsets []) (PageRead-same (lines_of text) page other reads reads') ∙ sym is')
-StandsFor-same text (Some os) None (page, reads, is) any = absurd (PageRead-sound (lines_of text) page reads any)
-StandsFor-same text None (Some os) any (page, reads, is) = absurd (PageRead-sound (lines_of text) page reads any)
+StandsFor-same text (Some os) (Some ps) (decoded_lines, reads, is) (other, reads', is') =
+    ap Some (is ∙ ap (offsets_of_lines []) (ScopeLinesRead-same (lines_of text) decoded_lines other reads reads') ∙ sym is')
+StandsFor-same text (Some os) None (decoded_lines, reads, is) any = absurd (ScopeLinesRead-sound (lines_of text) decoded_lines reads any)
+StandsFor-same text None (Some os) any (decoded_lines, reads, is) = absurd (ScopeLinesRead-sound (lines_of text) decoded_lines reads any)
 StandsFor-same text None None h k = refl

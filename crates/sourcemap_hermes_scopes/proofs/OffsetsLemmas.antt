@@ -4,7 +4,7 @@ use Rattle.sourcemap_vlq.specs.Vlq.{Reads}
 use Rattle.sourcemap_mappings.specs.Segment.{Segment, parts_of}
 use Rattle.sourcemap_mappings.proofs.ReadLemmas.{Reads-nil}
 use Rattle.sourcemap_hermes_scopes.specs.declared.offsets.HermesScopeOffset.{HermesScopeOffset}
-use Rattle.sourcemap_hermes_scopes.specs.Offsets.{segment_offset, line_offsets, page_offsets, SegmentsRead, PageRead}
+use Rattle.sourcemap_hermes_scopes.specs.Offsets.{segment_offset, line_offsets, offsets_of_lines, SegmentsRead, ScopeLinesRead}
 use Rattle.sourcemap_hermes_scopes.specs.OffsetsSteps.{IsLastOffset, AddsOffsets}
 
 -- Some item of a list.
@@ -103,20 +103,20 @@ AddsOffsets-all before all old new last so_far = record {
   is_last = so_far.is_last;
 }
 
--- Lines of a page.
+-- Lines.
 
 -- the lines `all` are decoded up to `left`
-pub record PageSoFar (all left : List (List ℕ)) (offsets : List HermesScopeOffset) (last : HermesScopeOffset) : Type 0 where
+pub record LinesSoFar (all left : List (List ℕ)) (offsets : List HermesScopeOffset) (last : HermesScopeOffset) : Type 0 where
   pub before : List Segment
-  pub page : List (List Segment)
-  pub read : (later : List (List Segment)) → PageRead left later → PageRead all (page ++ later)
-  pub offsets_read : (later : List (List Segment)) → page_offsets [] (page ++ later) ≡ offsets ++ page_offsets before later
+  pub decoded_lines : List (List Segment)
+  pub read : (later : List (List Segment)) → ScopeLinesRead left later → ScopeLinesRead all (decoded_lines ++ later)
+  pub offsets_read : (later : List (List Segment)) → offsets_of_lines [] (decoded_lines ++ later) ≡ offsets ++ offsets_of_lines before later
   pub is_last : IsLastOffset before [] (record last { column = 0 })
 
-pub PageSoFar-none : (all : List (List ℕ)) → PageSoFar all all [] (record { line = 1; column = 0; name_index = 0 })
-PageSoFar-none all = record {
+pub LinesSoFar-none : (all : List (List ℕ)) → LinesSoFar all all [] (record { line = 1; column = 0; name_index = 0 })
+LinesSoFar-none all = record {
   before = [];
-  page = [];
+  decoded_lines = [];
   read = λ later r. r;
   offsets_read = λ later. refl;
   is_last = refl;
@@ -128,31 +128,31 @@ turned before here last is =
     ∙ ap (λ all. segment_offset [] all) (sym (append-nil (before ++ here)))
 
 -- one more line is decoded
-pub PageSoFar-more : (all : List (List ℕ)) (line : List ℕ) (left : List (List ℕ)) (old new : List HermesScopeOffset) (last next : HermesScopeOffset)
-    → (so_far : PageSoFar all (line ∷ left) old last) → AddsOffsets so_far.before [] (parts_of line) old new next
-    → PageSoFar all left new next
-PageSoFar-more all line left old new last next so_far adds =
+pub LinesSoFar-more : (all : List (List ℕ)) (line : List ℕ) (left : List (List ℕ)) (old new : List HermesScopeOffset) (last next : HermesScopeOffset)
+    → (so_far : LinesSoFar all (line ∷ left) old last) → AddsOffsets so_far.before [] (parts_of line) old new next
+    → LinesSoFar all left new next
+LinesSoFar-more all line left old new last next so_far adds =
     let before : List Segment = so_far.before in
-    let page : List (List Segment) = so_far.page in
+    let decoded_lines : List (List Segment) = so_far.decoded_lines in
     let ss : List Segment = adds.segments in
     let os : List HermesScopeOffset = line_offsets before [] ss in
     record {
       before = before ++ ss;
-      page = page ++ ss ∷ [];
+      decoded_lines = decoded_lines ++ ss ∷ [];
       read = λ later r.
-          subst (λ zs. PageRead all zs) (sym (append_assoc page (ss ∷ []) later)) (so_far.read (ss ∷ later) (adds.read, r));
+          subst (λ zs. ScopeLinesRead all zs) (sym (append_assoc decoded_lines (ss ∷ []) later)) (so_far.read (ss ∷ later) (adds.read, r));
       offsets_read = λ later.
-          ap (page_offsets []) (append_assoc page (ss ∷ []) later) ∙ so_far.offsets_read (ss ∷ later)
-          ∙ sym (append_assoc old os (page_offsets (before ++ ss) later))
-          ∙ ap (λ zs. zs ++ page_offsets (before ++ ss) later) (sym adds.offsets);
+          ap (offsets_of_lines []) (append_assoc decoded_lines (ss ∷ []) later) ∙ so_far.offsets_read (ss ∷ later)
+          ∙ sym (append_assoc old os (offsets_of_lines (before ++ ss) later))
+          ∙ ap (λ zs. zs ++ offsets_of_lines (before ++ ss) later) (sym adds.offsets);
       is_last = turned before ss next adds.is_last;
     }
 
 -- all lines are decoded
-pub StandsFor-all : (all : List (List ℕ)) (offsets : List HermesScopeOffset) (last : HermesScopeOffset) → PageSoFar all [] offsets last
-    → (page : List (List Segment)) × PageRead all page × (offsets ≡ page_offsets [] page)
+pub StandsFor-all : (all : List (List ℕ)) (offsets : List HermesScopeOffset) (last : HermesScopeOffset) → LinesSoFar all [] offsets last
+    → (decoded_lines : List (List Segment)) × ScopeLinesRead all decoded_lines × (offsets ≡ offsets_of_lines [] decoded_lines)
 StandsFor-all all offsets last so_far = (
-  so_far.page,
-  subst (λ zs. PageRead all zs) (append-nil so_far.page) (so_far.read [] refl),
-  sym (append-nil offsets) ∙ sym (so_far.offsets_read []) ∙ ap (page_offsets []) (append-nil so_far.page),
+  so_far.decoded_lines,
+  subst (λ zs. ScopeLinesRead all zs) (append-nil so_far.decoded_lines) (so_far.read [] refl),
+  sym (append-nil offsets) ∙ sym (so_far.offsets_read []) ∙ ap (offsets_of_lines []) (append-nil so_far.decoded_lines),
 )

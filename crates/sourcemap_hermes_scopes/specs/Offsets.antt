@@ -23,12 +23,12 @@ line_offsets before here (s ∷ later) =
     let here' = here ++ s ∷ [] in
     segment_offset here' (before ++ here') ∷ line_offsets before here' later
 
--- the offsets of a page, whose lines are lists of segments, after the segments `before`
-abbrev pub page_offsets : List Segment → List (List Segment) → List HermesScopeOffset
-page_offsets before [] = []
-page_offsets before (line ∷ page) = line_offsets before [] line ++ page_offsets (before ++ line) page
+-- the offsets of decoded lines, each a list of segments, after the segments `before`
+abbrev pub offsets_of_lines : List Segment → List (List Segment) → List HermesScopeOffset
+offsets_of_lines before [] = []
+offsets_of_lines before (line ∷ decoded_lines) = line_offsets before [] line ++ offsets_of_lines (before ++ line) decoded_lines
 
--- Texts and pages.
+-- Texts and what they decode to.
 
 -- the segments of some parts, empty parts skipped; the index of a segment in its line is set to 0
 abbrev pub SegmentsRead : List (List ℕ) → List Segment → Type 0
@@ -38,18 +38,18 @@ SegmentsRead ((c ∷ cs) ∷ parts) [] = ⊥
 SegmentsRead ((c ∷ cs) ∷ parts) (s ∷ segments) =
     (s.index ≡ 0) × Reads (c ∷ cs) s.numbers × SegmentsRead parts segments
 
--- these lines decode to this page
-abbrev pub PageRead : List (List ℕ) → List (List Segment) → Type 0
-PageRead [] page = page ≡ []
-PageRead (line ∷ lines) [] = ⊥
-PageRead (line ∷ lines) (segments ∷ page) = SegmentsRead (parts_of line) segments × PageRead lines page
+-- the texts of these lines decode to these lists of segments
+abbrev pub ScopeLinesRead : List (List ℕ) → List (List Segment) → Type 0
+ScopeLinesRead [] decoded_lines = decoded_lines ≡ []
+ScopeLinesRead (line ∷ lines) [] = ⊥
+ScopeLinesRead (line ∷ lines) (segments ∷ decoded_lines) = SegmentsRead (parts_of line) segments × ScopeLinesRead lines decoded_lines
 
 -- a part whose digits are invalid
 abbrev pub IsUnreadable : List ℕ → Type 0
 IsUnreadable part = (part ≢ []) × ((e : Error) × HasError part e)
 
--- what a text encodes: the offsets of its page, or none if a part of it is invalid
+-- what a text encodes: the offsets of its lines, or none if a part of it is invalid
 abbrev pub StandsFor : List ℕ → Option (List HermesScopeOffset) → Type 0
 StandsFor text (Some offsets) =
-    (page : List (List Segment)) × PageRead (lines_of text) page × (offsets ≡ page_offsets [] page)
+    (decoded_lines : List (List Segment)) × ScopeLinesRead (lines_of text) decoded_lines × (offsets ≡ offsets_of_lines [] decoded_lines)
 StandsFor text None = Any (λ line. Any IsUnreadable (parts_of line)) (lines_of text)

@@ -4,11 +4,12 @@ use Rattle.sourcemap_mappings.specs.Segment.{Segment}
 use Rattle.sourcemap_hermes_scopes.specs.declared.offsets.HermesScopeOffset.{HermesScopeOffset}
 use Rattle.sourcemap_hermes_scopes.specs.Offsets.{segment_offset, line_offsets, SegmentsRead}
 
--- after the segments `before` of earlier lines and `here` of its own, this is the last offset
+-- `last` has the sums after the segments `before` of earlier lines and `here` of the line that is read;
+-- where `here` is not empty, it is the offset of its last segment
 abbrev pub IsLastOffset : (before here : List Segment) → HermesScopeOffset → Type 0
 IsLastOffset before here last = last ≡ segment_offset here (before ++ here)
 
--- parts of a line, after `before` and `here`, append their offsets, of which this is the last
+-- the next parts of a line append their offsets; `last` is the offset of the last segment so far
 pub record AddsOffsets (before here : List Segment) (parts : List (List ℕ)) (old new : List HermesScopeOffset) (last : HermesScopeOffset) : Type 0 where
   pub segments : List Segment
   pub read : SegmentsRead parts segments

@@ -18,7 +18,7 @@ pub record SourceScopesValue : Type 0 where
   pub entries : List ScopeEntry
   pub function_maps : List (Option (List HermesScopeOffset))
 
--- there are no more entries than source ids
+-- there are at most as many entries as a map can have sources
 abbrev pub AreFewScopes : List ScopeEntry → Type 0
 AreFewScopes entries = length entries ≤ 4294967295
 

@@ -101,8 +101,8 @@ impl SourceScopes {
     }
 
     /// The scopes of the sources with these ids, in this order, moved and not copied. A source has
-    /// none if its id has none, or occurs earlier in `ids`. The only error is `OutOfMemory`. Requires
-    /// at most 4294967295 ids.
+    /// none if its id has none. If an id is repeated, the result is unspecified. The only error is
+    /// `OutOfMemory`. Requires at most 4294967295 ids.
     pub fn select(self, alloc: Global, ids: &[u32]) -> Result<SourceScopes>
         requires { length ids.now ≤ 4294967295 }
         ensures select { IsDistinct nat_eq ids.now

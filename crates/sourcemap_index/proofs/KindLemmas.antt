@@ -10,7 +10,7 @@ use Rattle.sourcemap_records.specs.Jsontypes.{Fields, Tree, plain, indexed, Sect
 use Rattle.sourcemap_map_regular.specs.Decode.{RecordDecodes, RegularDecodes}
 use Rattle.sourcemap_map_regular.specs.Map.{MapValue}
 use Rattle.sourcemap_hermes_scopes.specs.ScopeLists.{ScopeEntry}
-use Rattle.sourcemap_hermes.specs.Decode.{DecodesWith, EntriesDecode, OnlyHermesDecodes}
+use Rattle.sourcemap_hermes.specs.Decode.{DecodesWith, EntriesDecode, RecordDecodesAsHermes}
 use Rattle.sourcemap_hermes.specs.Map.{HermesValue}
 use Rattle.sourcemap_index_model.specs.Decode.{Then, LeafDecodes, TreeDecodes, SectionsDecode, count, index_of}
 use Rattle.sourcemap_index_model.specs.MapTree.{LeafMap, regular, hermes, leaf}
@@ -67,11 +67,11 @@ leaf_hermes fields (Some entries) h (inl (n, k, is)) =
     subst (λ n. EntriesDecode fields entries (Ok n)) (sym (hermes_inside h n same)) k
 leaf_hermes fields (Some entries) h (inr k) = absurd k
 
-pub any_of_hermes : (t : Tree) (h : HermesValue) → OnlyHermesDecodes t (Ok h) → TreeDecodes t (Ok (leaf (hermes h)))
+pub any_of_hermes : (t : Tree) (h : HermesValue) → RecordDecodesAsHermes t (Ok h) → TreeDecodes t (Ok (leaf (hermes h)))
 any_of_hermes (plain fields) h k = hermes_leaf fields fields.x_facebook_sources h k
 any_of_hermes (indexed fields sections) h k = absurd cc
 
-pub hermes_of_any : (t : Tree) (h : HermesValue) → TreeDecodes t (Ok (leaf (hermes h))) → OnlyHermesDecodes t (Ok h)
+pub hermes_of_any : (t : Tree) (h : HermesValue) → TreeDecodes t (Ok (leaf (hermes h))) → RecordDecodesAsHermes t (Ok h)
 hermes_of_any (plain fields) h k = leaf_hermes fields fields.x_facebook_sources h k
 hermes_of_any (indexed fields sections) h k = absurd (no_index (nat_lt 4294967295 (count sections)) fields sections (hermes h) k)
 

@@ -10,7 +10,7 @@ use Rattle.sourcemap_mappings.specs.Read.{PartError, PartsError, LineText, LineE
 use Rattle.sourcemap_headers.specs.Header.{after_header}
 use Rattle.sourcemap_records.specs.Bytes.{HoldNoJson}
 use Rattle.sourcemap_records.specs.Jsontypes.{Fields, Tree, plain, indexed, Sections, no_more, bare, mapped, record_of}
-use Rattle.sourcemap_map_conversions.specs.FromRecord.{listed}
+use Rattle.sourcemap_map_conversions.specs.FromRecord.{list_or_empty}
 use Rattle.sourcemap_map_regular.specs.Decode.{RecordDecodes}
 use Rattle.sourcemap_hermes_scopes.specs.ScopeLists.{ScopeEntry}
 use Rattle.sourcemap_hermes.specs.Decode.{EntriesDecode}
@@ -74,7 +74,7 @@ no_mappings_error mappings ranges counts h = no_lines_error counts 0 [] _ h
 
 no_record_error : (r : Fields) → ¬ RecordDecodes r (Err InvalidDataUrl)
 no_record_error r (inl (long, h)) = cc
-no_record_error r (inr (capacity, h)) = no_mappings_error (listed r.mappings) (listed r.range_mappings) _ h
+no_record_error r (inr (capacity, h)) = no_mappings_error (list_or_empty r.mappings) (list_or_empty r.range_mappings) _ h
 
 no_entries_error : (r : Fields) (entries : List ScopeEntry) → ¬ EntriesDecode r entries (Err InvalidDataUrl)
 no_entries_error r entries (inl (many, h)) = cc

@@ -28,9 +28,9 @@ function_name (leaf (hermes h)) source minified p = name_in_bytecode h p
 function_name t (Some source) (Some minified) p = guessed_in t source minified p
 function_name t _ _ p = None
 
--- the premise of an answer: of a position in the bytecode that the functions of its source are in order, of a guess
--- that sections are sorted; no answer needs no premise
-abbrev pub AreNamesInOrder : MapTree → (source minified : Option (List ℕ)) → ℕ × ℕ → Type 0
-AreNamesInOrder (leaf (hermes h)) _ _ p = IsInOrderInBytecode h p
-AreNamesInOrder t (Some _) (Some _) p = IsInOrder t
-AreNamesInOrder t _ _ p = Unit {0}
+-- what the search for a name goes along is in order, as the clause on that name requires: of a position in the
+-- bytecode the functions of its source, of a guess the sections. Where there is no name, nothing is searched
+abbrev pub IsInOrderForName : MapTree → (source minified : Option (List ℕ)) → ℕ × ℕ → Type 0
+IsInOrderForName (leaf (hermes h)) _ _ p = IsInOrderInBytecode h p
+IsInOrderForName t (Some _) (Some _) p = IsInOrder t
+IsInOrderForName t _ _ p = Unit {0}

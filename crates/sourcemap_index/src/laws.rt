@@ -9,7 +9,7 @@ ghost use Rattle.sourcemap_map_regular.specs.Encode.{ReadsBack};
 ghost use Rattle.sourcemap_map_regular.specs.Map.{MapValue};
 ghost use Rattle.sourcemap_map_regular.specs.Write.{IsEncoded};
 ghost use Rattle.sourcemap_index_model.specs.Encode.{RecordAnswer, Restores};
-ghost use Rattle.sourcemap_hermes.specs.Decode.{OnlyHermesDecodes};
+ghost use Rattle.sourcemap_hermes.specs.Decode.{RecordDecodesAsHermes};
 ghost use Rattle.sourcemap_hermes.specs.Map.{HermesValue};
 ghost use Rattle.sourcemap_index_model.specs.MapTree.{MapTree, hermes, leaf, regular};
 ghost use Rattle.sourcemap_index_model.specs.WellFormed.{HasTokensInOrder, IsWellFormed};
@@ -30,12 +30,12 @@ pub fn regular_maps_are_of_a_kind()
 /// A law: the same of Hermes maps.
 pub fn hermes_maps_are_of_a_kind()
     ensures values { (d : Data) (h : HermesValue)
-        → ValueHasResult OnlyHermesDecodes d (Ok h) ↔ ValueDecodes d (Ok (leaf (hermes h))) }
+        → ValueHasResult RecordDecodesAsHermes d (Ok h) ↔ ValueDecodes d (Ok (leaf (hermes h))) }
     ensures bytes { (bytes : List ℕ) (h : HermesValue)
-        → BytesHaveResult OnlyHermesDecodes bytes (Ok h)
+        → BytesHaveResult RecordDecodesAsHermes bytes (Ok h)
         ↔ BytesDecode bytes (Ok (leaf (hermes h))) }
     ensures urls { (url : List ℕ) (h : HermesValue)
-        → UrlHasResult OnlyHermesDecodes url (Ok h) ↔ UrlDecodes url (Ok (leaf (hermes h))) }
+        → UrlHasResult RecordDecodesAsHermes url (Ok h) ↔ UrlDecodes url (Ok (leaf (hermes h))) }
 {}
 
 /// A law: the map that a JSON value, bytes or a data URL stand for is well-formed, and has its

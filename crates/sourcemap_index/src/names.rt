@@ -4,7 +4,7 @@ ghost use Rattle.std.specs.Option.{option_copied};
 ghost use Rattle.sourcemap_hermes.specs.Map.{hermes_value};
 ghost use Rattle.sourcemap_index_model.specs.MapTree.{index_tree};
 ghost use Rattle.sourcemap_index_model.specs.WellFormed.{IsInOrder};
-ghost use Rattle.sourcemap_index.specs.Names.{AreNamesInOrder, IsInOrderInBytecode, function_name, guessed_in, name_in_bytecode};
+ghost use Rattle.sourcemap_index.specs.Names.{IsInOrderForName, IsInOrderInBytecode, function_name, guessed_in, name_in_bytecode};
 
 use crate::family::{DecodedMap, SourceMapIndex};
 use sourcemap_hermes::map::SourceMapHermes;
@@ -47,7 +47,7 @@ impl DecodedMap {
         minified_name: Option<&str>,
         source_view: Option<&SourceView>,
     ) -> Option<&str>
-        ensures { AreNamesInOrder (map_tree self.now) (option_copied source_view.entry)
+        ensures { IsInOrderForName (map_tree self.now) (option_copied source_view.entry)
             (option_copied minified_name.entry) (line, col) → option_copied result
             ≡ function_name (map_tree self.now) (option_copied source_view.entry)
             (option_copied minified_name.entry) (line, col) }

@@ -7,7 +7,7 @@ ghost use Rattle.sourcemap_index.specs.Rows.{with_sections};
 
 use crate::family::{SourceMapIndex, SourceMapSection};
 
-// Whether each section can be moved down by so many rows.
+// Whether `rows` can be added to the line of each section's offset.
 fn have_rows_left(sections: &[SourceMapSection], rows: u32) -> bool
     ensures { Decides result (HaveRowsLeft rows (map section_value sections.now)) }
 {
@@ -29,8 +29,9 @@ fn move_down(sections: &mut [SourceMapSection], rows: u32)
 }
 
 impl SourceMapIndex {
-    /// Moves each section down by so many rows and returns true. Returns false, and changes
-    /// nothing, if a section would pass row 4294967295. Maps of sections and bundle lists stay.
+    /// Adds `rows` to the line of each section's offset and returns true. Returns false, and
+    /// changes nothing, if a line would pass 4294967295. The maps in the sections and the bundle
+    /// lists are unchanged.
     pub fn adjust_sections_offset_rows(&mut self, rows: u32) -> bool
         ensures possible { Decides result (HaveRowsLeft rows (index_value self.old).sections) }
         ensures value { MatchBool result (index_value self.new

@@ -16,7 +16,7 @@ use Rattle.sourcemap_map_regular.specs.declared.lists.MapLists.{MapLists}
 use Rattle.sourcemap_index_model.specs.Flat.{Piece, sources_in, names_in, contents_in, source_entries, merged}
 use Rattle.sourcemap_index_flatten.specs.Table.{TextEntry, entry_values, texts_entered, contents_entered, entries_kept}
 use Rattle.sourcemap_index_flatten.specs.Entries.{entries_with}
-use Rattle.sourcemap_index_flatten.specs.Gathering.{name_entries, sources_entered, names_entered, IsFlat, IsPartOf}
+use Rattle.sourcemap_index_flatten.specs.Gathering.{name_entries, all_source_entries, all_name_entries, IsFlat, IsPartOf}
 use Rattle.sourcemap_index_flatten.specs.declared.gathering.Part.{Part}
 use Rattle.sourcemap_index_flatten.specs.declared.gathering.FlatMap.{FlatMap}
 use Rattle.sourcemap_index_flatten.proofs.GatheringLemmas.{map-each, texts_of_sources, texts_of_names}
@@ -41,7 +41,7 @@ given-back : (f : List ℕ → Option (List ℕ)) (texts : List (List ℕ)) → 
 given-back f texts = beside-given f (item_at (map f texts)) 0 texts
     (λ k text at. ap (item_at (map f texts)) (zero-add k) ∙ ap (option_and_then (λ o. o)) (slice_get-map f texts k ∙ ap (option_map f) at))
 
-pub sources-merged : (file : Option (List ℕ)) (pieces : List Piece) → entries_kept (sources_entered pieces) ≡ source_entries (merged file pieces)
+pub sources-merged : (file : Option (List ℕ)) (pieces : List Piece) → entries_kept (all_source_entries pieces) ≡ source_entries (merged file pieces)
 sources-merged file pieces =
     ap (map {B = TextEntry} (λ text. (text, contents_in pieces text))) (texts_of_sources pieces)
     ∙ sym (given-back (contents_in pieces) (sources_in pieces))
@@ -58,11 +58,11 @@ names-have_none : (names : List (List ℕ)) → AllByRecursion HasNone (map (λ 
 names-have_none [] = tt
 names-have_none (n ∷ ns) = (refl, names-have_none ns)
 
-all-have_none : (pieces : List Piece) → AllByRecursion HasNone (names_entered pieces)
+all-have_none : (pieces : List Piece) → AllByRecursion HasNone (all_name_entries pieces)
 all-have_none [] = tt
 all-have_none (p ∷ ps) =
     subst (AllByRecursion HasNone) (sym (flat_map-cons (λ (p : Piece). name_entries p.1) p ps))
-    (all-append HasNone (name_entries p.1) (names_entered ps) (names-have_none p.1.names) (all-have_none ps))
+    (all-append HasNone (name_entries p.1) (all_name_entries ps) (names-have_none p.1.names) (all-have_none ps))
 
 no-contents : (text : List ℕ) (entered : List TextEntry) → AllByRecursion HasNone entered → find_last (λ (e : TextEntry). bytes_eq e.0 text && is_some e.1) entered ≡ None
 no-contents text [] all = refl
@@ -73,10 +73,10 @@ no-contents text (e ∷ es) all =
     by_case true = refl
     by_case false = refl
 
-pub names-merged : (file : Option (List ℕ)) (pieces : List Piece) → entries_kept (names_entered pieces) ≡ name_entries (merged file pieces)
+pub names-merged : (file : Option (List ℕ)) (pieces : List Piece) → entries_kept (all_name_entries pieces) ≡ name_entries (merged file pieces)
 names-merged file pieces =
-    map-each {Y = TextEntry} (λ text. (text, contents_entered (names_entered pieces) text)) (λ text. (text, None))
-    (λ text. ap {B = TextEntry} (λ (o : Option TextEntry). (text, option_and_then (λ e. e.1) o)) (no-contents text (names_entered pieces) (all-have_none pieces))) (texts_entered (names_entered pieces))
+    map-each {Y = TextEntry} (λ text. (text, contents_entered (all_name_entries pieces) text)) (λ text. (text, None))
+    (λ text. ap {B = TextEntry} (λ (o : Option TextEntry). (text, option_and_then (λ e. e.1) o)) (no-contents text (all_name_entries pieces) (all-have_none pieces))) (texts_entered (all_name_entries pieces))
     ∙ ap (map (λ (name : List ℕ). (name, None))) (texts_of_names pieces)
 
 -- Parts.
@@ -133,11 +133,11 @@ pub map-of_flat : (file : Option (List ℕ)) (pieces : List Piece) (flat : FlatM
     → map_over metadata flat.tokens names sources contents ≡ merged file pieces
 map-of_flat file pieces flat is metadata sources names contents metadata_of_file sourced named given =
     let resolved_sources : map (λ (e : TextEntry). e.0) (entry_values flat.sources.items) ≡ sources_in pieces =
-    ap (map (λ (e : TextEntry). e.0)) is.sources ∙ texts-kept (sources_entered pieces) ∙ texts_of_sources pieces in
+    ap (map (λ (e : TextEntry). e.0)) is.sources ∙ texts-kept (all_source_entries pieces) ∙ texts_of_sources pieces in
     let kept_names : names ≡ names_in pieces =
-    named ∙ ap (map (λ (e : TextEntry). e.0)) is.names ∙ texts-kept (names_entered pieces) ∙ texts_of_names pieces in
+    named ∙ ap (map (λ (e : TextEntry). e.0)) is.names ∙ texts-kept (all_name_entries pieces) ∙ texts_of_names pieces in
     let kept_contents : contents ≡ map (contents_in pieces) (sources_in pieces) =
-    given ∙ ap (map (λ (e : TextEntry). e.1)) is.sources ∙ contents-kept (sources_entered pieces) ∙ ap (map (contents_in pieces)) (texts_of_sources pieces) in
+    given ∙ ap (map (λ (e : TextEntry). e.1)) is.sources ∙ contents-kept (all_source_entries pieces) ∙ ap (map (contents_in pieces)) (texts_of_sources pieces) in
     λ i. record {
       file = (metadata_of_file i).file;
       root = (sourced i).root;

@@ -14,7 +14,7 @@ use Rattle.sourcemap_tokens.specs.Tokens.{destination}
 use Rattle.sourcemap_tokens.specs.declared.tokens.RawToken.{RawToken}
 use Rattle.sourcemap_map_conversions.specs.FromRecord.{rising}
 use Rattle.sourcemap_map_rewrite.specs.Kept.{kept_once, number_in}
-use Rattle.sourcemap_map_rewrite.specs.Numbering.{HasNumberIfAny}
+use Rattle.sourcemap_map_rewrite.specs.Numbering.{IsListedIfAny}
 use Rattle.sourcemap_tokens.proofs.AllLemmas.{All-at}
 use Rattle.sourcemap_map_regular.specs.Map.{MapValue, resolved_sources, source_of, name_of, contents_of}
 use Rattle.sourcemap_index_model.specs.Flat.{Piece, sources_in, names_in, source_entries, token_in, ignored_in, passes_the_end, with_piece}
@@ -22,7 +22,7 @@ use Rattle.sourcemap_index_model.specs.FlatList.{absolute_position}
 use Rattle.sourcemap_index_flatten.specs.Errors.{RefusesBy}
 use Rattle.sourcemap_index_flatten.specs.Table.{TextEntry, entry_values, texts_entered, numbers_among, are_too_many, IsTable, AreEntered}
 use Rattle.sourcemap_index_flatten.specs.Moving.{AreMoved, moved_by, new_number, ignored_numbers, is_past_end}
-use Rattle.sourcemap_index_flatten.specs.Gathering.{name_entries, sources_entered, names_entered, tokens_moved, ids_ignored, Gathers, GathersMore, IsPartOf, RefusesPiece}
+use Rattle.sourcemap_index_flatten.specs.Gathering.{name_entries, all_source_entries, all_name_entries, all_moved_tokens, all_ignored_ids, Gathers, GathersMore, IsPartOf, RefusesPiece}
 use Rattle.sourcemap_index_flatten.specs.declared.gathering.Gathering.{Gathering}
 use Rattle.sourcemap_index_flatten.specs.declared.gathering.Part.{Part}
 use Rattle.sourcemap_index_flatten.specs.declared.moving.Move.{Move}
@@ -63,27 +63,27 @@ module _ (given : MapValue → List TextEntry) where
 
   -- each text of a map has an id
   abbrev HasNumber : List Piece → Piece → Type 0
-  HasNumber pieces piece = (id : ℕ) → HasNumberIfAny (texts_entered (entered pieces)) (text_of piece.1 id)
+  HasNumber pieces piece = (id : ℕ) → IsListedIfAny (texts_entered (entered pieces)) (text_of piece.1 id)
 
-  has_text_id : (all entries : List TextEntry) → AllByRecursion (IsAmong all) entries → (id : ℕ) → HasNumberIfAny (texts_entered all) (option_map (λ e. e.0) (slice_get entries id))
+  has_text_id : (all entries : List TextEntry) → AllByRecursion (IsAmong all) entries → (id : ℕ) → IsListedIfAny (texts_entered all) (option_map (λ e. e.0) (slice_get entries id))
   has_text_id all entries among id = by_item (slice_get entries id) refl
     where
-      by_item : (o : Option TextEntry) → slice_get entries id ≡ o → HasNumberIfAny (texts_entered all) (option_map (λ e. e.0) o)
+      by_item : (o : Option TextEntry) → slice_get entries id ≡ o → IsListedIfAny (texts_entered all) (option_map (λ e. e.0) o)
       by_item None is = tt
       by_item (Some e) is = All-at (IsAmong all) entries id e is among
 
-  text_id-stays : (all more : List TextEntry) (o : Option (List ℕ)) → HasNumberIfAny (texts_entered all) o → HasNumberIfAny (texts_entered (all ++ more)) o
+  text_id-stays : (all more : List TextEntry) (o : Option (List ℕ)) → IsListedIfAny (texts_entered all) o → IsListedIfAny (texts_entered (all ++ more)) o
   text_id-stays all more None h = tt
   text_id-stays all more (Some text) h = (h.0, text_id-more all more text h.0 h.1)
 
   numbered-more : (pieces : List Piece) (next piece : Piece) → HasNumber pieces piece → HasNumber (pieces ++ next ∷ []) piece
   numbered-more pieces next piece numbered id =
-      subst (λ all. HasNumberIfAny (texts_entered all) (text_of piece.1 id)) (sym (flat_map-push (λ (p : Piece). given p.1) pieces next))
+      subst (λ all. IsListedIfAny (texts_entered all) (text_of piece.1 id)) (sym (flat_map-push (λ (p : Piece). given p.1) pieces next))
       (text_id-stays (entered pieces) (given next.1) (text_of piece.1 id) (numbered id))
 
   numbered-last : (before : List Piece) (piece : Piece) → HasNumber (before ++ piece ∷ []) piece
   numbered-last before piece id =
-      subst (λ all. HasNumberIfAny (texts_entered all) (text_of piece.1 id)) (sym (flat_map-push (λ (p : Piece). given p.1) before piece))
+      subst (λ all. IsListedIfAny (texts_entered all) (text_of piece.1 id)) (sym (flat_map-push (λ (p : Piece). given p.1) before piece))
       (has_text_id (entered before ++ given piece.1) (given piece.1) (all-among (entered before) (given piece.1)) id)
 
   numbered-front : (front back : List Piece) (piece : Piece) → HasNumber front piece → HasNumber (front ++ back) piece
@@ -107,7 +107,7 @@ module _ (given : MapValue → List TextEntry) where
       all : entered (before ++ next ∷ []) ≡ entered before ++ given next.1
       all = flat_map-push (λ (p : Piece). given p.1) before next
 
-      by_text : (o : Option (List ℕ)) → HasNumberIfAny (texts_entered (entered before)) o → number_in (texts_entered (entered (before ++ next ∷ []))) o ≡ number_in (texts_entered (entered before)) o
+      by_text : (o : Option (List ℕ)) → IsListedIfAny (texts_entered (entered before)) o → number_in (texts_entered (entered (before ++ next ∷ []))) o ≡ number_in (texts_entered (entered before)) o
       by_text None h = refl
       by_text (Some text) h =
           let later : id_of text (texts_entered (entered (before ++ next ∷ []))) ≡ Some h.0 =
@@ -158,10 +158,10 @@ map_flat given texts back (p ∷ ps) =
     ∙ (λ i. back p.1 i ++ map_flat given texts back ps i)
     ∙ sym (flat_map-cons (λ (p : Piece). texts p.1) p ps)
 
-pub texts_of_sources : (pieces : List Piece) → texts_entered (sources_entered pieces) ≡ sources_in pieces
+pub texts_of_sources : (pieces : List Piece) → texts_entered (all_source_entries pieces) ≡ sources_in pieces
 texts_of_sources pieces = ap kept_once (map_flat source_entries resolved_sources sources_texts pieces)
 
-pub texts_of_names : (pieces : List Piece) → texts_entered (names_entered pieces) ≡ names_in pieces
+pub texts_of_names : (pieces : List Piece) → texts_entered (all_name_entries pieces) ≡ names_in pieces
 texts_of_names pieces = ap kept_once (map_flat name_entries (λ m. m.names) names_texts pieces)
 
 -- Tokens.
@@ -204,7 +204,7 @@ module _ (before : List Piece) (piece : Piece) where
     name_id = name-stays old numbered t.name_id i;
   }
 
-  tokens-stay : flat_map (λ old. map (token_in (before ++ piece ∷ []) old) old.1.tokens) before ≡ tokens_moved before
+  tokens-stay : flat_map (λ old. map (token_in (before ++ piece ∷ []) old) old.1.tokens) before ≡ all_moved_tokens before
   tokens-stay = flat_map-same (HasNumbers before) (λ old. map (token_in (before ++ piece ∷ []) old) old.1.tokens) (λ old. map (token_in before old) old.1.tokens)
       (λ old numbered. map-each (token_in (before ++ piece ∷ []) old) (token_in before old) (token-stays old numbered) old.1.tokens) before (all-numbered-to before)
 
@@ -213,8 +213,8 @@ module _ (before : List Piece) (piece : Piece) where
       (λ old numbered. map-each (λ t. (token_in (before ++ piece ∷ []) old t).src_id) (λ t. (token_in before old t).src_id) (λ t. source-stays old numbered t.src_id) (filter (λ t. list_any (nat_eq t.src_id) old.1.ignored) old.1.tokens)) before (all-numbered-to before)
 
   module _ (to : Move) (at : piece.0 ≡ (to.line, to.col))
-      (sources : to.sources.now ≡ numbers_among (sources_entered before ++ source_entries piece.1) (source_entries piece.1))
-      (names : to.names.now ≡ numbers_among (names_entered before ++ name_entries piece.1) (name_entries piece.1)) where
+      (sources : to.sources.now ≡ numbers_among (all_source_entries before ++ source_entries piece.1) (source_entries piece.1))
+      (names : to.names.now ≡ numbers_among (all_name_entries before ++ name_entries piece.1) (name_entries piece.1)) where
     source-new : (id : ℕ) → number_in (sources_in (before ++ piece ∷ [])) (source_of piece.1 id) ≡ new_number to.sources.now id
     source-new id = source_number (before ++ piece ∷ []) piece.1 id ∙ number-new source_entries before piece to.sources.now sources id
 
@@ -229,13 +229,13 @@ module _ (before : List Piece) (piece : Piece) where
       name_id = name-new t.name_id i;
     }
 
-    pub tokens-more : (old new : List RawToken) → old ≡ tokens_moved before → AreMoved to piece.1.tokens old new → new ≡ tokens_moved (before ++ piece ∷ [])
+    pub tokens-more : (old new : List RawToken) → old ≡ all_moved_tokens before → AreMoved to piece.1.tokens old new → new ≡ all_moved_tokens (before ++ piece ∷ [])
     tokens-more old new so_far moved =
         moved.appended
         ∙ (λ i. (so_far ∙ sym tokens-stay) i ++ sym (map-each (token_in (before ++ piece ∷ []) piece) (moved_by to) token-new piece.1.tokens) i)
         ∙ sym (flat_map-push (λ old. map (token_in (before ++ piece ∷ []) old) old.1.tokens) before piece)
 
-    pub ignored-more : (old new : List ℕ) → old ≡ ids_ignored before → new ≡ fold (insert_key nat_cmp) old (ignored_numbers piece.1.ignored to.sources.now piece.1.tokens) → new ≡ ids_ignored (before ++ piece ∷ [])
+    pub ignored-more : (old new : List ℕ) → old ≡ all_ignored_ids before → new ≡ fold (insert_key nat_cmp) old (ignored_numbers piece.1.ignored to.sources.now piece.1.tokens) → new ≡ all_ignored_ids (before ++ piece ∷ [])
     ignored-more old new so_far put =
         put
         ∙ (λ i. fold (insert_key nat_cmp) ((so_far ∙ ap rising (sym ignored-stay)) i)
@@ -253,43 +253,43 @@ true-or true = refl
 true-or false = refl
 
 module _ (before : List Piece) (piece : Piece) where
-  all_sources : sources_entered (before ++ piece ∷ []) ≡ sources_entered before ++ source_entries piece.1
+  all_sources : all_source_entries (before ++ piece ∷ []) ≡ all_source_entries before ++ source_entries piece.1
   all_sources = flat_map-push (λ (p : Piece). source_entries p.1) before piece
 
-  all_names : names_entered (before ++ piece ∷ []) ≡ names_entered before ++ name_entries piece.1
+  all_names : all_name_entries (before ++ piece ∷ []) ≡ all_name_entries before ++ name_entries piece.1
   all_names = flat_map-push (λ (p : Piece). name_entries p.1) before piece
 
-  same_sources : texts_entered (sources_entered before ++ source_entries piece.1) ≡ sources_in (before ++ piece ∷ [])
+  same_sources : texts_entered (all_source_entries before ++ source_entries piece.1) ≡ sources_in (before ++ piece ∷ [])
   same_sources = ap texts_entered (sym all_sources) ∙ texts_of_sources (before ++ piece ∷ [])
 
-  same_names : texts_entered (names_entered before ++ name_entries piece.1) ≡ names_in (before ++ piece ∷ [])
+  same_names : texts_entered (all_name_entries before ++ name_entries piece.1) ≡ names_in (before ++ piece ∷ [])
   same_names = ap texts_entered (sym all_names) ∙ texts_of_names (before ++ piece ∷ [])
 
   -- errors of a piece
   pub refused-sources : (reason : List ℕ) (e : Error) → reason ≡ codes "too many sources or names"
-      → RefusesBy (are_too_many (texts_entered (sources_entered before ++ source_entries piece.1))) reason e → RefusesPiece before piece e
+      → RefusesBy (are_too_many (texts_entered (all_source_entries before ++ source_entries piece.1))) reason e → RefusesPiece before piece e
   refused-sources reason e is refused = UnlessMemory-weaker e (λ h. (reason, due h.0, h.1)) refused
     where
-      due : are_too_many (texts_entered (sources_entered before ++ source_entries piece.1)) ≡ true → with_piece before piece ≡ Err reason
+      due : are_too_many (texts_entered (all_source_entries before ++ source_entries piece.1)) ≡ true → with_piece before piece ≡ Err reason
       due many = let too : are_too_many (sources_in (before ++ piece ∷ [])) ≡ true = ap are_too_many (sym same_sources) ∙ many in rw (too, is) refl
 
   pub refused-names : (reason : List ℕ) (e : Error) → reason ≡ codes "too many sources or names"
-      → RefusesBy (are_too_many (texts_entered (names_entered before ++ name_entries piece.1))) reason e → RefusesPiece before piece e
+      → RefusesBy (are_too_many (texts_entered (all_name_entries before ++ name_entries piece.1))) reason e → RefusesPiece before piece e
   refused-names reason e is refused = UnlessMemory-weaker e (λ h. (reason, due h.0, h.1)) refused
     where
-      due : are_too_many (texts_entered (names_entered before ++ name_entries piece.1)) ≡ true → with_piece before piece ≡ Err reason
+      due : are_too_many (texts_entered (all_name_entries before ++ name_entries piece.1)) ≡ true → with_piece before piece ≡ Err reason
       due many =
           let too : are_too_many (names_in (before ++ piece ∷ [])) ≡ true = ap are_too_many (sym same_names) ∙ many in
           let either : (are_too_many (sources_in (before ++ piece ∷ [])) || true) ≡ true = true-or (are_too_many (sources_in (before ++ piece ∷ []))) in
           rw (too, either, is) refl
 
-  module _ (few_sources : length (texts_entered (sources_entered before ++ source_entries piece.1)) ≤ 4294967295)
-      (few_names : length (texts_entered (names_entered before ++ name_entries piece.1)) ≤ 4294967295) where
+  module _ (few_sources : length (texts_entered (all_source_entries before ++ source_entries piece.1)) ≤ 4294967295)
+      (few_names : length (texts_entered (all_name_entries before ++ name_entries piece.1)) ≤ 4294967295) where
     sources-fit : are_too_many (sources_in (before ++ piece ∷ [])) ≡ false
-    sources-fit = ap are_too_many (sym same_sources) ∙ no_more-than (texts_entered (sources_entered before ++ source_entries piece.1)) few_sources
+    sources-fit = ap are_too_many (sym same_sources) ∙ no_more-than (texts_entered (all_source_entries before ++ source_entries piece.1)) few_sources
 
     names-fit : are_too_many (names_in (before ++ piece ∷ [])) ≡ false
-    names-fit = ap are_too_many (sym same_names) ∙ no_more-than (texts_entered (names_entered before ++ name_entries piece.1)) few_names
+    names-fit = ap are_too_many (sym same_names) ∙ no_more-than (texts_entered (all_name_entries before ++ name_entries piece.1)) few_names
 
     pub refused-tokens : (passes : RawToken → Bool) (reason : List ℕ) (e : Error) → reason ≡ codes "a position passes 4294967295"
         → ((t : RawToken) → passes t ≡ passes_the_end (absolute_position piece.0 (destination t)))
@@ -313,16 +313,16 @@ abbrev enters : List TextEntry → List TextEntry → List ℕ → Table → Typ
 enters before entries ids t = AreEntered (before ++ entries) entries ids t
 
 module _ (before : List Piece) (m : MapValue) (part : Part) (is : IsPartOf m part) (to : Move) (new_sources new_names : Table)
-    (sources : enters (sources_entered before) (entry_values part.sources.now) to.sources.now new_sources)
-    (names : enters (names_entered before) (entry_values part.names.now) to.names.now new_names) where
+    (sources : enters (all_source_entries before) (entry_values part.sources.now) to.sources.now new_sources)
+    (names : enters (all_name_entries before) (entry_values part.names.now) to.names.now new_names) where
   piece : Piece
   piece = ((to.line, to.col), m)
 
-  entered_sources : enters (sources_entered before) (source_entries m) to.sources.now new_sources
-  entered_sources = subst (λ es. enters (sources_entered before) es to.sources.now new_sources) is.sources sources
+  entered_sources : enters (all_source_entries before) (source_entries m) to.sources.now new_sources
+  entered_sources = subst (λ es. enters (all_source_entries before) es to.sources.now new_sources) is.sources sources
 
-  entered_names : enters (names_entered before) (name_entries m) to.names.now new_names
-  entered_names = subst (λ es. enters (names_entered before) es to.names.now new_names) is.names names
+  entered_names : enters (all_name_entries before) (name_entries m) to.names.now new_names
+  entered_names = subst (λ es. enters (all_name_entries before) es to.names.now new_names) is.names names
 
   pub part-refused : (reason : List ℕ) (e : Error) → reason ≡ codes "a position passes 4294967295"
       → RefusesBy (list_any (is_past_end to) part.tokens.now) reason e → RefusesPiece before ((to.line, to.col), m) e
@@ -340,9 +340,9 @@ module _ (before : List Piece) (m : MapValue) (part : Part) (is : IsPartOf m par
       put ∙ (λ i. fold (insert_key nat_cmp) old.ignored.keys (ignored_numbers (is.ignored i) to.sources.now (is.tokens i))) in
       record {
         gathered = record {
-          sources = subst (λ t. IsTable (sources_entered (before ++ ((to.line, to.col), m) ∷ [])) t) (sym same_s)
+          sources = subst (λ t. IsTable (all_source_entries (before ++ ((to.line, to.col), m) ∷ [])) t) (sym same_s)
               (subst (λ es. IsTable es new_sources) (sym (all_sources before ((to.line, to.col), m))) entered_sources.table);
-          names = subst (λ t. IsTable (names_entered (before ++ ((to.line, to.col), m) ∷ [])) t) (sym same_n)
+          names = subst (λ t. IsTable (all_name_entries (before ++ ((to.line, to.col), m) ∷ [])) t) (sym same_n)
               (subst (λ es. IsTable es new_names) (sym (all_names before ((to.line, to.col), m))) entered_names.table);
           tokens = tokens-more before ((to.line, to.col), m) to refl entered_sources.each entered_names.each old.tokens.items new.tokens.items so_far.tokens moved;
           ignored = ignored-more before ((to.line, to.col), m) to refl entered_sources.each entered_names.each old.ignored.keys new.ignored.keys so_far.ignored listed;

@@ -12,7 +12,7 @@ use Rattle.sourcemap_interning.specs.Interner.{id_of, with_text, AreDistinct}
 use Rattle.sourcemap_tokens.specs.Search.{find_last}
 use Rattle.sourcemap_interning.proofs.InternerLemmas.{id_of-last, slice_get-id_of}
 use Rattle.sourcemap_map_rewrite.specs.Kept.{kept_once, number_in}
-use Rattle.sourcemap_map_rewrite.specs.Numbering.{HasNumberIfAny}
+use Rattle.sourcemap_map_rewrite.specs.Numbering.{IsListedIfAny}
 use Rattle.sourcemap_interning.proofs.ItemLemmas.{slice_get-set_same, slice_get-set_other}
 use Rattle.sourcemap_map_rewrite.proofs.NumberingLemmas.{option_or-None, id_of-fold, id_of-added, distinct-kept_once}
 use Rattle.sourcemap_index_flatten.specs.Table.{TextEntry, texts_entered, contents_entered, entries_kept, numbers_among, are_too_many, put_at, entry_value, entry_values, IsTable, IsEntered, AreEntered}
@@ -51,7 +51,7 @@ pub text_id-more : (entered more : List TextEntry) (text : List ℕ) (n : ℕ) �
 text_id-more entered more text n e = ap (id_of text) (texts-more entered more) ∙ id_of-fold (map (λ e. e.0) more) (texts_entered entered) text n e
 
 abbrev pub IsAmong : List TextEntry → TextEntry → Type 0
-IsAmong entered e = HasNumberIfAny (texts_entered entered) (Some e.0)
+IsAmong entered e = IsListedIfAny (texts_entered entered) (Some e.0)
 
 pub among-more : (entered more : List TextEntry) (e : TextEntry) → IsAmong entered e → IsAmong (entered ++ more) e
 among-more entered more e among = (among.0, text_id-more entered more e.0 among.0 among.1)

@@ -18,24 +18,24 @@ abbrev pub name_entries : MapValue → List TextEntry
 name_entries m = map (λ name. (name, None)) m.names
 
 -- the entries of all pieces
-abbrev pub sources_entered : List Piece → List TextEntry
-sources_entered pieces = flat_map (λ piece. source_entries piece.1) pieces
+abbrev pub all_source_entries : List Piece → List TextEntry
+all_source_entries pieces = flat_map (λ piece. source_entries piece.1) pieces
 
-abbrev pub names_entered : List Piece → List TextEntry
-names_entered pieces = flat_map (λ piece. name_entries piece.1) pieces
+abbrev pub all_name_entries : List Piece → List TextEntry
+all_name_entries pieces = flat_map (λ piece. name_entries piece.1) pieces
 
-abbrev pub tokens_moved : List Piece → List RawToken
-tokens_moved pieces = flat_map (λ piece. map (token_in pieces piece) piece.1.tokens) pieces
+abbrev pub all_moved_tokens : List Piece → List RawToken
+all_moved_tokens pieces = flat_map (λ piece. map (token_in pieces piece) piece.1.tokens) pieces
 
-abbrev pub ids_ignored : List Piece → List ℕ
-ids_ignored pieces = rising (flat_map (ignored_in pieces) pieces)
+abbrev pub all_ignored_ids : List Piece → List ℕ
+all_ignored_ids pieces = rising (flat_map (ignored_in pieces) pieces)
 
 -- exactly these pieces were added
 pub record Gathers (pieces : List Piece) (g : Gathering) : Type 0 where
-  pub sources : IsTable (sources_entered pieces) g.sources
-  pub names : IsTable (names_entered pieces) g.names
-  pub tokens : g.tokens.items ≡ tokens_moved pieces
-  pub ignored : g.ignored.keys ≡ ids_ignored pieces
+  pub sources : IsTable (all_source_entries pieces) g.sources
+  pub names : IsTable (all_name_entries pieces) g.names
+  pub tokens : g.tokens.items ≡ all_moved_tokens pieces
+  pub ignored : g.ignored.keys ≡ all_ignored_ids pieces
 
 -- the lists of a map, with borrowed texts
 pub record IsPartOf (m : MapValue) (part : Part) : Type 0 where
@@ -64,7 +64,7 @@ pub record HasFewTexts (flat : FlatMap) : Type 0 where
 -- the concatenation of these pieces without a file name, with borrowed texts
 pub record IsFlat (pieces : List Piece) (flat : FlatMap) : Type 0 where
   pub few : HasFewTexts flat
-  pub tokens : flat.tokens ≡ in_order (tokens_moved pieces)
-  pub ignored : flat.ignored.keys ≡ ids_ignored pieces
-  pub sources : entry_values flat.sources.items ≡ entries_kept (sources_entered pieces)
-  pub names : entry_values flat.names.items ≡ entries_kept (names_entered pieces)
+  pub tokens : flat.tokens ≡ in_order (all_moved_tokens pieces)
+  pub ignored : flat.ignored.keys ≡ all_ignored_ids pieces
+  pub sources : entry_values flat.sources.items ≡ entries_kept (all_source_entries pieces)
+  pub names : entry_values flat.names.items ≡ entries_kept (all_name_entries pieces)

@@ -79,7 +79,7 @@ impl<'a> Table<'a> {
             return Err(too_many(alloc));
         }
         let number = self.ids.number_of(item.text)?;
-        put(&mut self.entries, number as usize, item)?;
+        push_or_replace(&mut self.entries, number as usize, item)?;
         Ok(number)
     }
 }
@@ -97,7 +97,7 @@ fn is_full(ids: &TextIndex<'_>, text: &str) -> bool
 }
 
 // Appends the entry, or replaces the contents of the one at its number.
-fn put<'a>(entries: &mut Vec<Entry<'a>>, number: usize, item: Entry<'a>) -> Result<()>
+fn push_or_replace<'a>(entries: &mut Vec<Entry<'a>>, number: usize, item: Entry<'a>) -> Result<()>
     ensures ok { OnOk result (entry_values entries.new.items
         ≡ put_at number (entry_value item.entry) (entry_values entries.old.items)) }
     ensures memory { IsOkUnless result OutOfMemory }

@@ -17,7 +17,7 @@ use Rattle.sourcemap_map_regular.specs.Map.{MapValue, Meaning, meaning as meanin
 use Rattle.sourcemap_map_regular.specs.Rewrite.{token_meanings}
 use Rattle.sourcemap_map_rewrite.proofs.NumberingLemmas.{used-kept, slice_get-number_in}
 use Rattle.sourcemap_map_rewrite.specs.Kept.{present, kept_once, number_in}
-use Rattle.sourcemap_map_rewrite.specs.Numbering.{HasNumberIfAny}
+use Rattle.sourcemap_map_rewrite.specs.Numbering.{IsListedIfAny}
 use Rattle.sourcemap_index_model.specs.Flat.{Piece, sources_in, names_in, token_in, merged, passes_the_end, with_piece, on_ok, flat, pieces_after, SaysFlat, AnswersLike}
 use Rattle.sourcemap_index_model.specs.FlatList.{absolute_position, absolute_entry, flat_list, flat_lists, IsOrderly}
 use Rattle.sourcemap_index_model.specs.MapTree.{LeafMap, regular, hermes, held, MapTree, leaf, index, IndexParts, MapSections, no_sections, hollow, filled, offset_of, InEachSection}
@@ -97,12 +97,12 @@ present-all [] = refl
 present-all (t ∷ ts) = ap (λ rest. t ∷ rest) (present-all ts)
 
 abbrev HasText : List (List ℕ) → List ℕ → Type 0
-HasText kept text = HasNumberIfAny kept (Some text)
+HasText kept text = IsListedIfAny kept (Some text)
 
 all_kept : (texts : List (List ℕ)) → AllByRecursion (HasText (kept_once texts)) texts
 all_kept texts =
     subst (λ us. AllByRecursion (HasText (kept_once us)) texts) (present-all texts)
-    (All-unmapped (HasNumberIfAny (kept_once (present (map Some texts)))) Some texts (used-kept (map Some texts)))
+    (All-unmapped (IsListedIfAny (kept_once (present (map Some texts)))) Some texts (used-kept (map Some texts)))
 
 -- the texts of a piece are among those of all
 abbrev pub IsAmong : List Piece → Piece → Type 0
@@ -114,15 +114,15 @@ all_among pieces =
     (All-from_flat_map (HasText (sources_in pieces)) (λ piece. resolved_sources piece.1) pieces (all_kept (flat_map (λ (piece : Piece). resolved_sources piece.1) pieces)))
     (All-from_flat_map (HasText (names_in pieces)) (λ piece. piece.1.names) pieces (all_kept (flat_map (λ (piece : Piece). piece.1.names) pieces)))
 
-number_at : (kept texts : List (List ℕ)) (id : ℕ) → AllByRecursion (HasText kept) texts → HasNumberIfAny kept (slice_get texts id)
+number_at : (kept texts : List (List ℕ)) (id : ℕ) → AllByRecursion (HasText kept) texts → IsListedIfAny kept (slice_get texts id)
 number_at kept texts id all = by_case (slice_get texts id) refl
   where
-    by_case : (o : Option (List ℕ)) → slice_get texts id ≡ o → HasNumberIfAny kept o
+    by_case : (o : Option (List ℕ)) → slice_get texts id ≡ o → IsListedIfAny kept o
     by_case None e = tt
     by_case (Some text) e = All-at (HasText kept) texts id text e all
 
 module _ (file : Option (List ℕ)) (pieces : List Piece) (few : AreFew pieces) where
-  source_merged : (o : Option (List ℕ)) → HasNumberIfAny (sources_in pieces) o → source_of (merged file pieces) (number_in (sources_in pieces) o) ≡ o
+  source_merged : (o : Option (List ℕ)) → IsListedIfAny (sources_in pieces) o → source_of (merged file pieces) (number_in (sources_in pieces) o) ≡ o
   source_merged o h =
       ap (λ xs. slice_get xs (number_in (sources_in pieces) o)) (map-resolved_against_nothing [] (sources_in pieces) refl)
       ∙ slice_get-number_in (sources_in pieces) o few.0 h
@@ -161,7 +161,7 @@ module _ (file : Option (List ℕ)) (pieces : List Piece) (few : AreFew pieces) 
 
   -- Bounds.
 
-  number_past : (o : Option (List ℕ)) → HasNumberIfAny (sources_in pieces) o → length (sources_in pieces) ≤ number_in (sources_in pieces) o → o ≡ None
+  number_past : (o : Option (List ℕ)) → IsListedIfAny (sources_in pieces) o → length (sources_in pieces) ≤ number_in (sources_in pieces) o → o ≡ None
   number_past None h past = refl
   number_past (Some text) h past =
       let numbered : number_in (sources_in pieces) (Some text) ≡ h.0 = rw h.1 refl in

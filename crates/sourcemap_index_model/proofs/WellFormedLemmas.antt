@@ -4,14 +4,14 @@ use Rattle.std.specs.Bool.{MatchBool}
 use Rattle.std.specs.List.{AllByRecursion}
 use Rattle.std.proofs.lemmas.Bool.Decides.{nat_tests}
 use Rattle.std.proofs.lemmas.List.{length-map}
-use Rattle.sourcemap_map_conversions.specs.FromRecord.{listed, name_read, source_read}
+use Rattle.sourcemap_map_conversions.specs.FromRecord.{list_or_empty, name_read, source_read}
 use Rattle.sourcemap_errors.specs.declared.errors.Error.{Error}
 use Rattle.sourcemap_errors.specs.declared.errors.Error.TheVariants.{IncompatibleSourceMap}
 use Rattle.sourcemap_tokens.proofs.SortLemmas.{All-sorted_by, length-sorted_by, sorted-sorted_by}
 use Rattle.sourcemap_tokens.proofs.TokensLemmas.{AreInOrder-in_order, position_cmp_total}
 use Rattle.sourcemap_tokens.specs.Tokens.{AreInOrder}
 use Rattle.sourcemap_mappings.proofs.ReadAnswers.{AllWithin-sorted}
-use Rattle.sourcemap_mappings.specs.Read.{page_tokens}
+use Rattle.sourcemap_mappings.specs.Read.{tokens_of_lines}
 use Rattle.sourcemap_records.specs.Jsontypes.{Fields, Tree, plain, indexed, Sections, no_more, bare, mapped}
 use Rattle.sourcemap_map_regular.specs.Decode.{RecordDecodes}
 use Rattle.sourcemap_map_regular.specs.Map.{MapValue, IsWellFormed as IsWellFormedRegular}
@@ -26,15 +26,15 @@ pub well_formed_in_order : (t : MapTree) → IsWellFormed t → IsInOrder t
 well_formed_in_order t h = each_level-weaker (λ m h. tt) (λ ss h. h.1) t h
 
 record_well : (r : Fields) (m : MapValue) → RecordDecodes r (Ok m) → IsWellFormedRegular m
-record_well r m (bounds, (page, reads, is), same) =
-    let tokens = AllWithin-sorted (listed r.mappings) (listed r.range_mappings) (record { sources = length (listed r.sources); names = length (listed r.names) })
-    (page_tokens 0 [] page) page reads refl bounds.names in
-    let sources : length m.sources ≡ length (listed r.sources) = ap (λ (m : MapValue). length m.sources) same ∙ length-map (listed r.sources) source_read in
-    let names : length m.names ≡ length (listed r.names) = ap (λ (m : MapValue). length m.names) same ∙ length-map (listed r.names) name_read in
+record_well r m (bounds, (decoded_lines, reads, is), same) =
+    let tokens = AllWithin-sorted (list_or_empty r.mappings) (list_or_empty r.range_mappings) (record { sources = length (list_or_empty r.sources); names = length (list_or_empty r.names) })
+    (tokens_of_lines 0 [] decoded_lines) decoded_lines reads refl bounds.names in
+    let sources : length m.sources ≡ length (list_or_empty r.sources) = ap (λ (m : MapValue). length m.sources) same ∙ length-map (list_or_empty r.sources) source_read in
+    let names : length m.names ≡ length (list_or_empty r.names) = ap (λ (m : MapValue). length m.names) same ∙ length-map (list_or_empty r.names) name_read in
     rw (sources, names, is) tokens
 
 record_in_order : (r : Fields) (m : MapValue) → RecordDecodes r (Ok m) → AreInOrder m.tokens
-record_in_order r m (bounds, (page, reads, is), same) = subst AreInOrder (sym is) (AreInOrder-in_order (page_tokens 0 [] page))
+record_in_order r m (bounds, (decoded_lines, reads, is), same) = subst AreInOrder (sym is) (AreInOrder-in_order (tokens_of_lines 0 [] decoded_lines))
 
 -- what holds for a decoded map
 abbrev IsReadLeaf : LeafMap → Type 0

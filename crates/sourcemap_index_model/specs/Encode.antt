@@ -28,7 +28,7 @@ index_fields parts = record {
   debug_id = parts.debug_id;
 }
 
--- a record that the map is written as, section by section, given the records of regular and Hermes maps
+-- the map is written as this record; `IsOf` says so of regular and Hermes maps, the leaves
 abbrev mutual
   pub IsWrittenBy : (LeafMap → Tree → Type 0) → MapTree → Tree → Type 0
   IsWrittenBy IsOf (leaf l) r = IsOf l r

@@ -123,10 +123,10 @@ fn kinds(alloc: Global, text: &str) -> Result<String> {
 
 // A text, and why neither, one or the other takes it.
 static KINDS: [(&str, &str); 3] = [
-    (SHORT, "encountered incompatible sourcemap format; no fault"),
+    (SHORT, "encountered incompatible sourcemap format; no error"),
     (
         r#"{"mappings":""}"#,
-        "no fault; encountered incompatible sourcemap format",
+        "no error; encountered incompatible sourcemap format",
     ),
     (
         IN_SECTION,

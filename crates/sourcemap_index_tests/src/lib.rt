@@ -1,5 +1,5 @@
 //! Tests of index maps: decoding, construction, lookups, changes; and of RAM bundles, split by index
-//! maps. A crate of its own, so that no proof and no must-fail edit waits for it.
+//! maps.
 #![tactic(auto)]
 
 #[cfg(test)]

@@ -117,7 +117,7 @@ fn maps_of_one_kind_are_read(rt: HostRuntime) {
             &rt,
             text,
             read_error(alloc, *kind, text, usize::MAX),
-            "no fault",
+            "no error",
         );
         check(
             &rt,

@@ -18,8 +18,8 @@ const SHORT: usize = 48;
 /// A longer string is written by blocks, without a test of the whole string first.
 pub(crate) const LONG: usize = 1024;
 
-// Zeros for any short string in quotes: to extend a vector by so many takes one test and a few
-// stores.
+// As many zeros as any short string in quotes has bytes. A vector is extended by them, in one test
+// and a few stores, and the string is then written over them.
 static ZEROS: [u8; 64] = [0; 64];
 
 /// Whether a string is short and needs no escape.

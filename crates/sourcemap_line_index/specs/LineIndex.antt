@@ -24,7 +24,7 @@ line_at tokens index = option_map (λ token. token.dst_line) (slice_get tokens i
 abbrev pub BeginsLine : List RawToken → ℕ → Type 0
 BeginsLine tokens index = 0 < index → line_at tokens index ≢ line_at tokens (index - 1)
 
--- it is on the line of the token before it
+-- the token at this index is on the line of the token before it
 abbrev pub ContinuesLine : List RawToken → ℕ → Type 0
 ContinuesLine tokens index = (0 < index) × (line_at tokens index ≡ line_at tokens (index - 1))
 

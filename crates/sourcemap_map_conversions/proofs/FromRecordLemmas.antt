@@ -13,22 +13,22 @@ use Rattle.sourcemap_mappings.proofs.ReadAnswers.{MappingsAnswer-same}
 use Rattle.sourcemap_records.specs.Jsontypes.{Fields}
 use Rattle.sourcemap_map_conversions.specs.declared.from_record.RecordParts.{RecordParts}
 use Rattle.sourcemap_map_conversions.specs.declared.parts.Parts.{Parts}
-use Rattle.sourcemap_map_conversions.specs.FromRecord.{PartsAnswer, TokensAnswer, HasFewItems, parts_from, listed, rising, name_read, source_read, file_read}
+use Rattle.sourcemap_map_conversions.specs.FromRecord.{PartsAnswer, TokensAnswer, HasFewItems, parts_from, list_or_empty, rising, name_read, source_read, file_read}
 use Rattle.sourcemap_map_conversions.specs.FromRecordSteps.{ArePartsIn, HaveFewItems, parts_read}
 use Rattle.sourcemap_map_conversions.specs.Parts.{PartsValue, parts_view}
 
 pub TokensAnswer-same : (r : Fields) (a b : Result (List RawToken) Error) → TokensAnswer r a → TokensAnswer r b → a ≡ b
 TokensAnswer-same r a b h k =
-    MappingsAnswer-same (listed r.mappings) (listed r.range_mappings) (record { sources = length (listed r.sources); names = length (listed r.names) }) a b h k
+    MappingsAnswer-same (list_or_empty r.mappings) (list_or_empty r.range_mappings) (record { sources = length (list_or_empty r.sources); names = length (list_or_empty r.names) }) a b h k
 
 module _ (r : Fields) (parts : RecordParts) (are : ArePartsIn r parts) where
-  names_many : vec_len parts.lists.names ≡ length (listed r.names)
+  names_many : vec_len parts.lists.names ≡ length (list_or_empty r.names)
   names_many = parts.lists.names.ok.0 ∙ (rw length-map at (ap length are.lists.names))
 
-  sources_many : vec_len parts.lists.sources ≡ length (listed r.sources)
+  sources_many : vec_len parts.lists.sources ≡ length (list_or_empty r.sources)
   sources_many = parts.lists.sources.ok.0 ∙ (rw length-map at (ap length are.lists.sources))
 
-  contents_many : vec_len parts.lists.contents ≡ length (listed r.sources_content)
+  contents_many : vec_len parts.lists.contents ≡ length (list_or_empty r.sources_content)
   contents_many = parts.lists.contents.ok.0 ∙ (rw length-map at (ap length are.lists.contents))
 
   have_few_items : HaveFewItems parts.lists → HasFewItems r

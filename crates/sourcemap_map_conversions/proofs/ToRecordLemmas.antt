@@ -4,9 +4,9 @@ use Rattle.std.specs.declared.alloc.Global.{Global}
 use Rattle.std.specs.Option.{option_map_or}
 use Rattle.std.specs.List.{list_any}
 use Rattle.sourcemap_records.specs.Jsontypes.{text_view}
-use Rattle.sourcemap_map_conversions.specs.FromRecord.{listed}
+use Rattle.sourcemap_map_conversions.specs.FromRecord.{list_or_empty}
 
-pub same_listed : (o : Option (List ℕ)) → option_map_or (λ bits. bits) o [] ≡ listed o
+pub same_listed : (o : Option (List ℕ)) → option_map_or (λ bits. bits) o [] ≡ list_or_empty o
 same_listed None = refl
 same_listed (Some x) = refl
 

@@ -12,8 +12,8 @@ use Rattle.sourcemap_records.specs.Jsontypes.{Fields}
 use Rattle.sourcemap_map_conversions.specs.Parts.{PartsValue}
 
 -- a list, empty if it is missing
-abbrev pub listed : {X : Type 0} → Option (List X) → List X
-listed xs = unwrap_or xs []
+abbrev pub list_or_empty : {X : Type 0} → Option (List X) → List X
+list_or_empty xs = unwrap_or xs []
 
 -- the name for a number: its digits if it is whole, otherwise empty
 abbrev pub number_read : Num → List ℕ
@@ -42,30 +42,30 @@ rising ids = fold (insert_key nat_cmp) [] ids
 
 -- no list has more than 4294967295 items
 pub record HasFewItems (r : Fields) : Type 0 where
-  pub sources : length (listed r.sources) ≤ 4294967295
-  pub names : length (listed r.names) ≤ 4294967295
-  pub contents : length (listed r.sources_content) ≤ 4294967295
+  pub sources : length (list_or_empty r.sources) ≤ 4294967295
+  pub names : length (list_or_empty r.names) ≤ 4294967295
+  pub contents : length (list_or_empty r.sources_content) ≤ 4294967295
 
 -- the tokens of a record's mappings, or their first error
 abbrev pub TokensAnswer : Fields → Result (List RawToken) Error → Type 0
-TokensAnswer r answer = MappingsAnswer (listed r.mappings) (listed r.range_mappings)
-    (record { sources = length (listed r.sources); names = length (listed r.names) }) answer
+TokensAnswer r answer = MappingsAnswer (list_or_empty r.mappings) (list_or_empty r.range_mappings)
+    (record { sources = length (list_or_empty r.sources); names = length (list_or_empty r.names) }) answer
 
 -- the parts of a record with these tokens
 abbrev pub parts_from : Fields → List RawToken → PartsValue
 parts_from r tokens = record {
   metadata = record {
     file = option_map file_read r.file;
-    ignored = rising (listed r.ignore_list);
+    ignored = rising (list_or_empty r.ignore_list);
     debug_id = r.debug_id;
   };
   tokens = tokens;
-  names = map name_read (listed r.names);
+  names = map name_read (list_or_empty r.names);
   sources = record {
     root = r.source_root;
-    texts = map source_read (listed r.sources);
+    texts = map source_read (list_or_empty r.sources);
   };
-  contents = listed r.sources_content;
+  contents = list_or_empty r.sources_content;
 }
 
 -- the result for a record: the error for a list that is too long comes first, then that of the mappings

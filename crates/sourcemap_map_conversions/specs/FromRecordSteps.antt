@@ -3,7 +3,7 @@ use Rattle.std.specs.Prelude.{◌≡◌, ◌≤◌, vec_len, List, map, option_m
 use Rattle.serde_json.specs.View.{view}
 use Rattle.sourcemap_tokens.specs.declared.tokens.RawToken.{RawToken}
 use Rattle.sourcemap_records.specs.Jsontypes.{Fields, text_view}
-use Rattle.sourcemap_map_conversions.specs.FromRecord.{listed, file_read, name_read, source_read, rising}
+use Rattle.sourcemap_map_conversions.specs.FromRecord.{list_or_empty, file_read, name_read, source_read, rising}
 use Rattle.sourcemap_map_parts.specs.MapMetadata.{MetadataValue}
 use Rattle.sourcemap_map_conversions.specs.Parts.{PartsValue}
 use Rattle.sourcemap_map_parts.specs.Sources.{SourcesValue}
@@ -13,26 +13,26 @@ use Rattle.sourcemap_map_conversions.specs.declared.from_record.RecordLists.{Rec
 use Rattle.sourcemap_map_conversions.specs.declared.from_record.RecordParts.{RecordParts}
 
 pub record AreTextsIn (r : Fields) (texts : RecordTexts) : Type 0 where
-  pub mappings : string_bytes texts.mappings ≡ listed r.mappings
-  pub ranges : string_bytes texts.ranges ≡ listed r.range_mappings
+  pub mappings : string_bytes texts.mappings ≡ list_or_empty r.mappings
+  pub ranges : string_bytes texts.ranges ≡ list_or_empty r.range_mappings
 
 pub record IsMetadataIn (r : Fields) (metadata : RecordMetadata) : Type 0 where
   pub file : option_map view metadata.file ≡ r.file
-  pub ids : metadata.ids.items ≡ listed r.ignore_list
+  pub ids : metadata.ids.items ≡ list_or_empty r.ignore_list
   pub debug_id : metadata.debug_id ≡ r.debug_id
 
 pub record AreListsIn (r : Fields) (lists : RecordLists) : Type 0 where
-  pub names : map view lists.names.items ≡ listed r.names
+  pub names : map view lists.names.items ≡ list_or_empty r.names
   pub root : text_view lists.root ≡ r.source_root
-  pub sources : map text_view lists.sources.items ≡ listed r.sources
-  pub contents : map text_view lists.contents.items ≡ listed r.sources_content
+  pub sources : map text_view lists.sources.items ≡ list_or_empty r.sources
+  pub contents : map text_view lists.contents.items ≡ list_or_empty r.sources_content
 
 pub record ArePartsIn (r : Fields) (parts : RecordParts) : Type 0 where
   pub texts : AreTextsIn r parts.texts
   pub metadata : IsMetadataIn r parts.metadata
   pub lists : AreListsIn r parts.lists
 
--- no list has more than 4294967295 items
+-- at most 4294967295 names, sources and contents
 pub record HaveFewItems (lists : RecordLists) : Type 0 where
   pub names : vec_len lists.names ≤ 4294967295
   pub sources : vec_len lists.sources ≤ 4294967295

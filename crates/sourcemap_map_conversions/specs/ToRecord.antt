@@ -9,7 +9,7 @@ use Rattle.sourcemap_mappings.specs.Read.{MappingsAnswer}
 use Rattle.sourcemap_mappings.specs.Write.{IsWritten, IsRangeText}
 use Rattle.sourcemap_records.specs.Jsontypes.{Fields, Tree, plain, IsFine}
 use Rattle.sourcemap_map_parts.specs.Contents.{fitted}
-use Rattle.sourcemap_map_conversions.specs.FromRecord.{listed}
+use Rattle.sourcemap_map_conversions.specs.FromRecord.{list_or_empty}
 use Rattle.sourcemap_map_conversions.specs.Parts.{PartsValue}
 
 -- contents are written only if there are some, and then with one item for each source
@@ -27,7 +27,7 @@ pub record AreTextsOf (names : ℕ) (tokens : List RawToken) (mappings : List �
   pub text : IsWritten names tokens mappings
   pub bits : IsRangeText tokens ranges
   pub back : (sources : ℕ) → sources < 2 ^ 32 → AllWithin sources names tokens
-      → MappingsAnswer mappings (listed ranges) (record { sources = sources; names = names }) (Ok (reduced names tokens))
+      → MappingsAnswer mappings (list_or_empty ranges) (record { sources = sources; names = names }) (Ok (reduced names tokens))
 
 -- the record of these parts, with these texts of mappings and of range bits
 abbrev pub record_with : PartsValue → List ℕ → Option (List ℕ) → Fields

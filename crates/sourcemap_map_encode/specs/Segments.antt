@@ -17,7 +17,7 @@ IsPlainByte c = (c < 128) × (escape_byte c ≡ c ∷ [])
 abbrev pub IsPlainText : List ℕ → Type 0
 IsPlainText text = AllByRecursion IsPlainByte text
 
--- mappings of these tokens, which read back together with any range bits of theirs
+-- mappings of these tokens; together with a text of their range bits they read back
 pub record IsMappingsText (names : ℕ) (tokens : List RawToken) (text : List ℕ) : Type 0 where
   pub written : IsWritten names tokens text
   pub is_plain : IsPlainText text

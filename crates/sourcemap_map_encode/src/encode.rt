@@ -212,7 +212,7 @@ fn put_sources<W: Write>(
     ensures few { length map.now.sources ≤ 4294967295 }
     ensures error { IfErr result (λ e. UnlessMemory e (IsIo e)) }
 {
-    // prover: at most 4294967295 sources
+    // prover: there are at most 4294967295 sources
     let _ = map.get_source_count();
     let root = map.get_source_root();
     put_text_if(alloc, writer, buffer, true, "sourceRoot", root)?;

@@ -10,7 +10,7 @@ sources_in a = record {
   texts = texts_of a.texts;
 }
 
--- 4294967295 is no source's id, and the stored resolved list is right
+-- 4294967295 is no source's id. The resolved list is that of the root and the sources; without one it is the sources themselves
 pub record AreStored (a : Inside) : Type 0 where
   pub few : length (texts_of a.texts) ≤ 4294967295
   pub resolved : texts_of (unwrap_or a.resolved a.texts) ≡ resolved_texts (sources_in a)

@@ -25,7 +25,7 @@ use Rattle.sourcemap_map_conversions.specs.ToRecord.{RecordAnswer as PartsAnswer
 use Rattle.sourcemap_map_parts.proofs.ContentsLemmas.{slice_get-fitted, length-fitted}
 use Rattle.sourcemap_map_regular.specs.Map.{MapValue, IsWellFormed, meaning_of, MeansTheSame, distance, column_after}
 use Rattle.sourcemap_map_regular.specs.MapStored.{parts_in}
-use Rattle.sourcemap_map_regular.specs.Decode.{listed, name_read, source_read, file_read, rising, HasFewItems, TokensAnswer, map_of, RecordDecodes}
+use Rattle.sourcemap_map_regular.specs.Decode.{list_or_empty, name_read, source_read, file_read, rising, HasFewItems, TokensAnswer, map_of, RecordDecodes}
 use Rattle.sourcemap_map_regular.proofs.MapLemmas.{of_item, meaning-item}
 use Rattle.sourcemap_map_regular.specs.Encode.{KeepsParts, ReadsBack, Restores, RecordAnswer, record_with, written_ids}
 
@@ -74,7 +74,7 @@ pub read_file : (file : Option (List ℕ)) → option_map file_read (option_map 
 read_file None = refl
 read_file (Some f) = refl
 
-read_ids : (ids : List ℕ) → listed (written_ids ids) ≡ ids
+read_ids : (ids : List ℕ) → list_or_empty (written_ids ids) ≡ ids
 read_ids [] = refl
 read_ids (x ∷ xs) = let more : (suc (length xs) == 0) ≡ false = grind (arith, nat_tests) in rw more
 
@@ -86,15 +86,15 @@ none_in (None ∷ cs) zero e = refl
 none_in (None ∷ cs) (suc i) e = none_in cs i e
 
 read_contents : (contents : List (Option (List ℕ))) (i : ℕ)
-    → option_and_then (λ x. x) (slice_get (listed (if list_any is_some contents then Some contents else None)) i) ≡ option_and_then (λ x. x) (slice_get contents i)
+    → option_and_then (λ x. x) (slice_get (list_or_empty (if list_any is_some contents then Some contents else None)) i) ≡ option_and_then (λ x. x) (slice_get contents i)
 read_contents contents i =
     elim (cases_Bool (list_any is_some contents)) [
       | inl some ↦ rw some
       | inr none ↦ rw none (sym (none_in contents i none))
     ]
 
-few_read : (contents : List (Option (List ℕ))) → length (listed (if list_any is_some contents then Some contents else None)) ≤ length contents
-few_read contents = elim (list_any is_some contents) as (λ b. length (listed (if b then Some contents else None)) ≤ length contents) [ true ↦ omega arith | false ↦ omega arith ]
+few_read : (contents : List (Option (List ℕ))) → length (list_or_empty (if list_any is_some contents then Some contents else None)) ≤ length contents
+few_read contents = elim (list_any is_some contents) as (λ b. length (list_or_empty (if b then Some contents else None)) ≤ length contents) [ true ↦ omega arith | false ↦ omega arith ]
 
 -- a name id without a name may become 4294967295
 sound_name : (names : List (List ℕ)) (id : ℕ) → length names ≤ 4294967295 → slice_get names (if nat_lt id (length names) then id else 4294967295) ≡ slice_get names id
@@ -131,7 +131,7 @@ means_the_same back m few kept p =
 -- the map that the record of a map decodes to
 pub reads_back : (m : MapValue) (mappings : List ℕ) (ranges : Option (List ℕ))
     → length m.names ≤ 4294967295 → length m.sources ≤ 4294967295 → IsStrictlySortedBy nat_cmp m.ignored
-    → MappingsAnswer mappings (listed ranges) (record { sources = length m.sources; names = length m.names }) (Ok (reduced (length m.names) m.tokens))
+    → MappingsAnswer mappings (list_or_empty ranges) (record { sources = length m.sources; names = length m.names }) (Ok (reduced (length m.names) m.tokens))
     → ReadsBack (RecordDecodes (record_with m mappings ranges)) (Restores m)
 reads_back m mappings ranges few_names few_sources up answer =
     let r : Fields = record_with m mappings ranges in

@@ -5,7 +5,7 @@ use Rattle.sourcemap_tokens.specs.declared.tokens.RawToken.{RawToken}
 use Rattle.sourcemap_map_parts.specs.Sources.{resolved}
 use Rattle.sourcemap_texts.specs.Texts.{texts_of}
 use Rattle.sourcemap_texts.specs.Prefixes.{without_prefix}
-use Rattle.sourcemap_map_rewrite.specs.Numbering.{kept_of, numbered_by}
+use Rattle.sourcemap_map_rewrite.specs.Numbering.{texts_in_use, numbered_by}
 use Rattle.sourcemap_map_rewrite.specs.Rewritten.{AreRewritten}
 use Rattle.sourcemap_map_rewrite.specs.declared.rewritten.RewrittenParts.{RewrittenParts}
 use Rattle.sourcemap_map_rewrite.proofs.NumberingLemmas.{kept_once-few}
@@ -23,9 +23,9 @@ present-nothing : (ids : List ℕ) → present (map (slice_get []) ids) ≡ []
 present-nothing [] = refl
 present-nothing (id ∷ ids) = present-nothing ids
 
-kept_of-if : (w : Bool) (names : List (List ℕ)) (ids : List ℕ) → kept_of (cond w names []) ids ≡ cond w (kept_of names ids) []
-kept_of-if true names ids = refl
-kept_of-if false names ids = ap kept_once (present-nothing ids)
+texts_in_use-if : (w : Bool) (names : List (List ℕ)) (ids : List ℕ) → texts_in_use (cond w names []) ids ≡ cond w (texts_in_use names ids) []
+texts_in_use-if true names ids = refl
+texts_in_use-if false names ids = ap kept_once (present-nothing ids)
 
 number_in-if : (w : Bool) (kept names : List (List ℕ)) (id : ℕ) → number_in (cond w kept []) (slice_get (cond w names []) id) ≡ number_in (cond w kept []) (slice_get names id)
 number_in-if true kept names id = refl
@@ -36,14 +36,14 @@ number_in-if false kept names id = by_case (slice_get names id)
     by_case (Some t) = refl
 
 module _ (m : MapValue) (removal : Removal) where
-  pub sources_used : kept_of (resolved_sources m) (map (λ t. t.src_id) m.tokens) ≡ used_sources m
+  pub sources_used : texts_in_use (resolved_sources m) (map (λ t. t.src_id) m.tokens) ≡ used_sources m
   sources_used = ap (λ os. kept_once (present os)) (map-map (slice_get (resolved_sources m)) (λ (t : RawToken). t.src_id) m.tokens)
 
-  pub names_used : kept_of m.names (map (λ t. t.name_id) m.tokens) ≡ used_names m
+  pub names_used : texts_in_use m.names (map (λ t. t.name_id) m.tokens) ≡ used_names m
   names_used = ap (λ os. kept_once (present os)) (map-map (slice_get m.names) (λ (t : RawToken). t.name_id) m.tokens)
 
-  names_kept : kept_of (cond removal.with_names m.names []) (map (λ t. t.name_id) m.tokens) ≡ kept_names removal m
-  names_kept = kept_of-if removal.with_names m.names (map (λ t. t.name_id) m.tokens) ∙ ap (λ kept. cond removal.with_names kept []) names_used
+  names_kept : texts_in_use (cond removal.with_names m.names []) (map (λ t. t.name_id) m.tokens) ≡ kept_names removal m
+  names_kept = texts_in_use-if removal.with_names m.names (map (λ t. t.name_id) m.tokens) ∙ ap (λ kept. cond removal.with_names kept []) names_used
 
   pub few_used_sources : length m.sources ≤ 4294967295 → length (used_sources m) ≤ 4294967295
   few_used_sources few =
@@ -57,7 +57,7 @@ module _ (m : MapValue) (removal : Removal) where
       subst (λ kept. length kept ≤ 4294967295) names_used (omega (arith, some))
 
   same_numbers : (t : RawToken) → numbered_by (resolved_sources m) (cond removal.with_names m.names [])
-      (kept_of (resolved_sources m) (map (λ t. t.src_id) m.tokens)) (kept_of (cond removal.with_names m.names []) (map (λ t. t.name_id) m.tokens)) t ≡ renumbered removal m t
+      (texts_in_use (resolved_sources m) (map (λ t. t.src_id) m.tokens)) (texts_in_use (cond removal.with_names m.names []) (map (λ t. t.name_id) m.tokens)) t ≡ renumbered removal m t
   same_numbers t = λ i. record t {
     src_id = number_in (sources_used i) (source_of m t.src_id);
     name_id = (ap (λ kept. number_in kept (slice_get (cond removal.with_names m.names []) t.name_id)) names_kept

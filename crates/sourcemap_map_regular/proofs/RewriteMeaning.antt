@@ -15,7 +15,7 @@ use Rattle.sourcemap_tokens.proofs.SearchLemmas.{closest_item-change}
 use Rattle.sourcemap_texts.specs.Prefixes.{without_prefix}
 use Rattle.sourcemap_map_regular.specs.Map.{MapValue, Meaning, IsWellFormed, resolved_sources, source_of, name_of, meaning, meaning_of, MeansTheSame, distance, column_after}
 use Rattle.sourcemap_map_parts.specs.Sources.{resolved}
-use Rattle.sourcemap_map_rewrite.specs.Numbering.{HasNumberIfAny}
+use Rattle.sourcemap_map_rewrite.specs.Numbering.{IsListedIfAny}
 use Rattle.sourcemap_map_rewrite.specs.declared.options.RewriteOptions.{RewriteOptions}
 use Rattle.sourcemap_map_regular.specs.Rewrite.{Removal, removal_of, number_in, used_sources, used_names, kept_names, cuts, renumbered, rewritten, without_removed, all_prefixes, LeavesMeaning, MeansLess, Rewrites, SameButContents, TokensMeanLess}
 use Rattle.sourcemap_map_parts.proofs.SourcesLemmas.{map-resolved_against_nothing}
@@ -25,13 +25,13 @@ use Rattle.sourcemap_map_regular.proofs.RewriteLemmas.{few_used_sources, few_use
 
 -- the source and the name of the token are kept
 abbrev pub IsKept : MapValue → RawToken → Type 0
-IsKept m t = HasNumberIfAny (used_sources m) (source_of m t.src_id) × HasNumberIfAny (used_names m) (name_of m t.name_id)
+IsKept m t = IsListedIfAny (used_sources m) (source_of m t.src_id) × IsListedIfAny (used_names m) (name_of m t.name_id)
 
 pub all_tokens_kept : (m : MapValue) → AllByRecursion (IsKept m) m.tokens
 all_tokens_kept m =
-    All-both (λ t. HasNumberIfAny (used_sources m) (source_of m t.src_id)) (λ t. HasNumberIfAny (used_names m) (name_of m t.name_id)) m.tokens
-    (All-unmapped (HasNumberIfAny (used_sources m)) (λ (t : RawToken). source_of m t.src_id) m.tokens (used-kept (map (λ t. source_of m t.src_id) m.tokens)))
-    (All-unmapped (HasNumberIfAny (used_names m)) (λ (t : RawToken). name_of m t.name_id) m.tokens (used-kept (map (λ t. name_of m t.name_id) m.tokens)))
+    All-both (λ t. IsListedIfAny (used_sources m) (source_of m t.src_id)) (λ t. IsListedIfAny (used_names m) (name_of m t.name_id)) m.tokens
+    (All-unmapped (IsListedIfAny (used_sources m)) (λ (t : RawToken). source_of m t.src_id) m.tokens (used-kept (map (λ t. source_of m t.src_id) m.tokens)))
+    (All-unmapped (IsListedIfAny (used_names m)) (λ (t : RawToken). name_of m t.name_id) m.tokens (used-kept (map (λ t. name_of m t.name_id) m.tokens)))
 
 number-of : (kept : List (List ℕ)) (o : Option (List ℕ)) (text : List ℕ) (n : ℕ) → o ≡ Some text → id_of text kept ≡ Some n → number_in kept o ≡ n
 number-of kept o text n e at_number = rw (e, at_number) refl
@@ -50,14 +50,14 @@ module _ (m : MapValue) (removal : Removal) (few_sources : length m.sources ≤ 
   new_sources : resolved_sources (rewritten removal m) ≡ map (without_prefix (cuts removal m)) (used_sources m)
   new_sources = map-resolved_against_nothing [] (map (without_prefix (cuts removal m)) (used_sources m)) refl
 
-  pub new_source : (id : ℕ) → HasNumberIfAny (used_sources m) (source_of m id)
+  pub new_source : (id : ℕ) → IsListedIfAny (used_sources m) (source_of m id)
       → source_of (rewritten removal m) (number_in (used_sources m) (source_of m id)) ≡ option_map (without_prefix (cuts removal m)) (source_of m id)
   new_source id kept =
       ap (λ xs. slice_get xs (number_in (used_sources m) (source_of m id))) new_sources
       ∙ slice_get-map (without_prefix (cuts removal m)) (used_sources m) (number_in (used_sources m) (source_of m id))
       ∙ ap (option_map (without_prefix (cuts removal m))) (slice_get-number_in (used_sources m) (source_of m id) few_used kept)
 
-  pub new_name : (id : ℕ) → HasNumberIfAny (used_names m) (name_of m id)
+  pub new_name : (id : ℕ) → IsListedIfAny (used_names m) (name_of m id)
       → name_of (rewritten removal m) (number_in (kept_names removal m) (name_of m id)) ≡ cond removal.with_names (name_of m id) None
   new_name id kept = by_case removal.with_names
     where
@@ -155,7 +155,7 @@ module _ (m : MapValue) (removal : Removal) (few_sources : length m.sources ≤ 
           unnamed (x ∷ xs) zero h = cc
           unnamed (x ∷ xs) (suc i) h = let rest = unnamed xs i h in omega arith
       by_case (Some text) e =
-          let here = subst (HasNumberIfAny (used_sources m)) e kept.0 in
+          let here = subst (IsListedIfAny (used_sources m)) e kept.0 in
           let numbered : number_in (used_sources m) (source_of m t.src_id) ≡ here.0 = number-of (used_sources m) (source_of m t.src_id) text here.0 e here.1 in
           let below = slice_get_within (used_sources m) here.0 text (slice_get-id_of text (used_sources m) here.0 here.1) in
           absurd (omega (arith, many, numbered, below, past))

@@ -39,7 +39,7 @@ impl Encodable for SourceMap {
     fn as_raw_sourcemap(&self) -> Result<RawSourceMap>
         ensures answer { IsAnswer tree (RecordAnswer self.now) result }
         ensures fine { IfOk result (λ r. IsFine (tree r)) }
-        // A well-formed map decodes to one with the same parts and the same meaning everywhere.
+        // The record of a well-formed map decodes to a map with the same parts and the same meaning.
         ensures reads_back { IfOk result (λ r. IsWellFormed self.now
             → ReadsBack (RecordDecodes (flat (tree r))) (Restores self.now)) }
     {

@@ -1,4 +1,4 @@
-//! Equality of maps.
+//! Equality of regular maps, part by part.
 ghost use Rattle.std.specs.Prelude.{◌≡◌};
 ghost use Rattle.std.specs.Bool.{Decides};
 ghost use Rattle.std.specs.Cmp.{partial_equiv_from_equiv};

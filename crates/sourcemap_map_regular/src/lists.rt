@@ -15,7 +15,7 @@ pub struct MapLists<'a> {
     pub names: &'a [String],
     /// The sources, resolved against `sourceRoot`.
     pub sources: &'a [String],
-    /// Views of the contents of sources, for each that has contents.
+    /// The contents of each source, as a view. `None` where a source has none.
     pub contents: &'a [Option<SourceView>],
     /// The source ids of the ignore list.
     pub ignored: &'a BTreeSet<u32>,

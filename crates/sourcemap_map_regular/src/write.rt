@@ -69,7 +69,7 @@ impl SourceMap {
     pub fn to_data_url(&self) -> Result<String>
         ensures url { IfOk result (λ url. (text : List ℕ) × IsEncoded (RecordAnswer self.now) text
             × (string_bytes url ≡ data_url_of text) × Holds (string_bytes url) text) }
-        // A well-formed map decodes to one with the same parts and the same meaning everywhere.
+        // The text of a well-formed map decodes to a map with the same parts and the same meaning.
         ensures reads_back { IfOk result (λ url. IsWellFormed self.now
             → ReadsBack (UrlHasResult RegularDecodes (string_bytes url)) (Restores self.now)) }
         ensures memory { IsOkUnless result OutOfMemory }

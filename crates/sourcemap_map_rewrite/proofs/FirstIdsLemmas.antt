@@ -13,10 +13,10 @@ use Rattle.sourcemap_tokens.specs.declared.tokens.RawToken.{RawToken}
 use Rattle.sourcemap_tokens.proofs.AllLemmas.{All-append, All-at, All-unmapped}
 use Rattle.sourcemap_map_rewrite.specs.FirstIds.{names_text, first_of, firsts_of}
 use Rattle.sourcemap_map_rewrite.specs.Kept.{present}
-use Rattle.sourcemap_map_rewrite.specs.Numbering.{HasNumberIfAny, first_some, kept_of, AreSeen}
+use Rattle.sourcemap_map_rewrite.specs.Numbering.{IsListedIfAny, first_some, texts_in_use, AreSeen}
 use Rattle.sourcemap_map_rewrite.specs.Rewritten.{first_ids_used}
 use Rattle.sourcemap_map_rewrite.specs.declared.numbering.NewNumbers.{NewNumbers}
-use Rattle.sourcemap_map_rewrite.proofs.NumberingLemmas.{distinct-kept_of, used-kept}
+use Rattle.sourcemap_map_rewrite.proofs.NumberingLemmas.{distinct-texts_in_use, used-kept}
 
 -- Numbers that name a text.
 
@@ -32,14 +32,14 @@ named texts text id = by_case (slice_get texts id)
 
 -- no number names a text that is not kept
 none_names : (texts kept : List (List ℕ)) (text : List ℕ) → id_of text kept ≡ None → (ids : List ℕ)
-    → AllByRecursion (λ id. HasNumberIfAny kept (slice_get texts id)) ids → find (names_text texts text) ids ≡ None
+    → AllByRecursion (λ id. IsListedIfAny kept (slice_get texts id)) ids → find (names_text texts text) ids ≡ None
 none_names texts kept text new [] all = refl
 none_names texts kept text new (id ∷ ids) all =
     let rest = none_names texts kept text new ids all.1 in
     let here = another (slice_get texts id) all.0 in
     rw here rest
   where
-    another : (o : Option (List ℕ)) → HasNumberIfAny kept o → option_map_or (bytes_eq text) o false ≡ false
+    another : (o : Option (List ℕ)) → IsListedIfAny kept o → option_map_or (bytes_eq text) o false ≡ false
     another None h = refl
     another (Some other) h =
         elim (cases_Bool (bytes_eq text other)) [
@@ -50,14 +50,14 @@ none_names texts kept text new (id ∷ ids) all =
           | inr apart ↦ apart
         ]
 
-pub none_before : (texts : List (List ℕ)) (ids : List ℕ) (text : List ℕ) → id_of text (kept_of texts ids) ≡ None → find (names_text texts text) ids ≡ None
+pub none_before : (texts : List (List ℕ)) (ids : List ℕ) (text : List ℕ) → id_of text (texts_in_use texts ids) ≡ None → find (names_text texts text) ids ≡ None
 none_before texts ids text new =
-    none_names texts (kept_of texts ids) text new ids
-    (All-unmapped (HasNumberIfAny (kept_of texts ids)) (slice_get texts) ids (used-kept (map (slice_get texts) ids)))
+    none_names texts (texts_in_use texts ids) text new ids
+    (All-unmapped (IsListedIfAny (texts_in_use texts ids)) (slice_get texts) ids (used-kept (map (slice_get texts) ids)))
 
 -- the first number of a new text is the next one
 pub first_here : (texts : List (List ℕ)) (before later : List ℕ) (id : ℕ) (text : List ℕ)
-    → id_of text (kept_of texts before) ≡ None → slice_get texts id ≡ Some text → first_of texts (before ++ id ∷ later) text ≡ id
+    → id_of text (texts_in_use texts before) ≡ None → slice_get texts id ≡ Some text → first_of texts (before ++ id ∷ later) text ≡ id
 first_here texts before later id text new at =
     let test : ℕ → Bool = names_text texts text in
     let none : find test before ≡ None = none_before texts before text new in
@@ -107,10 +107,10 @@ passes test (x ∷ ids) id e = by_case (test x) refl (passes test ids id) e
 
 -- the first number of a kept text names it
 pub first_names : (texts : List (List ℕ)) (ids : List ℕ) (k : ℕ) (text : List ℕ)
-    → slice_get (kept_of texts ids) k ≡ Some text → slice_get texts (first_of texts ids text) ≡ Some text
+    → slice_get (texts_in_use texts ids) k ≡ Some text → slice_get texts (first_of texts ids text) ≡ Some text
 first_names texts ids k text at =
     let found : IsFound texts ids text =
-    All-at (IsFound texts ids) (kept_of texts ids) k text at
+    All-at (IsFound texts ids) (texts_in_use texts ids) k text at
     (all_kept (IsFound texts ids) [] (present (map (slice_get texts) ids)) tt (all_found texts [] ids)) in
     let is : first_of texts ids text ≡ found.0 = ap (λ o. unwrap_or o 4294967295) found.1 in
     ap (slice_get texts) is ∙ named texts text found.0 (passes (names_text texts text) ids found.0 found.1)
@@ -135,24 +135,24 @@ pub firsts-distinct : (texts : List (List ℕ)) (ids : List ℕ) → IsDistinct 
 firsts-distinct texts ids = distinct_by_index (firsts_of texts ids) apart
   where
     -- the text at an index
-    text_at : (k x : ℕ) → slice_get (firsts_of texts ids) k ≡ Some x → (text : List ℕ) × (slice_get (kept_of texts ids) k ≡ Some text) × (slice_get texts x ≡ Some text)
-    text_at k x e = by_case (slice_get (kept_of texts ids) k) refl
+    text_at : (k x : ℕ) → slice_get (firsts_of texts ids) k ≡ Some x → (text : List ℕ) × (slice_get (texts_in_use texts ids) k ≡ Some text) × (slice_get texts x ≡ Some text)
+    text_at k x e = by_case (slice_get (texts_in_use texts ids) k) refl
       where
-        by_case : (o : Option (List ℕ)) → slice_get (kept_of texts ids) k ≡ o → (text : List ℕ) × (slice_get (kept_of texts ids) k ≡ Some text) × (slice_get texts x ≡ Some text)
-        by_case None none = let mapped = slice_get-map (first_of texts ids) (kept_of texts ids) k ∙ ap (option_map (first_of texts ids)) none in cc
+        by_case : (o : Option (List ℕ)) → slice_get (texts_in_use texts ids) k ≡ o → (text : List ℕ) × (slice_get (texts_in_use texts ids) k ≡ Some text) × (slice_get texts x ≡ Some text)
+        by_case None none = let mapped = slice_get-map (first_of texts ids) (texts_in_use texts ids) k ∙ ap (option_map (first_of texts ids)) none in cc
         by_case (Some text) at =
-            let mapped = slice_get-map (first_of texts ids) (kept_of texts ids) k ∙ ap (option_map (first_of texts ids)) at in
+            let mapped = slice_get-map (first_of texts ids) (texts_in_use texts ids) k ∙ ap (option_map (first_of texts ids)) at in
             let same : first_of texts ids text ≡ x = cc in
             (text, at, subst (λ y. slice_get texts y ≡ Some text) same (first_names texts ids k text at))
 
-    one_index : (one other : List ℕ) (i j : ℕ) → Some one ≡ Some other → id_of one (kept_of texts ids) ≡ Some i → id_of other (kept_of texts ids) ≡ Some j → i ≡ j
+    one_index : (one other : List ℕ) (i j : ℕ) → Some one ≡ Some other → id_of one (texts_in_use texts ids) ≡ Some i → id_of other (texts_in_use texts ids) ≡ Some j → i ≡ j
     one_index one other i j same first second = cc
 
     apart : (i j x : ℕ) → slice_get (firsts_of texts ids) i ≡ Some x → slice_get (firsts_of texts ids) j ≡ Some x → i ≡ j
     apart i j x e f =
         let (one, at_one, named_one) = text_at i x e in
         let (other, at_other, named_other) = text_at j x f in
-        one_index one other i j (sym named_one ∙ named_other) (distinct-kept_of texts ids one i at_one) (distinct-kept_of texts ids other j at_other)
+        one_index one other i j (sym named_one ∙ named_other) (distinct-texts_in_use texts ids one i at_one) (distinct-texts_in_use texts ids other j at_other)
 
 -- The numbers that were seen have the same first numbers as those of the tokens.
 
@@ -171,7 +171,7 @@ first_passing test (id ∷ ids) = by_case (test id) (first_passing test ids)
 
 pub firsts-used : (S N : List (List ℕ)) (ts : List RawToken) (s n : NewNumbers) → AreSeen S N ts s n → firsts_of S s.order.items ≡ first_ids_used S ts
 firsts-used S N ts s n seen =
-    (λ i. map (λ text. same text i) (kept_of S s.order.items)) ∙ ap (map (first_of S (map (λ t. t.src_id) ts))) seen.kept_sources
+    (λ i. map (λ text. same text i) (texts_in_use S s.order.items)) ∙ ap (map (first_of S (map (λ t. t.src_id) ts))) seen.kept_sources
   where
     past : (text : List ℕ) (id : ℕ) → slice_get S id ≡ None → passing (names_text S text) id ≡ None
     past text id e = rw e refl

@@ -6,12 +6,12 @@ use Rattle.std.proofs.lemmas.Option.{slice_get_within, get_or_from_slice_get}
 use Rattle.sourcemap_interning.specs.Interner.{id_of, with_text}
 use Rattle.sourcemap_interning.proofs.InternerLemmas.{id_of-last, slice_get-id_of}
 use Rattle.sourcemap_map_rewrite.specs.FirstIds.{first_of}
-use Rattle.sourcemap_map_rewrite.specs.Numbering.{with_text_if, kept_of, seen_texts, IsSeen, AreNumbered}
+use Rattle.sourcemap_map_rewrite.specs.Numbering.{with_text_if, texts_in_use, seen_texts, IsSeen, AreNumbered}
 use Rattle.sourcemap_map_rewrite.specs.declared.numbering.NewNumbers.{NewNumbers}
 use Rattle.sourcemap_tokens.proofs.AllLemmas.{All-at}
 use Rattle.sourcemap_map_rewrite.proofs.FirstIdsLemmas.{first_here}
 use Rattle.sourcemap_interning.proofs.ItemLemmas.{slice_get-set_other}
-use Rattle.sourcemap_map_rewrite.proofs.NumberingLemmas.{kept_of-push, id_of-with_text, id_of-kept_of}
+use Rattle.sourcemap_map_rewrite.proofs.NumberingLemmas.{texts_in_use-push, id_of-with_text, id_of-texts_in_use}
 
 -- each text was not moved yet, or is among the moved ones
 abbrev pub AreLeftOrMoved : (old now moved : List (List ℕ)) → Type 0
@@ -20,10 +20,10 @@ AreLeftOrMoved old now moved = (id : ℕ) (text : List ℕ) → slice_get old id
 module _ (texts : List (List ℕ)) (n : NewNumbers) (is : AreNumbered texts n) (i id number : ℕ)
     (at : slice_get n.order.items i ≡ Some id) (numbered : slice_get n.numbers.items id ≡ Some number) where
   before : List (List ℕ)
-  before = kept_of texts (take i n.order.items)
+  before = texts_in_use texts (take i n.order.items)
 
   after : List (List ℕ)
-  after = kept_of texts (take (i + 1) n.order.items)
+  after = texts_in_use texts (take (i + 1) n.order.items)
 
   seen : IsSeen texts n id
   seen = All-at (IsSeen texts n) n.order.items i id at is.seen
@@ -32,8 +32,8 @@ module _ (texts : List (List ℕ)) (n : NewNumbers) (is : AreNumbered texts n) (
   unfolding before after
   one_more =
       let item : get_or n.order.items i 0 ≡ id = get_or_from_slice_get n.order.items i id 0 at in
-      ap (kept_of texts) (take_more n.order.items i 0 (slice_get_within n.order.items i id at) ∙ ap (λ x. take i n.order.items ++ x ∷ []) item)
-      ∙ kept_of-push texts (take i n.order.items) id ∙ ap (with_text_if (kept_of texts (take i n.order.items))) seen.named
+      ap (texts_in_use texts) (take_more n.order.items i 0 (slice_get_within n.order.items i id at) ∙ ap (λ x. take i n.order.items ++ x ∷ []) item)
+      ∙ texts_in_use-push texts (take i n.order.items) id ∙ ap (with_text_if (texts_in_use texts (take i n.order.items))) seen.named
 
   same_number : seen.number ≡ number
   same_number = let e = seen.numbered in cc
@@ -43,8 +43,8 @@ module _ (texts : List (List ℕ)) (n : NewNumbers) (is : AreNumbered texts n) (
   unfolding after
   final k e =
       let last : id_of seen.text (seen_texts texts n) ≡ Some k =
-      subst (λ all. id_of seen.text (kept_of texts all) ≡ Some k) (take-append-drop (i + 1) n.order.items)
-      (id_of-kept_of texts (take (i + 1) n.order.items) (drop (i + 1) n.order.items) seen.text k e) in
+      subst (λ all. id_of seen.text (texts_in_use texts all) ≡ Some k) (take-append-drop (i + 1) n.order.items)
+      (id_of-texts_in_use texts (take (i + 1) n.order.items) (drop (i + 1) n.order.items) seen.text k e) in
       let interned = seen.interned in
       let same : k ≡ seen.number = cc in
       same ∙ same_number
@@ -74,7 +74,7 @@ module _ (texts : List (List ℕ)) (n : NewNumbers) (is : AreNumbered texts n) (
   still_moved : (text : List ℕ) (k : ℕ) → id_of text before ≡ Some k → id_of text after ≡ Some k
   still_moved text k e = ap (id_of text) one_more ∙ id_of-with_text before seen.text text k e
 
-  module _ (now moved : List (List ℕ)) (left_or_moved : AreLeftOrMoved texts now (kept_of texts (take i n.order.items))) (so_far : moved ≡ kept_of texts (take i n.order.items)) where
+  module _ (now moved : List (List ℕ)) (left_or_moved : AreLeftOrMoved texts now (texts_in_use texts (take i n.order.items))) (so_far : moved ≡ texts_in_use texts (take i n.order.items)) where
     -- a text is moved
     module _ (taken : List ℕ) (next : number ≡ length moved) (found : slice_get now id ≡ Some taken) where
       new : id_of seen.text before ≡ None
@@ -85,18 +85,18 @@ module _ (texts : List (List ℕ)) (n : NewNumbers) (is : AreNumbered texts n) (
       unfolding before
       same_text = by_case (left_or_moved id seen.text seen.named)
         where
-          by_case : (slice_get now id ≡ Some seen.text) ⊎ ((k : ℕ) × (id_of seen.text (kept_of texts (take i n.order.items)) ≡ Some k)) → taken ≡ seen.text
+          by_case : (slice_get now id ≡ Some seen.text) ⊎ ((k : ℕ) × (id_of seen.text (texts_in_use texts (take i n.order.items)) ≡ Some k)) → taken ≡ seen.text
           by_case (inl e) = cc
           by_case (inr (k, e)) = let none = new in cc
 
       added : after ≡ before ++ seen.text ∷ []
       added = one_more ∙ rw new refl
 
-      pub moved-more : (moved' : List (List ℕ)) → moved' ≡ moved ++ taken ∷ [] → moved' ≡ kept_of texts (take (i + 1) n.order.items)
+      pub moved-more : (moved' : List (List ℕ)) → moved' ≡ moved ++ taken ∷ [] → moved' ≡ texts_in_use texts (take (i + 1) n.order.items)
       unfolding before after
       moved-more moved' e = e ∙ (λ j. so_far j ++ same_text j ∷ []) ∙ sym added
 
-      pub left_or_moved-more : (now' : List (List ℕ)) → now' ≡ slice_set now id [] → AreLeftOrMoved texts now' (kept_of texts (take (i + 1) n.order.items))
+      pub left_or_moved-more : (now' : List (List ℕ)) → now' ≡ slice_set now id [] → AreLeftOrMoved texts now' (texts_in_use texts (take (i + 1) n.order.items))
       unfolding before after
       left_or_moved-more now' e x text named = by_case (cases_eq x id) (left_or_moved x text named)
         where
@@ -117,27 +117,27 @@ module _ (texts : List (List ℕ)) (n : NewNumbers) (is : AreNumbered texts n) (
       same : after ≡ before
       same = one_more ∙ rw old.1 refl
 
-      pub moved-same : moved ≡ kept_of texts (take (i + 1) n.order.items)
+      pub moved-same : moved ≡ texts_in_use texts (take (i + 1) n.order.items)
       unfolding before after
       moved-same = so_far ∙ sym same
 
-      pub left_or_moved-same : AreLeftOrMoved texts now (kept_of texts (take (i + 1) n.order.items))
+      pub left_or_moved-same : AreLeftOrMoved texts now (texts_in_use texts (take (i + 1) n.order.items))
       unfolding before after
       left_or_moved-same = subst (AreLeftOrMoved texts now) (sym same) left_or_moved
 
   -- The first old numbers.
 
-  module _ (ids : List ℕ) (so_far : ids ≡ map (first_of texts n.order.items) (kept_of texts (take i n.order.items))) where
+  module _ (ids : List ℕ) (so_far : ids ≡ map (first_of texts n.order.items) (texts_in_use texts (take i n.order.items))) where
     many : length ids ≡ length before
     unfolding before
-    many = ap length so_far ∙ length-map (kept_of texts (take i n.order.items)) (first_of texts n.order.items)
+    many = ap length so_far ∙ length-map (texts_in_use texts (take i n.order.items)) (first_of texts n.order.items)
 
     -- the first number of a new text is the next
-    pub first-more : number ≡ length ids → (ids' : List ℕ) → ids' ≡ ids ++ id ∷ [] → ids' ≡ map (first_of texts n.order.items) (kept_of texts (take (i + 1) n.order.items))
+    pub first-more : number ≡ length ids → (ids' : List ℕ) → ids' ≡ ids ++ id ∷ [] → ids' ≡ map (first_of texts n.order.items) (texts_in_use texts (take (i + 1) n.order.items))
     unfolding before after
     first-more next ids' e =
-        let new : id_of seen.text (kept_of texts (take i n.order.items)) ≡ None = new_text (next ∙ many) in
-        let added : kept_of texts (take (i + 1) n.order.items) ≡ kept_of texts (take i n.order.items) ++ seen.text ∷ [] = one_more ∙ rw new refl in
+        let new : id_of seen.text (texts_in_use texts (take i n.order.items)) ≡ None = new_text (next ∙ many) in
+        let added : texts_in_use texts (take (i + 1) n.order.items) ≡ texts_in_use texts (take i n.order.items) ++ seen.text ∷ [] = one_more ∙ rw new refl in
         let item : get_or n.order.items i 0 ≡ id = get_or_from_slice_get n.order.items i id 0 at in
         let split : n.order.items ≡ take i n.order.items ++ id ∷ drop (i + 1) n.order.items =
         sym (take-append-drop i n.order.items)
@@ -145,12 +145,12 @@ module _ (texts : List (List ℕ)) (n : NewNumbers) (is : AreNumbered texts n) (
         let here : first_of texts n.order.items seen.text ≡ id =
         ap (λ all. first_of texts all seen.text) split ∙ first_here texts (take i n.order.items) (drop (i + 1) n.order.items) id seen.text new seen.named in
         e ∙ (λ j. so_far j ++ sym here j ∷ [])
-        ∙ sym (map_push (first_of texts n.order.items) (kept_of texts (take i n.order.items)) seen.text)
+        ∙ sym (map_push (first_of texts n.order.items) (texts_in_use texts (take i n.order.items)) seen.text)
         ∙ ap (map (first_of texts n.order.items)) (sym added)
 
-    pub first-same : number ≢ length ids → ids ≡ map (first_of texts n.order.items) (kept_of texts (take (i + 1) n.order.items))
+    pub first-same : number ≢ length ids → ids ≡ map (first_of texts n.order.items) (texts_in_use texts (take (i + 1) n.order.items))
     unfolding before after
     first-same other =
         let old = old_text (λ e. other (e ∙ sym many)) in
-        let same : kept_of texts (take (i + 1) n.order.items) ≡ kept_of texts (take i n.order.items) = one_more ∙ rw old.1 refl in
+        let same : texts_in_use texts (take (i + 1) n.order.items) ≡ texts_in_use texts (take i n.order.items) = one_more ∙ rw old.1 refl in
         so_far ∙ ap (map (first_of texts n.order.items)) (sym same)

@@ -14,7 +14,7 @@ use Rattle.sourcemap_interning.specs.Interner.{id_of, with_text, AreDistinct}
 use Rattle.sourcemap_tokens.proofs.AllLemmas.{All-append, All-at, All-weaker}
 use Rattle.sourcemap_interning.proofs.InternerLemmas.{AreDistinct-append, id_of-append, id_of-last, slice_get-id_of}
 use Rattle.sourcemap_map_rewrite.specs.Kept.{present, kept_once, number_in}
-use Rattle.sourcemap_map_rewrite.specs.Numbering.{with_text_if, first_some, HasNumberIfAny, kept_of, seen_texts, IsSeen, IsSeenOrNot, NumbersMore, IsNumbering, Assigns}
+use Rattle.sourcemap_map_rewrite.specs.Numbering.{with_text_if, first_some, IsListedIfAny, texts_in_use, seen_texts, IsSeen, IsSeenOrNot, NumbersMore, IsNumbering, Assigns}
 use Rattle.sourcemap_map_rewrite.specs.declared.numbering.NewNumbers.{NewNumbers}
 use Rattle.sourcemap_map_rewrite.specs.declared.numbering.Numbering.{Numbering}
 
@@ -40,8 +40,8 @@ kept_once-push os o = ap kept_once (present-push os o) ∙ by_case o
     by_case None = ap kept_once (append-nil (present os))
     by_case (Some t) = fold-push with_text [] (present os) t
 
-pub kept_of-push : (texts : List (List ℕ)) (ids : List ℕ) (id : ℕ) → kept_of texts (ids ++ id ∷ []) ≡ with_text_if (kept_of texts ids) (slice_get texts id)
-kept_of-push texts ids id = ap (λ os. kept_once (present os)) (map_push (slice_get texts) ids id) ∙ kept_once-push (map (slice_get texts) ids) (slice_get texts id)
+pub texts_in_use-push : (texts : List (List ℕ)) (ids : List ℕ) (id : ℕ) → texts_in_use texts (ids ++ id ∷ []) ≡ with_text_if (texts_in_use texts ids) (slice_get texts id)
+texts_in_use-push texts ids id = ap (λ os. kept_once (present os)) (map_push (slice_get texts) ids id) ∙ kept_once-push (map (slice_get texts) ids) (slice_get texts id)
 
 -- a text keeps its number when others are added
 pub id_of-with_text : (texts : List (List ℕ)) (text other : List ℕ) (n : ℕ) → id_of other texts ≡ Some n → id_of other (with_text texts text) ≡ Some n
@@ -67,12 +67,12 @@ id_of-with_text_if texts None other n e = e
 id_of-with_text_if texts (Some t) other n e = id_of-with_text texts t other n e
 
 -- also with more numbers
-pub id_of-kept_of : (texts : List (List ℕ)) (ids more : List ℕ) (text : List ℕ) (n : ℕ) → id_of text (kept_of texts ids) ≡ Some n → id_of text (kept_of texts (ids ++ more)) ≡ Some n
-id_of-kept_of texts ids [] text n e = rw (append-nil ids) e
-id_of-kept_of texts ids (id ∷ more) text n e =
-    let next : id_of text (kept_of texts (ids ++ id ∷ [])) ≡ Some n =
-    ap (id_of text) (kept_of-push texts ids id) ∙ id_of-with_text_if (kept_of texts ids) (slice_get texts id) text n e in
-    subst (λ all. id_of text (kept_of texts all) ≡ Some n) (append_assoc ids (id ∷ []) more) (id_of-kept_of texts (ids ++ id ∷ []) more text n next)
+pub id_of-texts_in_use : (texts : List (List ℕ)) (ids more : List ℕ) (text : List ℕ) (n : ℕ) → id_of text (texts_in_use texts ids) ≡ Some n → id_of text (texts_in_use texts (ids ++ more)) ≡ Some n
+id_of-texts_in_use texts ids [] text n e = rw (append-nil ids) e
+id_of-texts_in_use texts ids (id ∷ more) text n e =
+    let next : id_of text (texts_in_use texts (ids ++ id ∷ [])) ≡ Some n =
+    ap (id_of text) (texts_in_use-push texts ids id) ∙ id_of-with_text_if (texts_in_use texts ids) (slice_get texts id) text n e in
+    subst (λ all. id_of text (texts_in_use texts all) ≡ Some n) (append_assoc ids (id ∷ []) more) (id_of-texts_in_use texts (ids ++ id ∷ []) more text n next)
 
 AreDistinct-with_text : (texts : List (List ℕ)) (text : List ℕ) → AreDistinct texts → AreDistinct (with_text texts text)
 AreDistinct-with_text texts text distinct = by_case (id_of text texts) refl
@@ -89,8 +89,8 @@ distinct-kept_once texts = after [] texts (λ text id e. cc)
     after kept [] distinct = distinct
     after kept (u ∷ us) distinct = after (with_text kept u) us (AreDistinct-with_text kept u distinct)
 
-pub distinct-kept_of : (texts : List (List ℕ)) (ids : List ℕ) → AreDistinct (kept_of texts ids)
-distinct-kept_of texts ids = distinct-kept_once (present (map (slice_get texts) ids))
+pub distinct-texts_in_use : (texts : List (List ℕ)) (ids : List ℕ) → AreDistinct (texts_in_use texts ids)
+distinct-texts_in_use texts ids = distinct-kept_once (present (map (slice_get texts) ids))
 
 -- The first result.
 
@@ -116,14 +116,14 @@ id_of-fold [] texts text n e = e
 id_of-fold (u ∷ us) texts text n e = id_of-fold us (with_text texts u) text n (id_of-with_text texts u text n e)
 
 -- each text in use is kept
-all_kept : (os : List (Option (List ℕ))) (texts : List (List ℕ)) → AllByRecursion (HasNumberIfAny (fold with_text texts (present os))) os
+all_kept : (os : List (Option (List ℕ))) (texts : List (List ℕ)) → AllByRecursion (IsListedIfAny (fold with_text texts (present os))) os
 all_kept [] texts = tt
 all_kept (None ∷ os) texts = (tt, all_kept os texts)
 all_kept (Some t ∷ os) texts =
     let here = id_of-added texts t in
     ((here.0, id_of-fold (present os) (with_text texts t) t here.0 here.1), all_kept os (with_text texts t))
 
-pub used-kept : (os : List (Option (List ℕ))) → AllByRecursion (HasNumberIfAny (kept_once (present os))) os
+pub used-kept : (os : List (Option (List ℕ))) → AllByRecursion (IsListedIfAny (kept_once (present os))) os
 used-kept os = all_kept os []
 
 -- No more texts are kept than there are.
@@ -199,8 +199,8 @@ fold-present : (kept : List (List ℕ)) (o : Option (List ℕ)) (os : List (Opti
 fold-present kept None os = refl
 fold-present kept (Some t) os = refl
 
-AreFew-kept_of : (texts : List (List ℕ)) (ids : List ℕ) → AreFew (kept_of texts ids) texts
-AreFew-kept_of texts ids = few_after [] ids (AreFew-none texts)
+AreFew-texts_in_use : (texts : List (List ℕ)) (ids : List ℕ) → AreFew (texts_in_use texts ids) texts
+AreFew-texts_in_use texts ids = few_after [] ids (AreFew-none texts)
   where
     few_after : (kept : List (List ℕ)) (ids : List ℕ) → AreFew kept texts → AreFew (fold with_text kept (present (map (slice_get texts) ids))) texts
     few_after kept [] few = few
@@ -208,16 +208,16 @@ AreFew-kept_of texts ids = few_after [] ids (AreFew-none texts)
         rw (fold-present kept (slice_get texts id) (map (slice_get texts) ids))
         (few_after (with_text_if kept (slice_get texts id)) ids (AreFew-with_text_if kept texts id few))
 
-pub kept_once-few : (texts : List (List ℕ)) (ids : List ℕ) → length (kept_of texts ids) ≤ length texts
-kept_once-few texts ids = let all = AreFew-kept_of texts ids in omega arith
+pub kept_once-few : (texts : List (List ℕ)) (ids : List ℕ) → length (texts_in_use texts ids) ≤ length texts
+kept_once-few texts ids = let all = AreFew-texts_in_use texts ids in omega arith
 
 -- a kept text keeps its number when more are kept
-pub number_in-with_text_if : (kept : List (List ℕ)) (added o : Option (List ℕ)) → HasNumberIfAny kept o → number_in (with_text_if kept added) o ≡ number_in kept o
+pub number_in-with_text_if : (kept : List (List ℕ)) (added o : Option (List ℕ)) → IsListedIfAny kept o → number_in (with_text_if kept added) o ≡ number_in kept o
 number_in-with_text_if kept added None h = refl
 number_in-with_text_if kept added (Some t) h = rw (h.1, id_of-with_text_if kept added t h.0 h.1) refl
 
 -- and the number is its index
-pub slice_get-number_in : (kept : List (List ℕ)) (o : Option (List ℕ)) → length kept ≤ 4294967295 → HasNumberIfAny kept o → slice_get kept (number_in kept o) ≡ o
+pub slice_get-number_in : (kept : List (List ℕ)) (o : Option (List ℕ)) → length kept ≤ 4294967295 → IsListedIfAny kept o → slice_get kept (number_in kept o) ≡ o
 slice_get-number_in kept None few h = slice_get_past kept 4294967295 few
 slice_get-number_in kept (Some t) few h = rw h.1 (slice_get-id_of t kept h.0 h.1)
 
@@ -257,7 +257,7 @@ numbering-new texts n numbers order none = record {
     seen = subst (λ xs. AllByRecursion (IsSeen texts n.seen) xs) (sym order) tt;
     others = λ id text e. inl (ap (λ xs. slice_get xs id) numbers ∙ slice_get-replicate (length texts) 4294967295 id (slice_get_within texts id text e));
   };
-  index = none ∙ sym (ap (kept_of texts) order);
+  index = none ∙ sym (ap (texts_in_use texts) order);
 }
 
 module _ (texts : List (List ℕ)) (n : Numbering) (id : ℕ) (text : List ℕ) (is : IsNumbering texts n) (named : slice_get texts id ≡ Some text) where
@@ -286,7 +286,7 @@ module _ (texts : List (List ℕ)) (n : Numbering) (id : ℕ) (text : List ℕ) 
 
   pub below_max : length texts ≤ 4294967295 → id_of text n.ids ≡ None → length n.ids < 4294967295
   below_max few new =
-      let less = below_max-for_new (seen_texts texts n.seen) texts id text (AreFew-kept_of texts n.seen.order.items) named (ap (id_of text) (sym is.index) ∙ new) in
+      let less = below_max-for_new (seen_texts texts n.seen) texts id text (AreFew-texts_in_use texts n.seen.order.items) named (ap (id_of text) (sym is.index) ∙ new) in
       omega (arith, ap length is.index)
 
   -- an old number that was not
@@ -298,7 +298,7 @@ module _ (texts : List (List ℕ)) (n : Numbering) (id : ℕ) (text : List ℕ) 
     numbered = ap (λ xs. slice_get xs id) meets.numbers ∙ slice_get-set_same n.seen.numbers.items id number within
 
     kept_more : seen_texts texts next.seen ≡ with_text_if (seen_texts texts n.seen) (slice_get texts id)
-    kept_more = ap (kept_of texts) meets.order ∙ kept_of-push texts n.seen.order.items id
+    kept_more = ap (texts_in_use texts) meets.order ∙ texts_in_use-push texts n.seen.order.items id
 
     kept_new : seen_texts texts next.seen ≡ with_text (seen_texts texts n.seen) text
     kept_new = kept_more ∙ ap (with_text_if (seen_texts texts n.seen)) named

@@ -7,31 +7,31 @@ use Rattle.std.proofs.lemmas.List.{get_or-map, map_push, drop_more, take_more, t
 use Rattle.sourcemap_tokens.proofs.AllLemmas.{All-unmapped}
 use Rattle.sourcemap_tokens.specs.declared.tokens.RawToken.{RawToken}
 use Rattle.sourcemap_tokens.specs.Tokens.{AreInOrder, destination, position_cmp}
-use Rattle.sourcemap_map_rewrite.specs.Numbering.{with_text_if, first_some, HasNumberIfAny, kept_of, seen_texts, NumbersMore, AreSeen, numbered_by, numbered_with}
+use Rattle.sourcemap_map_rewrite.specs.Numbering.{with_text_if, first_some, IsListedIfAny, texts_in_use, seen_texts, NumbersMore, AreSeen, numbered_by, numbered_with}
 use Rattle.sourcemap_map_rewrite.specs.declared.numbering.NewNumbers.{NewNumbers}
-use Rattle.sourcemap_map_rewrite.proofs.NumberingLemmas.{kept_of-push, used-kept, first_some-push, number_in-with_text_if}
+use Rattle.sourcemap_map_rewrite.proofs.NumberingLemmas.{texts_in_use-push, used-kept, first_some-push, number_in-with_text_if}
 
 module _ (S N : List (List ℕ)) where
   pub AreSeen-none : (s n : NewNumbers) → s.order.items ≡ [] → n.order.items ≡ [] → AreSeen S N [] s n
   AreSeen-none s n none nothing = record {
-    kept_sources = ap (kept_of S) none;
-    kept_names = ap (kept_of N) nothing;
+    kept_sources = ap (texts_in_use S) none;
+    kept_names = ap (texts_in_use N) nothing;
     first = λ f past. ap (first_some f) none;
   }
 
   pub AreSeen-push : (ts : List RawToken) (t : RawToken) (s n s' n' : NewNumbers) → AreSeen S N ts s n → NumbersMore S t.src_id s s' → NumbersMore N t.name_id n n' → AreSeen S N (ts ++ t ∷ []) s' n'
   AreSeen-push ts t s n s' n' seen more_s more_n = record {
     kept_sources = more_s.kept ∙ ap (λ kept. with_text_if kept (slice_get S t.src_id)) seen.kept_sources
-        ∙ sym (ap (kept_of S) (map_push (λ (u : RawToken). u.src_id) ts t) ∙ kept_of-push S (map (λ u. u.src_id) ts) t.src_id);
+        ∙ sym (ap (texts_in_use S) (map_push (λ (u : RawToken). u.src_id) ts t) ∙ texts_in_use-push S (map (λ u. u.src_id) ts) t.src_id);
     kept_names = more_n.kept ∙ ap (λ kept. with_text_if kept (slice_get N t.name_id)) seen.kept_names
-        ∙ sym (ap (kept_of N) (map_push (λ (u : RawToken). u.name_id) ts t) ∙ kept_of-push N (map (λ u. u.name_id) ts) t.name_id);
+        ∙ sym (ap (texts_in_use N) (map_push (λ (u : RawToken). u.name_id) ts t) ∙ texts_in_use-push N (map (λ u. u.name_id) ts) t.name_id);
     first = λ f none. more_s.seen f (none t.src_id) ∙ ap (λ o. option_or o (f t.src_id)) (seen.first f none)
         ∙ sym (ap (first_some f) (map_push (λ (u : RawToken). u.src_id) ts t) ∙ first_some-push f (map (λ u. u.src_id) ts) t.src_id);
   }
 
   -- earlier tokens keep their numbers
   numbered-kept : (ks kn : List (List ℕ)) (os on : Option (List ℕ)) (ts : List RawToken)
-      → AllByRecursion (λ t. HasNumberIfAny ks (slice_get S t.src_id)) ts → AllByRecursion (λ t. HasNumberIfAny kn (slice_get N t.name_id)) ts
+      → AllByRecursion (λ t. IsListedIfAny ks (slice_get S t.src_id)) ts → AllByRecursion (λ t. IsListedIfAny kn (slice_get N t.name_id)) ts
       → map (numbered_by S N (with_text_if ks os) (with_text_if kn on)) ts ≡ map (numbered_by S N ks kn) ts
   numbered-kept ks kn os on [] hs hn = refl
   numbered-kept ks kn os on (t ∷ ts) hs hn =
@@ -39,11 +39,11 @@ module _ (S N : List (List ℕ)) where
       λ i. record t { src_id = number_in-with_text_if ks os (slice_get S t.src_id) hs.0 i; name_id = number_in-with_text_if kn on (slice_get N t.name_id) hn.0 i } in
       λ i. one i ∷ numbered-kept ks kn os on ts hs.1 hn.1 i
 
-  all_have_numbers : (texts : List (List ℕ)) (id : RawToken → ℕ) (ts : List RawToken) (kept : List (List ℕ)) → kept ≡ kept_of texts (map id ts) → AllByRecursion (λ t. HasNumberIfAny kept (slice_get texts (id t))) ts
+  all_have_numbers : (texts : List (List ℕ)) (id : RawToken → ℕ) (ts : List RawToken) (kept : List (List ℕ)) → kept ≡ texts_in_use texts (map id ts) → AllByRecursion (λ t. IsListedIfAny kept (slice_get texts (id t))) ts
   all_have_numbers texts id ts kept e =
-      subst (λ k. AllByRecursion (λ t. HasNumberIfAny k (slice_get texts (id t))) ts) (sym e)
-      (All-unmapped (λ x. HasNumberIfAny (kept_of texts (map id ts)) (slice_get texts x)) id ts
-      (All-unmapped (HasNumberIfAny (kept_of texts (map id ts))) (slice_get texts) (map id ts) (used-kept (map (slice_get texts) (map id ts)))))
+      subst (λ k. AllByRecursion (λ t. IsListedIfAny k (slice_get texts (id t))) ts) (sym e)
+      (All-unmapped (λ x. IsListedIfAny (texts_in_use texts (map id ts)) (slice_get texts x)) id ts
+      (All-unmapped (IsListedIfAny (texts_in_use texts (map id ts))) (slice_get texts) (map id ts) (used-kept (map (slice_get texts) (map id ts)))))
 
   numbered-push : (ts : List RawToken) (t : RawToken) (s n s' n' : NewNumbers) → AreSeen S N ts s n → NumbersMore S t.src_id s s' → NumbersMore N t.name_id n n'
       → map (numbered_with S N s' n') (ts ++ t ∷ []) ≡ map (numbered_with S N s n) ts ++ numbered_with S N s' n' t ∷ []

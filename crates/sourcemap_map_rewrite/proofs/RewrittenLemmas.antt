@@ -27,7 +27,7 @@ use Rattle.sourcemap_map_rewrite.specs.declared.options.RewriteOptions.{RewriteO
 use Rattle.sourcemap_map_rewrite.specs.declared.rewritten.RewrittenParts.{RewrittenParts}
 use Rattle.sourcemap_map_rewrite.specs.declared.numbering.NewNumbers.{NewNumbers}
 use Rattle.sourcemap_tokens.proofs.AllLemmas.{All-weaker}
-use Rattle.sourcemap_map_rewrite.proofs.NumberingLemmas.{kept_once-few, distinct-kept_of}
+use Rattle.sourcemap_map_rewrite.proofs.NumberingLemmas.{kept_once-few, distinct-texts_in_use}
 
 -- each old number that was seen has a new one
 all_have_new_numbers : (S : List (List ℕ)) (s : NewNumbers) → AreNumbered S s → AllByRecursion (HasNewNumber s.numbers.items (length (seen_texts S s))) s.order.items
@@ -104,7 +104,7 @@ contents-kept S N ts s n contents kept seen numbered are =
 
     of_seen : (k : ℕ) (text : List ℕ) → slice_get (seen_texts S s) k ≡ Some text → (id : ℕ) → IsSeen S s id → contents_with_number s.numbers.items contents k id ≡ of_id S contents text id
     of_seen k text at id is =
-        rw (is.numbered, is.named) (ap (λ b. cond b (item_at contents id) None) (tests_agree (seen_texts S s) (distinct-kept_of S s.order.items) text is.text k is.number at is.interned))
+        rw (is.numbered, is.named) (ap (λ b. cond b (item_at contents id) None) (tests_agree (seen_texts S s) (distinct-texts_in_use S s.order.items) text is.text k is.number at is.interned))
 
     each : (k : ℕ) → k < length (seen_texts S s) → item_at kept k ≡ item_at (map (resulting_contents S contents ts) (seen_texts S s)) k
     each k below =

@@ -4,7 +4,7 @@ use Rattle.std.specs.List.{find}
 use Rattle.std.specs.Option.{option_map_or}
 use Rattle.std.specs.Str.{bytes_eq}
 use Rattle.sourcemap_tokens.specs.Tokens.{no_id}
-use Rattle.sourcemap_map_rewrite.specs.Numbering.{kept_of}
+use Rattle.sourcemap_map_rewrite.specs.Numbering.{texts_in_use}
 
 -- the number is the index of this text
 abbrev pub names_text : List (List ℕ) → List ℕ → ℕ → Bool
@@ -16,4 +16,4 @@ first_of texts ids text = unwrap_or (find (names_text texts text) ids) no_id
 
 -- the first number of each text that these numbers name, in the order of first use
 abbrev pub firsts_of : List (List ℕ) → List ℕ → List ℕ
-firsts_of texts ids = map (first_of texts ids) (kept_of texts ids)
+firsts_of texts ids = map (first_of texts ids) (texts_in_use texts ids)

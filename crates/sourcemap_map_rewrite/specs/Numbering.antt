@@ -20,17 +20,17 @@ first_some f [] = None
 first_some f (x ∷ xs) = option_or (f x) (first_some f xs)
 
 -- the text is one of these, if there is a text
-abbrev pub HasNumberIfAny : List (List ℕ) → Option (List ℕ) → Type 0
-HasNumberIfAny texts None = Unit {0}
-HasNumberIfAny texts (Some text) = (n : ℕ) × (id_of text texts ≡ Some n)
+abbrev pub IsListedIfAny : List (List ℕ) → Option (List ℕ) → Type 0
+IsListedIfAny texts None = Unit {0}
+IsListedIfAny texts (Some text) = (n : ℕ) × (id_of text texts ≡ Some n)
 
 -- the texts that these numbers name, each once, in the order of first use
-abbrev pub kept_of : List (List ℕ) → List ℕ → List (List ℕ)
-kept_of texts ids = kept_once (present (map (slice_get texts) ids))
+abbrev pub texts_in_use : List (List ℕ) → List ℕ → List (List ℕ)
+texts_in_use texts ids = kept_once (present (map (slice_get texts) ids))
 
 -- the texts that have a new number, by that number
 abbrev pub seen_texts : List (List ℕ) → NewNumbers → List (List ℕ)
-seen_texts texts n = kept_of texts n.order.items
+seen_texts texts n = texts_in_use texts n.order.items
 
 -- the old number has a new one, which is the index of its text in `seen_texts`
 pub record IsSeen (texts : List (List ℕ)) (n : NewNumbers) (id : ℕ) : Type 0 where
@@ -70,8 +70,8 @@ pub record Assigns (text : List ℕ) (id number : ℕ) (old new : Numbering) : T
 
 -- exactly the source and name numbers of the tokens were seen
 pub record AreSeen (sources names : List (List ℕ)) (tokens : List RawToken) (s n : NewNumbers) : Type 0 where
-  pub kept_sources : seen_texts sources s ≡ kept_of sources (map (λ t. t.src_id) tokens)
-  pub kept_names : seen_texts names n ≡ kept_of names (map (λ t. t.name_id) tokens)
+  pub kept_sources : seen_texts sources s ≡ texts_in_use sources (map (λ t. t.src_id) tokens)
+  pub kept_names : seen_texts names n ≡ texts_in_use names (map (λ t. t.name_id) tokens)
   pub first : (f : ℕ → Option (List ℕ)) → ((id : ℕ) → slice_get sources id ≡ None → f id ≡ None)
       → first_some f s.order.items ≡ first_some f (map (λ t. t.src_id) tokens)
 

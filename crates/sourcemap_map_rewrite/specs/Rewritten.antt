@@ -10,7 +10,7 @@ use Rattle.sourcemap_map_rewrite.specs.Options.{Removal, removal_of}
 use Rattle.sourcemap_map_rewrite.specs.CutSources.{all_prefixes}
 use Rattle.sourcemap_map_rewrite.specs.FirstIds.{firsts_of}
 use Rattle.sourcemap_map_rewrite.specs.Kept.{present}
-use Rattle.sourcemap_map_rewrite.specs.Numbering.{kept_of, numbered_by}
+use Rattle.sourcemap_map_rewrite.specs.Numbering.{texts_in_use, numbered_by}
 use Rattle.sourcemap_map_rewrite.specs.declared.options.RewriteOptions.{RewriteOptions}
 use Rattle.sourcemap_map_rewrite.specs.declared.rewritten.RewrittenParts.{RewrittenParts}
 
@@ -26,10 +26,10 @@ resulting_contents sources contents tokens text =
 
 -- the sources and the names that tokens use
 abbrev pub sources_used : List (List ℕ) → List RawToken → List (List ℕ)
-sources_used sources tokens = kept_of sources (map (λ t. t.src_id) tokens)
+sources_used sources tokens = texts_in_use sources (map (λ t. t.src_id) tokens)
 
 abbrev pub names_used : List (List ℕ) → List RawToken → List (List ℕ)
-names_used names tokens = kept_of names (map (λ t. t.name_id) tokens)
+names_used names tokens = texts_in_use names (map (λ t. t.name_id) tokens)
 
 -- the old number of each source in use: the one by which a token first uses it
 abbrev pub first_ids_used : List (List ℕ) → List RawToken → List ℕ

@@ -17,7 +17,8 @@ use sourcemap_source_views::sourceview::SourceView;
 use std::alloc::Global;
 use std::rt::Files;
 
-fn resolved_sources<'a>(rooted: &'a Option<Vec<String>>, sources: &'a Vec<String>) -> &'a [String]
+// The sources with the root, if there are such, otherwise those without.
+fn rooted_or_plain<'a>(rooted: &'a Option<Vec<String>>, sources: &'a Vec<String>) -> &'a [String]
     ensures { map string_bytes result.now ≡ texts_of (unwrap_or rooted.now sources.now) }
 {
     match rooted {
@@ -26,7 +27,7 @@ fn resolved_sources<'a>(rooted: &'a Option<Vec<String>>, sources: &'a Vec<String
     }
 }
 
-fn into_resolved_sources(rooted: Option<Vec<String>>, sources: Vec<String>) -> Vec<String>
+fn into_rooted_or_plain(rooted: Option<Vec<String>>, sources: Vec<String>) -> Vec<String>
     ensures { texts_of result ≡ texts_of (unwrap_or rooted sources) }
 {
     match rooted {
@@ -78,10 +79,10 @@ pub fn rewritten_parts<F: Files>(
     ensures few { IfOk result AreFew }
     ensures err { IfErr result (λ e. UnlessMemory e (LacksFolder options.now e)) }
 {
-    let texts = resolved_sources(&with_root, &sources);
+    let texts = rooted_or_plain(&with_root, &sources);
     let (tokens, numbers) = renumber(alloc, tokens, texts, names.as_slice())?;
     let prefixes = all_prefixes(alloc, options.strip_prefixes, sources.as_slice())?;
-    let texts = into_resolved_sources(with_root, sources);
+    let texts = into_rooted_or_plain(with_root, sources);
     let texts = kept_texts(alloc, texts, &numbers.sources)?;
     // before prefixes are cut: files are found by the whole source
     let contents = resulting_contents(

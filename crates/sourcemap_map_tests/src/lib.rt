@@ -1,6 +1,5 @@
 //! Tests of regular maps, by the names that users know: decoding of bytes, data URLs and records,
 //! construction from parts and by builders, lookups, changes, rewriting, encoding, and views of texts.
-//! A crate of its own, so that no proof and no must-fail edit waits for it.
 #![tactic(auto)]
 
 #[cfg(test)]

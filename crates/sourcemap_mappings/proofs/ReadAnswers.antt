@@ -9,7 +9,7 @@ use Rattle.sourcemap_vlq.specs.Bits.{first_non_digit}
 use Rattle.sourcemap_vlq.specs.Vlq.{Reads, HasError, SegmentAnswers}
 use Rattle.sourcemap_tokens.specs.Tokens.{in_order, IsWithin, AllWithin}
 use Rattle.sourcemap_mappings.specs.Segment.{Counts, Segment, field, token_of, segment_error, parts_of}
-use Rattle.sourcemap_mappings.specs.Read.{Line, LineText, line_tokens, page_tokens, PartRead, PartError, PartsRead, PartsError, LineRead, LineError, LinesRead, LinesError, line_texts, MappingsAnswer}
+use Rattle.sourcemap_mappings.specs.Read.{Line, LineText, line_tokens, tokens_of_lines, PartRead, PartError, PartsRead, PartsError, LineRead, LineError, LinesRead, LinesError, line_texts, MappingsAnswer}
 use Rattle.sourcemap_vlq.proofs.VlqLemmas.{SegmentAnswers-same}
 use Rattle.sourcemap_tokens.proofs.AllLemmas.{All-append}
 use Rattle.sourcemap_tokens.proofs.TokensLemmas.{AllWithin-in_order}
@@ -151,25 +151,25 @@ Line-one counts n before (c ∷ cs, bits) = record {
   first = Line-first counts n before c cs bits;
 }
 
-Lines-cons : (counts : Counts) (n : ℕ) (before : List Segment) (text : LineText) (texts : List LineText) (page : List Line)
-    → LinesRead counts n before (text ∷ texts) page → Cons (LineRead counts n before text) (λ line page. LinesRead counts (n + 1) (before ++ line.segments) texts page) page
+Lines-cons : (counts : Counts) (n : ℕ) (before : List Segment) (text : LineText) (texts : List LineText) (decoded_lines : List Line)
+    → LinesRead counts n before (text ∷ texts) decoded_lines → Cons (LineRead counts n before text) (λ line decoded_lines. LinesRead counts (n + 1) (before ++ line.segments) texts decoded_lines) decoded_lines
 unfolding Cons
 Lines-cons counts n before text texts [] h = h
-Lines-cons counts n before text texts (line ∷ page) h = h
+Lines-cons counts n before text texts (line ∷ decoded_lines) h = h
 
 Lines-one : (counts : Counts) (n : ℕ) (before : List Segment) (texts : List LineText) → HasOneAnswer (LinesRead counts n before texts) (LinesError counts n before texts)
 Lines-one counts n before [] = record { same = λ x y h k. h ∙ sym k; sound = λ x e h k. k; first = λ d e h k. absurd h }
 Lines-one counts n before (text ∷ texts) =
     HasOneAnswer-weaker _ _ _ _ (Lines-cons counts n before text texts) (λ e h. h)
     (HasOneAnswer-cons (LineRead counts n before text) (LineError counts n before text)
-    (λ line page. LinesRead counts (n + 1) (before ++ line.segments) texts page) (λ line e. LinesError counts (n + 1) (before ++ line.segments) texts e)
+    (λ line decoded_lines. LinesRead counts (n + 1) (before ++ line.segments) texts decoded_lines) (λ line e. LinesError counts (n + 1) (before ++ line.segments) texts e)
     (Line-one counts n before text) (λ line. Lines-one counts (n + 1) (before ++ line.segments) texts))
 
 pub MappingsAnswer-same : (mappings ranges : List ℕ) (counts : Counts) (a b : Result (List RawToken) Error) → MappingsAnswer mappings ranges counts a → MappingsAnswer mappings ranges counts b → a ≡ b
-MappingsAnswer-same mappings ranges counts (Ok ts) (Ok us) (page, reads, is) (page', reads', is') =
-    ap Ok (is ∙ ap (λ p. in_order (page_tokens 0 [] p)) ((Lines-one counts 0 [] (line_texts mappings ranges)).same page page' reads reads') ∙ sym is')
-MappingsAnswer-same mappings ranges counts (Ok ts) (Err e) (page, reads, is) h = absurd ((Lines-one counts 0 [] (line_texts mappings ranges)).sound page e reads h)
-MappingsAnswer-same mappings ranges counts (Err e) (Ok ts) h (page, reads, is) = absurd ((Lines-one counts 0 [] (line_texts mappings ranges)).sound page e reads h)
+MappingsAnswer-same mappings ranges counts (Ok ts) (Ok us) (decoded_lines, reads, is) (decoded_lines', reads', is') =
+    ap Ok (is ∙ ap (λ p. in_order (tokens_of_lines 0 [] p)) ((Lines-one counts 0 [] (line_texts mappings ranges)).same decoded_lines decoded_lines' reads reads') ∙ sym is')
+MappingsAnswer-same mappings ranges counts (Ok ts) (Err e) (decoded_lines, reads, is) h = absurd ((Lines-one counts 0 [] (line_texts mappings ranges)).sound decoded_lines e reads h)
+MappingsAnswer-same mappings ranges counts (Err e) (Ok ts) h (decoded_lines, reads, is) = absurd ((Lines-one counts 0 [] (line_texts mappings ranges)).sound decoded_lines e reads h)
 MappingsAnswer-same mappings ranges counts (Err d) (Err e) h k = ap Err ((Lines-one counts 0 [] (line_texts mappings ranges)).first d e h k)
 
 -- Bounds.
@@ -204,15 +204,15 @@ AllWithin-text counts n before (c ∷ cs, bits) line small h =
     AllWithin-line counts n 0 line.bits before [] (parts_of (c ∷ cs)) line.segments small
     (subst (λ all. PartsRead counts 0 all (parts_of (c ∷ cs)) line.segments) (sym (append-nil before)) h.3)
 
-pub AllWithin-page : (counts : Counts) (n : ℕ) (before : List Segment) (texts : List LineText) (page : List Line) → counts.names ≤ 4294967295
-    → LinesRead counts n before texts page → AllWithin counts.sources counts.names (page_tokens n before page)
-AllWithin-page counts n before [] page small h = subst (λ p. AllWithin counts.sources counts.names (page_tokens n before p)) (sym h) tt
-AllWithin-page counts n before (text ∷ texts) [] small h = absurd h
-AllWithin-page counts n before (text ∷ texts) (line ∷ page) small h =
-    All-append (IsWithin counts.sources counts.names) (line_tokens n line.bits before [] line.segments) (page_tokens (n + 1) (before ++ line.segments) page)
-    (AllWithin-text counts n before text line small h.0) (AllWithin-page counts (n + 1) (before ++ line.segments) texts page small h.1)
+pub AllWithin-lines : (counts : Counts) (n : ℕ) (before : List Segment) (texts : List LineText) (decoded_lines : List Line) → counts.names ≤ 4294967295
+    → LinesRead counts n before texts decoded_lines → AllWithin counts.sources counts.names (tokens_of_lines n before decoded_lines)
+AllWithin-lines counts n before [] decoded_lines small h = subst (λ p. AllWithin counts.sources counts.names (tokens_of_lines n before p)) (sym h) tt
+AllWithin-lines counts n before (text ∷ texts) [] small h = absurd h
+AllWithin-lines counts n before (text ∷ texts) (line ∷ decoded_lines) small h =
+    All-append (IsWithin counts.sources counts.names) (line_tokens n line.bits before [] line.segments) (tokens_of_lines (n + 1) (before ++ line.segments) decoded_lines)
+    (AllWithin-text counts n before text line small h.0) (AllWithin-lines counts (n + 1) (before ++ line.segments) texts decoded_lines small h.1)
 
--- From the tokens of a page to the result.
+-- From the tokens of the lines to the result.
 
 -- the result of a call is equal to what is due
 pub given_same : {X : Type 0} (result : Result X Error) (due same : X) → Gives (λ x. x) result (Ok due) → due ≡ same → IfOk result (λ x. x ≡ same)
@@ -220,10 +220,10 @@ given_same (Ok x) due same given e = cc
 given_same (Err _) due same given e = tt
 
 module _ (mappings ranges : List ℕ) (counts : Counts) (tokens : List RawToken)
-    (page : List Line) (reads : LinesRead counts 0 [] (line_texts mappings ranges) page) (is : tokens ≡ page_tokens 0 [] page) where
+    (decoded_lines : List Line) (reads : LinesRead counts 0 [] (line_texts mappings ranges) decoded_lines) (is : tokens ≡ tokens_of_lines 0 [] decoded_lines) where
   pub IsAnswer-sorted : {X : Type 0} (view : X → List RawToken) (result : Result X Error) → IfOk result (λ v. view v ≡ in_order tokens) → IfErr result (λ e. e ≡ OutOfMemory) → IsAnswer view (MappingsAnswer mappings ranges counts) result
-  IsAnswer-sorted view (Ok v) sorted none = (page, reads, sorted ∙ ap in_order is)
+  IsAnswer-sorted view (Ok v) sorted none = (decoded_lines, reads, sorted ∙ ap in_order is)
   IsAnswer-sorted view (Err e) none memory = subst (λ f. UnlessMemory f (LinesError counts 0 [] (line_texts mappings ranges) f)) (sym memory) tt
 
   pub AllWithin-sorted : counts.names ≤ 4294967295 → AllWithin counts.sources counts.names (in_order tokens)
-  AllWithin-sorted small = AllWithin-in_order counts.sources counts.names tokens (subst (AllWithin counts.sources counts.names) (sym is) (AllWithin-page counts 0 [] (line_texts mappings ranges) page small reads))
+  AllWithin-sorted small = AllWithin-in_order counts.sources counts.names tokens (subst (AllWithin counts.sources counts.names) (sym is) (AllWithin-lines counts 0 [] (line_texts mappings ranges) decoded_lines small reads))

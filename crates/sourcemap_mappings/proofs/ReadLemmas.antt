@@ -11,7 +11,7 @@ use Rattle.sourcemap_mappings.specs.declared.segment.PartPosition.{PartPosition}
 use Rattle.sourcemap_errors.specs.declared.errors.Error.{Error}
 use Rattle.sourcemap_vlq.specs.Bits.{first_non_digit}
 use Rattle.sourcemap_mappings.specs.Segment.{Counts, Segment, token_of, segment_error, semicolon, parts_of}
-use Rattle.sourcemap_mappings.specs.Read.{Line, LineText, line_tokens, page_tokens, PartsRead, PartsError, LineError, LinesRead, LinesError, lines_of}
+use Rattle.sourcemap_mappings.specs.Read.{Line, LineText, line_tokens, tokens_of_lines, PartsRead, PartsError, LineError, LinesRead, LinesError, lines_of}
 use Rattle.sourcemap_mappings.specs.SegmentSteps.{AreTextSums, AreSums}
 use Rattle.sourcemap_mappings.specs.ReadSteps.{AddsParts, AddsLine}
 use Rattle.sourcemap_vlq.specs.Vlq.{Reads, HasError}
@@ -170,49 +170,49 @@ AddsParts-all counts n index bits before all old new sums so_far = record {
   sums_after = so_far.sums_after;
 }
 
--- Lines of a page.
+-- Lines.
 
 -- the first n of the lines `all` are decoded
-pub record PageSoFar (counts : Counts) (all : List LineText) (n : ℕ) (left : List LineText) (tokens : List RawToken) (sums : Sums) : Type 0 where
+pub record LinesSoFar (counts : Counts) (all : List LineText) (n : ℕ) (left : List LineText) (tokens : List RawToken) (sums : Sums) : Type 0 where
   pub before : List Segment
-  pub page : List Line
-  pub read : (later : List Line) → LinesRead counts n before left later → LinesRead counts 0 [] all (page ++ later)
+  pub decoded_lines : List Line
+  pub read : (later : List Line) → LinesRead counts n before left later → LinesRead counts 0 [] all (decoded_lines ++ later)
   pub error : (e : Error) → LinesError counts n before left e → LinesError counts 0 [] all e
-  pub tokens_read : (later : List Line) → page_tokens 0 [] (page ++ later) ≡ tokens ++ page_tokens n before later
+  pub tokens_read : (later : List Line) → tokens_of_lines 0 [] (decoded_lines ++ later) ≡ tokens ++ tokens_of_lines n before later
   pub sums_after : AreTextSums before sums
 
 module _ (counts : Counts) (all : List LineText) (n : ℕ) (text : LineText) (left : List LineText) (old new : List RawToken) (sums after : Sums) where
   -- one more line is decoded
-  pub PageSoFar-more : (so_far : PageSoFar counts all n (text ∷ left) old sums) → AddsLine counts n so_far.before text old new after
-      → PageSoFar counts all (n + 1) left new after
-  PageSoFar-more so_far adds =
+  pub LinesSoFar-more : (so_far : LinesSoFar counts all n (text ∷ left) old sums) → AddsLine counts n so_far.before text old new after
+      → LinesSoFar counts all (n + 1) left new after
+  LinesSoFar-more so_far adds =
       let line : Line = adds.line in
-      let page : List Line = so_far.page in
+      let decoded_lines : List Line = so_far.decoded_lines in
       let before : List Segment = so_far.before in
       let ts : List RawToken = line_tokens n line.bits before [] line.segments in
       record {
         before = before ++ line.segments;
-        page = page ++ line ∷ [];
+        decoded_lines = decoded_lines ++ line ∷ [];
         read = λ later r.
-            subst (λ zs. LinesRead counts 0 [] all zs) (sym (append_assoc page (line ∷ []) later)) (so_far.read (line ∷ later) (adds.read, r));
+            subst (λ zs. LinesRead counts 0 [] all zs) (sym (append_assoc decoded_lines (line ∷ []) later)) (so_far.read (line ∷ later) (adds.read, r));
         error = λ e f. so_far.error e (inr (line, adds.read, f));
         tokens_read = λ later.
-            ap (page_tokens 0 []) (append_assoc page (line ∷ []) later) ∙ so_far.tokens_read (line ∷ later)
-            ∙ sym (append_assoc old ts (page_tokens (n + 1) (before ++ line.segments) later))
-            ∙ ap (λ zs. zs ++ page_tokens (n + 1) (before ++ line.segments) later) (sym adds.tokens);
+            ap (tokens_of_lines 0 []) (append_assoc decoded_lines (line ∷ []) later) ∙ so_far.tokens_read (line ∷ later)
+            ∙ sym (append_assoc old ts (tokens_of_lines (n + 1) (before ++ line.segments) later))
+            ∙ ap (λ zs. zs ++ tokens_of_lines (n + 1) (before ++ line.segments) later) (sym adds.tokens);
         sums_after = adds.sums_after;
       }
 
   -- the next line has an error
-  pub PageSoFar-error : (e : Error) (so_far : PageSoFar counts all n (text ∷ left) old sums) → UnlessMemory e (LineError counts n so_far.before text e)
+  pub LinesSoFar-error : (e : Error) (so_far : LinesSoFar counts all n (text ∷ left) old sums) → UnlessMemory e (LineError counts n so_far.before text e)
       → UnlessMemory e (LinesError counts 0 [] all e)
-  PageSoFar-error e so_far f = UnlessMemory-weaker e (λ h. so_far.error e (inl h)) f
+  LinesSoFar-error e so_far f = UnlessMemory-weaker e (λ h. so_far.error e (inl h)) f
 
 -- before the first line
-pub PageSoFar-none : (counts : Counts) (all : List LineText) → PageSoFar counts all 0 all [] (record { rises = true; column = 0; source = 0; line = 0; source_column = 0; name = 0 })
-PageSoFar-none counts all = record {
+pub LinesSoFar-none : (counts : Counts) (all : List LineText) → LinesSoFar counts all 0 all [] (record { rises = true; column = 0; source = 0; line = 0; source_column = 0; name = 0 })
+LinesSoFar-none counts all = record {
   before = [];
-  page = [];
+  decoded_lines = [];
   read = λ later r. r;
   error = λ e f. f;
   tokens_read = λ later. refl;
@@ -220,12 +220,12 @@ PageSoFar-none counts all = record {
 }
 
 -- all lines are decoded
-pub PageSoFar-all : (counts : Counts) (all : List LineText) (n : ℕ) (tokens : List RawToken) (sums : Sums) → PageSoFar counts all n [] tokens sums
-    → (page : List Line) × LinesRead counts 0 [] all page × (tokens ≡ page_tokens 0 [] page)
-PageSoFar-all counts all n tokens sums so_far = (
-  so_far.page,
-  subst (λ zs. LinesRead counts 0 [] all zs) (append-nil so_far.page) (so_far.read [] refl),
-  sym (append-nil tokens) ∙ sym (so_far.tokens_read []) ∙ ap (page_tokens 0 []) (append-nil so_far.page),
+pub LinesSoFar-all : (counts : Counts) (all : List LineText) (n : ℕ) (tokens : List RawToken) (sums : Sums) → LinesSoFar counts all n [] tokens sums
+    → (decoded_lines : List Line) × LinesRead counts 0 [] all decoded_lines × (tokens ≡ tokens_of_lines 0 [] decoded_lines)
+LinesSoFar-all counts all n tokens sums so_far = (
+  so_far.decoded_lines,
+  subst (λ zs. LinesRead counts 0 [] all zs) (append-nil so_far.decoded_lines) (so_far.read [] refl),
+  sym (append-nil tokens) ∙ sym (so_far.tokens_read []) ∙ ap (tokens_of_lines 0 []) (append-nil so_far.decoded_lines),
 )
 
 -- a line that is empty

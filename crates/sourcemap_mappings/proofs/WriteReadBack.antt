@@ -8,7 +8,7 @@ use Rattle.sourcemap_tokens.specs.declared.tokens.RawToken.{RawToken}
 use Rattle.sourcemap_tokens.specs.Tokens.{AreInOrder, AllWithin, IsWithin, with_valid_name, without_repeats, reduced, in_order}
 use Rattle.sourcemap_vlq.specs.Bits.{bit_of, first_non_digit}
 use Rattle.sourcemap_mappings.specs.Segment.{Segment, sum_at, comma, semicolon, parts_of}
-use Rattle.sourcemap_mappings.specs.Read.{Line, LineText, line_tokens, page_tokens, PartsRead, LineRead, LinesRead, beside, line_texts, MappingsAnswer, lines_of}
+use Rattle.sourcemap_mappings.specs.Read.{Line, LineText, line_tokens, tokens_of_lines, PartsRead, LineRead, LinesRead, with_range_bits, line_texts, MappingsAnswer, lines_of}
 use Rattle.sourcemap_mappings.specs.Write.{is_on, is_above, last_field, base, numbers, AreSegments, IsLine, IsRangeLine, EachLine, LineByLine, line_count, IsWritten, IsRangeText}
 use Rattle.sourcemap_tokens.proofs.TokensLemmas.{All-without_repeats, in_order-ordered, AreInOrder-reduced}
 use Rattle.sourcemap_vlq.proofs.VlqLemmas.{Spells-Reads}
@@ -193,15 +193,15 @@ line_tokens_back sources names n ts all part bits few few_names sound c line fit
       flags [] l = subst (λ (us : List RawToken). Flags [] 0 us) (sym (empty_on names (filter (is_above n) ts) (filter (is_on n) ts) l.0 l.1 l.2)) (λ k h. absurd (omega arith))
       flags (x ∷ xs) l = fit.1
 
--- Pages.
+-- Lines.
 
 EachText : (ℕ → List ℕ → Type 0) → (ℕ → List ℕ → Type 0) → ℕ → List LineText → Type 0
 EachText P B n [] = Unit {0}
 EachText P B n ((part, bits) ∷ texts) = P n part × B n bits × EachText P B (n + 1) texts
 
-page_of : ℕ → List RawToken → ℕ → List LineText → List Line
-page_of names ts n [] = []
-page_of names ts n ((part, bits) ∷ texts) = line_of names ts n part bits ∷ page_of names ts (n + 1) texts
+decoded_lines_of : ℕ → List RawToken → ℕ → List LineText → List Line
+decoded_lines_of names ts n [] = []
+decoded_lines_of names ts n ((part, bits) ∷ texts) = line_of names ts n part bits ∷ decoded_lines_of names ts (n + 1) texts
 
 next_carries : (sources names n : ℕ) (ts : List RawToken) (all : List Segment) → sources < 2 ^ 32 → names < 2 ^ 32
     → AllByRecursion (IsSound sources names) ts → Rises ts → Carries names (filter (is_above n) ts) all
@@ -210,43 +210,43 @@ next_carries sources names n ts all few few_names sound rises c =
     subst (λ (us : List RawToken). Carries names us (all ++ segments_of names 0 (filter (is_above n) ts) (filter (is_on n) ts))) (sym (above_more n ts rises))
     (carries_line sources names 0 (filter (is_above n) ts) (filter (is_on n) ts) all few few_names (filter_keeps (is_on n) (IsSound sources names) ts sound) c)
 
-page_read : (sources names n : ℕ) (ts : List RawToken) (all : List Segment) (texts : List LineText)
+lines_read : (sources names n : ℕ) (ts : List RawToken) (all : List Segment) (texts : List LineText)
     → sources < 2 ^ 32 → names < 2 ^ 32 → AllByRecursion (IsSound sources names) ts → Rises ts → Carries names (filter (is_above n) ts) all
     → EachText (IsLine names ts) (FitBits ts) n texts
-    → LinesRead (record { sources = sources; names = names }) n all texts (page_of names ts n texts)
-unfolding EachText page_of line_of
-page_read sources names n ts all [] few few_names sound rises c each = refl
-page_read sources names n ts all ((part, bits) ∷ texts) few few_names sound rises c each = (
+    → LinesRead (record { sources = sources; names = names }) n all texts (decoded_lines_of names ts n texts)
+unfolding EachText decoded_lines_of line_of
+lines_read sources names n ts all [] few few_names sound rises c each = refl
+lines_read sources names n ts all ((part, bits) ∷ texts) few few_names sound rises c each = (
   line_read sources names n ts all part bits few few_names sound c each.0 each.1,
-  page_read sources names (n + 1) ts _ texts few few_names sound rises (next_carries sources names n ts all few few_names sound rises c) each.2,
+  lines_read sources names (n + 1) ts _ texts few few_names sound rises (next_carries sources names n ts all few few_names sound rises c) each.2,
 )
 
-page_back : (sources names n : ℕ) (ts : List RawToken) (all : List Segment) (texts : List LineText)
+lines_back : (sources names n : ℕ) (ts : List RawToken) (all : List Segment) (texts : List LineText)
     → sources < 2 ^ 32 → names < 2 ^ 32 → AllByRecursion (IsSound sources names) ts → Rises ts → Carries names (filter (is_above n) ts) all
     → EachText (IsLine names ts) (FitBits ts) n texts
-    → map (with_valid_name names) (filter (is_above n) ts) ++ page_tokens n all (page_of names ts n texts)
+    → map (with_valid_name names) (filter (is_above n) ts) ++ tokens_of_lines n all (decoded_lines_of names ts n texts)
     ≡ map (with_valid_name names) (filter (is_above (n + length texts)) ts)
-unfolding EachText page_of line_of
-page_back sources names n ts all [] few few_names sound rises c each =
+unfolding EachText decoded_lines_of line_of
+lines_back sources names n ts all [] few few_names sound rises c each =
     append-nil (map (with_valid_name names) (filter (is_above n) ts)) ∙ ap (λ m. map (with_valid_name names) (filter (is_above m) ts)) (sym (add-zero n))
-page_back sources names n ts all ((part, bits) ∷ texts) few few_names sound rises c each =
+lines_back sources names n ts all ((part, bits) ∷ texts) few few_names sound rises c each =
     let sounded = map (with_valid_name names) in
     let above = filter (is_above n) ts in
     let on = filter (is_on n) ts in
     let segments = segments_of names 0 above on in
-    let later = page_tokens (n + 1) (all ++ segments) (page_of names ts (n + 1) texts) in
+    let later = tokens_of_lines (n + 1) (all ++ segments) (decoded_lines_of names ts (n + 1) texts) in
     let line = line_tokens_back sources names n ts all part bits few few_names sound c each.0 each.1 in
     let count : n + 1 + length texts ≡ n + suc (length texts) = omega arith in
     ap (λ us. map (with_valid_name names) above ++ (us ++ later)) line
     ∙ sym (append_assoc (map (with_valid_name names) above) (map (with_valid_name names) on) later)
     ∙ ap (λ us. us ++ later) (sym (map-append (with_valid_name names) above on) ∙ ap (map (with_valid_name names)) (sym (above_more n ts rises)))
-    ∙ page_back sources names (n + 1) ts (all ++ segments) texts few few_names sound rises (next_carries sources names n ts all few few_names sound rises c) each.2
+    ∙ lines_back sources names (n + 1) ts (all ++ segments) texts few few_names sound rises (next_carries sources names n ts all few few_names sound rises c) each.2
     ∙ ap (λ m. map (with_valid_name names) (filter (is_above m) ts)) count
 
 -- Whole texts.
 
 each_beside : (P B : ℕ → List ℕ → Type 0) (n : ℕ) (parts ranges : List (List ℕ)) → EachLine P n parts → EachLine B n ranges
-    → ((m : ℕ) → n + length ranges ≤ m → m < n + length parts → B m []) → EachText P B n (beside parts ranges)
+    → ((m : ℕ) → n + length ranges ≤ m → m < n + length parts → B m []) → EachText P B n (with_range_bits parts ranges)
 unfolding EachText
 each_beside P B n [] ranges each bits past = tt
 each_beside P B n (p ∷ ps) [] each bits past =
@@ -254,10 +254,10 @@ each_beside P B n (p ∷ ps) [] each bits past =
 each_beside P B n (p ∷ ps) (r ∷ rs) each bits past =
     (each.0, bits.0, each_beside P B (n + 1) ps rs each.1 bits.1 (λ m h k. past m (omega arith) (omega arith)))
 
-length_beside : (parts ranges : List (List ℕ)) → length (beside parts ranges) ≡ length parts
-length_beside [] ranges = refl
-length_beside (p ∷ ps) [] = ap (λ n. suc n) (length_beside ps [])
-length_beside (p ∷ ps) (r ∷ rs) = ap (λ n. suc n) (length_beside ps rs)
+length_with_range_bits : (parts ranges : List (List ℕ)) → length (with_range_bits parts ranges) ≡ length parts
+length_with_range_bits [] ranges = refl
+length_with_range_bits (p ∷ ps) [] = ap (λ n. suc n) (length_with_range_bits ps [])
+length_with_range_bits (p ∷ ps) (r ∷ rs) = ap (λ n. suc n) (length_with_range_bits ps rs)
 
 each_line_map : (P Q : ℕ → List ℕ → Type 0) (n : ℕ) (parts : List (List ℕ)) → ((m : ℕ) (part : List ℕ) → P m part → Q m part)
     → EachLine P n parts → EachLine Q n parts
@@ -351,13 +351,13 @@ reads_back sources names (t ∷ rest) text ranges few few_names order within sma
     let each = texts_fit names tokens text ranges some written is in
     let all_sound = all_sound_from sources names ts few (All-without_repeats (IsWithin sources names) tokens within) small in
     let begun : Carries names (filter (is_above 0) ts) [] = subst (λ (us : List RawToken). Carries names us []) (sym (none_above_first ts)) (Carries-none names) in
-    let back = page_back sources names 0 ts [] texts few few_names all_sound rises begun each in
+    let back = lines_back sources names 0 ts [] texts few few_names all_sound rises begun each in
     let lines = lines_split (IsLine names ts) tokens text some (IsLine-free names ts) written in
-    let count : 0 + length texts ≡ line_count tokens = zero-add (length texts) ∙ length_beside (lines_of text) (lines_of (range_text ranges)) ∙ lines.1 in
-    let all_back : page_tokens 0 [] (page_of names ts 0 texts) ≡ reduced names tokens =
-    ap (λ us. map (with_valid_name names) us ++ page_tokens 0 [] (page_of names ts 0 texts)) (sym (none_above_first ts))
+    let count : 0 + length texts ≡ line_count tokens = zero-add (length texts) ∙ length_with_range_bits (lines_of text) (lines_of (range_text ranges)) ∙ lines.1 in
+    let all_back : tokens_of_lines 0 [] (decoded_lines_of names ts 0 texts) ≡ reduced names tokens =
+    ap (λ us. map (with_valid_name names) us ++ tokens_of_lines 0 [] (decoded_lines_of names ts 0 texts)) (sym (none_above_first ts))
     ∙ back ∙ ap (λ m. map (with_valid_name names) (filter (is_above m) ts)) count ∙ ap (map (with_valid_name names)) upto in (
-      page_of names ts 0 texts,
-      page_read sources names 0 ts [] texts few few_names all_sound rises begun each,
+      decoded_lines_of names ts 0 texts,
+      lines_read sources names 0 ts [] texts few few_names all_sound rises begun each,
       sym (in_order-ordered (reduced names tokens) (AreInOrder-reduced names tokens order)) ∙ ap in_order (sym all_back),
     )

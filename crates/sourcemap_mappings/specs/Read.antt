@@ -22,13 +22,13 @@ line_tokens n bits before here (s ∷ later) =
     let here' = here ++ s ∷ [] in
     token_of n bits here' (before ++ here') s ∷ line_tokens n bits before here' later
 
--- the tokens of a page, which is a list of lines from line n on, after the segments `before`
-abbrev pub page_tokens : ℕ → List Segment → List Line → List RawToken
-page_tokens n before [] = []
-page_tokens n before (line ∷ page) =
-    line_tokens n line.bits before [] line.segments ++ page_tokens (n + 1) (before ++ line.segments) page
+-- the tokens of decoded lines from line n on, after the segments `before`
+abbrev pub tokens_of_lines : ℕ → List Segment → List Line → List RawToken
+tokens_of_lines n before [] = []
+tokens_of_lines n before (line ∷ decoded_lines) =
+    line_tokens n line.bits before [] line.segments ++ tokens_of_lines (n + 1) (before ++ line.segments) decoded_lines
 
--- Texts and pages.
+-- Texts and what they decode to.
 
 -- a part that is not empty, with this index and after the segments `before`, decodes to a valid segment
 abbrev pub PartRead : Counts → ℕ → List Segment → List ℕ → Segment → Type 0
@@ -77,12 +77,12 @@ LineError counts n before ((c ∷ cs), bits) e =
     ⊎ ((n < 2 ^ 32) × ((b : ℕ) × (first_non_digit bits ≡ Some b) × (e ≡ InvalidBase64 b)))
     ⊎ ((n < 2 ^ 32) × (first_non_digit bits ≡ None) × PartsError counts 0 before (parts_of (c ∷ cs)) e)
 
--- the lines from line n on decode to a page, after the segments `before`
+-- the texts of the lines from line n on decode to these lines, after the segments `before`
 abbrev pub LinesRead : Counts → ℕ → List Segment → List LineText → List Line → Type 0
-LinesRead counts n before [] page = page ≡ []
+LinesRead counts n before [] decoded_lines = decoded_lines ≡ []
 LinesRead counts n before (text ∷ texts) [] = ⊥
-LinesRead counts n before (text ∷ texts) (line ∷ page) =
-    LineRead counts n before text line × LinesRead counts (n + 1) (before ++ line.segments) texts page
+LinesRead counts n before (text ∷ texts) (line ∷ decoded_lines) =
+    LineRead counts n before text line × LinesRead counts (n + 1) (before ++ line.segments) texts decoded_lines
 
 -- the first error of the lines from line n on
 abbrev pub LinesError : Counts → ℕ → List Segment → List LineText → Error → Type 0
@@ -92,20 +92,20 @@ LinesError counts n before (text ∷ texts) e =
     ⊎ ((line : Line) × LineRead counts n before text line × LinesError counts (n + 1) (before ++ line.segments) texts e)
 
 -- each line with the text of its range bits: a missing one is empty, those after the last line are ignored
-abbrev pub beside : List (List ℕ) → List (List ℕ) → List LineText
-beside [] ranges = []
-beside (line ∷ lines) [] = (line, []) ∷ beside lines []
-beside (line ∷ lines) (bits ∷ ranges) = (line, bits) ∷ beside lines ranges
+abbrev pub with_range_bits : List (List ℕ) → List (List ℕ) → List LineText
+with_range_bits [] ranges = []
+with_range_bits (line ∷ lines) [] = (line, []) ∷ with_range_bits lines []
+with_range_bits (line ∷ lines) (bits ∷ ranges) = (line, bits) ∷ with_range_bits lines ranges
 
 -- the lines of a text
 abbrev pub lines_of : List ℕ → List (List ℕ)
 lines_of text = slice_split (λ b. b == semicolon) text
 
 abbrev pub line_texts : List ℕ → List ℕ → List LineText
-line_texts mappings ranges = beside (lines_of mappings) (lines_of ranges)
+line_texts mappings ranges = with_range_bits (lines_of mappings) (lines_of ranges)
 
 -- the result of decoding `mappings` and `rangeMappings`: the sorted tokens, or the first error
 abbrev pub MappingsAnswer : List ℕ → List ℕ → Counts → Result (List RawToken) Error → Type 0
 MappingsAnswer mappings ranges counts (Ok tokens) =
-    (page : List Line) × LinesRead counts 0 [] (line_texts mappings ranges) page × (tokens ≡ in_order (page_tokens 0 [] page))
+    (decoded_lines : List Line) × LinesRead counts 0 [] (line_texts mappings ranges) decoded_lines × (tokens ≡ in_order (tokens_of_lines 0 [] decoded_lines))
 MappingsAnswer mappings ranges counts (Err e) = LinesError counts 0 [] (line_texts mappings ranges) e

@@ -1,4 +1,4 @@
--- The steps of decoding: a part is added to a line, a line to a page.
+-- The steps of decoding: a part is added to a line, a line to the lines before it.
 use Rattle.std.specs.Prelude.{◌≡◌, ℕ, ◌<◌, ◌≤◌, List, [], ◌∷◌, ◌++◌, length, Option, IfSome, IsTrue, false}
 use Rattle.std.specs.Option.{option_map_or}
 use Rattle.std.specs.List.{AllByRecursion}
@@ -39,7 +39,7 @@ pub record AddsParts (counts : Counts) (position : PartPosition) (bits : List �
   pub tokens : new ≡ old ++ line_tokens position.line bits before here segments
   pub sums_after : AreSums before (here ++ segments) sums
 
--- the tokens of the first part of a line are added; `tail` is the line after it, None if it is the last part
+-- the tokens of the first part of a line are added; `tail` is the rest of the line after it, None if it was the last part
 pub record AddsFirstPart (counts : Counts) (position : PartPosition) (bits : List ℕ) (before here : List Segment) (line : List ℕ) (old new : List RawToken) (sums : Sums) (tail : Option (Bor (List ℕ))) : Type 0 where
   pub part : List ℕ
   pub split : parts_of line ≡ part ∷ option_map_or (λ rest. parts_of rest.now) tail []

@@ -86,7 +86,7 @@ IsLine names tokens n line =
     × AreSegments names (filter (is_above n) tokens) (filter (is_on n) tokens) segments
     × (line ≡ join_with_byte comma segments)
 
--- the encoding of sorted tokens as `mappings`
+-- the encoding of sorted tokens as `mappings`, for a map with this count of names
 abbrev pub IsWritten : ℕ → List RawToken → List ℕ → Type 0
 IsWritten names tokens text = LineByLine (IsLine names (without_repeats tokens)) tokens text
 

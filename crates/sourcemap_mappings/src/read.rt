@@ -9,7 +9,7 @@ ghost use Rattle.sourcemap_tokens.specs.Tokens.{AreInOrder, AllWithin, in_order}
 ghost use Rattle.sourcemap_line_index.specs.LineIndex.{IsTableOf};
 ghost use Rattle.sourcemap_mappings.specs.Segment.{Counts, Segment, parts_of};
 ghost use Rattle.sourcemap_mappings.specs.SegmentSteps.{AreTextSums, AreSums, IsSegmentRead, counts_of};
-ghost use Rattle.sourcemap_mappings.specs.Read.{Line, page_tokens, PartsError, LineError, LinesRead, LinesError, beside, line_texts, MappingsAnswer, lines_of};
+ghost use Rattle.sourcemap_mappings.specs.Read.{Line, tokens_of_lines, PartsError, LineError, LinesRead, LinesError, with_range_bits, line_texts, MappingsAnswer, lines_of};
 ghost use Rattle.sourcemap_mappings.specs.ReadSteps.{AddsLine, AddsOnLine, AddsParts, AddsRow, AreInOrderTo, RiseFrom, TakesPart, lines_left};
 
 use crate::segment::{
@@ -189,8 +189,8 @@ fn add_line(
 #[inline]
 fn next_bits(ranges: Option<&str>) -> (&str, Option<&str>)
     ensures { (line : List ℕ) (lines : List (List ℕ))
-        → beside (line ∷ lines) (lines_left ranges.entry)
-        ≡ (line, result.0.now) ∷ beside lines (lines_left result.1) }
+        → with_range_bits (line ∷ lines) (lines_left ranges.entry)
+        ≡ (line, result.0.now) ∷ with_range_bits lines (lines_left result.1) }
 {
     match ranges {
         Some(text) => split_line(text),
@@ -218,9 +218,9 @@ fn add_row(table: &mut LineIndex, tokens: &[RawToken], first: usize) -> Result<(
 }
 
 fn read_lines(alloc: Global, mappings: &str, ranges: &str, limits: Limits) -> Result<ReadLines>
-    ensures read { IfOk result (λ read. (page : List Line)
-        × LinesRead (counts_of limits) 0 [] (line_texts mappings.now ranges.now) page
-        × (read.tokens.items ≡ page_tokens 0 [] page)) }
+    ensures read { IfOk result (λ read. (decoded_lines : List Line)
+        × LinesRead (counts_of limits) 0 [] (line_texts mappings.now ranges.now) decoded_lines
+        × (read.tokens.items ≡ tokens_of_lines 0 [] decoded_lines)) }
     ensures error { IfErr result (λ e. UnlessMemory e
         (LinesError (counts_of limits) 0 [] (line_texts mappings.now ranges.now) e)) }
     ensures table { IfOk result (λ read. IsTrue read.rises

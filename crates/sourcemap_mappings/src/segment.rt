@@ -209,7 +209,7 @@ fn field(count: u32, index: u32, sum: u32) -> u32
     if index < count { sum } else { NO_ID }
 }
 
-// The token of a segment with `count` numbers, where `sums` include it.
+// The token of a segment with `count` numbers. `sums` are those up to and with this segment.
 #[inline]
 pub(crate) fn token_at(position: PartPosition, bits: &[u8], count: u32, sums: Sums) -> RawToken
     ensures token { (before here : List Segment) (s : Segment) → AreSums before here sums

@@ -21,10 +21,10 @@ pub fn error_text(alloc: Global, error: &Error) -> Result<String> {
     }
 }
 
-/// The text of the error of a result, or `no fault`.
+/// The text of the error of a result, or `no error`.
 pub fn error_of<T: Drop>(alloc: Global, got: Result<T>) -> Result<String> {
     match got {
-        Ok(_) => Ok(String::from_str(alloc, "no fault")?),
+        Ok(_) => Ok(String::from_str(alloc, "no error")?),
         Err(error) => error_text(alloc, &error),
     }
 }

@@ -1,9 +1,9 @@
-//! Lists of items by id, of which some are missing.
+//! Lists of optional items. The id of an item is its index.
 ghost use Rattle.std.specs.Prelude.{◌≡◌, None, slice_set};
 ghost use Rattle.std.specs.Option.{option_copied};
 ghost use Rattle.sourcemap_tokens.specs.Items.{item_at};
 
-/// The item with this id, or `None`.
+/// The item with this id. `None` past the end of the list, and where the item is missing.
 #[inline]
 pub fn item_at<T>(items: &[Option<T>], id: usize) -> Option<&T>
     ensures { option_copied result ≡ item_at items.now id }
@@ -14,7 +14,7 @@ pub fn item_at<T>(items: &[Option<T>], id: usize) -> Option<&T>
     }
 }
 
-/// Removes and returns the item with this id, or returns `None`. Other items keep their ids.
+/// Moves out the item with this id, and leaves `None` at its index. `None` as in `item_at`.
 #[inline]
 pub fn take_item<T: Drop>(items: &mut Vec<Option<T>>, id: usize) -> Option<T>
     ensures taken { result ≡ item_at items.old.items id }

@@ -1,4 +1,4 @@
-//! Tokens and their order, the item closest to a key, items by id, and interned strings.
+//! Tokens and their order, the item closest to a key, and items by id.
 #![tactic(auto)]
 
 pub mod items;

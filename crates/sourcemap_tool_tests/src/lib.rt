@@ -1,5 +1,4 @@
-//! Tests of the program's runs. A crate of their own, so that no proof and no must-fail edit waits
-//! for them.
+//! Tests of the program's runs.
 #![tactic(auto)]
 
 #[cfg(test)]

@@ -1,7 +1,7 @@
 -- The function that contains a bytecode offset.
 use Rattle.std.specs.Prelude.{◌≡◌, ℕ, List, Option, Ok}
 use Rattle.sourcemap.specs.Hermes.{HermesValue, function_name}
-use Rattle.sourcemap.specs.HermesDecoder.{OnlyHermesDecodes}
+use Rattle.sourcemap.specs.HermesDecoder.{RecordDecodesAsHermes}
 use Rattle.sourcemap.specs.HermesRewrite.{IsInOrderOf}
 use Rattle.sourcemap.specs.Reading.{BytesHaveResult}
 use Rattle.sourcemap.specs.Types.{lookup}
@@ -12,4 +12,4 @@ IsNameIn h offset name = IsInOrderOf h (lookup h.map (0, offset)) → name ≡ f
 
 -- the same for the Hermes map in these bytes
 abbrev pub IsNameAt : (bytes : List ℕ) → ℕ → Option (List ℕ) → Type 0
-IsNameAt bytes offset name = (h : HermesValue) × BytesHaveResult OnlyHermesDecodes bytes (Ok h) × IsNameIn h offset name
+IsNameAt bytes offset name = (h : HermesValue) × BytesHaveResult RecordDecodesAsHermes bytes (Ok h) × IsNameIn h offset name

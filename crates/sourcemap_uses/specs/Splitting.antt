@@ -3,7 +3,7 @@ use Rattle.std.specs.Prelude.{◌≡◌, ℕ, true, List, [], ◌∷◌, filter_
 use Rattle.sourcemap.specs.BundleModules.{ModuleValue}
 use Rattle.sourcemap.specs.Flat.{flat as flat_of}
 use Rattle.sourcemap.specs.ModuleMap.{end_of, is_in}
-use Rattle.sourcemap.specs.Split.{laid}
+use Rattle.sourcemap.specs.Split.{with_first_line}
 use Rattle.sourcemap.specs.Token.{token_text}
 use Rattle.sourcemap.specs.Tokens.{destination, position_cmp}
 use Rattle.sourcemap.specs.Trees.{IndexValue, index_tree}
@@ -23,7 +23,7 @@ pub record IsFirstModule (i : IndexValue) (modules : List (Result ModuleValue Er
   pub offsets : List (Option ℕ)
   pub offsets_are : i.parts.x_facebook_offsets ≡ Some offsets
   pub others : List (Result (ModuleValue × ℕ) Error)
-  pub comes_first : filter_map (laid offsets) modules ≡ Ok (found, first) ∷ others
+  pub comes_first : filter_map (with_first_line offsets) modules ≡ Ok (found, first) ∷ others
 
 -- the position is on the module's lines, and so is the token closest to it
 pub record IsOnItsLines (flat : MapValue) (found : ModuleValue) (first : ℕ) (p : ℕ × ℕ) : Type 0 where

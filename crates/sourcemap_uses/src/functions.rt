@@ -2,7 +2,7 @@
 ghost use Rattle.std.specs.Prelude.{Err, IfErr, IfOk, IsOkUnless, Ok, option_map, string_bytes};
 ghost use Rattle.sourcemap.specs.Answer.{Gives, UnlessMemory};
 ghost use Rattle.sourcemap.specs.Hermes.{hermes_value};
-ghost use Rattle.sourcemap.specs.HermesDecoder.{OnlyHermesDecodes};
+ghost use Rattle.sourcemap.specs.HermesDecoder.{RecordDecodesAsHermes};
 ghost use Rattle.sourcemap.specs.HermesRewrite.{HasDistinctSources, KeepsScopes, rewritten};
 ghost use Rattle.sourcemap.specs.Reading.{BytesHaveResult};
 ghost use Rattle.sourcemap.specs.Rewrite.{no_removal};
@@ -21,7 +21,7 @@ pub fn function_at(alloc: Global, bytes: &[u8], offset: u32) -> Result<Option<St
     ensures name { IfOk result
         (λ name. IsNameAt bytes.now offset (option_map string_bytes name)) }
     ensures error { IfErr result
-        (λ e. UnlessMemory e (BytesHaveResult OnlyHermesDecodes bytes.now (Err e))) }
+        (λ e. UnlessMemory e (BytesHaveResult RecordDecodesAsHermes bytes.now (Err e))) }
 {
     // prover: error passed on by `match`
     match SourceMapHermes::from_slice(alloc, bytes) {

@@ -24,7 +24,7 @@ pub fn shrink<F: Files>(rt: &F, map: SourceMap) -> Result<SourceMap>
     ensures memory { IsOkUnless result OutOfMemory }
 {
     default_rewriting_is_final();
-    // prover: at most 4294967295 sources and names
+    // prover: there are at most 4294967295 sources and names
     let _ = map.get_source_count();
     let _ = map.get_name_count();
     map.rewrite(rt, &RewriteOptions::default())

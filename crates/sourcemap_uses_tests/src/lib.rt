@@ -1,4 +1,4 @@
-//! Each use, once, with memory. This crate holds nothing else, so that no proof waits for it.
+//! Calls each function of `sourcemap_uses` once, with memory enough.
 #![tactic(auto)]
 
 #[cfg(test)]

@@ -7,7 +7,7 @@ ghost use Rattle.sourcemap_errors.specs.declared.errors.Error.TheVariants.{OutOf
 ghost use Rattle.sourcemap_errors.specs.Answer.{IsAnswer, Gives};
 ghost use Rattle.sourcemap_vlq.specs.Bits.{bit_of, six_of, first_non_digit, IsNonDigitError, BitAnswers, IsBitText};
 
-use crate::vlq::{digit_of, glyph_char};
+use crate::vlq::{glyph_char, value_of_digit};
 use sourcemap_errors::errors::{Error, Result};
 use std::alloc::Global;
 
@@ -20,10 +20,10 @@ pub fn decode_rmi(alloc: Global, text: &str) -> Result<Vec<bool>>
 {
     let mut bits = Vec::new(alloc);
     for byte in text.as_bytes() {
-        let Some(value) = digit_of(*byte) else {
+        let Some(value) = value_of_digit(*byte) else {
             return Err(Error::InvalidBase64(char::from(*byte)));
         };
-        bits.extend_from_slice(&six_bits(value))?;
+        bits.extend_from_slice(&bits_of_value(value))?;
     }
     Ok(bits)
 }
@@ -45,7 +45,7 @@ pub fn test_digits(text: &[u8]) -> Result<()>
         (λ e. IsNonDigitError text.now e) }
 {
     for byte in text {
-        let Some(_value) = digit_of(*byte) else {
+        let Some(_value) = value_of_digit(*byte) else {
             return Err(Error::InvalidBase64(char::from(*byte)));
         };
     }
@@ -64,7 +64,7 @@ pub fn has_bit(text: &[u8], index: usize) -> bool
     let Some(byte) = text.get(index / 6) else {
         return false;
     };
-    let value = digit_of(*byte).unwrap_or(0);
+    let value = value_of_digit(*byte).unwrap_or(0);
     (value >> (index % 6)) % 2 == 1
 }
 
@@ -83,7 +83,8 @@ pub fn push_bits(text: &mut String, bits: &[bool]) -> Result<()>
     Ok(())
 }
 
-fn six_bits(value: u8) -> [bool; 6]
+// The six bits of a digit's value, lowest first. Higher bits are ignored.
+fn bits_of_value(value: u8) -> [bool; 6]
     ensures { result ≡ six_of value }
 {
     [

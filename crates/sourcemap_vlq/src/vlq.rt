@@ -36,7 +36,7 @@ static GLYPHS: [u8; 64] = [
 
 /// The value of a digit, below 64. `None` for a byte that is not a digit.
 #[inline]
-pub fn digit_of(byte: u8) -> Option<u8>
+pub fn value_of_digit(byte: u8) -> Option<u8>
     ensures { result ≡ digit_value byte }
 {
     let value = VALUES[byte as usize];
@@ -73,7 +73,7 @@ pub fn next_number(text: &[u8]) -> Result<(i64, &[u8])>
     ensures error { IfErr result (λ e. NumberError text.now e) }
 {
     if let [first, tail @ ..] = text {
-        if let Some(digit) = digit_of(*first) {
+        if let Some(digit) = value_of_digit(*first) {
             if digit < 32 {
                 return Ok((number_from(u64::from(digit)), tail));
             }
@@ -92,8 +92,8 @@ fn two_digits(text: &[u8]) -> Option<(i64, &[u8])>
     let [first, second, tail @ ..] = text else {
         return None;
     };
-    let low = digit_of(*first)?;
-    let high = digit_of(*second)?;
+    let low = value_of_digit(*first)?;
+    let high = value_of_digit(*second)?;
     if low < 32 || high >= 32 {
         return None;
     }
@@ -110,7 +110,7 @@ fn long_number(text: &[u8]) -> Result<(i64, &[u8])>
 {
     let mut raw: u64 = 0;
     for (index, byte) in text.iter().enumerate() {
-        let Some(digit) = digit_of(*byte) else {
+        let Some(digit) = value_of_digit(*byte) else {
             return Err(Error::InvalidBase64(char::from(*byte)));
         };
         let bits = digit % 32;

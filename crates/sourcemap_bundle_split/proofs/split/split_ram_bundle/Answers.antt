@@ -5,7 +5,7 @@ use Rattle.sourcemap_bundles.specs.Iterators.{modules_left}
 use Rattle.sourcemap_bundles.specs.Modules.{ModuleValue, modules_of}
 use Rattle.sourcemap_index.specs.Family.{index_value}
 use Rattle.sourcemap_map_regular.specs.Map.{MapValue}
-use Rattle.sourcemap_bundle_split.specs.Split.{SplitValue, due_of, laid, with_offsets}
+use Rattle.sourcemap_bundle_split.specs.Split.{SplitValue, due_of, with_first_line, with_offsets}
 use Rattle.sourcemap_bundle_split.proofs.SplitLemmas.{length-filter_map}
 use Rattle.sourcemap_bundle_split.proofs.split.split_ram_bundle.Goals as goal
 
@@ -26,5 +26,5 @@ returns-clause-answer c =
 pub returns-clause-bound : goal.returns-clause-bound
 returns-clause-bound c =
     let left = modules_left c.iter_modules.result in
-    let laid_modules = filter_map (laid c.in_ok-offsets-2.offsets.items) left in
-    omega (arith, length-map laid_modules (due_of c.in_ok-maps.maps), length-filter_map (laid c.in_ok-offsets-2.offsets.items) left, c.iter_modules.ensures.bound)
+    let laid_modules = filter_map (with_first_line c.in_ok-offsets-2.offsets.items) left in
+    omega (arith, length-map laid_modules (due_of c.in_ok-maps.maps), length-filter_map (with_first_line c.in_ok-offsets-2.offsets.items) left, c.iter_modules.ensures.bound)

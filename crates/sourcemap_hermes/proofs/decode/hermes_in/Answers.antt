@@ -2,16 +2,16 @@
 use Rattle.std.proofs.lemmas.Result.{err_from_is_err_and}
 use Rattle.sourcemap_records.specs.Jsontypes.{tree}
 use Rattle.sourcemap_records.proofs.BytesLemmas.{answer_of_bytes, error_of_bytes}
-use Rattle.sourcemap_hermes.specs.Decode.{OnlyHermesDecodes}
+use Rattle.sourcemap_hermes.specs.Decode.{RecordDecodesAsHermes}
 use Rattle.sourcemap_hermes.specs.Map.{hermes_value}
 use Rattle.sourcemap_hermes.proofs.decode.hermes_in.Goals as goal
 
 pub returns-clause-answer : goal.returns-clause-answer
 returns-clause-answer c =
-    answer_of_bytes hermes_value OnlyHermesDecodes c.args.bytes.now (tree c.in_ok-raw.raw) c.in_ok-raw.ensures
-    c.only_hermes.result c.only_hermes.ensures.answer
+    answer_of_bytes hermes_value RecordDecodesAsHermes c.args.bytes.now (tree c.in_ok-raw.raw) c.in_ok-raw.ensures
+    c.decode_unless_index.result c.decode_unless_index.ensures.answer
 
 pub returns-in_err-raw-clause-answer : goal.returns-in_err-raw-clause-answer
 returns-in_err-raw-clause-answer c =
     let p = err_from_is_err_and c.from_residual.result c.from_residual.ensures.1 in
-    rw (p.1, p.2) (error_of_bytes hermes_value OnlyHermesDecodes c.args.bytes.now _ c.in_err-raw.ensures)
+    rw (p.1, p.2) (error_of_bytes hermes_value RecordDecodesAsHermes c.args.bytes.now _ c.in_err-raw.ensures)

@@ -1,16 +1,16 @@
--- The lines of a text decode to a page, or one of them is invalid.
+-- All lines of a text decode, or one of them is invalid.
 use Rattle.std.proofs.Common.{Any}
 use Rattle.std.proofs.lemmas.Result.{err_from_is_err_and}
 use Rattle.sourcemap_errors.proofs.AnswerLemmas.{UnlessMemory-weaker}
 use Rattle.sourcemap_mappings.specs.Segment.{parts_of}
 use Rattle.sourcemap_mappings.specs.ReadSteps.{lines_left}
 use Rattle.sourcemap_hermes_scopes.specs.Offsets.{IsUnreadable}
-use Rattle.sourcemap_hermes_scopes.proofs.OffsetsLemmas.{Any-here, Any-later, PageSoFar-none, PageSoFar-more, StandsFor-all}
+use Rattle.sourcemap_hermes_scopes.proofs.OffsetsLemmas.{Any-here, Any-later, LinesSoFar-none, LinesSoFar-more, StandsFor-all}
 use Rattle.sourcemap_hermes_scopes.proofs.offsets.read_offsets.Goals as goal
 
 pub loop-lines-init : goal.loop-lines-init
 loop-lines-init c = record {
-  so_far = rw c.in_ok-offsets.ensures.items (PageSoFar-none _);
+  so_far = rw c.in_ok-offsets.ensures.items (LinesSoFar-none _);
   error = λ any. any;
 }
 
@@ -28,7 +28,7 @@ loop-lines-preserved c =
     let so_far = rw (c.in-Some.is, c.split_line.ensures.split) at c.loop-lines.invariant.so_far in
     let error = rw (c.in-Some.is, c.split_line.ensures.split) at c.loop-lines.invariant.error in
     record {
-      so_far = PageSoFar-more _ c.split_line.result.0.now _ _ _ _ _ so_far (rw c.as_bytes.ensures.value at (c.in_ok-last.ensures.added so_far.before so_far.is_last));
+      so_far = LinesSoFar-more _ c.split_line.result.0.now _ _ _ _ _ so_far (rw c.as_bytes.ensures.value at (c.in_ok-last.ensures.added so_far.before so_far.is_last));
       error = λ any. error (Any-later (λ line. Any IsUnreadable (parts_of line)) c.split_line.result.0.now (lines_left c.split_line.result.1) any);
     }
 

@@ -3,7 +3,7 @@ use Rattle.std.specs.declared.alloc.Global.{Global}
 use Rattle.std.proofs.lemmas.List.{length-map, length-set, map_push}
 use Rattle.std.proofs.lemmas.Option.{slice_get-get_or, slice_get_read, slice_get_within}
 use Rattle.sourcemap_texts.specs.Texts.{texts_of}
-use Rattle.sourcemap_map_rewrite.specs.Numbering.{kept_of, IsSeen}
+use Rattle.sourcemap_map_rewrite.specs.Numbering.{texts_in_use, IsSeen}
 use Rattle.sourcemap_tokens.proofs.AllLemmas.{All-at}
 use Rattle.sourcemap_map_rewrite.proofs.KeptTextsLemmas.{AreLeftOrMoved, moved-more, left_or_moved-more, moved-same, left_or_moved-same}
 use Rattle.sourcemap_map_rewrite.proofs.kept_texts.kept_texts.Goals as goal
@@ -41,7 +41,7 @@ loop-id-preserved c =
           let other : number ≢ length moved = λ e. w.if-index-len.false (omega (arith, e, c.len.ensures, c.loop-id.kept.ok.0, many)) in
           record {
             moved = ap texts_of w.kept-is ∙ moved-same T n c.requires i id number at numbered now moved so_far.left_or_moved so_far.moved other;
-            left_or_moved = subst (λ xs. AreLeftOrMoved T xs (kept_of T (take (i + 1) n.order.items))) (ap texts_of (sym w.texts-is)) (left_or_moved-same T n c.requires i id number at numbered now moved so_far.left_or_moved so_far.moved other);
+            left_or_moved = subst (λ xs. AreLeftOrMoved T xs (texts_in_use T (take (i + 1) n.order.items))) (ap texts_of (sym w.texts-is)) (left_or_moved-same T n c.requires i id number at numbered now moved so_far.left_or_moved so_far.moved other);
             many = ap (λ xs. length (texts_of xs)) w.texts-is ∙ so_far.many;
           }
     ]

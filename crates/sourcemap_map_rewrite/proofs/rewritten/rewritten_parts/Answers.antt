@@ -16,8 +16,8 @@ pub resulting_contents-requires : goal.resulting_contents-requires
 resulting_contents-requires g c =
     let S : List (List ℕ) = texts_of (unwrap_or c.args.with_root c.args.sources) in
     let s = c.in_ok-tokens.numbers.sources in
-    let kept : texts_of c.in_ok-texts.texts ≡ seen_texts S s = c.in_ok-texts.ensures.ok ∙ ap (λ T. seen_texts T s) c.into_resolved_sources-texts.ensures in
-    let numbered : AreNumbered S s = subst (λ T. AreNumbered T s) c.resolved_sources-texts.ensures c.in_ok-tokens.ensures.ok.numbered_sources in
+    let kept : texts_of c.in_ok-texts.texts ≡ seen_texts S s = c.in_ok-texts.ensures.ok ∙ ap (λ T. seen_texts T s) c.into_rooted_or_plain-texts.ensures in
+    let numbered : AreNumbered S s = subst (λ T. AreNumbered T s) c.rooted_or_plain-texts.ensures c.in_ok-tokens.ensures.ok.numbered_sources in
     let many = ap length c.as_slice-3.ensures.value in
     (numbered_below S s c.in_ok-texts.texts (length c.as_slice-3.result.now) numbered kept (omega (arith, many, c.in_ok-texts.texts.ok.0))).1
 
@@ -25,8 +25,8 @@ pub first_ids-requires : goal.first_ids-requires
 first_ids-requires g c =
     let S : List (List ℕ) = texts_of (unwrap_or c.args.with_root c.args.sources) in
     let s = c.in_ok-tokens.numbers.sources in
-    let kept : texts_of c.in_ok-texts.texts ≡ seen_texts S s = c.in_ok-texts.ensures.ok ∙ ap (λ T. seen_texts T s) c.into_resolved_sources-texts.ensures in
-    let numbered : AreNumbered S s = subst (λ T. AreNumbered T s) c.resolved_sources-texts.ensures c.in_ok-tokens.ensures.ok.numbered_sources in
+    let kept : texts_of c.in_ok-texts.texts ≡ seen_texts S s = c.in_ok-texts.ensures.ok ∙ ap (λ T. seen_texts T s) c.into_rooted_or_plain-texts.ensures in
+    let numbered : AreNumbered S s = subst (λ T. AreNumbered T s) c.rooted_or_plain-texts.ensures c.in_ok-tokens.ensures.ok.numbered_sources in
     (numbered_below S s c.in_ok-texts.texts c.len.result numbered kept c.len.ensures).1
 
 pub kept_texts-requires-2 : goal.kept_texts-requires-2
@@ -44,9 +44,9 @@ returns-clause-parts g c =
     let options = c.args.options.now in
     let names : map (string_bytes {Z = Global}) c.as_slice.result.now ≡ N = ap (map (string_bytes {Z = Global})) c.as_slice.ensures.value in
     let ok : IsRenumbered S N ts new r =
-    subst (λ T. IsRenumbered T N ts new r) c.resolved_sources-texts.ensures
-    (subst (λ T. IsRenumbered (map (string_bytes {Z = Global}) c.resolved_sources-texts.result.now) T ts new r) names c.in_ok-tokens.ensures.ok) in
-    let kept : texts_of c.in_ok-texts.texts ≡ seen_texts S r.sources = c.in_ok-texts.ensures.ok ∙ ap (λ T. seen_texts T r.sources) c.into_resolved_sources-texts.ensures in
+    subst (λ T. IsRenumbered T N ts new r) c.rooted_or_plain-texts.ensures
+    (subst (λ T. IsRenumbered (map (string_bytes {Z = Global}) c.rooted_or_plain-texts.result.now) T ts new r) names c.in_ok-tokens.ensures.ok) in
+    let kept : texts_of c.in_ok-texts.texts ≡ seen_texts S r.sources = c.in_ok-texts.ensures.ok ∙ ap (λ T. seen_texts T r.sources) c.into_rooted_or_plain-texts.ensures in
     let slice : map (string_bytes {Z = Global}) c.as_slice-3.result.now ≡ seen_texts S r.sources = ap (map (string_bytes {Z = Global})) c.as_slice-3.ensures.value ∙ kept in
     let count : length c.as_slice-3.result.now ≡ length (seen_texts S r.sources) = sym (length-map c.as_slice-3.result.now (string_bytes {Z = Global})) ∙ ap length slice in
     let prefixes : map (string_bytes {Z = Global}) c.as_slice-4.result.now ≡ all_prefixes (removal_of options).prefixes (texts_of c.args.sources) =

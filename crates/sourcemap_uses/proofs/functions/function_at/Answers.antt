@@ -2,7 +2,7 @@
 use Rattle.std.proofs.Common.{Err, option_map, string_bytes}
 use Rattle.std.proofs.lemmas.Result.{IfOk-weaker}
 use Rattle.sourcemap.specs.Hermes.{hermes_value}
-use Rattle.sourcemap.specs.HermesDecoder.{OnlyHermesDecodes}
+use Rattle.sourcemap.specs.HermesDecoder.{RecordDecodesAsHermes}
 use Rattle.sourcemap.specs.Reading.{BytesHaveResult}
 use Rattle.sourcemap_uses.specs.Functions.{IsNameAt, IsNameIn}
 use Rattle.sourcemap_uses.proofs.RefusalLemmas.{memory_refused}
@@ -16,4 +16,4 @@ returns-in-Ok-clause-name c =
     (λ name is. (h, c.in-Ok.ensures.answer, is)) c.name_at.ensures.name
 
 pub returns-in-Ok-clause-error : goal.returns-in-Ok-clause-error
-returns-in-Ok-clause-error c = memory_refused (λ e. BytesHaveResult OnlyHermesDecodes c.args.bytes.now (Err e)) c.name_at.result c.name_at.ensures.memory
+returns-in-Ok-clause-error c = memory_refused (λ e. BytesHaveResult RecordDecodesAsHermes c.args.bytes.now (Err e)) c.name_at.result c.name_at.ensures.memory

@@ -10,7 +10,7 @@ pub returns-in_default-clause-answers : goal.returns-in_default-clause-answers
 returns-in_default-clause-answers c =
     let text = c.as_bytes-byte-items.ensures.value in
     let at : get_or c.args.text.now c.loop-byte.byte-index 0 ≡ c.from.result = cc (text, c.from.ensures) in
-    let none : digit_value c.from.result ≡ None = ap digit_value c.from.ensures ∙ (sym c.digit_of.ensures ∙ c.in_default.is) in
+    let none : digit_value c.from.result ≡ None = ap digit_value c.from.ensures ∙ (sym c.value_of_digit.ensures ∙ c.in_default.is) in
     IsNonDigitError-at c.args.text.now c.loop-byte.byte-index c.from.result (omega (arith, ap length text)) c.loop-byte.invariant.0 at none
 
 pub returns-in_default-clause-only : goal.returns-in_default-clause-only
@@ -22,11 +22,11 @@ loop-byte-preserved c =
     let text = c.as_bytes-byte-items.ensures.value in
     let within : c.loop-byte.byte-index < length c.args.text.now = omega (arith, ap length text) in
     let e : digit_value (get_or c.args.text.now c.loop-byte.byte-index 0) ≡ Some c.in-Some.value =
-    ap (λ t. digit_value (get_or t c.loop-byte.byte-index 0)) (sym text) ∙ (sym c.digit_of.ensures ∙ c.in-Some.is) in
-    let pushed : c.extend_from_slice.new.self.items ≡ c.loop-byte.bits.items ++ c.six_bits.result = c.in_ok-extend_from_slice.ensures.items in (
+    ap (λ t. digit_value (get_or t c.loop-byte.byte-index 0)) (sym text) ∙ (sym c.value_of_digit.ensures ∙ c.in-Some.is) in
+    let pushed : c.extend_from_slice.new.self.items ≡ c.loop-byte.bits.items ++ c.bits_of_value.result = c.in_ok-extend_from_slice.ensures.items in (
       first_non_digit-more c.args.text.now c.loop-byte.byte-index c.in-Some.value within c.loop-byte.invariant.0 e,
-      pushed ∙ (ap (λ bits. bits ++ c.six_bits.result) c.loop-byte.invariant.1
-          ∙ (ap (λ six. bits_of (take c.loop-byte.byte-index c.args.text.now) ++ six) c.six_bits.ensures
+      pushed ∙ (ap (λ bits. bits ++ c.bits_of_value.result) c.loop-byte.invariant.1
+          ∙ (ap (λ six. bits_of (take c.loop-byte.byte-index c.args.text.now) ++ six) c.bits_of_value.ensures
           ∙ sym (bits_of-more c.args.text.now c.loop-byte.byte-index c.in-Some.value within e))),
     )
 

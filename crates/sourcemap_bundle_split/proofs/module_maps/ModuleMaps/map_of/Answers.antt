@@ -23,5 +23,5 @@ returns-clause-map c =
     same ∙ c.in_ok-tokens.ensures.tokens ∙ ap (λ ids. map (moved_by line ids c.move_tokens.new.names.ids) own) (sym c.ids.ensures.ids) ∙ ap (λ ids. map (moved_by line c.ids.result.now ids) own) (sym c.ids-2.ensures.ids) in
     let made = map_made flat c.lists-lists.result c.args.name.now line end own c.in_ok-tokens-2.tokens c.ids.result.now c.ids-2.result.now
     c.lists-lists.ensures.lists own_is sources_are names_are tokens_are in
-    subst (λ m. Gives (λ m. m) c.map_over.result (Ok (module_map m c.args.name.now line end))) c.self.view_is
-    (subst (λ m. Gives (λ m. m) c.map_over.result (Ok m)) made c.map_over.ensures)
+    subst (λ m. Gives (λ m. m) c.map_of_tokens.result (Ok (module_map m c.args.name.now line end))) c.self.view_is
+    (subst (λ m. Gives (λ m. m) c.map_of_tokens.result (Ok m)) made c.map_of_tokens.ensures)

@@ -1,6 +1,6 @@
 use Rattle.std.proofs.Common.{sym, ap, ◌∙◌}
 use Rattle.sourcemap_tokens.specs.Tokens.{in_order}
-use Rattle.sourcemap_index_flatten.specs.Gathering.{names_entered, sources_entered}
+use Rattle.sourcemap_index_flatten.specs.Gathering.{all_name_entries, all_source_entries}
 use Rattle.sourcemap_index_flatten.specs.Table.{entry_values}
 use Rattle.sourcemap_index_flatten.proofs.FlatLemmas.{same_Ok}
 use Rattle.sourcemap_index_flatten.proofs.TableLemmas.{table-few}
@@ -9,8 +9,8 @@ use Rattle.sourcemap_index_flatten.proofs.gathering.Gathering.finish.Goals as go
 pub returns-clause-ok : goal.returns-clause-ok
 returns-clause-ok c = λ pieces g. record {
   few = record {
-    sources = rw c.into_entries.ensures (table-few (sources_entered pieces) c.args.self.sources g.sources);
-    names = rw c.into_entries-2.ensures (table-few (names_entered pieces) c.args.self.names g.names);
+    sources = rw c.into_entries.ensures (table-few (all_source_entries pieces) c.args.self.sources g.sources);
+    names = rw c.into_entries-2.ensures (table-few (all_name_entries pieces) c.args.self.names g.names);
   };
   tokens = sym (same_Ok _ _ c.in_ok-tokens.ensures) ∙ ap in_order g.tokens;
   ignored = g.ignored;

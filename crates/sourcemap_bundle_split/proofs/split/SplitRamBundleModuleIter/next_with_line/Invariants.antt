@@ -1,11 +1,11 @@
 use Rattle.std.proofs.Common.{◌≡◌, length}
 use Rattle.sourcemap_bundles.specs.Iterators.{modules_left}
-use Rattle.sourcemap_bundle_split.specs.Iterators.{laid_left}
-use Rattle.sourcemap_bundle_split.proofs.split.SplitRamBundleModuleIter.next_laid.Given as goal
+use Rattle.sourcemap_bundle_split.specs.Iterators.{modules_and_lines_left}
+use Rattle.sourcemap_bundle_split.proofs.split.SplitRamBundleModuleIter.next_with_line.Given as goal
 
 abbrev pub invariant-loop-item : goal.invariant-loop-item
 invariant-loop-item l = record {
-  left : laid_left l.self ≡ laid_left l.initial.self;
+  left : modules_and_lines_left l.self ≡ modules_and_lines_left l.initial.self;
   maps : l.self.maps ≡ l.initial.self.maps;
 }
 

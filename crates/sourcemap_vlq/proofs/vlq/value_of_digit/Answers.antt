@@ -1,6 +1,6 @@
 use Rattle.std.proofs.Common.{arith, ◌<◌}
 use Rattle.sourcemap_vlq.proofs.DigitLemmas.{value_found, value_missing}
-use Rattle.sourcemap_vlq.proofs.vlq.digit_of.Goals as goal
+use Rattle.sourcemap_vlq.proofs.vlq.value_of_digit.Goals as goal
 
 pub returns-then-value-lt64 : goal.returns-then-value-lt64
 returns-then-value-lt64 c =

@@ -1,7 +1,7 @@
 use Rattle.std.proofs.Common.{sym, ap, ◌∙◌, arith}
 use Rattle.sourcemap_index_flatten.proofs.TableLemmas.{put-appended, put-over, put-kept}
-use Rattle.sourcemap_index_flatten.proofs.table.put.Goals as goal
-use Rattle.sourcemap_index_flatten.proofs.table.put.Goals.{then-number-len+in_ok-push, else-number-len+then-is_some, else-number-len+else-is_some}
+use Rattle.sourcemap_index_flatten.proofs.table.push_or_replace.Goals as goal
+use Rattle.sourcemap_index_flatten.proofs.table.push_or_replace.Goals.{then-number-len+in_ok-push, else-number-len+then-is_some, else-number-len+else-is_some}
 
 pub returns-clause-ok : goal.returns-clause-ok
 returns-clause-ok c =

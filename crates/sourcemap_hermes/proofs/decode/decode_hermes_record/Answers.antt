@@ -1,6 +1,6 @@
 use Rattle.std.proofs.Common.{sym, ◌∙◌}
 use Rattle.sourcemap_hermes.proofs.DecodeLemmas.{answered}
-use Rattle.sourcemap_hermes.proofs.decode.hermes_of.Goals as goal
+use Rattle.sourcemap_hermes.proofs.decode.decode_hermes_record.Goals as goal
 
 pub returns-in-Some-clause-answer : goal.returns-in-Some-clause-answer
 returns-in-Some-clause-answer c =
