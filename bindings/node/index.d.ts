@@ -50,7 +50,8 @@ type ReadonlyDeep<T> = T extends (infer Item)[]
     : T;
 type Input<T> = T | ReadonlyDeep<T>;
 
-export type SourceMapInput = string | Input<EncodedSourceMap> | Input<DecodedSourceMap> | TraceMap;
+/** A map: its JSON as text or as the bytes of that in UTF-8, such as a Buffer; its object; or one that is open. */
+export type SourceMapInput = string | Uint8Array | Input<EncodedSourceMap> | Input<DecodedSourceMap> | TraceMap;
 export type SectionedSourceMapInput = SourceMapInput | Input<SectionedSourceMap>;
 
 /** A generated position: the line counts from 1, the column from 0. */
@@ -121,7 +122,7 @@ export type SourceMapErrorCode =
   | 'OUT_OF_MEMORY'
   | 'PAST_LIMIT';
 
-/** Why a map or a position is refused. */
+/** Why a map or a position is refused. An argument of a wrong type is a TypeError instead, which names it. */
 export declare class SourceMapError extends Error {
   readonly code: SourceMapErrorCode;
   /** What the code counts, as the id of a source that does not exist; else 0. */

@@ -6,7 +6,7 @@
 //
 // For each map, and for positions at random and in order, it prints the
 // milliseconds of processor time in which each way opens the map and answers a
-// million positions: the best of some rounds, in which all ways take turns.
+// million positions: the median of some rounds, in which all ways take turns.
 // `each by addon` asks the library by a call into the addon for each position;
 // it is not offered; it is here to show why.
 
@@ -18,7 +18,7 @@ const { peer, skip } = require('../support/peer.js');
 const { Random } = require('../support/random.js');
 
 const COUNT = 1e6;
-const ROUNDS = 4;
+const ROUNDS = 7;
 
 /** Lines from 1 and columns from 0, on all lines by how many tokens they have. */
 function randomPositions(mappings) {
@@ -52,9 +52,15 @@ function askAddon(map, positions) {
   const answer = new Uint32Array(4);
   const call = (_, { line, column }) => {
     native.lookup(handle, line - 1, column, answer);
-    const [source, originalLine, originalColumn, name] = answer;
+    const source = answer[0];
     if (source === sourcemap.NONE) return { source: null, line: null, column: null, name: null };
-    return { source: resolvedSources[source], line: originalLine, column: originalColumn, name: names[name] ?? null };
+    const name = answer[3];
+    return {
+      source: resolvedSources[source],
+      line: answer[1],
+      column: answer[2],
+      name: name === sourcemap.NONE ? null : names[name],
+    };
   };
   return askPositions(call, map, positions);
 }
@@ -72,19 +78,23 @@ function processorTime() {
   return (user + system) / 1000;
 }
 
+function medianOf(times) {
+  return times.sort((a, b) => a - b)[times.length >>> 1];
+}
+
 function measure(text, positions) {
-  const best = {};
+  const times = Object.fromEntries(Object.keys(ways).map((way) => [way, []]));
   const sums = new Set();
   for (let round = 0; round < ROUNDS; round++) {
     for (const [way, run] of Object.entries(ways)) {
       global.gc?.();
       const start = processorTime();
       sums.add(run(text, positions));
-      best[way] = Math.min(best[way] ?? Infinity, processorTime() - start);
+      times[way].push(processorTime() - start);
     }
   }
   if (sums.size !== 1) throw new Error(`the ways differ: ${[...sums]}`);
-  return best;
+  return Object.fromEntries(Object.entries(times).map(([way, each]) => [way, medianOf(each)]));
 }
 
 function report(file) {
@@ -92,10 +102,10 @@ function report(file) {
   const random = randomPositions(sourcemap.decodedMappings(sourcemap.AnyMap(text)));
   const orders = { random, 'in order': [...random].sort((a, b) => a[0] - b[0] || a[1] - b[1]) };
   for (const [order, list] of Object.entries(orders)) {
-    const best = measure(text, Uint32Array.from(list.flat()));
-    const ratio = (best['this package'] / best['trace-mapping']).toFixed(2);
-    const times = Object.entries(best).map(([way, time]) => `${way} ${time.toFixed(0)}`);
-    console.log(`${file}: ${order}: ${times.join(', ')} ms; ${ratio} of trace-mapping`);
+    const medians = measure(text, Uint32Array.from(list.flat()));
+    const peers = medians['trace-mapping'];
+    const times = Object.entries(medians).map(([way, time]) => `${way} ${time.toFixed(0)} (${(time / peers).toFixed(2)})`);
+    console.log(`${file}: ${order}: ${times.join(', ')} ms`);
   }
 }
 

@@ -1,8 +1,9 @@
 'use strict';
 
 const { native, SourceMapError } = require('./native.js');
-const { TraceMap, FlattenMap, mappingsOf, tokensOf } = require('./trace-map.js');
+const { TraceMap, FlattenMap, mappingsOf, tokensOf, checkTraceMap } = require('./trace-map.js');
 const { NONE } = require('./mappings.js');
+const { checkNumber, checkNeedle, checkSource, checkPositions, checkCallback, checkDecoded } = require('./arguments.js');
 const { NONE: NO_ID } = require('./tokens.js');
 
 const LEAST_UPPER_BOUND = -1;
@@ -11,12 +12,10 @@ const GREATEST_LOWER_BOUND = 1;
 /** How many numbers `originalPositionsFor` answers for a position. */
 const ANSWER_WORDS = 4;
 
-function checkPosition(line, column) {
-  if (line < 1) throw new SourceMapError('`line` must be 1 or more (lines count from 1)', 'BAD_POSITION');
-  if (column < 0) throw new SourceMapError('`column` must be 0 or more (columns count from 0)', 'BAD_POSITION');
-}
-
-function sourceIndex({ sources, resolvedSources }, source) {
+function sourceIndex(map, source) {
+  checkTraceMap(map);
+  checkSource(source);
+  const { sources, resolvedSources } = map;
   const index = sources.indexOf(source);
   return index === -1 ? resolvedSources.indexOf(source) : index;
 }
@@ -43,9 +42,10 @@ function columnInRange(handle, line, column) {
   return answer[2];
 }
 
-function originalPositionFor(map, { line, column, bias }) {
-  checkPosition(line, column);
+function originalPositionFor(map, needle) {
   const tokens = tokensOf(map);
+  checkNeedle(needle);
+  const { line, column, bias } = needle;
   const isUpper = bias === LEAST_UPPER_BOUND;
   const index = isUpper ? tokens.findUpper(line - 1, column) : tokens.find(line - 1, column);
   if (index === -1) return { source: null, line: null, column: null, name: null };
@@ -57,14 +57,17 @@ function originalPositionFor(map, { line, column, bias }) {
 }
 
 function originalPositionsFor(map, positions) {
+  const { handle } = mappingsOf(map);
+  checkPositions(positions);
   const answers = new Uint32Array((positions.length >>> 1) * ANSWER_WORDS);
-  for (let i = 0; i + 1 < positions.length; i += 2) checkPosition(positions[i], 0);
-  native.lookupMany(mappingsOf(map).handle, positions, answers);
+  native.lookupMany(handle, positions, answers);
   return answers;
 }
 
 function traceSegment(map, line, column) {
   const tokens = tokensOf(map);
+  checkNumber('`line`', line);
+  checkNumber('`column`', column);
   const index = tokens.find(line, column);
   return index === -1 ? null : tokens.segment(index);
 }
@@ -73,22 +76,25 @@ function generatedOf(tokens, index) {
   return { line: tokens.lines[index] + 1, column: tokens.columns[index] };
 }
 
-function generatedPositionFor(map, { source, line, column, bias }) {
-  checkPosition(line, column);
+function generatedPositionFor(map, needle) {
   const tokens = tokensOf(map);
+  checkNeedle(needle);
+  const { source, line, column, bias } = needle;
   const index = tokens.findBySource(sourceIndex(map, source), line - 1, column, bias === LEAST_UPPER_BOUND);
   return index === -1 ? { line: null, column: null } : generatedOf(tokens, index);
 }
 
-function allGeneratedPositionsFor(map, { source, line, column, bias }) {
-  checkPosition(line, column);
+function allGeneratedPositionsFor(map, needle) {
   const tokens = tokensOf(map);
+  checkNeedle(needle);
+  const { source, line, column, bias } = needle;
   const found = tokens.findAllBySource(sourceIndex(map, source), line - 1, column, bias !== GREATEST_LOWER_BOUND);
   return Array.from(found, (index) => generatedOf(tokens, index));
 }
 
 function eachMapping(map, callback) {
   const tokens = tokensOf(map);
+  checkCallback(callback);
   for (let i = 0; i < tokens.length; i++) {
     const { source, line, column, name } = originalOf(map, tokens, i);
     callback({
@@ -103,7 +109,8 @@ function eachMapping(map, callback) {
 }
 
 function sourceContentFor(map, source) {
-  return map.sourcesContent?.[sourceIndex(map, source)] ?? null;
+  const index = sourceIndex(map, source);
+  return map.sourcesContent?.[index] ?? null;
 }
 
 function isIgnored(map, source) {
@@ -135,6 +142,7 @@ function encodedMap(map) {
 
 function presortedDecodedMap(map, mapUrl) {
   const tracer = new TraceMap(map, mapUrl);
+  checkDecoded(map.mappings);
   mappingsOf(tracer).decoded = map.mappings;
   return tracer;
 }

@@ -1,6 +1,19 @@
 'use strict';
 
-const native = require('../out/sourcemap.node');
+const path = require('node:path');
+
+/** The addon, which only a build makes. */
+function loadAddon() {
+  try {
+    return require('../out/sourcemap.node');
+  } catch (error) {
+    if (error.code !== 'MODULE_NOT_FOUND') throw error;
+  }
+  const folder = path.dirname(__dirname);
+  throw new Error(`${folder} is not built: at the top of the clone run bindings/c/build and then bindings/node/build`);
+}
+
+const native = loadAddon();
 
 // By the numbers of the library. Codes of bundles, views and builders do not
 // come up in this package, but keep their numbers' names.

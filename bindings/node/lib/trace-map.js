@@ -1,13 +1,20 @@
 'use strict';
 
+const { types } = require('node:util');
 const { native, SourceMapError } = require('./native.js');
+const { checkMap, isObject, refuse } = require('./arguments.js');
 const { Mappings, open } = require('./mappings.js');
 const { resolver } = require('./resolve.js');
 
 const JUNK_HEADER = /^[)\]}'][^\n]*/;
 
-function readJson(text) {
+// As for a text, a byte order mark is no JSON.
+const decoder = new TextDecoder('utf-8', { fatal: true, ignoreBOM: true });
+
+/** The value of JSON, which is a text or its bytes. */
+function readJson(json) {
   try {
+    const text = typeof json === 'string' ? json : decoder.decode(json);
     return JSON.parse(text.replace(JUNK_HEADER, ''));
   } catch (cause) {
     throw new SourceMapError('bad json: the text is not JSON', 'BAD_JSON', 0, { cause });
@@ -18,10 +25,10 @@ function isSourceList(value) {
   return Array.isArray(value) && value.every((source) => typeof source === 'string' || source == null);
 }
 
-/** The fields of a map: those of the object, or those that its JSON text says. */
+/** The fields of a map: those of the object, or those that its JSON says. */
 function parse(map) {
-  const fields = typeof map === 'string' ? readJson(map) : map;
-  if (typeof fields !== 'object' || fields === null || !isSourceList(fields.sources ?? [])) {
+  const fields = typeof map === 'string' || types.isUint8Array(map) ? readJson(map) : map;
+  if (!isObject(fields) || !isSourceList(fields.sources ?? [])) {
     throw new SourceMapError('bad json: a field has the wrong type', 'BAD_JSON', 1);
   }
   return fields;
@@ -36,7 +43,10 @@ function ignoreListOf(fields) {
   return fields.ignoreList ?? fields.x_google_ignoreList;
 }
 
-/** The mappings of a TraceMap, and their tokens. */
+/** Refuses what is no TraceMap. */
+let checkTraceMap;
+
+/** The mappings of a TraceMap, and their tokens. What is no TraceMap is refused. */
 let mappingsOf;
 let tokensOf;
 
@@ -45,13 +55,27 @@ class TraceMap {
   #tokens = null;
 
   static {
-    mappingsOf = (map) => map.#mappings;
-    tokensOf = (map) => (map.#tokens ??= map.#mappings.tokens);
+    checkTraceMap = (map) => {
+      if (!isObject(map) || !(#mappings in map)) refuse('the map', 'a TraceMap of this package', map);
+    };
+    mappingsOf = (map) => {
+      checkTraceMap(map);
+      return map.#mappings;
+    };
+    tokensOf = (map) => {
+      try {
+        return (map.#tokens ??= map.#mappings.tokens);
+      } catch (error) {
+        checkTraceMap(map);
+        throw error;
+      }
+    };
   }
 
   /** With a `handle`, as FlattenMap has one, `map` has no mappings of its own. */
   constructor(map, mapUrl, handle = null) {
     if (map instanceof TraceMap) return map;
+    checkMap(map, mapUrl);
     const fields = parse(map);
     if (handle === null) checkMappings(fields);
     this.version = fields.version;
@@ -95,6 +119,7 @@ function flattenable(map, mapUrl) {
 /** Opens a map of any kind, with or without `new`. The library flattens an index map. */
 function FlattenMap(map, mapUrl) {
   if (map instanceof TraceMap) return map;
+  checkMap(map, mapUrl);
   const fields = parse(map);
   if (!fields.sections) return new TraceMap(fields, mapUrl);
   const handle = native.open(JSON.stringify(flattenable(fields, mapUrl)));
@@ -109,4 +134,4 @@ function FlattenMap(map, mapUrl) {
   return new TraceMap(flat, undefined, handle);
 }
 
-module.exports = { TraceMap, FlattenMap, mappingsOf, tokensOf };
+module.exports = { TraceMap, FlattenMap, mappingsOf, tokensOf, checkTraceMap };

@@ -89,6 +89,24 @@ function randomNeedles(random, mappings, count) {
 }
 
 describe('beside @jridgewell/trace-mapping', { skip }, () => {
+  test('positions before the first are refused in the same words', () => {
+    const map = { version: 3, sources: ['a.js'], names: [], mappings: 'AAAA' };
+    const refusal = (library, name, line, column) => {
+      try {
+        return library[name](new library.TraceMap(map), { source: 'a.js', line, column });
+      } catch ({ message }) {
+        return message;
+      }
+    };
+    for (const name of ['originalPositionFor', 'generatedPositionFor', 'allGeneratedPositionsFor']) {
+      for (const position of [[0, 0], [-1, 0], [-Infinity, 0], [0.5, 0], [0, -1], [1, -1], [1, -0.5], [1, -Infinity]]) {
+        const expected = refusal(peer, name, ...position);
+        assert.equal(typeof expected, 'string');
+        assert.equal(refusal(sourcemap, name, ...position), expected);
+      }
+    }
+  });
+
   test('small random maps, all positions', () => {
     const random = new Random(1);
     for (let i = 0; i < 150; i++) {

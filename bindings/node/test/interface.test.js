@@ -9,6 +9,10 @@ const { originalPositionFor, generatedPositionFor, allGeneratedPositionsFor, tra
 
 const NOWHERE = { source: null, line: null, column: null, name: null };
 
+// as @jridgewell/trace-mapping 0.3.17 has them
+const LINE_TOO_LOW = '`line` must be greater than 0 (lines start at line 1)';
+const COLUMN_TOO_LOW = '`column` must be greater than or equal to 0 (columns start at column 0)';
+
 // line 1: 0 -> a.js 1:0, 4 -> a.js 1:9 `one`, 8 without a source, 10 -> b.js 3:2
 // line 2: nothing
 // line 3: 2 -> a.js 1:9, 2 -> a.js 2:0 `two`, 6 -> a.js 1:9
@@ -35,6 +39,9 @@ const forms = {
   'JSON text': JSON.stringify(encoded),
   'JSON text of a decoded map': JSON.stringify(decoded),
   'JSON text after a junk header': `)]}'\n${JSON.stringify(encoded)}`,
+  'the bytes of JSON, in a Buffer': Buffer.from(JSON.stringify(encoded)),
+  'the bytes of JSON, in a Uint8Array': new TextEncoder().encode(JSON.stringify(decoded)),
+  'the bytes of JSON after a junk header': Buffer.from(`)]}'\n${JSON.stringify(encoded)}`),
 };
 
 for (const [form, map] of Object.entries(forms)) {
@@ -168,8 +175,8 @@ for (const [form, map] of Object.entries(forms)) {
       const calls = [originalPositionFor, generatedPositionFor, allGeneratedPositionsFor];
       for (const call of calls) {
         const ask = (line, column) => () => call(tracer, { source: 'a.js', line, column });
-        assert.throws(ask(0, 0), { name: 'SourceMapError', code: 'BAD_POSITION', message: /`line` must be .*1/ });
-        assert.throws(ask(1, -1), { name: 'SourceMapError', code: 'BAD_POSITION', message: /`column` must be .*0/ });
+        assert.throws(ask(0, 0), { name: 'SourceMapError', code: 'BAD_POSITION', message: LINE_TOO_LOW });
+        assert.throws(ask(1, -1), { name: 'SourceMapError', code: 'BAD_POSITION', message: COLUMN_TOO_LOW });
       }
       assert.throws(() => sourcemap.originalPositionsFor(tracer, Uint32Array.of(1, 0, 0, 0)), { code: 'BAD_POSITION' });
     });
@@ -247,6 +254,33 @@ describe('TraceMap', () => {
   });
 });
 
+describe('bytes', () => {
+  const map = { version: 3, sources: ['ä.js'], names: ['\u{1f600}'], mappings: 'AAAAA' };
+
+  test('are UTF-8, in an array that may begin anywhere in its buffer', () => {
+    const bytes = Buffer.from(`--${JSON.stringify(map)}--`);
+    const tracer = new TraceMap(new Uint8Array(bytes.buffer, bytes.byteOffset + 2, bytes.length - 4));
+    assert.deepEqual(originalPositionFor(tracer, { line: 1, column: 0 }), {
+      source: 'ä.js', line: 1, column: 0, name: '\u{1f600}',
+    });
+  });
+
+  test('of an index map are opened by FlattenMap', () => {
+    const index = { version: 3, sections: [{ offset: { line: 1, column: 0 }, map }] };
+    const flat = sourcemap.FlattenMap(Buffer.from(JSON.stringify(index)), 'd/out.map');
+    assert.equal(originalPositionFor(flat, { line: 2, column: 0 }).source, 'd/ä.js');
+    assert.throws(() => new TraceMap(Buffer.from(JSON.stringify(index))), { code: 'INCOMPATIBLE' });
+  });
+
+  test('that are no JSON in UTF-8 are refused as such a text is', () => {
+    const noText = Buffer.from(JSON.stringify(map), 'latin1');
+    const byteOrderMark = Buffer.from(`\ufeff${JSON.stringify(map)}`);
+    for (const bytes of [noText, byteOrderMark, Buffer.from('{'), new Uint8Array()]) {
+      assert.throws(() => new TraceMap(bytes), { name: 'SourceMapError', code: 'BAD_JSON', number: 0 });
+    }
+  });
+});
+
 describe('range tokens', () => {
   const tracer = new TraceMap({ version: 3, sources: ['a.js'], names: [], mappings: 'AAAO,SAAS', rangeMappings: 'B' });
   const at = (column, bias) => originalPositionFor(tracer, { line: 1, column, bias }).column;
@@ -283,7 +317,7 @@ describe('what is refused', () => {
     ['names that are no list', { ...map, names: 5 }, 'BAD_JSON', 1, /wrong type/],
     ['sources that are no texts', { ...map, sources: [5] }, 'BAD_JSON', 1, /wrong type/],
     ['no object', '[', 'BAD_JSON', 0, /not JSON/],
-    ['null', null, 'BAD_JSON', 1, /wrong type/],
+    ['null', 'null', 'BAD_JSON', 1, /wrong type/],
     ['an index map', { version: 3, sections: [] }, 'INCOMPATIBLE', 0, /FlattenMap/],
     ['no mappings', { version: 3, sources: [], names: [] }, 'INCOMPATIBLE', 0, /mappings/],
     ['a segment of two numbers', { ...map, mappings: [[[0, 0]]] }, 'BAD_SEGMENT_SIZE', 2, /\[0,0\]/],
@@ -300,7 +334,87 @@ describe('what is refused', () => {
     });
   }
 
-  test('a call on something else than a TraceMap', () => {
-    assert.throws(() => originalPositionFor({}, { line: 1, column: 0 }), TypeError);
+});
+
+describe('an argument of the wrong type', () => {
+  const tracer = new TraceMap(encoded);
+  const needle = { source: 'a.js', line: 1, column: 0 };
+
+  /** Asserts that a call throws a TypeError with this text, which names the argument. */
+  function refuses(call, message) {
+    assert.throws(call, (error) => {
+      assert.ok(error instanceof TypeError);
+      assert.equal(error.message, message);
+      return true;
+    });
+  }
+
+  const calls = {
+    originalPositionFor: [needle],
+    originalPositionsFor: [new Uint32Array(2)],
+    generatedPositionFor: [needle],
+    allGeneratedPositionsFor: [needle],
+    traceSegment: [0, 0],
+    eachMapping: [() => {}],
+    sourceContentFor: ['a.js'],
+    isIgnored: ['a.js'],
+    decodedMappings: [],
+    encodedMappings: [],
+    decodedMap: [],
+    encodedMap: [],
+  };
+  const noMaps = [[undefined, 'undefined'], [null, 'null'], [{ ...encoded }, '[Object]'], ['AAAA', "'AAAA'"]];
+  for (const [name, rest] of Object.entries(calls)) {
+    test(`is named by ${name}: no TraceMap`, () => {
+      for (const [map, printed] of noMaps) {
+        refuses(() => sourcemap[name](map, ...rest), `the map must be a TraceMap of this package, not ${printed}`);
+      }
+    });
+  }
+
+  for (const name of ['originalPositionFor', 'generatedPositionFor', 'allGeneratedPositionsFor']) {
+    test(`is named by ${name}: a position`, () => {
+      const ask = (fields) => () => sourcemap[name](tracer, { ...needle, ...fields });
+      for (const [position, printed] of [[undefined, 'undefined'], [null, 'null'], [1, '1'], ['1:0', "'1:0'"]]) {
+        refuses(() => sourcemap[name](tracer, position),
+          `the position must be an object with \`line\` and \`column\`, not ${printed}`);
+      }
+      refuses(() => sourcemap[name](tracer, {}), '`line` must be a number, not undefined');
+      refuses(ask({ line: '1' }), "`line` must be a number, not '1'");
+      refuses(ask({ line: NaN }), '`line` must be a number, not NaN');
+      refuses(ask({ line: 1n }), '`line` must be a number, not 1n');
+      refuses(ask({ column: undefined }), '`column` must be a number, not undefined');
+      refuses(ask({ column: null }), '`column` must be a number, not null');
+      refuses(ask({ column: [3] }), '`column` must be a number, not [Array]');
+      refuses(ask({ bias: 'upper' }), "`bias` must be a number, not 'upper'");
+      assert.deepEqual(ask({ bias: null })(), ask({})());
+    });
+  }
+
+  test('is named: a source', () => {
+    const text = '`source` must be a string, not undefined';
+    refuses(() => generatedPositionFor(tracer, { line: 1, column: 0 }), text);
+    refuses(() => allGeneratedPositionsFor(tracer, { line: 1, column: 0 }), text);
+    refuses(() => sourcemap.sourceContentFor(tracer), text);
+    refuses(() => sourcemap.isIgnored(tracer, 0), '`source` must be a string, not 0');
+  });
+
+  test('is named: lines, columns, positions and a callback', () => {
+    refuses(() => traceSegment(tracer, '0', 0), "`line` must be a number, not '0'");
+    refuses(() => traceSegment(tracer, 0), '`column` must be a number, not undefined');
+    refuses(() => sourcemap.originalPositionsFor(tracer, [1, 0]), 'the positions must be a Uint32Array, not [Array]');
+    refuses(() => sourcemap.originalPositionsFor(tracer), 'the positions must be a Uint32Array, not undefined');
+    refuses(() => sourcemap.eachMapping(tracer), 'the callback must be a function, not undefined');
+  });
+
+  test('is named: a map that is to be opened, its URL and its mappings', () => {
+    for (const open of [(...words) => new TraceMap(...words), sourcemap.AnyMap, sourcemap.presortedDecodedMap]) {
+      for (const [map, printed] of [[undefined, 'undefined'], [null, 'null'], [3, '3']]) {
+        refuses(() => open(map), `the map must be an object, JSON text or the bytes of that, not ${printed}`);
+      }
+      refuses(() => open(decoded, 7), '`mapUrl` must be a string, not 7');
+    }
+    refuses(() => sourcemap.presortedDecodedMap(tracer), '`mappings` must be an array of lines, not undefined');
+    assert.equal(originalPositionFor(tracer, { line: 1, column: 4 }).name, 'one');
   });
 });

@@ -74,6 +74,7 @@ const flat: TraceMap = AnyMap({ version: 3, sections: [{ offset: { line: 0, colu
 const again: TraceMap = new FlattenMap(decodedMap(flat));
 const words: Uint32Array = originalPositionsFor(again, new Uint32Array(2));
 const lines: number[] = allGeneratedPositionsFor(again, { source: 'a', line: 1, column: 0 }).map((each) => each.line);
+const bytes: TraceMap[] = [new TraceMap(new Uint8Array(0)), AnyMap(new Uint8Array(0), 'd/out.map')];
 try { new TraceMap('') } catch (error) { if (error instanceof SourceMapError && error.code === 'BAD_JSON') { error.number } }
 // @ts-expect-error: a bias is 1 or -1
 originalPositionFor(map, { line: 1, column: 0, bias: 2 });
@@ -94,13 +95,53 @@ test('has types that a compiler accepts', (t) => {
   });
 });
 
-test('is whole without the rest of the repository', () => {
+/** Calls with a copy of these files of the package. */
+function withCopy(names, call) {
   const copy = mkdtempSync(path.join(tmpdir(), 'sourcemap-copy-'));
   try {
-    for (const name of require('../package.json').files) cpSync(path.join(folder, name), path.join(copy, name), { recursive: true });
-    cpSync(path.join(folder, 'package.json'), path.join(copy, 'package.json'));
-    assert.equal(run(copy, 'a.cjs', `const { TraceMap, originalPositionFor } = require('.');${WORDS}`), ANSWER);
+    for (const name of ['package.json', ...names]) cpSync(path.join(folder, name), path.join(copy, name), { recursive: true });
+    return call(copy);
   } finally {
     rmSync(copy, { recursive: true });
   }
+}
+
+test('is whole without the rest of the repository', () => {
+  withCopy(require('../package.json').files, (copy) => {
+    assert.equal(run(copy, 'a.cjs', `const { TraceMap, originalPositionFor } = require('.');${WORDS}`), ANSWER);
+  });
+});
+
+test('says how to build it where it is not built', () => {
+  withCopy(['lib'], (copy) => {
+    for (const [name, text] of [['a.cjs', "require('.')"], ['b.mjs', "import './lib/index.mjs'"]]) {
+      writeFileSync(path.join(copy, name), text);
+      const { status, stderr } = spawnSync(process.execPath, [name], { cwd: copy, encoding: 'utf8' });
+      assert.equal(status, 1);
+      assert.match(stderr, /^Error: .* is not built: at the top of the clone run bindings\/c\/build and then bindings\/node\/build$/m);
+      assert.doesNotMatch(stderr, /MODULE_NOT_FOUND|Cannot find module/);
+    }
+  });
+});
+
+test('the build says where it looked for the library', () => {
+  const empty = mkdtempSync(path.join(tmpdir(), 'sourcemap-empty-'));
+  try {
+    const env = { ...process.env, SOURCEMAP_LIBRARY_DIR: empty };
+    const { status, stderr } = spawnSync(path.join(folder, 'build'), { env, encoding: 'utf8' });
+    assert.equal(status, 1);
+    assert.equal(stderr, `bindings/node/build: no libsourcemap in ${empty}, which SOURCEMAP_LIBRARY_DIR names\n`);
+  } finally {
+    rmSync(empty, { recursive: true });
+  }
+});
+
+test('an addon that does not load says why', () => {
+  withCopy(['lib'], (copy) => {
+    mkdirSync(path.join(copy, 'out'));
+    writeFileSync(path.join(copy, 'out', 'sourcemap.node'), 'no library');
+    writeFileSync(path.join(copy, 'a.cjs'), "require('.')");
+    const { stderr } = spawnSync(process.execPath, ['a.cjs'], { cwd: copy, encoding: 'utf8' });
+    assert.match(stderr, /sourcemap\.node: (file too short|invalid ELF header)/);
+  });
 });

@@ -7,6 +7,7 @@ import sys
 from typing import List, Optional
 
 from . import Map, SourceMapError, page, stack
+from ._generated import reason_of
 
 
 def read_map(path: str) -> Map:
@@ -66,7 +67,7 @@ def main(words: Optional[List[str]] = None) -> int:
         os.dup2(os.open(os.devnull, os.O_WRONLY), sys.stdout.fileno())
         return 1
     except (OSError, ValueError, MemoryError, SourceMapError) as error:
-        print(f'sourcemap: {error}', file=sys.stderr)
+        print(f'sourcemap: {reason_of(error)}', file=sys.stderr)
         return 1
 
 

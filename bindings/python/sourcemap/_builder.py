@@ -8,7 +8,7 @@ from typing import Iterable, NamedTuple, Optional
 
 from . import _library as library
 from . import errors
-from ._handle import HandleOwner, debug_id_of, optional, pointer_to, run, uint32
+from ._handle import HandleOwner, array_of, debug_id_of, encoded, optional, pointer_to, run, uint32
 from ._map import Map
 from ._tokens import TOKEN
 
@@ -64,6 +64,38 @@ class Builder(HandleOwner):
         id = c_uint32()
         self._run(call, *pointer_to(text), byref(id))
         return id.value
+
+    def source(self, source_id: int) -> Optional[str]:
+        """The text of a source, without the root; None if there is no such source."""
+        return self._text(library.builder_source, uint32('source_id', source_id))
+
+    def set_source(self, source_id: int, text: str) -> None:
+        """Sets the text of a source, without the root. `add_source` of the text that was added still returns this id.
+
+        >>> import sourcemap
+        >>> builder = sourcemap.Builder()
+        >>> builder.add_source('a.js')
+        0
+        >>> builder.set_source(0, 'b.js')
+        >>> builder.add_source('a.js'), builder.add_source('b.js'), builder.finish().sources
+        (0, 1, ['b.js', 'b.js'])
+        """
+        self._run(library.builder_set_source, uint32('source_id', source_id), *pointer_to(text))
+
+    def strip_prefixes(self, prefixes: Iterable[str]) -> None:
+        """Cuts from each source the first of these prefixes that it begins with. A prefix without `/` at its end gets
+        one. `add_source` of the text that was added still returns its id.
+
+        >>> import sourcemap
+        >>> builder = sourcemap.Builder()
+        >>> [builder.add_source(text) for text in ('/x/a.js', '/xy/b.js')]
+        [0, 1]
+        >>> builder.strip_prefixes(['/x'])
+        >>> builder.finish().sources
+        ['a.js', '/xy/b.js']
+        """
+        texts = encoded('prefixes', prefixes)
+        self._run(library.builder_strip_prefixes, array_of(texts), len(texts))
 
     def set_contents(self, source_id: int, text: Optional[str]) -> None:
         """Sets the contents of a source; None removes them."""

@@ -25,6 +25,13 @@ class Generated(NamedTuple):
     view: Optional[View]
 
 
+def reason_of(error: Exception) -> str:
+    """Why something failed, in words: of an error of the system its file, and what the system says of it."""
+    if isinstance(error, OSError) and error.filename is not None and error.strerror is not None:
+        return f'{error.filename}: {error.strerror}'
+    return str(error)
+
+
 def open_map(path: Path) -> Map:
     """Reads a map from a file. An index map is flattened, so that its sources and contents have ids."""
     return _flat(Map.load(path))
@@ -90,6 +97,16 @@ def ends_below(folder: Path, file: str) -> Iterator[Path]:
     return (folder.joinpath(*parts[first:]) for first in range(len(parts)))
 
 
+def _path_named(file: str) -> Optional[str]:
+    """The path that a file of a frame is named by, which may be a `file:` URL; None of one that leads nowhere."""
+    if not file.startswith('file:'):
+        return file
+    try:
+        return resolve_path(file, '/')
+    except UnicodeEncodeError:  # bytes of the trace that are no text
+        return None
+
+
 class Finder:
     """Finds the generated file that a frame of a stack trace names, and its map.
 
@@ -113,8 +130,8 @@ class Finder:
     def _candidates(self, file: str) -> Iterator[Path]:
         if self._root is not None:
             return ends_below(self._root, file)
-        named = Path('/', *path_parts(file)) if file.startswith('file:') else Path(file)
-        return chain([named], ends_below(Path(), file))
+        named = _path_named(file)
+        return chain([] if named is None else [Path(named)], ends_below(Path(), file))
 
     @staticmethod
     def _is_there(path: Path) -> bool:
@@ -125,7 +142,7 @@ class Finder:
             text = path.read_bytes() if path is not None and os.path.isfile(path) else None
             map = self._map if self._map is not None else self._map_of(path, text)
         except (OSError, SourceMapError) as error:
-            print(f'sourcemap: the map of {path}: {error}', file=sys.stderr)
+            print(f'sourcemap: the map of {path}: {reason_of(error)}', file=sys.stderr)
             return None
         return None if map is None else Generated(map, _view_of(text))
 

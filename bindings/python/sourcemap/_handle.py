@@ -6,7 +6,7 @@ import threading
 import uuid
 from ctypes import addressof, byref, c_char, c_char_p, c_void_p, cast, create_string_buffer, string_at
 from types import TracebackType
-from typing import TYPE_CHECKING, Any, Optional, Tuple, Type, TypeVar, Union
+from typing import TYPE_CHECKING, Any, Iterable, List, Optional, Tuple, Type, TypeVar, Union
 
 from . import _library as library
 from . import errors
@@ -62,9 +62,17 @@ def empty_text() -> library.Text:
     return library.Text(addressof(_EMPTY), 0)
 
 
-def text_of(data: bytes) -> library.Text:
-    """A text that points to these bytes, which the caller keeps."""
-    return library.Text(cast(c_char_p(data), c_void_p).value, len(data))
+def encoded(what: str, texts: Iterable[str]) -> List[bytes]:
+    """The UTF-8 bytes of each text. One text alone is refused, since it would stand for its characters."""
+    if isinstance(texts, str):
+        raise TypeError(f'{what} is a list of texts, not a text')
+    return [text.encode() for text in texts]
+
+
+def array_of(texts: List[bytes]) -> Any:
+    """What ctypes passes as a pointer to these texts, which the caller keeps."""
+    return (library.Text * max(len(texts), 1))(*(library.Text(cast(c_char_p(text), c_void_p).value, len(text))
+                                                 for text in texts))
 
 
 def pointer_to_words(words: memoryview) -> Any:

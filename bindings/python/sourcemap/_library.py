@@ -119,6 +119,7 @@ module_path = _call(_short, 'sm_module_path', CODE, P, c_uint32, P)
 lookup_one = _short['sm_lookup_many']
 lookup_one.restype = c_size_t
 lookup_many = _call(_long, 'sm_lookup_many', c_size_t, P, P, c_size_t, P, c_size_t)
+lookup_index = _call(_short, 'sm_lookup_index', CODE, P, c_uint32, c_uint32, P)
 lookup_source = _call(_short, 'sm_lookup_source', CODE, P, c_uint32, c_uint32, P)
 lookup_name = _call(_short, 'sm_lookup_name', CODE, P, c_uint32, c_uint32, P)
 trace = _call(_long, 'sm_trace', CODE, P, P, c_size_t, P, P)
@@ -155,6 +156,9 @@ builder_set_source_root = _call(_short, 'sm_builder_set_source_root', CODE, P, c
 builder_set_debug_id = _call(_short, 'sm_builder_set_debug_id', CODE, P, c_bool, P, P)
 builder_add_source = _call(_short, 'sm_builder_add_source', CODE, P, P, c_size_t, P, P)
 builder_add_name = _call(_short, 'sm_builder_add_name', CODE, P, P, c_size_t, P, P)
+builder_source = _call(_short, 'sm_builder_source', CODE, P, c_uint32, P)
+builder_set_source = _call(_short, 'sm_builder_set_source', CODE, P, c_uint32, P, c_size_t, P)
+builder_strip_prefixes = _call(_long, 'sm_builder_strip_prefixes', CODE, P, P, c_size_t, P)
 builder_set_contents = _call(_long, 'sm_builder_set_contents', CODE, P, c_uint32, c_bool, P, c_size_t, P)
 builder_ignore_source = _call(_short, 'sm_builder_ignore_source', CODE, P, c_uint32, P)
 builder_add_tokens = _call(_long, 'sm_builder_add_tokens', c_size_t, P, P, c_size_t, P)
@@ -169,6 +173,9 @@ locate_reference = _call(_long, 'sm_locate_reference', CODE, P, c_size_t, P, P, 
 resolve = _call(_short, 'sm_resolve', CODE, P, c_size_t, P, c_size_t, P, P)
 resolve_path = _call(_short, 'sm_resolve_path', CODE, P, c_size_t, P, c_size_t, P, P)
 relative_path = _call(_short, 'sm_relative_path', CODE, P, c_size_t, P, c_size_t, P, P)
+
+parse_segment = _call(_short, 'sm_parse_segment', CODE, P, c_size_t, P, c_size_t, P, P)
+write_segment = _call(_short, 'sm_write_segment', CODE, P, c_size_t, P, P)
 
 bundle_open = _call(_long, 'sm_bundle_open', CODE, P, P, c_size_t, P)
 bundle_count = _call(_short, 'sm_bundle_count', CODE, P, P)

@@ -10,8 +10,8 @@ from typing import Any, Dict, Iterable, Iterator, List, Literal, Optional, Seque
 
 from . import _library as library
 from . import errors
-from ._handle import (Data, HandleOwner, MadeText, debug_id_of, optional, pointer_to, pointer_to_words, read_text, run,
-                      text_of, uint32)
+from ._handle import (Data, HandleOwner, MadeText, array_of, debug_id_of, encoded, optional, pointer_to,
+                      pointer_to_words, read_text, run, uint32)
 from ._texts import LazySequence
 from ._tokens import BLOCK, FOUND, POSITION, TOKEN, Answers, Positions, Token, make_token, words_of
 from ._view import View
@@ -448,11 +448,8 @@ class Map(HandleOwner):
         >>> map.sources
         ['b.js']
         """
-        if isinstance(strip_prefixes, str):
-            raise TypeError('strip_prefixes is a list of texts, not a text')
-        prefixes = [prefix.encode() for prefix in strip_prefixes]
-        texts = (library.Text * max(len(prefixes), 1))(*map(text_of, prefixes))
-        self._change(library.rewrite, names, contents, texts, len(prefixes))
+        prefixes = encoded('strip_prefixes', strip_prefixes)
+        self._change(library.rewrite, names, contents, array_of(prefixes), len(prefixes))
 
     def flatten(self) -> None:
         """Makes an index map the regular map that answers alike. Share it before if you need both:

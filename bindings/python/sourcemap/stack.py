@@ -46,11 +46,16 @@ class Translator:
         self._columns_from = columns_from
         self._context = context
         self._contents: Dict[Tuple[Map, int], Optional[View]] = {}
+        self.frames = 0
+        """How many lines were frames so far, also those without a map."""
 
     def translate(self, line: str) -> List[str]:
         """What is printed for a line: the line itself where it is no frame, or one without a map."""
         frame = parse_frame(line)
-        return [line] if frame is None else self._translate_frame(frame)
+        if frame is None:
+            return [line]
+        self.frames += 1
+        return self._translate_frame(frame)
 
     def _translate_frame(self, frame: Frame) -> List[str]:
         generated = self._finder.find(frame.file)
@@ -163,7 +168,8 @@ def add_arguments(parser: argparse.ArgumentParser) -> None:
     """Adds the arguments of `stack` to a parser."""
     parser.description = (
         'Reads a JavaScript stack trace of V8, SpiderMonkey or JavaScriptCore from standard input and prints it with '
-        'original positions and names. Frames without a map are printed as they stand.'
+        'original positions and names. Frames without a map are printed as they stand. Input without a frame is '
+        'printed unchanged; a line on standard error says so, and the status is 0.'
     )
     parser.add_argument('--map', metavar='FILE', type=Path, help='the map of all frames')
     parser.add_argument(
@@ -186,10 +192,11 @@ def add_arguments(parser: argparse.ArgumentParser) -> None:
 
 
 def run(arguments: argparse.Namespace) -> int:
-    """Translates standard input to standard output, line by line. Returns the exit status."""
+    """Translates standard input to standard output, line by line. Returns the exit status; errors of files are
+    raised. Input without a frame is no error: a program that did not fail may write into this filter."""
     try:
         map = None if arguments.map is None else open_map(arguments.map)
-    except (OSError, SourceMapError) as error:
+    except SourceMapError as error:
         print(f'sourcemap: {arguments.map}: {error}', file=sys.stderr)
         return 1
     translator = Translator(Finder(arguments.root, map), arguments.columns_from, arguments.context)
@@ -197,4 +204,6 @@ def run(arguments: argparse.Namespace) -> int:
     for text in translate_lines(lines, translator):
         sys.stdout.buffer.write(text.encode('utf-8', 'surrogateescape'))
         sys.stdout.buffer.flush()
+    if translator.frames == 0:
+        print('sourcemap: standard input has no stack frame that names a file and a line', file=sys.stderr)
     return 0

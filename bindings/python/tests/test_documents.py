@@ -23,16 +23,13 @@ MODULES = [sourcemap] + [importlib.import_module(f'sourcemap.{each.name}')
 
 
 class Examples(unittest.TestCase):
-    """They read `bundle.js.map`, which is the example of the repository."""
-
-    def setUp(self):
+    def test_docstrings(self):
+        """They read `bundle.js.map`, which is the example of the repository."""
         folder = tempfile.TemporaryDirectory()
         self.addCleanup(folder.cleanup)
         shutil.copy(EXAMPLES / 'readme.map', Path(folder.name, 'bundle.js.map'))
         self.addCleanup(os.chdir, os.getcwd())
         os.chdir(folder.name)
-
-    def test_docstrings(self):
         attempted = 0
         for module in MODULES:
             with self.subTest(module.__name__):
@@ -44,6 +41,8 @@ class Examples(unittest.TestCase):
     def test_readme(self):
         code, printed = re.search(r'```python\n(.*?)```\n.*?```\n(.*?)```', (FOLDER / 'README.md').read_text(),
                                   flags=re.DOTALL).groups()
+        self.addCleanup(os.chdir, os.getcwd())
+        os.chdir(EXAMPLES.parent)
         output = io.StringIO()
         with contextlib.redirect_stdout(output):
             exec(code, {})

@@ -38,7 +38,8 @@ CALLS = {
     View: [len, list, lambda view: view.text, lambda view: view[0], lambda view: view.slice(0, 0, 0)],
     Builder: [Builder.finish, lambda builder: builder.add_source('a'), lambda builder: builder.add_name('a'),
               lambda builder: builder.add(0, 0), lambda builder: builder.set_contents(0, None),
-              lambda builder: builder.ignore_source(0)],
+              lambda builder: builder.ignore_source(0), lambda builder: builder.source(0),
+              lambda builder: builder.set_source(0, 'a'), lambda builder: builder.strip_prefixes([])],
     Bundle: [len, list, lambda bundle: bundle.startup, lambda bundle: bundle[0],
              lambda bundle: bundle.split(Map.loads(SPLIT_INDEX))],
 }

@@ -37,11 +37,31 @@ class Program(unittest.TestCase):
         self.assertEqual(run('lookup', '-', '0', '0'), ('', 1, 'sourcemap: bad json: the text is not JSON\n'))
         self.assertEqual(run('lookup', MAP, '0', '-1'),
                          ('', 1, 'sourcemap: column must be from 0 to 4294967295, not -1\n'))
-        self.assertEqual(run('tokens', 'missing.map'),
-                         ('', 1, "sourcemap: [Errno 2] No such file or directory: 'missing.map'\n"))
         printed, status, error = run('tokens', '-', data=TWO_SECTIONS)
         self.assertEqual((printed, status), ('', 1))
         self.assertIn('an index map has no tokens of its own', error)
+
+    def test_files_that_cannot_be_read(self):
+        missing, folder = 'No such file or directory', 'Is a directory'
+        rows = [(('tokens', 'missing.map'), 'missing.map', missing), (('tokens', 'tests'), 'tests', folder),
+                (('lookup', 'missing.map', '0', '0'), 'missing.map', missing),
+                (('stack', '--map', 'missing.map'), 'missing.map', missing),
+                (('stack', '--map', 'tests'), 'tests', folder),
+                (('page', 'missing.js', '-o', 'out.html'), 'missing.js', missing),
+                (('page', MAP, 'missing.map', '-o', 'out.html'), 'missing.map', missing),
+                (('page', MAP, MAP, '-o', 'tests'), 'tests', folder)]
+        for words, file, reason in rows:
+            with self.subTest(words):
+                self.assertEqual(run(*words), ('', 1, f'sourcemap: {file}: {reason}\n'))
+
+    def test_stack_without_a_frame(self):
+        said = 'sourcemap: standard input has no stack frame that names a file and a line\n'
+        for data in '', 'Error: boom\n', '    at native\n[native code]':
+            with self.subTest(data):
+                self.assertEqual(run('stack', data=data), (data, 0, said))
+        for data in '    at f (/none.js:1:1)\n', 'Error: boom\nf@https://h/none.js:1:1\n':
+            with self.subTest(data):
+                self.assertEqual(run('stack', data=data), (data, 0, ''))
 
     def test_output_that_nobody_reads(self):
         with tempfile.TemporaryDirectory() as folder:

@@ -2,9 +2,9 @@
 
 from __future__ import annotations
 
-import argparse
 import base64
 import contextlib
+import errno
 import io
 import json
 import os
@@ -15,8 +15,10 @@ import tempfile
 import unittest
 from pathlib import Path
 from typing import List, Optional, Tuple
+from unittest import mock
 
 from sourcemap import Map, stack
+from sourcemap.__main__ import main
 from sourcemap._frames import parse_frame
 from sourcemap._generated import Finder, path_parts
 
@@ -301,6 +303,7 @@ class Traces(unittest.TestCase):
         rows = [
             f'@{self.generated}:1:21',
             f'@{self.generated.as_uri()}:1:21',
+            f'@file://{self.root}/maps/%2e%2e/dis%74/app.min.js?v=1:1:21',
             '@https://localhost/static/dist/app.min.js:1:21',
             '@../elsewhere/dist/app.min.js:1:21',
         ]
@@ -312,7 +315,8 @@ class Traces(unittest.TestCase):
                 self.assertEqual(translator.translate(line)[0], '@../src/app.js:2:9')
 
     def test_names_of_no_file(self) -> None:
-        for line in ('@/:1:1', '@.:1:1', '@..:1:1', '@a\0b:1:1', '@' + 'a' * 5000 + ':1:1', '@https://h:1:1'):
+        for line in ('@/:1:1', '@.:1:1', '@..:1:1', '@a\0b:1:1', '@' + 'a' * 5000 + ':1:1', '@https://h:1:1',
+                     '@file://host/a.js:1:1', '@file:///\udcff.js:1:1', '@file:///%00.js:1:1'):
             with self.subTest(line[:20]):
                 self.assertEqual(stack.Translator(Finder()).translate(line), [line])
                 self.assertEqual(stack.Translator(Finder(self.root)).translate(line), [line])
@@ -338,6 +342,14 @@ class Traces(unittest.TestCase):
             trace = self.translated(SPIDERMONKEY_TRACE)
         self.assertEqual(trace, SPIDERMONKEY_TRACE)
         self.assertEqual(errors.getvalue().count('bad json'), 1)
+
+    def test_map_that_cannot_be_read(self) -> None:
+        refused = PermissionError(errno.EACCES, 'Permission denied', str(self.map))
+        errors = io.StringIO()
+        with contextlib.redirect_stderr(errors), mock.patch('sourcemap._generated.open_map', side_effect=refused):
+            trace = self.translated(SPIDERMONKEY_TRACE)
+        self.assertEqual(trace, SPIDERMONKEY_TRACE)
+        self.assertEqual(errors.getvalue(), f'sourcemap: the map of {self.generated}: {self.map}: Permission denied\n')
 
     def test_index_map(self) -> None:
         section = {'offset': {'line': 0, 'column': 0}, 'map': json.loads(example.MAP)}
@@ -370,13 +382,11 @@ class Traces(unittest.TestCase):
         self.assertEqual(lines[2], b"    > 2 |   throw new Error('cannot read ' + path);")
 
     def test_map_that_is_not_there(self) -> None:
-        parser = argparse.ArgumentParser()
-        stack.add_arguments(parser)
         errors = io.StringIO()
         with contextlib.redirect_stderr(errors):
-            status = stack.run(parser.parse_args(['--map', str(self.root / 'none.map')]))
+            status = main(['stack', '--map', str(self.root / 'none.map')])
         self.assertEqual(status, 1)
-        self.assertIn('none.map', errors.getvalue())
+        self.assertEqual(errors.getvalue(), f'sourcemap: {self.root}/none.map: No such file or directory\n')
 
     @unittest.skipIf(shutil.which('node') is None, 'no Node')
     def test_node(self) -> None:

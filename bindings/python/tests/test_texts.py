@@ -117,12 +117,29 @@ class Builders(unittest.TestCase):
                 builder.add_tokens([NewToken(*wrong)])
         with self.assertRaises(TypeError):
             builder.add('0', 0)
-        for call in builder.set_contents, lambda id, _: builder.ignore_source(id):
+        for call in builder.set_contents, builder.set_source, lambda id, _: builder.ignore_source(id):
             with self.assertRaises(errors.Absent):
                 call(1, 'text')
             with self.assertRaises(ValueError):
                 call(-1, 'text')
+        with self.assertRaises(ValueError):
+            builder.source(-1)
+        with self.assertRaisesRegex(TypeError, 'prefixes is a list of texts, not a text'):
+            builder.strip_prefixes('a')
+        self.assertEqual((builder.source(0), builder.source(1)), ('a.js', None))
         self.assertEqual(len(builder.finish()), 0)
+
+    def test_changed_sources(self):
+        builder = Builder(source_root='root')
+        self.assertEqual([builder.add_source(each) for each in ('/a/a/x.js', '/ab.js', 'c.js', '~/d.js')], [0, 1, 2, 3])
+        builder.set_source(2, '/a/b/c.js')
+        builder.strip_prefixes([])
+        self.assertEqual(builder.source(2), '/a/b/c.js')
+        builder.strip_prefixes(['/a/b', '/a/', '~'])
+        self.assertEqual([builder.source(id) for id in range(5)], ['a/x.js', '/ab.js', 'c.js', 'd.js', None])
+        self.assertEqual([builder.add_source(each) for each in ('/a/a/x.js', 'c.js', 'd.js')], [0, 2, 4])
+        self.assertEqual(builder.finish().sources,
+                         ['root/a/x.js', '/ab.js', 'root/c.js', 'root/d.js', 'root/d.js'])
 
 
 class Bundles(unittest.TestCase):

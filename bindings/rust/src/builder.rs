@@ -23,7 +23,8 @@ const BLOCK: usize = 1024;
 /// assert_eq!(map.lookup_token(0, 9).unwrap().to_string(), "a.js:2:4 name=f");
 /// ```
 pub struct SourceMapBuilder {
-    /// Gives sources and names their ids, and takes the tokens.
+    /// Has the texts of sources, gives sources and names their ids, and takes
+    /// the tokens.
     handle: BuilderHandle,
     file: Option<Arc<str>>,
     source_root: Option<Arc<str>>,
@@ -37,8 +38,6 @@ pub struct SourceMapBuilder {
 struct Source {
     /// The text that has the id.
     added: Arc<str>,
-    /// The text that the map gets.
-    text: Arc<str>,
     contents: Option<Arc<str>>,
 }
 
@@ -66,8 +65,8 @@ impl SourceMapBuilder {
     ) -> SourceMapBuilder {
         let mut builder = SourceMapBuilder::new(None);
         builder.file = file;
-        for (index, source) in sources.iter().enumerate() {
-            builder.add_distinct_source(index, source);
+        for (id, source) in (0..).zip(sources) {
+            builder.add_distinct_source(id, source);
         }
         for (source, contents) in builder.sources.iter_mut().zip(contents) {
             source.contents = contents;
@@ -83,14 +82,15 @@ impl SourceMapBuilder {
         builder
     }
 
-    /// Gives the source at this index an id of its own, also if another one has
-    /// its text.
-    fn add_distinct_source(&mut self, index: usize, source: &Arc<str>) {
-        let mut added = source.to_string();
-        while self.add_source(&added) as usize != index {
+    /// Adds a source with this id, also if another one has its text.
+    fn add_distinct_source(&mut self, id: u32, source: &str) {
+        let mut added = source.to_owned();
+        while self.add_source(&added) != id {
             added.push('+');
         }
-        self.sources[index].text = source.clone();
+        if added != source {
+            self.set_source(id, source);
+        }
     }
 
     /// Sets or removes the debug id.
@@ -122,10 +122,8 @@ impl SourceMapBuilder {
     pub fn add_source(&mut self, src: &str) -> u32 {
         let id = must(self.handle.add_source(src));
         if id as usize == self.sources.len() {
-            let text: Arc<str> = src.into();
             self.sources.push(Source {
-                added: text.clone(),
-                text,
+                added: src.into(),
                 contents: None,
             });
         }
@@ -138,14 +136,13 @@ impl SourceMapBuilder {
     ///
     /// If there is no source of this id.
     pub fn set_source(&mut self, src_id: u32, src: &str) {
-        self.sources[src_id as usize].text = src.into();
+        let is_there = must(self.handle.set_source(src_id, src));
+        assert!(is_there, "no source has id {src_id}");
     }
 
     /// Returns the text of a source.
     pub fn get_source(&self, src_id: u32) -> Option<&str> {
-        self.sources
-            .get(src_id as usize)
-            .map(|source| &*source.text)
+        self.handle.source(src_id)
     }
 
     /// Puts a source on the ignore list.
@@ -253,14 +250,7 @@ impl SourceMapBuilder {
     /// Removes from each source the first of these prefixes that it begins with.
     /// A prefix ends with `/`, which is added where it lacks.
     pub fn strip_prefixes<S: AsRef<str>>(&mut self, prefixes: &[S]) {
-        for source in &mut self.sources {
-            let rest = prefixes
-                .iter()
-                .find_map(|prefix| without(&source.text, prefix.as_ref()));
-            if let Some(rest) = rest {
-                source.text = rest.into();
-            }
-        }
+        must(self.handle.strip_prefixes(prefixes));
     }
 
     /// Returns the map.
@@ -286,24 +276,9 @@ impl SourceMapBuilder {
         }
         let mut map = self.handle.finish()?;
         map.set_file(self.file.as_deref())?;
-        for (id, source) in (0..).zip(&self.sources) {
-            if source.text != source.added {
-                map.set_source(id, &source.text)?;
-            }
-        }
         for id in self.ignored {
             map.ignore_source(id)?;
         }
         Ok(SourceMap::of_handle(map))
-    }
-}
-
-/// What comes after a prefix that ends with `/`.
-fn without<'a>(source: &'a str, prefix: &str) -> Option<&'a str> {
-    let rest = source.strip_prefix(prefix)?;
-    if prefix.ends_with('/') {
-        Some(rest)
-    } else {
-        rest.strip_prefix('/')
     }
 }

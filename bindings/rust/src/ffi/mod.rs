@@ -176,6 +176,7 @@ extern "C" {
 
     pub fn sm_lookup(map: *mut Handle, line: u32, column: u32, found: *mut Found) -> Code;
     pub fn sm_lookup_many(map: *mut Handle, positions: *const Position, count: usize, found: *mut Found, length: usize) -> usize;
+    pub fn sm_lookup_index(map: *mut Handle, line: u32, column: u32, index: *mut u32) -> Code;
     pub fn sm_lookup_source(map: *mut Handle, line: u32, column: u32, text: *mut Text) -> Code;
     pub fn sm_lookup_name(map: *mut Handle, line: u32, column: u32, text: *mut Text) -> Code;
     pub fn sm_trace(map: *mut Handle, positions: *const u8, length: usize, text: *mut Handle, error: *mut Error) -> Code;
@@ -210,6 +211,9 @@ extern "C" {
     pub fn sm_builder_set_debug_id(builder: *mut Handle, present: bool, id: *const DebugId, error: *mut Error) -> Code;
     pub fn sm_builder_add_source(builder: *mut Handle, text: *const u8, length: usize, id: *mut u32, error: *mut Error) -> Code;
     pub fn sm_builder_add_name(builder: *mut Handle, text: *const u8, length: usize, id: *mut u32, error: *mut Error) -> Code;
+    pub fn sm_builder_source(builder: *mut Handle, id: u32, text: *mut Text) -> Code;
+    pub fn sm_builder_set_source(builder: *mut Handle, id: u32, source: *const u8, length: usize, error: *mut Error) -> Code;
+    pub fn sm_builder_strip_prefixes(builder: *mut Handle, prefixes: *const Text, count: usize, error: *mut Error) -> Code;
     pub fn sm_builder_set_contents(builder: *mut Handle, id: u32, present: bool, text: *const u8, length: usize, error: *mut Error) -> Code;
     pub fn sm_builder_ignore_source(builder: *mut Handle, id: u32, error: *mut Error) -> Code;
     pub fn sm_builder_add_tokens(builder: *mut Handle, tokens: *const RawToken, count: usize, error: *mut Error) -> usize;
@@ -224,6 +228,9 @@ extern "C" {
     pub fn sm_resolve(url: *const u8, length: usize, base: *const u8, base_length: usize, result: *mut Handle, error: *mut Error) -> Code;
     pub fn sm_resolve_path(url: *const u8, length: usize, base: *const u8, base_length: usize, result: *mut Handle, error: *mut Error) -> Code;
     pub fn sm_relative_path(base: *const u8, base_length: usize, target: *const u8, target_length: usize, path: *mut Handle, error: *mut Error) -> Code;
+
+    pub fn sm_parse_segment(segment: *const u8, length: usize, numbers: *mut i64, capacity: usize, count: *mut usize, error: *mut Error) -> Code;
+    pub fn sm_write_segment(numbers: *const i64, count: usize, text: *mut Handle, error: *mut Error) -> Code;
 
     pub fn sm_bundle_open(bundle: *mut Handle, bytes: *const u8, length: usize, error: *mut Error) -> Code;
     pub fn sm_bundle_count(bundle: *mut Handle, modules: *mut usize) -> Code;

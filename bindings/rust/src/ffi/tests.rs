@@ -46,6 +46,7 @@ fn rust_type(c_type: &str) -> String {
         "sm_code" => "Code",
         "uint8_t" => "u8",
         "uint32_t" => "u32",
+        "int64_t" => "i64",
         "size_t" => "usize",
         "bool" => "bool",
         other => panic!("no type for {other}"),

@@ -1,6 +1,6 @@
 //! Maps that are being built.
 
-use super::{check, optional, Handle, MapHandle};
+use super::{check, check_if_any, optional, texts_of, Handle, MapHandle};
 use crate::debug_id::DebugId;
 use crate::errors::{Error, Result};
 use crate::ffi;
@@ -53,6 +53,30 @@ impl BuilderHandle {
             ffi::sm_builder_add_name(self.0.at(), text.as_ptr(), text.len(), &mut id, error)
         })?;
         Ok(id)
+    }
+
+    pub fn source(&self, id: u32) -> Option<&str> {
+        // SAFETY: the text is in the builder.
+        unsafe {
+            self.0
+                .text(|builder, text| ffi::sm_builder_source(builder, id, text))
+        }
+    }
+
+    /// Sets the text of a source, and returns whether the source exists.
+    pub fn set_source(&mut self, id: u32, source: &str) -> Result<bool> {
+        // SAFETY: the text is where it says.
+        check_if_any(|error| unsafe {
+            ffi::sm_builder_set_source(self.0.at(), id, source.as_ptr(), source.len(), error)
+        })
+    }
+
+    pub fn strip_prefixes<S: AsRef<str>>(&mut self, prefixes: &[S]) -> Result<()> {
+        let texts = texts_of(prefixes);
+        // SAFETY: the texts are where they say.
+        check(|error| unsafe {
+            ffi::sm_builder_strip_prefixes(self.0.at(), texts.as_ptr(), texts.len(), error)
+        })
     }
 
     pub fn set_contents(&mut self, id: u32, contents: &str) -> Result<()> {

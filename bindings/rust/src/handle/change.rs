@@ -1,6 +1,6 @@
 //! Maps: what changes them. A call that fails leaves the map as it was.
 
-use super::{check, check_if_any, optional, MapHandle};
+use super::{check, check_if_any, optional, texts_of, MapHandle};
 use crate::debug_id::DebugId;
 use crate::errors::{Error, Result};
 use crate::ffi;
@@ -27,10 +27,7 @@ impl MapHandle {
         with_contents: bool,
         prefixes: &[&str],
     ) -> Result<()> {
-        let texts: Vec<ffi::Text> = prefixes
-            .iter()
-            .map(|prefix| ffi::Text::of(prefix.as_bytes()))
-            .collect();
+        let texts = texts_of(prefixes);
         // SAFETY: the texts are where they say.
         self.change(|map, error| unsafe {
             ffi::sm_rewrite(

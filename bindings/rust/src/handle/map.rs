@@ -152,6 +152,14 @@ impl MapHandle {
         (code == ffi::SM_OK).then_some(found.token)
     }
 
+    /// The index of the closest token, in a map that is no index map.
+    pub fn lookup_index(&self, line: u32, column: u32) -> Option<u32> {
+        let mut index = 0;
+        // SAFETY: it is a handle.
+        let code = unsafe { ffi::sm_lookup_index(self.0.at(), line, column, &mut index) };
+        (code == ffi::SM_OK).then_some(index)
+    }
+
     pub fn function_name(
         &self,
         (line, column): (u32, u32),

@@ -11,6 +11,7 @@ mod change;
 mod map;
 mod reference;
 mod sections;
+mod segment;
 mod view;
 
 use std::cell::UnsafeCell;
@@ -25,6 +26,7 @@ pub(crate) use self::reference::{
     locate_reference, relative_path, resolve, resolve_path, Reference,
 };
 pub(crate) use self::sections::SectionsHandle;
+pub(crate) use self::segment::{parse_segment, write_segment};
 pub(crate) use self::view::ViewHandle;
 
 use crate::errors::{Error, Result};
@@ -45,6 +47,7 @@ impl Handle {
 
     /// The address that calls take. The cell makes it mutable: calls that leave
     /// a handle as it is take it by mutable pointer too.
+    #[inline]
     fn at(&self) -> *mut ffi::Handle {
         self.0.get()
     }
@@ -164,6 +167,14 @@ fn check_if_any(call: impl FnOnce(*mut ffi::Error) -> ffi::Code) -> Result<bool>
         ffi::SM_ABSENT => Ok(false),
         code => Err(Error::of_call(code, &error)),
     }
+}
+
+/// Texts as a call takes them. They point to the texts of the caller.
+fn texts_of<S: AsRef<str>>(texts: &[S]) -> Vec<ffi::Text> {
+    texts
+        .iter()
+        .map(|text| ffi::Text::of(text.as_ref().as_bytes()))
+        .collect()
 }
 
 /// The arguments of a text that can be absent.

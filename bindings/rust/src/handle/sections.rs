@@ -1,6 +1,6 @@
 //! Index maps that are made of sections.
 
-use super::{check, optional, Handle, MapHandle};
+use super::{check, optional, texts_of, Handle, MapHandle};
 use crate::errors::Result;
 use crate::ffi;
 
@@ -54,11 +54,7 @@ impl SectionsHandle {
             .iter()
             .map(|line| line.unwrap_or(ffi::SM_NONE))
             .collect();
-        let texts: Vec<ffi::Text> = paths
-            .unwrap_or_default()
-            .iter()
-            .map(|path| ffi::Text::of(path.as_bytes()))
-            .collect();
+        let texts = texts_of(paths.unwrap_or_default());
         // SAFETY: the lists and texts are where they say, and both are handles,
         // not the same.
         Handle::filled(|map, error| unsafe {

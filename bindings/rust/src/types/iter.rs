@@ -29,7 +29,7 @@ impl<'a> TokenIter<'a> {
     /// Continues after the closest token to a position. Returns whether there is
     /// one; if not, the iterator is as it was.
     pub fn seek(&mut self, line: u32, col: u32) -> bool {
-        let Some((index, _)) = self.sm.closest((line, col)) else {
+        let Some(index) = self.sm.handle().lookup_index(line, col) else {
             return false;
         };
         self.after_block = index.saturating_add(1);

@@ -357,25 +357,9 @@ impl SourceMap {
         (self.read_tokens(index, &mut token) == 1).then(|| token[0])
     }
 
-    /// The closest token to a position as it is in the list, and its index.
-    pub(crate) fn closest(&self, position: (u32, u32)) -> Option<(u32, RawToken)> {
-        let (mut low, mut high) = (0, self.get_token_count());
-        while low < high {
-            let middle = low + (high - low) / 2;
-            if self.raw_token(middle)?.dst() < position {
-                low = middle + 1;
-            } else {
-                high = middle;
-            }
-        }
-        let at_position = self.raw_token(low).filter(|token| token.dst() == position);
-        match at_position {
-            Some(token) => Some((low, token)),
-            None => {
-                let index = low.checked_sub(1)?;
-                Some((index, self.raw_token(index)?))
-            }
-        }
+    /// The closest token to a position as it is in the list.
+    pub(crate) fn closest(&self, (line, column): (u32, u32)) -> Option<RawToken> {
+        self.raw_token(self.handle.lookup_index(line, column)?)
     }
 }
 

@@ -50,40 +50,53 @@ impl RawToken {
 #[derive(Copy, Clone)]
 pub struct Token<'a> {
     sm: &'a SourceMap,
-    raw: RawToken,
-    /// With the distance to the position looked up, for a range token.
-    src_col: u32,
+    /// As in the map, but the original column of a range token includes the
+    /// distance to the position looked up.
+    answer: RawToken,
+    /// The generated column of the position looked up, or of the token if that
+    /// position is on another line.
+    column: u32,
 }
 
 impl<'a> Token<'a> {
     /// A token as it is in its map.
     #[inline]
     pub(crate) fn listed(sm: &'a SourceMap, raw: RawToken) -> Token<'a> {
-        let src_col = raw.src_col;
-        Token { sm, raw, src_col }
+        Token::answered(sm, raw, raw.dst())
     }
 
-    /// The answer to a position: a token whose original column is that of the
-    /// position looked up.
+    /// The answer to a position. What the token says in its map is found where it
+    /// is asked for, so that a lookup does not pay for it.
     #[inline]
     pub(crate) fn answered(sm: &'a SourceMap, answer: RawToken, position: (u32, u32)) -> Token<'a> {
-        let mut token = Token::listed(sm, answer);
-        if token.raw.is_range && token.raw.dst_line == position.0 {
-            token.raw.src_col = match token.src_col {
-                // The sum may be cut off here, so only the token itself says.
-                u32::MAX => sm
-                    .closest(position)
-                    .map_or(u32::MAX, |(_, token)| token.src_col),
-                column => column - (position.1 - token.raw.dst_col),
-            };
-        }
-        token
+        let column = match position {
+            (line, column) if line == answer.dst_line => column,
+            _ => answer.dst_col,
+        };
+        Token { sm, answer, column }
     }
 
     /// The position that the token answers.
     pub(crate) fn looked_up(&self) -> (u32, u32) {
-        let distance = self.src_col - self.raw.src_col;
-        (self.raw.dst_line, self.raw.dst_col.saturating_add(distance))
+        if self.answer.is_range {
+            (self.answer.dst_line, self.column)
+        } else {
+            self.answer.dst()
+        }
+    }
+
+    /// The original column of the token in its map.
+    fn listed_src_col(&self) -> u32 {
+        let position = self.looked_up();
+        match (position.1 - self.answer.dst_col, self.answer.src_col) {
+            (0, column) => column,
+            // The sum may be cut off here, so only the token itself says.
+            (_, u32::MAX) => self
+                .sm
+                .closest(position)
+                .map_or(u32::MAX, |token| token.src_col),
+            (distance, column) => column - distance,
+        }
     }
 
     /// Returns the map of the token.
@@ -93,29 +106,29 @@ impl<'a> Token<'a> {
 
     /// Returns the line of the generated text.
     pub fn get_dst_line(&self) -> u32 {
-        self.raw.dst_line
+        self.answer.dst_line
     }
 
     /// Returns the column of the generated text.
     pub fn get_dst_col(&self) -> u32 {
-        self.raw.dst_col
+        self.answer.dst_col
     }
 
     /// Returns the line and the column of the generated text.
     pub fn get_dst(&self) -> (u32, u32) {
-        self.raw.dst()
+        self.answer.dst()
     }
 
     /// Returns the line of the source, or `!0` without a source.
     pub fn get_src_line(&self) -> u32 {
-        self.raw.src_line
+        self.answer.src_line
     }
 
     /// Returns the column of the source, or `!0` without a source. For a range
     /// token that answers a position, it is as far after the token's as the
     /// position is.
     pub fn get_src_col(&self) -> u32 {
-        self.src_col
+        self.answer.src_col
     }
 
     /// Returns the line and the column of the source.
@@ -125,25 +138,25 @@ impl<'a> Token<'a> {
 
     /// Returns the id of the source, or `!0`.
     pub fn get_src_id(&self) -> u32 {
-        self.raw.src_id
+        self.answer.src_id
     }
 
     /// Returns the source, resolved against the source root.
     pub fn get_source(&self) -> Option<&'a str> {
         self.has_source()
-            .then(|| self.sm.get_source(self.raw.src_id))
+            .then(|| self.sm.get_source(self.answer.src_id))
             .flatten()
     }
 
     /// Returns whether the token has a source.
     pub fn has_source(&self) -> bool {
-        self.raw.src_id != !0
+        self.answer.src_id != !0
     }
 
     /// Returns the name.
     pub fn get_name(&self) -> Option<&'a str> {
-        (self.raw.name_id != !0)
-            .then(|| self.sm.get_name(self.raw.name_id))
+        (self.answer.name_id != !0)
+            .then(|| self.sm.get_name(self.answer.name_id))
             .flatten()
     }
 
@@ -154,7 +167,7 @@ impl<'a> Token<'a> {
 
     /// Returns the id of the name, or `!0`.
     pub fn get_name_id(&self) -> u32 {
-        self.raw.name_id
+        self.answer.name_id
     }
 
     /// Returns the source or the empty text, its line and column, and the name.
@@ -169,17 +182,20 @@ impl<'a> Token<'a> {
 
     /// Returns the numbers of the token as they are in its map.
     pub fn get_raw_token(&self) -> RawToken {
-        self.raw
+        RawToken {
+            src_col: self.listed_src_col(),
+            ..self.answer
+        }
     }
 
     /// Returns the contents of the source.
     pub fn get_source_view(&self) -> Option<&SourceView> {
-        self.sm.get_source_view(self.raw.src_id)
+        self.sm.get_source_view(self.answer.src_id)
     }
 
     /// Returns whether the token maps a range.
     pub fn is_range(&self) -> bool {
-        self.raw.is_range
+        self.answer.is_range
     }
 }
 

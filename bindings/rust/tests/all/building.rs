@@ -101,7 +101,7 @@ fn a_changed_source_keeps_the_id_of_the_text_that_was_added() {
 }
 
 #[test]
-#[should_panic]
+#[should_panic(expected = "no source has id 0")]
 fn a_builder_sets_no_source_that_it_does_not_have() {
     SourceMapBuilder::new(None).set_source(0, "a.js");
 }
@@ -124,11 +124,20 @@ fn prefixes_are_stripped_with_their_slash() {
     for source in ["/a/x.js", "/a/b/y.js", "/ab.js", "c.js"] {
         builder.add_source(source);
     }
+    builder.set_source(3, "/a/b/a/z.js");
     builder.strip_prefixes(&["/a/b", "/a"]);
+    assert_eq!(
+        (builder.get_source(1), builder.get_source(3)),
+        (Some("y.js"), Some("a/z.js"))
+    );
+    assert_eq!(
+        (builder.add_source("/a/b/y.js"), builder.add_source("c.js")),
+        (1, 3)
+    );
     let map = builder.into_sourcemap();
     assert_eq!(
         map.sources().collect::<Vec<_>>(),
-        ["x.js", "y.js", "/ab.js", "c.js"]
+        ["x.js", "y.js", "/ab.js", "a/z.js"]
     );
 }
 
