@@ -185,15 +185,18 @@ def depth_of(text):
     return max(itertools.accumulate((letter in '[{') - (letter in ']}') for letter in outside), default=0)
 
 
-def has_lone_surrogates(text):
-    return any('\ud800' <= letter <= '\udfff' for letter in text)
+def has_lone_surrogates(value):
+    """Whether a text has one, or one of a list; an object is looked at when it is made."""
+    if isinstance(value, list):
+        return any(map(has_lone_surrogates, value))
+    return isinstance(value, str) and any('\ud800' <= letter <= '\udfff' for letter in value)
 
 
 def decoded(data, is_strict, is_twice):
     """The value of a JSON text. What is not strict takes any bytes in texts, any numbers and any depth."""
     def object_of(pairs):
         keys = [key for key, _ in pairs if key in KEYS]
-        if is_strict and any(map(has_lone_surrogates, [*dict(pairs), *(v for _, v in pairs if isinstance(v, str))])):
+        if is_strict and any(map(has_lone_surrogates, [*dict(pairs), *(value for _, value in pairs)])):
             raise NoMap
         return (Twice if is_twice and len(keys) > len(set(keys)) else dict)(pairs)
 

@@ -171,7 +171,11 @@ def parsed(text, base=None, escapes=PATH):
         raise Refused
     if found and not (base and base.scheme == scheme and is_special(scheme)):
         base = None
-    url = base if base and not text else body_parsed(scheme, base, text, escapes)
+    is_base = base and not text
+    url = base if is_base else body_parsed(scheme, base, text, escapes)
+    # a space right before `?` or `#` is escaped; only an opaque path can end with one
+    if not is_base and isinstance(url.path, str) and url.path[-1:] == ' ' and (query, fragment) != (None, None):
+        url = url._replace(path=f'{url.path[:-1]}%20')
     if query is not None:
         url = url._replace(query=escaped(query, QUERY | frozenset(b"'") if is_special(scheme) else QUERY))
     return url._replace(fragment=None if fragment is None else escaped(fragment, FRAGMENT))
