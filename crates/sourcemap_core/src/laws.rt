@@ -7,6 +7,6 @@ pub use sourcemap_line_index::line_index::binary_digits_are_fewest;
 pub use sourcemap_mappings::read::mappings_determine_one_answer;
 pub use sourcemap_mappings::write::written_texts_are_determined;
 pub use sourcemap_source_views::lines::lines_make_their_text;
-pub use sourcemap_tokens::tokens::{one_stable_order, reduced_answers_alike};
+pub use sourcemap_tokens::tokens::{closest_tokens_stay, one_stable_order, reduced_answers_alike};
 pub use sourcemap_vlq::bits::bits_are_determined;
 pub use sourcemap_vlq::vlq::segments_are_determined;

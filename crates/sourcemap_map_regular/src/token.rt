@@ -8,8 +8,9 @@ use sourcemap_tokens::tokens::{NO_ID, RawToken};
 use std::fmt;
 use std::str::from_utf8_unchecked;
 
-/// A token of a map, with a borrow of the map: it has the texts of the ids of the raw token. A token
-/// that a lookup returned also has the distance from the token to the position.
+/// A token of a map, with a borrow of the map. Its getters return the source and the name that its
+/// ids stand for. A token that a lookup returned also has the columns that the lookup adds to the
+/// original column of a range token.
 #[derive(Clone, Copy)]
 pub struct Token<'a> {
     pub(crate) map: &'a SourceMap,
@@ -33,6 +34,16 @@ impl<'a> Token<'a> {
         ensures { result.now ≡ (token_value self.now).map_of }
     {
         self.map
+    }
+
+    /// The index of the token among the tokens of its map, as `get_token` takes it.
+    pub fn get_index(&self) -> usize
+        ensures value { result ≡ (token_value self.now).index }
+        ensures own { slice_get (token_value self.now).map_of.tokens result
+            ≡ Some (token_value self.now).raw }
+        ensures small { result + 1 < 2 ^ 64 }
+    {
+        self.index
     }
 
     /// The generated line.
@@ -64,9 +75,9 @@ impl<'a> Token<'a> {
         self.raw.src_line
     }
 
-    /// The original column, in UTF-16 units; 4294967295 if the map is well-formed and the token has no
-    /// source. After a lookup on the line of a range token it includes the columns from the token to
-    /// the position, up to 4294967295.
+    /// The original column, in UTF-16 units; 4294967295 if the map is well-formed and the token has
+    /// no source. After a lookup on the line of a range token it includes the columns from the
+    /// token to the position, up to 4294967295.
     pub fn get_src_col(&self) -> u32
         ensures { result ≡ (meaning_of_token self.now).column }
     {
@@ -179,7 +190,7 @@ impl<'a> Token<'a> {
 // The longest text of a position: two colons and two numbers of ten digits.
 const POSITION_LENGTH: usize = 22;
 
-// `:line:column`, at the end of a buffer: one write to a formatter is faster than four.
+// Formats `:line:column` at the end of the buffer. One write to a formatter is faster than four.
 fn position_text(line: u32, column: u32, buffer: &mut [u8; POSITION_LENGTH]) -> &str
     ensures { result.now ≡ codes ":" ++ decimal line ++ codes ":" ++ decimal column }
 {
@@ -196,8 +207,9 @@ impl fmt::Display for Token<'_> {
 
     ghost output = { λ token. Stated (token_text (meaning_of_token token)) };
 
-    /// `source:line:column`, with `<unknown>` for no source, and ` name=NAME` if there is a name. The
-    /// alternate form adds ` (line:column)`, the generated position, and ` (range)` for a range token.
+    /// `source:line:column`, with `<unknown>` for no source, and ` name=NAME` if there is a name.
+    /// The alternate form adds ` (line:column)`, the generated position, and ` (range)` for a range
+    /// token.
     fn fmt<W: fmt::Write>(&self, f: &mut fmt::Formatter<W>) -> fmt::Result {
         self.put(f)?;
         if f.alternate() {
@@ -211,7 +223,7 @@ impl fmt::Display for Token<'_> {
 }
 
 impl fmt::Debug for Token<'_> {
-    /// The alternate form within `<Token ` and `>`.
+    /// Writes the alternate form of `Display`, between `<Token ` and `>`.
     fn fmt<W: fmt::Write>(&self, f: &mut fmt::Formatter<W>) -> fmt::Result {
         write!(f, "<Token {self:#}>")
     }

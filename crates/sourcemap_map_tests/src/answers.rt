@@ -9,7 +9,7 @@ use std::alloc::Global;
 const FULL: &str =
     r#"{"version":3,"file":"out.js","sourceRoot":"webpack:///","sources":["./bar.js","/b.js"],"sourcesContent":["x"],"names":["foo"],"mappings":"AAAOA,CCAA","rangeMappings":"B","debug_id":"00000000-0000-0000-0000-000000000000"}"#;
 
-// The getter called.
+// Which getters a row of `ANSWERS` calls.
 #[derive(Clone, Copy)]
 enum Getter {
     Texts,
@@ -21,7 +21,8 @@ enum Getter {
     Raw,
 }
 
-// File and root, sources, contents and names, each list with an index out of range.
+// File and `sourceRoot`, sources, contents and names. The last source and the last name have an
+// index out of range. The last contents are those of a source without contents.
 fn parts_text(alloc: Global, map: &SourceMap) -> Result<String> {
     let head = (map.get_file(), map.get_source_root());
     let sources = (map.get_source(0), map.get_source(1), map.get_source(2));
@@ -30,7 +31,8 @@ fn parts_text(alloc: Global, map: &SourceMap) -> Result<String> {
     Ok(format!(in alloc; "{head:?} {sources:?} {contents:?} {names:?}")?)
 }
 
-// The numbers of tokens, sources and names, by count and by iterator.
+// How many tokens, sources and names there are, by getter and then by iterator. Then how many
+// contents, and whether there are names.
 fn counts_text(alloc: Global, map: &SourceMap) -> Result<String> {
     let counts = (
         map.get_token_count(),
@@ -61,12 +63,12 @@ fn token_text(alloc: Global, token: Option<Token<'_>>) -> Result<String> {
     let position = (token.get_dst(), token.get_dst_line(), token.get_dst_col());
     let source = (token.get_src(), token.get_src_line(), token.get_src_col());
     let texts = (token.to_tuple(), token.get_source(), token.get_name());
-    let ids = (token.get_src_id(), token.get_name_id());
+    let ids = (token.get_index(), token.get_src_id(), token.get_name_id());
     let is = (token.is_range(), token.has_source(), token.has_name());
     Ok(format!(in alloc; "{position:?} {source:?} {texts:?} {ids:?} {is:?}")?)
 }
 
-// The column and the flag of the raw token, and how many tokens its map has.
+// The original column and the range flag of the raw token, and how many tokens its map has.
 fn raw_text(alloc: Global, token: Option<Token<'_>>) -> Result<String> {
     let Some(token) = token else {
         return Ok(String::from_str(alloc, "none")?);
@@ -101,11 +103,11 @@ static ANSWERS: [(Getter, &str); 7] = [
     (Getter::DebugId, "00000000-0000-0000-0000-000000000000"),
     (
         Getter::Token(0),
-        r#"((0, 0), 0, 0) ((0, 7), 0, 7) (("webpack:///./bar.js", 0, 7, Some("foo")), Some("webpack:///./bar.js"), Some("foo")) (0, 0) (true, true, true)"#,
+        r#"((0, 0), 0, 0) ((0, 7), 0, 7) (("webpack:///./bar.js", 0, 7, Some("foo")), Some("webpack:///./bar.js"), Some("foo")) (0, 0, 0) (true, true, true)"#,
     ),
     (
         Getter::Token(1),
-        r#"((0, 1), 0, 1) ((0, 7), 0, 7) (("/b.js", 0, 7, None), Some("/b.js"), None) (1, 4294967295) (false, true, false)"#,
+        r#"((0, 1), 0, 1) ((0, 7), 0, 7) (("/b.js", 0, 7, None), Some("/b.js"), None) (1, 1, 4294967295) (false, true, false)"#,
     ),
     (Getter::Token(2), "none"),
     (Getter::Raw, "7 true 2"),

@@ -249,6 +249,45 @@ module _ {X K : Type 0} (key : X → K) (cmp : K → K → Ordering) (P : X → 
   pub closest_item-has : (xs : List X) (p : K) → AllByRecursion P xs → IfSome (closest_item key cmp xs p) P
   closest_item-has xs p all = either_has (find (λ x. is_eq (cmp (key x) p)) xs) (find_last (λ x. is_lt (cmp (key x) p)) xs) (found_has _ xs all) (last_has _ xs all)
 
+-- a weaker property of an item that may be missing
+if_some_weaker : {X : Type 0} {P Q : X → Type 0} → ((x : X) → P x → Q x) → (o : Option X) → IfSome o P → IfSome o Q
+if_some_weaker weaker None has = tt
+if_some_weaker weaker (Some x) has = weaker x has
+
+-- what a search finds passes its test
+module _ {X : Type 0} (test : X → Bool) where
+  find-passes : (xs : List X) → IfSome (find test xs) (λ x. test x ≡ true)
+  find-passes [] = tt
+  find-passes (x ∷ xs) = by_test (find-passes xs) (test x) refl
+    where
+      by_test : IfSome (find test xs) (λ x. test x ≡ true) → (b : Bool) → test x ≡ b → IfSome (cond b (Some x) (find test xs)) (λ x. test x ≡ true)
+      by_test later true is = is
+      by_test later false is = later
+
+  find_last-passes : (xs : List X) → IfSome (find_last test xs) (λ x. test x ≡ true)
+  find_last-passes [] = tt
+  find_last-passes (x ∷ xs) = by_rest (find_last test xs) (find_last-passes xs)
+    where
+      by_test : (b : Bool) → test x ≡ b → IfSome (cond b (Some x) None) (λ x. test x ≡ true)
+      by_test true is = is
+      by_test false is = tt
+
+      by_rest : (o : Option X) → IfSome o (λ x. test x ≡ true) → IfSome (option_or o (cond (test x) (Some x) None)) (λ x. test x ≡ true)
+      by_rest None later = by_test (test x) refl
+      by_rest (Some y) later = later
+
+-- the closest item has the key or a smaller one
+module _ {X K : Type 0} (key : X → K) (cmp : K → K → Ordering) where
+  closest_item-at_most : (xs : List X) (p : K) → IfSome (closest_item key cmp xs p) (λ x. is_le (cmp (key x) p) ≡ true)
+  closest_item-at_most xs p =
+      either_has key cmp (λ x. is_le (cmp (key x) p) ≡ true) (find (λ x. is_eq (cmp (key x) p)) xs) (find_last (λ x. is_lt (cmp (key x) p)) xs)
+      (if_some_weaker (λ x at. is_le-equal (cmp (key x) p) at) _ (find-passes (λ x. is_eq (cmp (key x) p)) xs))
+      (if_some_weaker (λ x less. is_le-less (cmp (key x) p) less) _ (find_last-passes (λ x. is_lt (cmp (key x) p)) xs))
+
+pub closest-at_most : {X K : Type 0} (key : X → K) (cmp : K → K → Ordering) (xs : List X) (p : K) → IfSome (closest key cmp xs p) (λ e. is_le (cmp (key e.1) p) ≡ true)
+unfolding closest
+closest-at_most {X} key cmp xs p = closest_item-at_most (λ (e : ℕ × X). key e.1) cmp (enumerate_from 0 xs) p
+
 -- a change that keeps each key may be made before or after the search
 module _ {X Y K : Type 0} (key : X → K) (key' : Y → K) (cmp : K → K → Ordering) (change : X → Y) (kept : (x : X) → key' (change x) ≡ key x) where
   find-change : (t : K → Bool) (xs : List X) → find (λ y. t (key' y)) (map change xs) ≡ option_map change (find (λ x. t (key x)) xs)

@@ -1,22 +1,23 @@
 -- The order of tokens, the closest token, and the reduced list.
-use Rattle.std.proofs.Common.{◌≡◌, refl, sym, ap, subst, ◌∙◌, ℕ, ◌+◌, ◌-◌, ◌<◌, ◌≤◌, List, [], ◌∷◌, length, get_or, map, Bool, true, false, cond, arith, inl, inr, eqb-true, Option, Some, None, find, option_map, nat_lt, if◌then◌else◌, ◌==◌}
+use Rattle.std.proofs.Common.{◌≡◌, refl, sym, ap, subst, ◌∙◌, ℕ, ◌+◌, ◌-◌, ◌<◌, ◌≤◌, List, [], ◌∷◌, length, get_or, map, Bool, true, false, cond, arith, inl, inr, eqb-true, Option, Some, None, IfSome, find, option_map, slice_get, nat_lt, if◌then◌else◌, ◌==◌}
 use mathlib.Core.Bool.{beq}
 use Rattle.std.specs.List.{AllByRecursion, AllByRecursion-prop}
 use Rattle.std.proofs.Props.{props}
 use Rattle.std.specs.Option.{option_or}
 use Rattle.std.specs.Cmp.{IsTotalOrder}
-use Rattle.std.specs.Ordering.{is_lt, is_eq}
+use Rattle.std.specs.Ordering.{is_lt, is_le, is_eq}
 use Rattle.std.specs.List.Sorted.{IsStableByKey}
 use Rattle.std.proofs.lemmas.Bool.{and_parts, cases_eq, cases_Bool}
 use Rattle.std.proofs.lemmas.List.{get_or_default}
 use Rattle.std.proofs.lemmas.Bool.Decides.{nat_tests}
 use Rattle.std.proofs.lemmas.Cmp.{nat_cmp_total, on_total, then_total}
 use Rattle.sourcemap_tokens.specs.declared.tokens.RawToken.{RawToken}
-use Rattle.sourcemap_tokens.specs.Tokens.{position_cmp, destination, AreInOrder, in_order, AllWithin, IsWithin, are_same, changes_after, without_repeats, with_valid_name, reduced}
+use Rattle.sourcemap_tokens.specs.Tokens.{position_cmp, closest_token, destination, AreInOrder, in_order, AllWithin, IsWithin, are_same, changes_after, without_repeats, with_valid_name, reduced}
 use Rattle.sourcemap_tokens.specs.Search.{find_last, closest_item}
 use Rattle.std.proofs.lemmas.List.Sorted.{ranks_by}
 use Rattle.sourcemap_tokens.proofs.AllLemmas.{All-map, All-weaker}
-use Rattle.sourcemap_tokens.proofs.SearchLemmas.{closest_item-change}
+use Rattle.std.proofs.lemmas.Option.{get_or_from_slice_get, slice_get_within, slice_get-get_or}
+use Rattle.sourcemap_tokens.proofs.SearchLemmas.{IsApart, IsBracket, closest-at_most, closest-miss, closest_item-change, index-closest}
 use Rattle.sourcemap_tokens.proofs.SortLemmas.{Rises, Rises-from_sorted, sorted_from_Rises, sorted_by-sorted, length-sorted_by, sorted-sorted_by, All-sorted_by, stably_sorted}
 
 pub position_cmp_total : IsTotalOrder position_cmp
@@ -197,3 +198,43 @@ AllWithin-reduced sources names tokens few all =
 -- any two proofs of a bound are equal, as an invariant of a type requires
 pub AllWithin-prop : (sources names : ℕ) (tokens : List RawToken) → IsProp (AllWithin sources names tokens)
 AllWithin-prop sources names tokens = AllByRecursion-prop (IsWithin sources names) (λ token. hlevel props) tokens
+
+-- ---- a later position
+
+same_position : (p q : ℕ × ℕ) → is_eq (position_cmp q p) ≡ true → q ≡ p
+same_position (a, b) (c, d) same =
+    let line : c ≡ a = grind (arith, nat_tests) in
+    let column : d ≡ b = grind (arith, nat_tests) in
+    λ i. (line i, column i)
+
+before_later : (a p q : ℕ × ℕ) → is_le (position_cmp a p) ≡ true → is_lt (position_cmp q p) ≡ false → is_eq (position_cmp q p) ≡ false → is_lt (position_cmp a q) ≡ true
+before_later (a, b) (c, d) (e, f) h k l = grind (arith, nat_tests)
+
+not_before : (p q : ℕ × ℕ) → is_lt (position_cmp p q) ≡ true → is_lt (position_cmp q p) ≡ false
+not_before (a, b) (c, d) h = grind (arith, nat_tests)
+
+not_at : (p q : ℕ × ℕ) → is_lt (position_cmp p q) ≡ true → is_eq (position_cmp q p) ≡ false
+not_at (a, b) (c, d) h = grind (arith, nat_tests)
+
+-- the token closest to a position stays the closest up to the next token
+pub closest-stays : (tokens : List RawToken) (p q : ℕ × ℕ) (found : ℕ × RawToken) → AreInOrder tokens → closest_token tokens p ≡ Some found
+    → is_lt (position_cmp q p) ≡ false → IfSome (slice_get tokens (found.0 + 1)) (λ next. is_lt (position_cmp q (destination next)) ≡ true)
+    → closest_token tokens q ≡ Some found
+closest-stays tokens p q (n, token) up is later before =
+    elim (cases_Bool (is_eq (position_cmp q p))) [
+      | inl same ↦ ap (closest_token tokens) (same_position p q same) ∙ is
+      | inr other ↦
+          let own : slice_get tokens n ≡ Some token = subst (λ o. IfSome o (λ (e : ℕ × RawToken). slice_get tokens e.0 ≡ Some e.1)) is (index-closest destination position_cmp tokens p) in
+          let least : is_le (position_cmp (destination token) p) ≡ true = subst (λ o. IfSome o (λ (e : ℕ × RawToken). is_le (position_cmp (destination e.1) p) ≡ true)) is (closest-at_most destination position_cmp tokens p) in
+          let within = slice_get_within tokens n token own in
+          let back : n + 1 - 1 ≡ n = omega arith in
+          let read : token ≡ get_or tokens (n + 1 - 1) token = sym (ap (λ k. get_or tokens k token) back ∙ get_or_from_slice_get tokens n token token own) in
+          let next : (d : RawToken) → n + 1 < length tokens → is_lt (position_cmp q (destination (get_or tokens (n + 1) d))) ≡ true =
+          (λ d l. subst (λ o. IfSome o (λ next. is_lt (position_cmp q (destination next)) ≡ true)) (slice_get-get_or tokens (n + 1) d l) before) in
+          let bracket : IsBracket destination position_cmp tokens q (n + 1) (n + 1) = record {
+            below = λ d _. subst (λ (t : RawToken). is_lt (position_cmp (destination t) q) ≡ true) (sym (ap (λ k. get_or tokens k d) back ∙ get_or_from_slice_get tokens n token d own)) (before_later (destination token) p q least later other);
+            above = λ d l. not_before q (destination (get_or tokens (n + 1) d)) (next d l);
+          } in
+          let apart : IsApart destination position_cmp tokens q (n + 1) = λ d l. not_at q (destination (get_or tokens (n + 1) d)) (next d l) in
+          sym (closest-miss position_cmp_total destination tokens q (n + 1) up bracket token (omega arith) (omega (arith, within)) read apart) ∙ ap (λ k. Some (k, token)) back
+    ]

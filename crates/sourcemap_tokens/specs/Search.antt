@@ -15,7 +15,7 @@ find_last test (x ∷ xs) = option_or (find_last test xs) (cond (test x) (Some x
 abbrev pub closest_item : {X K : Type 0} → (X → K) → (K → K → Ordering) → List X → K → Option X
 closest_item key cmp xs p = option_or (find (λ x. is_eq (cmp (key x) p)) xs) (find_last (λ x. is_lt (cmp (key x) p)) xs)
 
--- the same item with its index
+-- the closest item with its index
 unfoldable pub closest : {X K : Type 0} → (X → K) → (K → K → Ordering) → List X → K → Option (ℕ × X)
 closest key cmp xs p = closest_item (λ entry. key entry.1) cmp (enumerate_from 0 xs) p
 

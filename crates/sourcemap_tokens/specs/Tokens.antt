@@ -76,6 +76,7 @@ without_repeats (token ∷ rest) = token ∷ changes_after token rest
 abbrev pub with_valid_name : (names : ℕ) → RawToken → RawToken
 with_valid_name names token = record token { name_id = (if nat_lt token.name_id names then token.name_id else no_id) }
 
--- the tokens that encoding and decoding give back: no repeats, and no name id that is not below `names`
+-- the tokens that decoding returns after encoding: without repeats, and with `no_id` for a name id that is not below
+-- `names`
 abbrev pub reduced : (names : ℕ) → List RawToken → List RawToken
 reduced names tokens = map (with_valid_name names) (without_repeats tokens)

@@ -14,7 +14,8 @@ pub fn item_at<T>(items: &[Option<T>], id: usize) -> Option<&T>
     }
 }
 
-/// Moves out the item with this id, and leaves `None` at its index. `None` as in `item_at`.
+/// Moves out the item with this id, and leaves `None` at its index. Returns `None` where `item_at`
+/// does.
 #[inline]
 pub fn take_item<T: Drop>(items: &mut Vec<Option<T>>, id: usize) -> Option<T>
     ensures taken { result ≡ item_at items.old.items id }

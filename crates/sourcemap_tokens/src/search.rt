@@ -5,9 +5,9 @@ ghost use Rattle.sourcemap_tokens.specs.Search.{GivesKey, closest};
 
 use std::cmp::Ordering;
 
-/// Returns the item closest to `key` with its index, where `map` gives the key of an item: the
-/// first item with this key, otherwise the last item with a smaller key. Requires a slice sorted
-/// by `map`; otherwise it returns some item whose key is at most `key`, or `None`.
+/// Returns the item closest to `key`, with its index: the first item with this key, otherwise the
+/// last item with a smaller key. `map` returns the key of an item. If the slice is not sorted by
+/// these keys, the result is some item whose key is at most `key`, or `None`.
 pub fn greatest_lower_bound<'a, T, K: Ord + Drop, F: Fn(&'a T) -> K>(
     slice: &'a [T],
     key: &K,

@@ -1,9 +1,10 @@
 //! Raw tokens, their order, and the token closest to a generated position.
-ghost use Rattle.std.specs.Prelude.{◌≡◌, ℕ, IsOk, IsTrue, ◌↔◌, OnOk, OnErr, IfErr, IfSome, Some, option_map, slice_get};
+ghost use Rattle.std.specs.Prelude.{◌≡◌, ℕ, ◌+◌, List, IsOk, IsTrue, ◌↔◌, OnOk, OnErr, IfErr, IfSome, Some, false, option_map, slice_get, true};
 ghost use Rattle.std.specs.Ordering.{is_eq, is_lt};
 ghost use Rattle.std.specs.List.Sorted.{IsStableByKey};
 ghost use Rattle.sourcemap_tokens.specs.Tokens.{AreInOrder, closest_token, destination, in_order, position_cmp, reduced, with_valid_name};
 ghost use Rattle.sourcemap_tokens.specs.Search.{closest_item};
+ghost use Rattle.sourcemap_tokens.specs.declared.tokens.RawToken.{RawToken};
 ghost use Rattle.sourcemap_errors.specs.declared.errors.Error.TheVariants.{OutOfMemory};
 
 use sourcemap_errors::errors::Result;
@@ -111,10 +112,20 @@ pub fn one_stable_order(tokens: &[RawToken], sorted: &[RawToken])
         → sorted.now ≡ in_order tokens.now }
 {}
 
-/// A law: a list without repeated tokens, and with [`NO_ID`] for each name id that is not below
-/// `names`, has the same closest tokens, up to such a name id.
+/// A law: removing repeated tokens keeps the closest token of each position. Replacing each name id
+/// that is not below `names` by [`NO_ID`] changes the closest token in the same way.
 pub fn reduced_answers_alike(tokens: &[RawToken], names: u32, line: u32, col: u32)
     ensures { closest_item destination position_cmp (reduced names tokens.now) (line, col)
         ≡ option_map (with_valid_name names)
         (closest_item destination position_cmp tokens.now (line, col)) }
+{}
+
+/// A law: the token closest to a position is also the closest to each later position that is
+/// before the next token.
+pub fn closest_tokens_stay()
+    ensures { (tokens : List RawToken) (p q : ℕ × ℕ) (found : ℕ × RawToken) → AreInOrder tokens
+        → closest_token tokens p ≡ Some found → is_lt (position_cmp q p) ≡ false
+        → IfSome (slice_get tokens (found.0 + 1))
+        (λ next. is_lt (position_cmp q (destination next)) ≡ true)
+        → closest_token tokens q ≡ Some found }
 {}

@@ -1,4 +1,4 @@
-//! Calls each function of `sourcemap_uses` once, with memory enough.
+//! Calls the functions of `sourcemap_uses` with enough memory.
 #![tactic(auto)]
 
 #[cfg(test)]

@@ -1,5 +1,6 @@
-// Runs each caller once.
+// Runs the callers of `sourcemap_uses`.
 use sourcemap::errors::JsonFault;
+use sourcemap::ram_bundle::RamBundle;
 use sourcemap::types::RawToken;
 use sourcemap::{
     DecodedMap, Error, Result, SourceMap, SourceMapBuilder, SourceMapHermes, SourceMapIndex,
@@ -22,6 +23,7 @@ use sourcemap_uses::publishing::publish;
 use sourcemap_uses::quick::quick_lookup;
 use sourcemap_uses::saving::save;
 use sourcemap_uses::shrinking::{lookup_once_shrunk, shrink};
+use sourcemap_uses::splitting::trace_first_module;
 use std::alloc::Global;
 use std::process::Abort;
 use std::rt::Files;
@@ -73,7 +75,7 @@ fn token_text(alloc: Global, map: &SourceMap) -> Result<String> {
     }
 }
 
-// The text of a token, and whether its search took 1 to 42 comparisons.
+// The text of the closest token, and whether its lookup took 1 to 42 comparisons.
 fn quick_lookup_text(alloc: Global, map: &SourceMap, line: u32, col: u32) -> Result<String> {
     let (token, steps) = quick_lookup(map, line, col);
     let is_quick = 1 <= steps && steps <= 42;
@@ -91,7 +93,7 @@ fn lookups_are_quick(rt: HostRuntime) -> std::result::Result<(), Fail> {
     Ok(())
 }
 
-// The text of a token, how many sources the map has, and whether it has contents of the first.
+// The text of the token for 0:5, how many sources the map has, and whether the first has contents.
 fn summary(alloc: Global, map: &SourceMap) -> Result<String> {
     let position = token_text(alloc, map)?;
     let count = map.get_source_count();
@@ -134,7 +136,8 @@ fn a_shrunk_map_keeps_its_meaning(rt: HostRuntime) -> std::result::Result<(), Fa
     Ok(())
 }
 
-// Both tokens have the second source, the first one the second name. The second one is in foo.
+// Both tokens have the second source. The first token has the second name. The second token is in
+// the function `foo`.
 const HERMES: &str = r#"{"sources":["unused.js","a.js"],"names":["y","x"],"mappings":"ACAAC,KACK",
 "x_facebook_sources":[null,[{"names":["<global>","foo"],"mappings":"AAA,KCC"}]]}"#;
 
@@ -173,13 +176,15 @@ fn a_hermes_map_is_shrunk(rt: HostRuntime) -> std::result::Result<(), Fail> {
 // Maps line 3 of a later text to column 18 of the generated text of `MAP`.
 const LATER: &str = r#"{"version":3,"sources":["mid.js"],"mappings":";;;AAAkB"}"#;
 
-// One range token, and an adjustment that maps column 2 of a later text to column 10 of its range.
+// A map with one range token. `RANGED_LATER` maps column 2 of a later text to column 10 of the
+// generated text of `RANGED`.
 const RANGED: &str = r#"{"sources":["a.js"],"mappings":"AAAO","rangeMappings":"B"}"#;
 
 const RANGED_LATER: &str = r#"{"sources":["t.js"],"mappings":"EAAU"}"#;
 
-// A map, an adjustment, a position of the later text, and its original position: that of 0:18, 0:19,
-// and 0:13 of the range token; none before the first position that is mapped.
+// A map, an adjustment, a position of the later text, and its original position. `LATER` maps 3:0
+// and 3:1 to 0:18 and 0:19 of `MAP`. `RANGED_LATER` maps 0:5 to 0:13 of `RANGED`. Positions before
+// the first mapped position have no original position.
 static ADJUSTED_LOOKUPS: [(&str, &str, (u32, u32), &str); 5] = [
     (
         MAP,
@@ -249,7 +254,7 @@ fn a_data_url_holds_its_map(rt: HostRuntime) -> std::result::Result<(), Fail> {
     Ok(())
 }
 
-// The end of a generated text, and where its map is, seen from `/out/a.js`.
+// A generated text, and where its map is if the path of the text is `/out/a.js`, or the error.
 static FOUND: [(&str, &str); 4] = [
     (
         "x()\n//# sourceMappingURL=data:application/json;base64,eyJtYXBwaW5ncyI6IkFBQUEiLCJzb3VyY2VzIjpbImEuanMiXX0=\n",
@@ -337,22 +342,23 @@ fn errors_have_different_statuses(rt: HostRuntime) -> std::result::Result<(), Fa
     Ok(())
 }
 
-// Two sections, the second from the middle of a line on.
+// Two sections. The second starts in the middle of a line.
 const APART: &str = r#"{"sections":[
 {"offset":{"line":0,"column":0},"map":{"sources":["a.js"],"mappings":"AAAA"}},
 {"offset":{"line":10,"column":4},"map":{"sources":["b.js"],"mappings":"AAAA"}}]}"#;
 
-// The first section reaches into the second one.
+// The first section has a token after the start of the second section.
 const MIXED: &str = r#"{"sections":[
 {"offset":{"line":0,"column":0},"map":{"sources":["a.js"],"mappings":"AAAA,SAAA"}},
 {"offset":{"line":0,"column":5},"map":{"sources":["b.js"],"mappings":"AAAA"}}]}"#;
 
-// The same, and both maps differ only in the original column.
+// As `MIXED`, with one source. At 0:9 the index map and its flattened map differ only in the
+// original column.
 const ONE_SOURCE: &str = r#"{"sections":[
 {"offset":{"line":0,"column":0},"map":{"sources":["a.js"],"mappings":"AAAA,SAAE"}},
 {"offset":{"line":0,"column":5},"map":{"sources":["a.js"],"mappings":"AAAA"}}]}"#;
 
-// They differ only in the name.
+// As `MIXED`, with one source. At 0:9 the index map and its flattened map differ only in the name.
 const ONE_NAMED: &str = r#"{"sections":[
 {"offset":{"line":0,"column":0},"map":{"sources":["a.js"],"names":["n"],"mappings":"AAAA,SAAAA"}},
 {"offset":{"line":0,"column":5},"map":{"sources":["a.js"],"mappings":"AAAA"}}]}"#;
@@ -374,7 +380,8 @@ fn is_kept(alloc: Global, text: &str, line: u32, col: u32) -> Result<bool> {
     is_kept_flat(&*index_of(alloc, text)?, line, col)
 }
 
-// An index map, a position, and whether the flattened map has the same meaning there.
+// An index map, a position, and the result of `is_kept_flat`. It is true if the index map has no
+// token for the position, or else if the flattened map has the same meaning there.
 static KEPT: [(&str, u32, u32, bool); 9] = [
     (APART, 10, 9, true),
     (APART, 10, 3, true),
@@ -383,14 +390,14 @@ static KEPT: [(&str, u32, u32, bool); 9] = [
     (MIXED, 0, 9, false),
     (ONE_SOURCE, 0, 9, false),
     (ONE_NAMED, 0, 9, false),
-    // the index map has no token: before the first section, and in the second one, where the
-    // flattened map returns a token of the first
+    // the index map has no token at 0:9, nor at 3:7, where the flattened map returns a token of the
+    // first section; at 4:0 both maps return the token of b.js
     (LATE, 0, 9, true),
     (LATE, 3, 7, true),
     (LATE, 4, 0, true),
 ];
 
-// Whether an index cannot be flattened.
+// Whether an index map cannot be flattened.
 fn is_refused(alloc: Global, text: &str) -> Result<bool> {
     match is_kept(alloc, text, 0, 0) {
         Err(Error::CannotFlatten(_)) => Ok(true),
@@ -414,7 +421,8 @@ fn indexes_are_compared_with_their_flat_maps(rt: HostRuntime) -> std::result::Re
     Ok(())
 }
 
-// Links the second section and a missing one: only the second one then has a URL.
+// Links the second section and a missing section. Returns whether only the second section then has
+// a URL.
 fn is_linked(index: &mut SourceMapIndex) -> Result<bool> {
     link(index, 1, "u")?;
     link(index, 2, "v")?;
@@ -489,5 +497,28 @@ fn an_exported_map_is_its_text(rt: HostRuntime) -> std::result::Result<(), Fail>
     let text = r#"{"file":"f","mappings":";A","names":[],"sources":[],"version":3}"#;
     let file = export_text(rt.alloc(), text)?;
     assert_eq!(rt; file.as_slice(), text.as_bytes());
+    Ok(())
+}
+
+// Startup code `ab`, and one module `xyz`.
+const INDEXED_BUNDLE: &[u8] = b"\xe5\xd1\x0b\xfb\x01\0\0\0\x02\0\0\0\x02\0\0\0\x04\0\0\0abxyz\0";
+
+// The module begins on line 5.
+const BUNDLE_MAP: &str =
+    r#"{"sections":[{"offset":{"line":0,"column":0},"map":{"sources":["a.js"],"mappings":";;;;;AAAA,EAAE;AAAA"}}],"x_facebook_offsets":[5]}"#;
+
+fn traced(alloc: Global, line: u32, col: u32) -> Result<String> {
+    let map = box_result(
+        alloc,
+        SourceMapIndex::from_slice(alloc, BUNDLE_MAP.as_bytes()),
+    )?;
+    let bundle = RamBundle::parse_indexed_from_slice(INDEXED_BUNDLE)?;
+    trace_first_module(alloc, &bundle, &*map, line, col)
+}
+
+#[test]
+fn a_position_in_a_module_is_traced(rt: HostRuntime) -> std::result::Result<(), Fail> {
+    assert_eq!(rt; traced(rt.alloc(), 0, 1)?.as_str(), "a.js:0:0");
+    assert_eq!(rt; traced(rt.alloc(), 0, 3)?.as_str(), "a.js:0:2");
     Ok(())
 }
