@@ -1,4 +1,4 @@
--- What a map is when it is rewritten, and what it means then.
+-- The map that a map is rewritten to, and what its positions mean.
 pub use Rattle.sourcemap_map_rewrite.specs.Options.{Removal, removal_of, options_folder, IsDefault, no_removal}
 pub use Rattle.sourcemap_map_rewrite.specs.Loaded.{AreLoaded, LacksFolder}
 pub use Rattle.sourcemap_source_files.specs.Loading.{folder_of, file_of, Fills, IsNoFolder}

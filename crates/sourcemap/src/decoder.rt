@@ -1,4 +1,5 @@
-//! Maps read from bytes, values and data URLs, and junk headers taken off.
+//! Decodes maps from bytes, readers, data URLs and records. Also drops junk headers, and reads and
+//! makes data URLs.
 
 pub use sourcemap_headers::data_url::{data_url, data_url_bytes};
 pub use sourcemap_headers::header::strip_junk_header;

@@ -1,5 +1,5 @@
-//! References to source maps in generated texts, maps that stand in them, and whether bytes hold a
-//! map.
+//! References to source maps in generated texts, maps inside of `data:` references, and whether
+//! bytes hold a map.
 
 pub use sourcemap_detection::detection::{is_sourcemap, is_sourcemap_slice};
 pub use sourcemap_embedding::embedded::EmbeddedSourceMap;

@@ -1,4 +1,4 @@
-//! Maps that know the functions of their sources.
+//! Hermes maps, which know the functions of their sources.
 
 pub use sourcemap_hermes::decode::decode_hermes;
 pub use sourcemap_hermes::map::SourceMapHermes;

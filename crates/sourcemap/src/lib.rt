@@ -1,5 +1,6 @@
-//! A facade: source maps, read, looked up, changed and written. All that users call is here, under
-//! the names that they know. It re-exports from crates of one subject each, which docs/MAP.md lists.
+//! A facade: source maps, read, looked up, changed and written. What most users call is here, under
+//! the names that they know. It re-exports from crates of one subject each, which docs/MAP.md
+//! lists.
 #![tactic(auto)]
 
 pub mod decoder;

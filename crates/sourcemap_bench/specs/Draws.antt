@@ -6,10 +6,11 @@ use Rattle.sourcemap.specs.Types.{MapValue}
 abbrev pub step : ℕ
 step = 11400714819323198485
 
--- the output of the generator splitmix64 for a state of 64 bits
+-- a round of the generator splitmix64: an exclusive or with the shifted number, then a multiplication
 abbrev pub stirred : ℕ → ℕ → ℕ → ℕ
 stirred shift factor n = (bit_xor n (n / 2 ^ shift) * factor) % 2 ^ 64
 
+-- the output of the generator splitmix64 for a state of 64 bits
 abbrev pub scrambled : ℕ → ℕ
 scrambled n =
     let m = stirred 27 10723151780598845931 (stirred 30 13787848793156543929 n) in

@@ -1,4 +1,4 @@
--- Checksums of results, numbers of 32 bits.
+-- Checksums of results. They are numbers of 32 bits.
 use Rattle.std.specs.Prelude.{ℕ, ◌+◌, ◌*◌, ◌%◌, ◌^◌, ◌==◌, List, fold, Option, Some, None, if◌then◌else◌}
 use Rattle.sourcemap.specs.Token.{TokenValue, says, tokens_from}
 use Rattle.sourcemap.specs.Tokens.{no_id}
@@ -18,7 +18,7 @@ worth (Some t) =
 abbrev pub lookup_sum : MapTree → List (ℕ × ℕ) → ℕ → ℕ
 lookup_sum t positions start = fold (λ sum p. mixed sum (worth (lookup t p))) start positions
 
--- a checksum with these tokens
+-- a checksum with the numbers of these tokens
 abbrev pub with_all : ℕ → List TokenValue → ℕ
 with_all sum tokens = fold (λ sum t. mixed sum (worth (Some t))) sum tokens
 

@@ -38,7 +38,7 @@ SizeOfFlat t old new = (m : MapValue) × FlatAnswer t (Ok m) × (new ≡ counted
 abbrev pub SizeOfAdjusted : MapValue → MapValue → ℕ → ℕ → Type 0
 SizeOfAdjusted m n old new = (c : MapValue) × (adjusted m n ≡ Ok c) × (new ≡ counted old (length c.tokens))
 
--- the checksum after a round; for lookups, if sections are sorted at every level
+-- the checksum after a round. For lookups it is specified only if sections are sorted at every level
 abbrev pub RoundGives : Work → ℕ → ℕ → Type 0
 RoundGives (Decode bytes) old new = SizeOfDecoded bytes.items old new
 RoundGives (DecodeReader bytes) old new = SizeOfDecoded bytes.items old new
@@ -50,7 +50,7 @@ RoundGives (Rewrite m) old new = new ≡ mixed old (length (rewritten no_removal
 RoundGives (Flatten i) old new = SizeOfFlat (index_tree (index_value i.value)) old new
 RoundGives (Compose m n) old new = SizeOfAdjusted m.value n.value old new
 
--- the checksum of this many rounds, from 0 on
+-- the checksum after this many rounds; before the first it is 0
 abbrev pub RoundsGive : Work → ℕ → ℕ → Type 0
 RoundsGive work zero sum = sum ≡ 0
 RoundsGive work (suc n) sum = (before : ℕ) × RoundsGive work n before × RoundGives work before sum

@@ -72,7 +72,9 @@ fn positions_in(alloc: Global, map: &DecodedMap) -> Result<Vec<(u32, u32)>> {
     }
 }
 
-/// Decodes the input of an operation: the bytes of a map, or for `Compose` two lines of one map each.
+/// Prepares the input of an operation. `bytes` has one map, or for `Compose` two lines with one map
+/// each. Operations that decode take the bytes themselves; for all others the maps are decoded
+/// here.
 pub fn prepare(alloc: Global, operation: Operation, bytes: Vec<u8>) -> Result<Work> {
     match operation {
         Operation::Decode => Ok(Work::Decode(bytes)),

@@ -1,4 +1,4 @@
-//! Builders.
+//! Measured calls on builders.
 
 use crate::call::BuilderCall;
 use crate::lines::{contents_size, number_in, source_size, split_first_line};
@@ -9,7 +9,7 @@ use std::env::Env;
 use std::rt::Files;
 use std::{env, str};
 
-/// A size of the result of a call on a builder.
+/// Makes a call on a builder, with `bytes` as its input. Returns a size of the result.
 pub fn size_of<R: Files + Env + AllocGlobal>(
     rt: &R,
     alloc: Global,
@@ -45,7 +45,7 @@ fn token_count(builder: SourceMapBuilder) -> Result<usize> {
     Ok(map.get_token_count() as usize)
 }
 
-// The number of tokens, one with a source and a name for each line.
+// Adds a token for each line, with the line as source and as name. Returns the number of tokens.
 fn add(alloc: Global, bytes: &[u8]) -> Result<usize> {
     let mut builder = SourceMapBuilder::new(alloc, None)?;
     for line in str::from_utf8(bytes)?.lines() {
@@ -54,7 +54,8 @@ fn add(alloc: Global, bytes: &[u8]) -> Result<usize> {
     token_count(builder)
 }
 
-// The number of tokens, one for each line.
+// Adds a token for each line, with the number on the line as column and ids. Returns the number of
+// tokens.
 fn add_raw(alloc: Global, bytes: &[u8]) -> Result<usize> {
     let mut builder = SourceMapBuilder::new(alloc, None)?;
     for line in str::from_utf8(bytes)?.lines() {
@@ -64,7 +65,7 @@ fn add_raw(alloc: Global, bytes: &[u8]) -> Result<usize> {
     token_count(builder)
 }
 
-// The number of tokens, those of a map.
+// Adds all tokens of a map. Returns the number of tokens.
 fn add_tokens(alloc: Global, bytes: &[u8]) -> Result<usize> {
     let map = SourceMap::from_slice(alloc, bytes)?;
     let mut builder = SourceMapBuilder::new(alloc, None)?;
@@ -74,7 +75,7 @@ fn add_tokens(alloc: Global, bytes: &[u8]) -> Result<usize> {
     token_count(builder)
 }
 
-// The bytes of all sources once each line was added and set as a source.
+// Adds each line as a source, and sets it again. Returns the byte count of all sources.
 fn set_sources(alloc: Global, bytes: &[u8]) -> Result<usize> {
     let mut builder = SourceMapBuilder::new(alloc, None)?;
     for line in str::from_utf8(bytes)?.lines() {
@@ -84,7 +85,8 @@ fn set_sources(alloc: Global, bytes: &[u8]) -> Result<usize> {
     Ok(source_size(&builder.into_sourcemap()?))
 }
 
-// The bytes of all contents once each line is a source and its contents.
+// Adds each line as a source, with the line itself as contents. Returns the byte count of all
+// contents.
 fn set_contents(alloc: Global, bytes: &[u8]) -> Result<usize> {
     let mut builder = SourceMapBuilder::new(alloc, None)?;
     for line in str::from_utf8(bytes)?.lines() {
@@ -94,7 +96,7 @@ fn set_contents(alloc: Global, bytes: &[u8]) -> Result<usize> {
     Ok(contents_size(&builder.into_sourcemap()?))
 }
 
-// The length of the file once each line was the file.
+// Sets the file to each line in turn. Returns the length of the last file.
 fn set_file(alloc: Global, bytes: &[u8]) -> Result<usize> {
     let mut builder = SourceMapBuilder::new(alloc, None)?;
     for line in str::from_utf8(bytes)?.lines() {
@@ -104,7 +106,8 @@ fn set_file(alloc: Global, bytes: &[u8]) -> Result<usize> {
     Ok(map.get_file().map_or(0, |file| file.len()))
 }
 
-// The bytes of all sources, one for each line after the first, which is the root.
+// Adds each line after the first as a source, and sets the first line as `sourceRoot`. Returns the
+// byte count of all sources.
 fn set_root(alloc: Global, bytes: &[u8]) -> Result<usize> {
     let (root, text) = split_first_line(bytes)?;
     let mut builder = builder_of_lines(alloc, text)?;
@@ -112,7 +115,7 @@ fn set_root(alloc: Global, bytes: &[u8]) -> Result<usize> {
     Ok(source_size(&builder.into_sourcemap()?))
 }
 
-// 1 if the last line is a debug id.
+// Sets the debug id to each line in turn. Returns 1 if the last line is a debug id, else 0.
 fn set_debug_ids(alloc: Global, bytes: &[u8]) -> Result<usize> {
     let mut builder = SourceMapBuilder::new(alloc, None)?;
     for line in str::from_utf8(bytes)?.lines() {
@@ -122,7 +125,7 @@ fn set_debug_ids(alloc: Global, bytes: &[u8]) -> Result<usize> {
     Ok(usize::from(map.get_debug_id().is_some()))
 }
 
-// The length of the ignore list once the number on each line is in it.
+// Adds the number on each line to the ignore list. Returns the length of the list.
 fn ignore(alloc: Global, bytes: &[u8]) -> Result<usize> {
     let mut builder = SourceMapBuilder::new(alloc, None)?;
     for line in str::from_utf8(bytes)?.lines() {
@@ -132,7 +135,8 @@ fn ignore(alloc: Global, bytes: &[u8]) -> Result<usize> {
     Ok(map.ignore_list().count())
 }
 
-// The bytes of all contents that are loaded, with a source for each line.
+// Adds each line as a source, and loads contents from files of the current folder. Returns the byte
+// count of all contents.
 fn load<R: Files + Env + AllocGlobal>(rt: &R, alloc: Global, bytes: &[u8]) -> Result<usize> {
     let mut builder = builder_of_lines(alloc, str::from_utf8(bytes)?)?;
     let folder = env::current_dir(rt)?.into_string();
@@ -140,8 +144,8 @@ fn load<R: Files + Env + AllocGlobal>(rt: &R, alloc: Global, bytes: &[u8]) -> Re
     Ok(contents_size(&builder.into_sourcemap()?))
 }
 
-// The bytes that are left of sources, one for each line after the first, once the words of the first
-// line are cut from them as prefixes.
+// Adds each line after the first as a source. Cuts the words of the first line as prefixes from the
+// sources. Returns the byte count of all sources.
 fn strip(alloc: Global, bytes: &[u8]) -> Result<usize> {
     let (line, text) = split_first_line(bytes)?;
     let prefixes: Vec<&str> = line.split(' ').collect(alloc)?;

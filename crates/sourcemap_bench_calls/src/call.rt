@@ -1,15 +1,15 @@
-//! The measured calls and their words.
+//! The measured calls, and the word of the command line for each.
 
 use sourcemap::Result;
 use std::alloc::Global;
 
-/// A measured call.
+/// A measured call. The comment of a variant begins with its word.
 #[derive(Clone, Copy)]
 pub enum Call {
-    /// `walk`: `SourceView::rev_token_iter` from the last token of the map on the first line, in the
-    /// text after it.
+    /// `walk`: `SourceView::rev_token_iter` from the last token of a map. The map is on the first
+    /// line of the input. The view is of the text after that line.
     Walk,
-    /// `view`: a view of the text, and its lines.
+    /// `view`: `SourceView::new` of a text, and all lines of the view.
     View,
     /// `slices`: `SourceView::get_line_slice` of each line.
     Slices,
@@ -21,7 +21,7 @@ pub enum Call {
     LocateView,
     /// `resolve`: the reference that is located in a slice, resolved against a URL.
     Resolve,
-    /// `resolve-path`: the same against a path.
+    /// `resolve-path`: the reference that is located in a slice, resolved against a path.
     ResolvePath,
     /// `data-url`: `decode_data_url`.
     DataUrl,
@@ -31,7 +31,7 @@ pub enum Call {
     Detect,
     /// `detect-reader`: `is_sourcemap`.
     DetectReader,
-    /// `relative`: `make_relative_path` from the first line to what follows.
+    /// `relative`: `make_relative_path` from the first line to the rest of the input.
     Relative,
     /// `prefix`: `find_common_prefix` of all lines.
     Prefix,
@@ -41,13 +41,14 @@ pub enum Call {
     Identifier,
     /// `intern`: `Interner::add` of each line.
     Intern,
-    /// `bundle`: all modules of a RAM bundle, and its startup code.
+    /// `bundle`: all modules of an indexed RAM bundle.
     Bundle,
-    /// `bundle-path`: all modules of the bundle at a path, of one file or of files.
+    /// `bundle-path`: all modules of the RAM bundle at a path, which is one file or a file bundle.
     BundlePath,
     /// `scopes`: `SourceMapHermes::get_scope_for_token` of each token.
     Scopes,
-    /// `bytecode-names`: `SourceMapHermes::get_original_function_name` at each token.
+    /// `bytecode-names`: `SourceMapHermes::get_original_function_name` of the generated column of
+    /// each token.
     BytecodeNames,
     /// A call on a builder.
     Builder(BuilderCall),
@@ -62,9 +63,10 @@ pub enum Call {
 /// A call on a builder.
 #[derive(Clone, Copy)]
 pub enum BuilderCall {
-    /// `builder`: a token with a source and a name of its own for each line.
+    /// `builder`: `add` of a token for each line, with the line as source and as name.
     Add,
-    /// `builder-raw`: `add_raw` of a token for each line, with the number on it as column and ids.
+    /// `builder-raw`: `add_raw` of a token for each line, with the number on the line as column and
+    /// ids.
     AddRaw,
     /// `builder-tokens`: `add_token` of each token of a map.
     AddTokens,
@@ -83,8 +85,8 @@ pub enum BuilderCall {
     /// `builder-load`: `load_local_source_contents` from the current folder, with a source for each
     /// line.
     Load,
-    /// `strip`: `strip_prefixes` with the words of the first line, of a source for each line after
-    /// it.
+    /// `strip`: `strip_prefixes` with the words of the first line. Each line after the first is a
+    /// source.
     Strip,
 }
 
@@ -100,12 +102,14 @@ pub enum IndexCall {
     Sections,
     /// `index-file`: `SourceMapIndex::set_file` of the map on the first line to each line after it.
     SetFile,
-    /// `index-rows`: `adjust_sections_offset_rows` of the same by the number on each line.
+    /// `index-rows`: `adjust_sections_offset_rows` of the map on the first line, by the number on
+    /// each line after it.
     AdjustRows,
-    /// `section-urls`: `SourceMapSection::set_url` of its sections to the lines after it.
+    /// `section-urls`: `SourceMapSection::set_url` of the sections of the map on the first line, to
+    /// the lines after it.
     SetUrls,
-    /// `section-maps`: `SourceMapSection::set_sourcemap` of its sections to the maps on the lines
-    /// after it.
+    /// `section-maps`: `SourceMapSection::set_sourcemap` of the sections of the map on the first
+    /// line, to the maps on the lines after it.
     SetMaps,
 }
 
@@ -114,15 +118,15 @@ pub enum IndexCall {
 pub enum MapCall {
     /// `encode`: `encode_to` of a map, which is flattened if it is an index map.
     Encode,
-    /// `encode-in-parts`: `encode_in_parts` of the same.
+    /// `encode-in-parts`: `encode_in_parts` of a map, which is flattened if it is an index map.
     EncodeInParts,
-    /// `to-data-url`: `to_data_url` of the same.
+    /// `to-data-url`: `to_data_url` of a map, which is flattened if it is an index map.
     ToDataUrl,
     /// `copy`: `clone` of a map, compared with the map.
     Copy,
     /// `print`: a map as `Debug` prints it.
     Print,
-    /// `value`: `DecodedMap::to_value`, and `from_value` of it.
+    /// `value`: `DecodedMap::to_value`, and `from_value` of the value, compared with the map.
     Value,
     /// `rewrite-strip`: `rewrite` of the map on the first line, with each line after it as a prefix
     /// to cut.
@@ -136,13 +140,14 @@ pub enum MapCall {
 pub enum Setter {
     /// `set-root`: `set_source_root` to what follows the first line.
     Root,
-    /// `set-sources`: `set_source` to each line after it.
+    /// `set-sources`: `set_source` of one source after another, to the lines after the first.
     Sources,
-    /// `set-contents`: `set_source_contents` of the same.
+    /// `set-contents`: `set_source_contents` of one source after another, to the lines after the
+    /// first.
     Contents,
-    /// `set-file`: `set_file` of the same.
+    /// `set-file`: `set_file` to each line after the first.
     File,
-    /// `ignore`: `add_to_ignore_list` of the number on each line after it.
+    /// `ignore`: `add_to_ignore_list` of the number on each line after the first.
     Ignore,
 }
 
@@ -204,7 +209,7 @@ static WORDS: [(&str, Call); 52] = [
     ("ignore", Call::Setter(Setter::Ignore)),
 ];
 
-/// Parses a call. `None` for other words.
+/// Returns the call of the only word. `None` if there is not exactly one word, or it is unknown.
 pub fn parse_words(words: &[String]) -> Option<Call> {
     let [given] = words else {
         return None;

@@ -1,4 +1,4 @@
-//! Maps that are written.
+//! Measured calls that write maps.
 
 use sourcemap::encoder::{encode_in_parts, encode_to};
 use sourcemap::{DecodedMap, Error, Result, SourceMap, decode_slice};
@@ -23,7 +23,7 @@ impl Write for Counter {
     }
 }
 
-// A regular map, or an index map flattened.
+// Decodes a map, and flattens it if it is an index map. A Hermes map is an error.
 fn flat_map(alloc: Global, bytes: &[u8]) -> Result<SourceMap> {
     match decode_slice(alloc, bytes)? {
         DecodedMap::Regular(map) => Ok(map),

@@ -12,7 +12,7 @@ use std::str;
 
 const INNER: &[u8] = b"{\"version\":3,\"sources\":[\"a.js\"],\"names\":[],\"mappings\":\"AAAA\"}";
 
-/// A size of the result of a call on an index map.
+/// Makes a call on an index map, with `bytes` as its input. Returns a size of the result.
 pub fn size_of<F: Files>(rt: &F, alloc: Global, call: IndexCall, bytes: &[u8]) -> Result<usize> {
     match call {
         IndexCall::Nest => count_nested_tokens(alloc, bytes),
@@ -25,7 +25,7 @@ pub fn size_of<F: Files>(rt: &F, alloc: Global, call: IndexCall, bytes: &[u8]) -
     }
 }
 
-// An index map with one section at its start.
+// An index map with one section, which starts at 0:0 and contains `map`.
 fn index_over(alloc: Global, map: DecodedMap) -> Result<SourceMapIndex> {
     let section = SourceMapSection::new(alloc, (0, 0), None, Some(map))?;
     let mut sections = Vec::new(alloc);
@@ -33,7 +33,7 @@ fn index_over(alloc: Global, map: DecodedMap) -> Result<SourceMapIndex> {
     Ok(SourceMapIndex::new(alloc, None, sections))
 }
 
-// `levels` nested index maps.
+// `depth` index maps nested in one another, but at least one. The innermost holds a regular map.
 fn levels(alloc: Global, depth: u32) -> Result<SourceMapIndex> {
     let inner = decode_slice(alloc, INNER)?;
     let mut index = index_over(alloc, inner)?;
@@ -43,7 +43,7 @@ fn levels(alloc: Global, depth: u32) -> Result<SourceMapIndex> {
     Ok(index)
 }
 
-// The number of tokens of a map, flattened if it is an index map.
+// The number of tokens of the flat map of an index map. 0 for a map of another kind.
 fn count_flat_tokens(map: &DecodedMap) -> Result<usize> {
     match map {
         DecodedMap::Index(index) => Ok(index.flatten()?.get_token_count() as usize),
@@ -64,7 +64,8 @@ fn count_nested_tokens(alloc: Global, bytes: &[u8]) -> Result<usize> {
     Ok(count_flat_tokens(&map)?.wrapping_add(extra + equal))
 }
 
-// The number of tokens of an index map, flattened and rewritten, plus that of its sources.
+// Flattens and rewrites an index map. Returns the number of its tokens plus the number of its
+// sources.
 fn flatten_and_rewrite<F: Files>(rt: &F, alloc: Global, bytes: &[u8]) -> Result<usize> {
     let index = SourceMapIndex::from_slice(alloc, bytes)?;
     let map = index.flatten_and_rewrite(rt, &RewriteOptions::default())?;
@@ -72,7 +73,7 @@ fn flatten_and_rewrite<F: Files>(rt: &F, alloc: Global, bytes: &[u8]) -> Result<
     Ok(tokens.wrapping_add(map.get_source_count() as usize))
 }
 
-// The number of sections, one for each line.
+// Makes an index map with a section for each line. Returns the number of sections.
 fn make_sections(alloc: Global, bytes: &[u8]) -> Result<usize> {
     let mut sections = Vec::new(alloc);
     for line in str::from_utf8(bytes)?.lines() {
@@ -90,7 +91,7 @@ fn index_and_text(alloc: Global, bytes: &[u8]) -> Result<(SourceMapIndex, &str)>
     Ok((index, text))
 }
 
-// The length of the file once each line was the file.
+// Sets the file to each line in turn. Returns the length of the last file.
 fn set_file(alloc: Global, bytes: &[u8]) -> Result<usize> {
     let (mut index, text) = index_and_text(alloc, bytes)?;
     for line in text.lines() {
@@ -99,7 +100,8 @@ fn set_file(alloc: Global, bytes: &[u8]) -> Result<usize> {
     Ok(index.get_file().map_or(0, |file| file.len()))
 }
 
-// The number of lines by which all sections were moved down.
+// Moves all sections down by the number on each line in turn. Returns how many of these moves were
+// possible.
 fn adjust_rows(alloc: Global, bytes: &[u8]) -> Result<usize> {
     let (mut index, text) = index_and_text(alloc, bytes)?;
     let mut count = 0usize;
@@ -117,7 +119,7 @@ fn set_url(index: &mut SourceMapIndex, id: u32, url: &str) -> Result<()> {
     }
 }
 
-// The bytes of all URLs once each line is the URL of a section.
+// Sets the URL of one section after another to the lines. Returns the byte count of all URLs.
 fn set_urls(alloc: Global, bytes: &[u8]) -> Result<usize> {
     let (mut index, text) = index_and_text(alloc, bytes)?;
     for (id, line) in (0..u32::MAX).zip(text.lines()) {
@@ -141,7 +143,8 @@ fn set_map(alloc: Global, index: &mut SourceMapIndex, id: u32, line: &str) -> Re
     }
 }
 
-// The number of sections with a map once each line is the map of a section.
+// Sets the map of one section after another to the maps on the lines. Returns how many sections
+// have a map then.
 fn set_maps(alloc: Global, bytes: &[u8]) -> Result<usize> {
     let (mut index, text) = index_and_text(alloc, bytes)?;
     for (id, line) in (0..u32::MAX).zip(text.lines()) {

@@ -13,7 +13,7 @@ pub fn number_in(line: &str) -> u32 {
     line.parse().unwrap_or(0)
 }
 
-/// The bytes of all sources.
+/// The byte count of all sources.
 pub fn source_size(map: &SourceMap) -> usize {
     let mut size = 0usize;
     for source in map.sources() {
@@ -22,7 +22,7 @@ pub fn source_size(map: &SourceMap) -> usize {
     size
 }
 
-/// The bytes of all contents.
+/// The byte count of all contents.
 pub fn contents_size(map: &SourceMap) -> usize {
     let mut size = 0usize;
     for contents in map.source_contents() {

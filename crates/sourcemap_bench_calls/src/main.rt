@@ -1,4 +1,4 @@
-//! Makes one call on standard input, so that its time and memory can be measured.
+//! Makes one call on the bytes of standard input, so that its time and memory can be measured.
 #![tactic(auto)]
 
 mod builders;

@@ -1,4 +1,4 @@
-//! Whole maps: copied, compared, printed, made a value and read back, rewritten.
+//! Whole maps: copied, compared, printed, converted to a JSON value and back, rewritten.
 
 use crate::call::MapCall;
 use crate::encoding::{count_encoded, count_encoded_in_parts, measure_data_url};
@@ -9,7 +9,7 @@ use std::env;
 use std::env::Env;
 use std::rt::Files;
 
-/// A size of the result of a call on a whole map.
+/// Makes a call on a whole map, with `bytes` as its input. Returns a size of the result.
 pub fn size_of<R: Files + Env + AllocGlobal>(
     rt: &R,
     alloc: Global,
@@ -38,7 +38,7 @@ pub fn equals_copy(map: &DecodedMap) -> Result<bool> {
     Ok(map.clone()? == *map)
 }
 
-/// Whether the map that is read back from the value of a map equals it.
+/// Whether a map equals the map that is read back from its JSON value.
 pub fn equals_read_back(alloc: Global, map: &DecodedMap) -> Result<bool> {
     let value = map.to_value()?;
     Ok(DecodedMap::from_value(alloc, &value)? == *map)
@@ -50,20 +50,20 @@ fn copy(alloc: Global, bytes: &[u8]) -> Result<usize> {
     Ok(usize::from(equals_copy(&map)?))
 }
 
-// The number of bytes of a map that is printed.
+// Decodes a map, and returns the number of bytes that `Debug` prints of it.
 fn print(alloc: Global, bytes: &[u8]) -> Result<usize> {
     let map = decode_slice(alloc, bytes)?;
     debug_size(alloc, &map)
 }
 
-// 1 if the map that is read back equals the map.
+// 1 if a map equals the map that is read back from its JSON value.
 fn read_back(alloc: Global, bytes: &[u8]) -> Result<usize> {
     let map = decode_slice(alloc, bytes)?;
     Ok(usize::from(equals_read_back(alloc, &map)?))
 }
 
-// The map on the first line is rewritten, with each line after it as a prefix to strip. Returns the
-// bytes of its sources.
+// Rewrites the map on the first line, with each line after it as a prefix to strip. Returns the
+// byte count of the sources of the rewritten map.
 fn rewrite_stripping<F: Files>(rt: &F, alloc: Global, bytes: &[u8]) -> Result<usize> {
     let (line, text) = split_first_line(bytes)?;
     let map = SourceMap::from_slice(alloc, line.as_bytes())?;
@@ -75,7 +75,8 @@ fn rewrite_stripping<F: Files>(rt: &F, alloc: Global, bytes: &[u8]) -> Result<us
     Ok(source_size(&map.rewrite(rt, &options)?))
 }
 
-// The bytes of all contents, those of the files in the current folder among them.
+// Rewrites a map, and loads contents from files of the current folder. Returns the byte count of
+// all contents.
 fn rewrite_loading<R: Files + Env + AllocGlobal>(
     rt: &R,
     alloc: Global,

@@ -15,19 +15,19 @@ fn size_of(found: &Option<SourceMapRef>) -> usize {
     }
 }
 
-/// The length of the reference in a text.
+/// The length of the URL of the reference in a slice, 0 if there is no reference.
 pub fn locate_in_slice(alloc: Global, bytes: &[u8]) -> Result<usize> {
     let found = locate_sourcemap_reference_slice(alloc, bytes)?;
     Ok(size_of(&found))
 }
 
-/// The same from a reader.
+/// The length of the URL of the reference in a reader, 0 if there is no reference.
 pub fn locate_by_reader(alloc: Global, bytes: &[u8]) -> Result<usize> {
     let found = locate_sourcemap_reference(alloc, bytes)?;
     Ok(size_of(&found))
 }
 
-/// The same from a view.
+/// The length of the URL of the reference in a view, 0 if there is no reference.
 pub fn locate_by_view(alloc: Global, bytes: &[u8]) -> Result<usize> {
     let view = SourceView::new(alloc, str::from_utf8(bytes)?)?;
     let found = view.sourcemap_reference()?;
@@ -56,13 +56,14 @@ pub fn resolve_reference_path(alloc: Global, bytes: &[u8]) -> Result<usize> {
     }
 }
 
-/// 1 if a data URL holds a map.
+/// 1 if a data URL holds a map, otherwise the error of decoding it.
 pub fn decode_url(alloc: Global, bytes: &[u8]) -> Result<usize> {
     let _map = decode_data_url(alloc, str::from_utf8(bytes)?)?;
     Ok(1)
 }
 
-/// The same by a reference.
+/// 1 if a reference is a data URL that holds a map, otherwise the error of decoding it. A reference
+/// that does not start with `data:` is `InvalidDataUrl`.
 pub fn decode_embedded(alloc: Global, bytes: &[u8]) -> Result<usize> {
     let url = String::from_str(alloc, str::from_utf8(bytes)?)?;
     match SourceMapRef::Ref(url).get_embedded_sourcemap()? {
@@ -71,13 +72,13 @@ pub fn decode_embedded(alloc: Global, bytes: &[u8]) -> Result<usize> {
     }
 }
 
-/// 1 if bytes are a map.
+/// 1 if the bytes of a slice are a map, else 0.
 pub fn detect_in_slice(alloc: Global, bytes: &[u8]) -> Result<usize> {
     let is_map = is_sourcemap_slice(alloc, bytes)?;
     Ok(usize::from(is_map))
 }
 
-/// The same by a reader.
+/// 1 if the bytes of a reader are a map, else 0.
 pub fn detect_by_reader(alloc: Global, bytes: &[u8]) -> Result<usize> {
     let is_map = is_sourcemap(alloc, bytes)?;
     Ok(usize::from(is_map))

@@ -3,7 +3,8 @@
 use sourcemap::{Result, SourceMapHermes};
 use std::alloc::Global;
 
-/// The bytes of the names of the functions that the tokens of a map stand in.
+/// The byte count of the function names of all tokens of a Hermes map. The name is that of the
+/// function at the original position of the token.
 pub fn name_size(alloc: Global, bytes: &[u8]) -> Result<usize> {
     let map = SourceMapHermes::from_slice(alloc, bytes)?;
     let mut size = 0usize;
@@ -14,7 +15,8 @@ pub fn name_size(alloc: Global, bytes: &[u8]) -> Result<usize> {
     Ok(size)
 }
 
-/// The bytes of the names of the functions at the columns of the tokens, as offsets of bytecode.
+/// Takes the generated column of each token as a bytecode offset. Returns the byte count of the
+/// names of the functions at these offsets.
 pub fn bytecode_name_size(alloc: Global, bytes: &[u8]) -> Result<usize> {
     let map = SourceMapHermes::from_slice(alloc, bytes)?;
     let mut size = 0usize;

@@ -6,7 +6,8 @@ use sourcemap::vlq::{generate_vlq_segment, parse_vlq_segment};
 use std::alloc::Global;
 use std::str;
 
-/// The length of the segment that is written of the numbers of a segment.
+/// Parses a segment, and writes its numbers as a segment again. Returns the length of the written
+/// segment.
 pub fn segment_size(alloc: Global, bytes: &[u8]) -> Result<usize> {
     let numbers = parse_vlq_segment(alloc, str::from_utf8(bytes)?)?;
     let segment = generate_vlq_segment(alloc, numbers.as_slice())?;

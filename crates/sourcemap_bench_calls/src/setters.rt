@@ -1,11 +1,12 @@
-//! Setters of regular maps. The map is on the first line, what is set after it.
+//! Setters of regular maps. The map is on the first line of the input. What is set follows it.
 
 use crate::call::Setter;
 use crate::lines::{contents_size, number_in, source_size, split_first_line};
 use sourcemap::{Result, SourceMap};
 use std::alloc::Global;
 
-/// A size of the map once a setter has set what follows it.
+/// Decodes the map on the first line, and sets what follows that line. Returns a size of the
+/// changed map.
 pub fn size_of(alloc: Global, setter: Setter, bytes: &[u8]) -> Result<usize> {
     let (line, text) = split_first_line(bytes)?;
     let map = SourceMap::from_slice(alloc, line.as_bytes())?;
@@ -32,13 +33,14 @@ fn set_source_contents(map: &mut SourceMap, id: u32, contents: &str) -> Result<(
     Ok(())
 }
 
-// The bytes of all sources once the text is the root.
+// Sets the text as `sourceRoot`. Returns the byte count of all sources.
 fn set_root(mut map: SourceMap, text: &str) -> Result<usize> {
     map.set_source_root(Some(text))?;
     Ok(source_size(&map))
 }
 
-// The bytes of all sources once each line is a source.
+// Sets one source after another to the lines. More lines than sources are ignored. Returns the byte
+// count of all sources.
 fn set_sources(mut map: SourceMap, text: &str) -> Result<usize> {
     for (id, line) in (0..u32::MAX).zip(text.lines()) {
         set_source(&mut map, id, line)?;
@@ -46,7 +48,8 @@ fn set_sources(mut map: SourceMap, text: &str) -> Result<usize> {
     Ok(source_size(&map))
 }
 
-// The bytes of all contents once each line is the contents of a source.
+// Sets the contents of one source after another to the lines. More lines than sources are ignored.
+// Returns the byte count of all contents.
 fn set_contents(mut map: SourceMap, text: &str) -> Result<usize> {
     for (id, line) in (0..u32::MAX).zip(text.lines()) {
         set_source_contents(&mut map, id, line)?;
@@ -54,7 +57,7 @@ fn set_contents(mut map: SourceMap, text: &str) -> Result<usize> {
     Ok(contents_size(&map))
 }
 
-// The length of the file once each line was the file.
+// Sets the file to each line in turn. Returns the length of the last file.
 fn set_file(mut map: SourceMap, text: &str) -> Result<usize> {
     for line in text.lines() {
         map.set_file(Some(line))?;
@@ -62,7 +65,7 @@ fn set_file(mut map: SourceMap, text: &str) -> Result<usize> {
     Ok(map.get_file().map_or(0, |file| file.len()))
 }
 
-// The length of the ignore list once the number on each line is in it.
+// Adds the number on each line to the ignore list. Returns the length of the list.
 fn ignore(mut map: SourceMap, text: &str) -> Result<usize> {
     for line in text.lines() {
         map.add_to_ignore_list(number_in(line))?;

@@ -16,7 +16,7 @@ pub fn interned(alloc: Global, bytes: &[u8]) -> Result<usize> {
     Ok(interner.len() as usize)
 }
 
-// The bytes of all modules of a bundle, plus 1 for each invalid one.
+// The byte count of all modules of a bundle, plus 1 for each invalid module.
 fn module_size(bundle: &RamBundle<'_>) -> usize {
     let mut size = 0usize;
     for found in bundle.iter_modules() {
@@ -25,13 +25,14 @@ fn module_size(bundle: &RamBundle<'_>) -> usize {
     size
 }
 
-/// The bytes of all modules of a bundle, plus 1 for each invalid one.
+/// The byte count of all modules of an indexed bundle, plus 1 for each invalid module.
 pub fn modules(bytes: &[u8]) -> Result<usize> {
     let bundle = RamBundle::parse_indexed_from_slice(bytes)?;
     Ok(module_size(&bundle))
 }
 
-/// The same of the bundle at a path, of one file or of files.
+/// The byte count of all modules of the bundle at a path, plus 1 for each invalid module. `bytes`
+/// is the path. The bundle is one file or a file bundle.
 pub fn modules_at<F: Files>(rt: &F, alloc: Global, bytes: &[u8]) -> Result<usize> {
     let path = str::from_utf8(bytes)?.trim();
     let bundle = if is_unbundle_path(rt, alloc, path)? {

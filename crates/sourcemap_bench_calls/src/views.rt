@@ -4,7 +4,8 @@ use sourcemap::{Result, SourceMap, SourceView};
 use std::alloc::Global;
 use std::str;
 
-/// The bytes of all identifiers on a walk back from the last token.
+/// Walks back from the last token of a map, in a text. Returns the byte count of all identifiers on
+/// the walk. The map is on the first line, the text after it.
 pub fn walked(alloc: Global, bytes: &[u8]) -> Result<usize> {
     let (line, text) = str::from_utf8(bytes)?.split_once('\n').unwrap_or_default();
     let map = SourceMap::from_slice(alloc, line.as_bytes())?;
@@ -22,7 +23,7 @@ fn met(map: &SourceMap, view: &SourceView) -> usize {
     size
 }
 
-/// The number of lines of a text plus the bytes in them.
+/// The number of lines of a text, plus the byte count of all lines.
 pub fn viewed(alloc: Global, bytes: &[u8]) -> Result<usize> {
     let view = SourceView::new(alloc, str::from_utf8(bytes)?)?;
     let mut size = view.line_count();
@@ -32,7 +33,8 @@ pub fn viewed(alloc: Global, bytes: &[u8]) -> Result<usize> {
     Ok(size)
 }
 
-// The bytes of the second eighth of a line, its columns counted by the bytes of the line.
+// The byte count of a slice of a line, its second eighth. The slice starts at column n and spans n
+// columns. Here n is an eighth of the byte count of the line.
 fn slice_size(view: &SourceView, line: u32) -> usize {
     let length = view.get_line(line).map_or(0, |text| text.len());
     let eighth = u32::try_from(length / 8).unwrap_or(u32::MAX);
@@ -40,7 +42,7 @@ fn slice_size(view: &SourceView, line: u32) -> usize {
     slice.map_or(0, |text| text.len())
 }
 
-/// The number of lines of a text plus the bytes of the second eighth of each.
+/// The number of lines of a text, plus the byte count of the second eighth of each line.
 pub fn sliced(alloc: Global, bytes: &[u8]) -> Result<usize> {
     let view = SourceView::new(alloc, str::from_utf8(bytes)?)?;
     let mut size = view.line_count();

@@ -29,7 +29,7 @@ abbrev pub name_worth : Option (List ℕ) → ℕ
 name_worth None = 0
 name_worth (Some name) = min (length name + 1) 4294967295
 
--- a checksum with the guesses for that name at these positions of the generated text
+-- a checksum with the guesses for `absent_name` at these positions of the generated text
 abbrev pub name_sum : MapValue → (source : List ℕ) → List (ℕ × ℕ) → ℕ → ℕ
 name_sum m source positions start =
     fold (λ sum p. mixed sum (name_worth (function_name m source absent_name p))) start positions

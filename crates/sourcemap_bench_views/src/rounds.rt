@@ -9,7 +9,7 @@ use sourcemap::{Result, SourceMap, SourceView};
 use std::alloc::Global;
 use std::str;
 
-// Makes a view of a text, iterates over its lines, and returns the checksum after it.
+// Makes a view of a text, iterates over its lines, and returns the new checksum.
 fn view_sum(alloc: Global, text: &str, sum: u32) -> Result<u32>
     ensures { IfOk result (λ new. new ≡ line_sum text.now sum) }
 {

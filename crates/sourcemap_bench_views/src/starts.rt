@@ -8,7 +8,7 @@ use std::alloc::Global;
 /// The number of tokens of a walk.
 const WALKED: usize = 128;
 
-// (0, 0) if there is no such token.
+// The generated position of a token, or (0, 0) if no token has this index.
 fn position_of(map: &SourceMap, index: usize) -> (u32, u32)
     ensures { IfSome (slice_get map.now.tokens index) (λ t. result ≡ (t.dst_line, t.dst_col)) }
 {

@@ -52,7 +52,7 @@ fn add_guess(map: &SourceMap, view: &SourceView, sum: u32, position: (u32, u32))
     add_to_sum(sum, name_worth(name))
 }
 
-/// Adds the guesses for that name at these positions to a checksum.
+/// Adds the guesses for the name `ABSENT_NAME` at these positions to a checksum.
 pub fn name_sum(map: &SourceMap, view: &SourceView, positions: &[(u32, u32)], start: u32) -> u32
     ensures { result ≡ name_sum map.now view.now positions.now start }
 {

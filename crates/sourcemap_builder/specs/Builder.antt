@@ -8,8 +8,8 @@ use Rattle.sourcemap_map_parts.specs.Contents.{fitted}
 use Rattle.sourcemap_source_files.specs.Loading.{Fills}
 use Rattle.sourcemap_map_regular.specs.Map.{MapValue, Meaning}
 
--- the parts of a builder: `interned` are the sources as they were added, by which ids are found, and
--- `sources` those of the map
+-- the parts of a builder. `interned` are the sources as they were added; ids are found by these. `sources` are
+-- the sources of the map
 pub record BuilderValue : Type 0 where
   pub file : Option (List ℕ)
   pub root : Option (List ℕ)
@@ -41,7 +41,7 @@ with_changes changes [] = []
 with_changes [] (text ∷ texts) = text ∷ texts
 with_changes (change ∷ changes) (text ∷ texts) = unwrap_or change text ∷ with_changes changes texts
 
--- with a source: a new one is added to both lists
+-- the builder after a source is added: a new source is appended to both lists
 abbrev pub with_source : BuilderValue → List ℕ → BuilderValue
 with_source b text = record b {
   interned = with_text b.interned text;
@@ -51,7 +51,7 @@ with_source b text = record b {
 abbrev pub with_name : BuilderValue → List ℕ → BuilderValue
 with_name b text = record b { names = with_text b.names text }
 
--- with an optional source or name
+-- the builder after an optional source, or an optional name, is added
 abbrev pub with_source_if : BuilderValue → Option (List ℕ) → BuilderValue
 with_source_if b None = b
 with_source_if b (Some text) = with_source b text
@@ -60,7 +60,7 @@ abbrev pub with_name_if : BuilderValue → Option (List ℕ) → BuilderValue
 with_name_if b None = b
 with_name_if b (Some text) = with_name b text
 
--- with both, the source first
+-- the builder after an optional source and then an optional name are added
 abbrev pub with_texts : BuilderValue → Option (List ℕ) → Option (List ℕ) → BuilderValue
 with_texts b source name = with_name_if (with_source_if b source) name
 
@@ -95,11 +95,12 @@ name_if with_name says = cond with_name says.name None
 abbrev pub IsOptionalId : List (List ℕ) → Option (List ℕ) → ℕ → Type 0
 IsOptionalId texts text id = (IsSome text ⊎ (id ≢ no_id)) → id < length texts
 
--- the source id of a token that was added with an optional source
+-- the source id of a token that was added with an optional source is an index of the sources; without a source, it may
+-- be `no_id` instead
 abbrev pub HasSource : List (List ℕ) → Option (List ℕ) → RawToken → Type 0
 HasSource sources source token = IsOptionalId sources source token.src_id
 
--- with a token at the end
+-- the builder after a token is appended
 abbrev pub with_token : BuilderValue → RawToken → BuilderValue
 with_token b token = record b { tokens = b.tokens ++ token ∷ [] }
 

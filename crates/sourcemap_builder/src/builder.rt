@@ -45,7 +45,7 @@ pub struct SourceMapBuilder {
     names: Interner,
     // The sources as they were added, by which ids are found.
     interned: Interner,
-    // The sources that replace added ones.
+    // By id, the source that replaces the added one, if there is such a source.
     changed: Vec<Option<String>>,
     contents: Contents,
 }
@@ -163,8 +163,8 @@ impl SourceMapBuilder {
         self.names.add(name)
     }
 
-    /// Replaces the source with this id, which must exist. `add_source` of the replaced text still
-    /// returns this id. The only error is `OutOfMemory`.
+    /// Replaces the source with this id, which must exist. `add_source` of the text that was added
+    /// first still returns this id. The only error is `OutOfMemory`.
     pub fn set_source(&mut self, id: u32, source: &str) -> Result<()>
         requires { id < length self.old.sources }
         ensures { Changes result self.old self.new
@@ -177,9 +177,9 @@ impl SourceMapBuilder {
         Ok(())
     }
 
-    /// Cuts from each source the first of these prefixes that it starts with. A prefix that does not
-    /// end with `/` gets one, and `~` has no special meaning. `add_source` of the source that was
-    /// added first still returns its id. The only error is `OutOfMemory`.
+    /// Cuts from each source the first of these prefixes that it starts with. A prefix that does
+    /// not end with `/` gets one, and `~` has no special meaning. `add_source` still finds the id
+    /// of a source by the text that was added first. The only error is `OutOfMemory`.
     pub fn strip_prefixes<S: AsStr>(&mut self, prefixes: &[S]) -> Result<()>
         ensures { Changes result self.old self.new (record self.old {
           sources = map (without_prefix (map S.text prefixes.now)) self.old.sources;
@@ -211,8 +211,8 @@ impl SourceMapBuilder {
         Ok(())
     }
 
-    /// Sets the contents of the source with this id, which must exist. The list of contents then has
-    /// one item for each source. The only error is `OutOfMemory`.
+    /// Sets the contents of the source with this id, which must exist. The list of contents then
+    /// has one item for each source. The only error is `OutOfMemory`.
     pub fn set_source_contents(&mut self, id: u32, contents: Option<&str>) -> Result<()>
         requires { id < length self.old.sources }
         ensures { Changes result self.old self.new (record self.old {
@@ -243,11 +243,11 @@ impl SourceMapBuilder {
     }
 
     /// Reads the contents of each source without contents from its file and returns the number of
-    /// files read. A source is resolved as it was added first, against `base_path`, which is resolved
-    /// against `current_dir`. A source whose file does not exist, cannot be read or is not UTF-8 is
-    /// skipped. The list of contents then has one item for each source. The errors are `Io` of kind
-    /// `InvalidInput` if neither path is absolute, and `OutOfMemory`, after which contents that were
-    /// read before are kept.
+    /// files read. A source is resolved as it was added first, against `base_path`, which is
+    /// resolved against `current_dir`. A source whose file does not exist, cannot be read or is not
+    /// UTF-8 is skipped. The list of contents then has one item for each source. The errors are
+    /// `Io` of kind `InvalidInput` if neither path is absolute, and `OutOfMemory`, after which
+    /// contents that were read before are kept.
     pub fn load_local_source_contents<F: Files>(
         &mut self,
         rt: &F,
@@ -276,8 +276,8 @@ impl SourceMapBuilder {
         loaded
     }
 
-    /// Adds a token with these ids, which need not exist, [`NO_ID`] for `None`, and returns it. The
-    /// only error is `OutOfMemory`.
+    /// Adds a token with these ids, and returns the token. The ids need not exist, and `None`
+    /// becomes [`NO_ID`]. The only error is `OutOfMemory`.
     pub fn add_raw(
         &mut self,
         dst_line: u32,
@@ -313,9 +313,10 @@ impl SourceMapBuilder {
         Ok(token)
     }
 
-    /// Adds a token, and its source and its name if they are new, and returns the token. Its ids are
-    /// [`NO_ID`] for `None`. The errors are those of `add_source` and `add_name`; they leave the
-    /// tokens unchanged, but the source and the name may have been added.
+    /// Adds a token, and its source and its name if they are new, and returns the token. If the
+    /// source or the name is `None`, the token's id for it is [`NO_ID`]. The errors are those of
+    /// `add_source` and `add_name`; they leave the tokens unchanged, but the source and the name
+    /// may have been added.
     pub fn add(
         &mut self,
         dst_line: u32,
@@ -352,8 +353,8 @@ impl SourceMapBuilder {
         )
     }
 
-    /// Adds a token with the results of the getters of a token of a map, and returns the new token.
-    /// Its name is included only if `with_name` is true. The errors are those of `add`.
+    /// Copies a token of a map: adds a token with the results of its getters, and returns the new
+    /// token. The name is copied only if `with_name` is true. The errors are those of `add`.
     pub fn add_token(&mut self, token: &Token<'_>, with_name: bool) -> Result<RawToken>
         ensures token { Gives (λ added. added) result (token_with_ids
             (token_without_ids (token_value token.now).raw.dst_line (token_value token.now).raw.dst_col
@@ -432,7 +433,7 @@ impl SourceMapBuilder {
     }
 }
 
-// Loads contents after the list got one item for each source.
+// Makes the list of contents as long as that of the sources, then loads contents from files.
 fn load_fitted<F: Files>(
     rt: &F,
     alloc: Global,
@@ -476,7 +477,8 @@ fn text_at(texts: &[Option<String>], index: usize) -> Option<&str>
     }
 }
 
-// The changes after prefixes are cut; `current` are the changes before.
+// The list `changed` after prefixes are cut. `current` is this list before, and `texts` are the
+// sources as they were added.
 fn cut_texts<S: AsStr>(
     alloc: Global,
     texts: &Interner,

@@ -7,23 +7,23 @@ use Rattle.sourcemap_errors.specs.declared.errors.Error.TheVariants.{Scroll}
 use Rattle.sourcemap_bundle_bytes.specs.declared.bundle.ModuleEntry.{ModuleEntry}
 use Rattle.sourcemap_bundle_bytes.specs.declared.bundle.RamBundleHeader.{RamBundleHeader}
 
--- a call that takes no memory returned exactly what was due, where `view` sees its value
+-- the result of a call that allocates nothing is exactly the due one; `view` gives its value as contracts see it
 abbrev pub Returns : {X Y : Type 0} → (X → Y) → Result X Error → Result Y Error → Type 0
 Returns view (Ok x) due = due ≡ Ok (view x)
 Returns view (Err e) due = due ≡ Err e
 
--- what comes of a value; an error stays
+-- the next step on a value; an error stays unchanged
 abbrev pub then_make : {X Y : Type 0} → (X → Result Y Error) → Result X Error → Result Y Error
 then_make make (Ok x) = make x
 then_make make (Err e) = Err e
 
--- the bytes of a range; its end may be the end of the bytes, and not pass it
+-- the bytes of a range, or the error if the end of the range passes the end of the bytes
 abbrev pub range_of : List ℕ → ℕ → ℕ → Result (List ℕ) Error
 range_of bytes start size =
     if nat_le (start + size) (length bytes) then Ok (take size (drop start bytes))
     else Err (Scroll (record { start = start; size = size; len = length bytes }))
 
--- the number of 32 bits, lowest byte first, after the first so many bytes
+-- the number of 32 bits, lowest byte first, that follows the first `count` bytes
 abbrev pub number_after : ℕ → List ℕ → ℕ
 number_after count bytes = little_number 4 (drop count bytes)
 
@@ -39,7 +39,7 @@ header_of bytes = then_make (λ header. Ok (record {
   startup_code_size = number_after 8 header;
 })) (range_of bytes 0 12)
 
--- the 8 bytes of a module, after the header and the entries of those before it, as two numbers
+-- the entry of a module, as two numbers: 8 bytes after the header and the entries of the modules before it
 abbrev pub entry_of : List ℕ → ℕ → Result ModuleEntry Error
 entry_of bytes id = then_make (λ entry. Ok (record {
   offset = number_after 0 entry;

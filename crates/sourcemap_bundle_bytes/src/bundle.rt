@@ -55,8 +55,8 @@ pub struct ModuleEntry {
 }
 
 impl ModuleEntry {
-    /// Returns the entry of the module `id`, whatever the header's count of modules. `Scroll` where
-    /// the bytes end before it does.
+    /// Returns the entry of the module `id`, whatever the header's count of modules. The error is
+    /// `Scroll` if the bytes end before the end of the entry.
     pub fn read(bytes: &[u8], id: u32) -> Result<Self>
         ensures { result ≡ entry_of bytes.now id }
     {
@@ -75,8 +75,8 @@ impl ModuleEntry {
     }
 }
 
-/// Returns the `size` bytes from `start` on. `Scroll` exactly where their end passes the end of
-/// `bytes`: an empty range at the end is one.
+/// Returns the `size` bytes from `start` on. The error is `Scroll` exactly if their end passes the
+/// end of `bytes`. So an empty range at the end of `bytes` is no error.
 pub fn byte_range(bytes: &[u8], start: u64, size: u64) -> Result<&[u8]>
     ensures { Returns (λ range. range.now) result (range_of bytes.now start size) }
 {

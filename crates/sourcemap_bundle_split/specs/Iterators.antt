@@ -11,7 +11,7 @@ use Rattle.sourcemap_bundle_split.specs.declared.split.SplitRamBundleModuleIter.
 abbrev pub split_value : SplitRamBundleModuleIter → SplitValue
 split_value it = record { flat = it.maps; offsets = it.offsets.items; modules = modules_left it.modules }
 
--- those that are not skipped, each with its first line
+-- the modules left that are not skipped, each with its first line
 abbrev pub modules_and_lines_left : SplitRamBundleModuleIter → List (Result (ModuleValue × ℕ) Error)
 modules_and_lines_left it = filter_map (with_first_line it.offsets.items) (modules_left it.modules)
 

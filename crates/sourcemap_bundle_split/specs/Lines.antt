@@ -1,4 +1,4 @@
--- Where a text ends among tokens.
+-- Bounds between tokens: where the text of a module begins or ends.
 use Rattle.std.specs.Prelude.{◌≡◌, ◌⊎◌, ℕ, ◌<◌}
 use Rattle.sourcemap_bundle_split.specs.declared.lines.Bound.{Bound}
 

@@ -1,4 +1,4 @@
--- The map of a module: it has the same answers as the flat map on the lines of the module's text.
+-- The map of a module: the tokens of the flat map that are on the lines of the module's text.
 use Rattle.std.specs.Prelude.{◌≡◌, ℕ, ◌+◌, ◌-◌, ◌==◌, ◌&&◌, Bool, not, nat_lt, if◌then◌else◌, List, [], ◌∷◌, ◌++◌, length, map, filter, fold, slice_get, Option, Some, None, is_none, option_map, unwrap_or}
 use Rattle.std.specs.Ordering.{is_lt}
 use Rattle.std.specs.Str.{chars}
@@ -13,7 +13,7 @@ use Rattle.sourcemap_map_regular.specs.Map.{MapValue, resolved_sources}
 abbrev pub last_line : List ℕ → List ℕ
 last_line text = unwrap_or (slice_get (line_bodies text) (length (line_bodies text) - 1)) []
 
--- where a text ends that is laid from this line on
+-- where a text ends that begins at the start of this line
 abbrev pub end_of : ℕ → List ℕ → ℕ × ℕ
 end_of line text = (line + (length (line_bodies text) - 1), width (chars (last_line text)))
 
@@ -21,20 +21,20 @@ end_of line text = (line + (length (line_bodies text) - 1), width (chars (last_l
 abbrev pub is_in : ℕ → ℕ × ℕ → ℕ × ℕ → Bool
 is_in line end p = not (is_lt (position_cmp p (line, 0))) && is_lt (position_cmp p end)
 
--- a position with lines that count from this one
+-- a position whose line is counted from `line`
 abbrev pub lowered_to : ℕ → ℕ × ℕ → ℕ × ℕ
 lowered_to line p = (p.0 - line, p.1)
 
--- the number of an id among these: how many come before it
+-- the number of an id in a list of ids: how many ids come before it; `None` if it is not in the list
 abbrev pub number_of : List ℕ → ℕ → Option ℕ
 number_of [] id = None
 number_of (k ∷ ids) id = if k == id then Some 0 else option_map (λ n. n + 1) (number_of ids id)
 
--- with one more id, if it names one of so many items and is new
+-- the list of ids with `id` at the end, if `id` is below `count` and not yet in the list
 abbrev pub with_id : ℕ → List ℕ → ℕ → List ℕ
 with_id count ids id = if nat_lt id count && is_none (number_of ids id) then ids ++ id ∷ [] else ids
 
--- the ids that name one of so many items, each once, in the order of first use
+-- the ids below `count`, each once, in the order of first use
 abbrev pub used_ids : ℕ → List ℕ → List ℕ
 used_ids count ids = fold (with_id count) [] ids
 
@@ -42,7 +42,7 @@ used_ids count ids = fold (with_id count) [] ids
 abbrev pub texts_at : List (List ℕ) → List ℕ → List (List ℕ)
 texts_at texts ids = map (λ id. unwrap_or (slice_get texts id) []) ids
 
--- a token with lines that count from this one, and with the new numbers of its source and its name
+-- a token whose line is counted from `line`; its source and its name have new numbers, or `no_id`
 abbrev pub moved_by : ℕ → List ℕ → List ℕ → RawToken → RawToken
 moved_by line sources names t = record t {
   dst_line = t.dst_line - line;
@@ -50,19 +50,19 @@ moved_by line sources names t = record t {
   name_id = unwrap_or (number_of names t.name_id) no_id;
 }
 
--- the tokens of these lines
+-- the tokens from `line` on and before `end`
 abbrev pub tokens_in : ℕ → ℕ × ℕ → List RawToken → List RawToken
 tokens_in line end tokens = filter (λ t. is_in line end (destination t)) tokens
 
--- the ids of the sources, and of the names, that they use
+-- the ids of the sources (`names_in`: of the names) that the tokens on these lines use
 abbrev pub sources_in : MapValue → ℕ → ℕ × ℕ → List ℕ
 sources_in flat line end = used_ids (length flat.sources) (map (λ t. t.src_id) (tokens_in line end flat.tokens))
 
 abbrev pub names_in : MapValue → ℕ → ℕ × ℕ → List ℕ
 names_in flat line end = used_ids (length flat.names) (map (λ t. t.name_id) (tokens_in line end flat.tokens))
 
--- the map of a module on these lines of a flat map: their tokens, and the sources (with contents) and names that
--- these use, in the order of first use
+-- the map of a module on these lines of a flat map: the tokens on these lines, and the sources (with contents) and
+-- names that the tokens use, in the order of first use
 abbrev pub module_map : MapValue → List ℕ → ℕ → ℕ × ℕ → MapValue
 module_map flat name line end = record {
   file = Some name;

@@ -5,7 +5,7 @@ use Rattle.sourcemap_bundle_split.specs.Ids.{AreBelow}
 use Rattle.sourcemap_bundle_split.specs.ModuleMap.{with_id}
 use Rattle.sourcemap_bundle_split.specs.declared.id_numbers.IdNumbers.TheInside.{Inside}
 
--- how many items have an id, and the ids that have a number, in order
+-- how many items there are, and the ids that have a number, in the order of their numbers
 pub record NumbersValue : Type 0 where
   pub count : ℕ
   pub ids : List ℕ
@@ -13,18 +13,18 @@ pub record NumbersValue : Type 0 where
 abbrev pub none_of : ℕ → NumbersValue
 none_of count = record { count = count; ids = [] }
 
--- with a number for one id more
+-- with the next number for `id`, if it is the id of an item and has no number
 abbrev pub with_number : NumbersValue → ℕ → NumbersValue
 with_number n id = record { count = n.count; ids = with_id n.count n.ids id }
 
 abbrev pub numbers_in : Inside → NumbersValue
 numbers_in a = record { count = length a.numbers.items; ids = a.order.items }
 
--- each of the ids in order is at its number
+-- the id at index `n` of `order` has the number `n` in `numbers`
 abbrev pub Stand : (numbers order : List ℕ) → Type 0
 Stand numbers order = (n id : ℕ) → slice_get order n ≡ Some id → slice_index numbers id ≡ n
 
--- the ids in order are distinct ids of items, and there are fewer items than ids
+-- the ids in `order` are distinct ids of items and have their numbers; there are at most 4294967295 items
 pub record AreNumbers (a : Inside) : Type 0 where
   pub few : length a.numbers.items ≤ 4294967295
   pub stand : Stand a.numbers.items a.order.items

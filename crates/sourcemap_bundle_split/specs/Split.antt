@@ -1,4 +1,4 @@
--- A bundle split: the name, the text and the map of each module, or why it has none.
+-- Split bundles: the name, the text and the map of each module, or the error that is due for it.
 use Rattle.std.specs.Prelude.{◌≡◌, ◌≤◌, ℕ, ◌&&◌, if◌then◌else◌, List, [], ◌∷◌, ◌++◌, codes, length, map, filter_map, slice_get, Option, Some, None, is_some, MatchOption, Result, Ok, Err, string_bytes}
 use Rattle.std.specs.Fmt.{decimal}
 use Rattle.std.specs.Str.{is_utf8}
@@ -34,7 +34,7 @@ parts_on flat line m = record {
   map = module_map flat (file_name m.id) line (end_of line m.text);
 }
 
--- bytes as a text, which are to be UTF-8
+-- bytes as a text; the error `InvalidRamBundleEntry` if they are not UTF-8
 abbrev pub utf8_text : List ℕ → Result (List ℕ) Error
 utf8_text bytes = if is_utf8 bytes then Ok bytes else Err InvalidRamBundleEntry
 
@@ -43,7 +43,7 @@ abbrev pub parts_at : MapValue → ℕ → ModuleValue → Result ModuleParts Er
 parts_at flat line m =
     if is_some (meaning flat (line, 0)) && is_utf8 m.text then Ok (parts_on flat line m) else Err InvalidRamBundleEntry
 
--- a module with its first line: one past the offsets is an error, one without an offset is skipped
+-- a module with its first line; an error if its number is past the offsets, skipped if its offset is null
 abbrev pub with_line : ModuleValue → Option (Option ℕ) → Option (Result (ModuleValue × ℕ) Error)
 with_line m None = Some (Err InvalidRamBundleEntry)
 with_line m (Some None) = None
@@ -75,17 +75,17 @@ abbrev pub with_offsets : MapValue → List (Result ModuleValue Error) → Optio
 with_offsets flat modules None = Err NotARamBundle
 with_offsets flat modules (Some offsets) = Ok (record { flat = flat; offsets = offsets; modules = modules })
 
--- the index is flattened first
+-- the bundle is split by its index map, which is flattened first: errors of flattening are errors of the split
 abbrev pub Splits : IndexValue → List (Result ModuleValue Error) → Result SplitValue Error → Type 0
 Splits i modules answer =
     Then (FlatAnswer (index_tree i)) (λ flat a. a ≡ with_offsets flat modules i.parts.x_facebook_offsets) answer
 
--- each source and each name has a number
+-- at most 4294967295 sources, and at most 4294967295 names
 pub record HasFewTexts (flat : MapValue) : Type 0 where
   pub sources : length flat.sources ≤ 4294967295
   pub names : length flat.names ≤ 4294967295
 
--- a call gave what is due first, unless memory ran out, and left the others
+-- a call of an iterator returns the first due item, or out of memory for it, and leaves the other items
 abbrev pub YieldsDue : {S A B : Type 0} → (A → B) → (S → List (Result B Error)) → S → Option (Result A Error) → S → Type 0
 YieldsDue {B = B} view rest s item t =
     MatchOption item ((rest s ≡ []) × (rest t ≡ [])) (λ r. (due : Result B Error) × (rest s ≡ due ∷ rest t) × Gives view r due)

@@ -11,13 +11,14 @@ use sourcemap_tokens::tokens::NO_ID;
 use std::alloc::Global;
 use std::marker::Model;
 
-/// Some of the ids of so many items, each with its number: how many were used before it.
+/// Numbers for the ids of a list of items. An id that is used for the first time gets the next
+/// number, from 0 on.
 #[derive(Drop)]
 pub(crate) struct IdNumbers {
-    // By id its number. An id without one may have any: a number counts only where `order` has the
-    // id there, so that all are forgotten at once.
+    // The number of each id, by id. It counts only if `order` has the id at that index. Otherwise
+    // the id has no number. So `clear` empties `order` alone.
     numbers: Vec<u32>,
-    // the ids that have a number, in order
+    // the ids that have a number, in the order of their numbers
     order: Vec<u32>,
 }
 
@@ -34,7 +35,7 @@ impl Model for IdNumbers {
 impl IdNumbers {
     ghost use Rattle.sourcemap_bundle_split.specs.Numbers.{none_of, with_number};
 
-    /// No numbers yet for the ids of so many items. Returns `OutOfMemory` only.
+    /// Numbers for the ids of `count` items. No id has one yet. The only error is `OutOfMemory`.
     pub(crate) fn new(alloc: Global, count: usize) -> Result<Self>
         requires { count ≤ 4294967295 }
         ensures { Gives (λ n. n) result (Ok (none_of count)) }
@@ -52,8 +53,8 @@ impl IdNumbers {
         self.order.clear();
     }
 
-    /// Returns the number of an id, the next one if it has none, and `NO_ID` if it names no item.
-    /// Returns `OutOfMemory` only, and then nothing changes.
+    /// Returns the number of an id. An id without one gets the next number. For an id that names no
+    /// item it returns `NO_ID`. The only error is `OutOfMemory`, and then nothing changes.
     pub(crate) fn number(&mut self, id: u32) -> Result<u32>
         ensures ids { OnOk result (self.new ≡ with_number self.old id) }
         ensures number { IfOk result (λ n. n ≡ unwrap_or (number_of self.new.ids id) no_id) }

@@ -6,8 +6,10 @@ ghost use Rattle.sourcemap_tokens.specs.declared.tokens.RawToken.{RawToken};
 ghost use Rattle.sourcemap_map_regular.specs.Map.{MapValue, meaning};
 ghost use Rattle.sourcemap_bundle_split.specs.ModuleMap.{end_of, is_in, lowered_to, module_map};
 
-/// At each position of a module's lines whose closest token in the flat map is one of these lines,
-/// the module's map answers as the flat map does, at the line less the module's first line.
+/// At a position on the lines of a module, the module's map answers as the flat map does. In the
+/// module's map, lines count from the module's first line. One premise is that the closest token in
+/// the flat map is on the module's lines too. The others are at most 4294967295 sources and at most
+/// 4294967295 names.
 pub fn module_means_what_flat_means()
     ensures { (flat : MapValue) (name text : List ℕ) (line : ℕ) (p : ℕ × ℕ) (t : RawToken)
         → length flat.sources ≤ 4294967295 → length flat.names ≤ 4294967295

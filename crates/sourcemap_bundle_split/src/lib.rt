@@ -1,4 +1,4 @@
-//! Bundles split: the text of each module, and a map of it with the same answers as the flat map of
+//! Splits bundles: gives the text of each module, and a map with the tokens that the flat map of
 //! the whole bundle has on the lines of the module.
 #![tactic(auto)]
 

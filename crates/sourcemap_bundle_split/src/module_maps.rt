@@ -53,7 +53,7 @@ impl Drop for ModuleMaps {
 }
 
 impl ModuleMaps {
-    /// Takes the flat map. Returns `OutOfMemory` only.
+    /// Consumes the flat map of a bundle. The only error is `OutOfMemory`.
     pub(crate) fn new(alloc: Global, flat: SourceMap) -> Result<Self>
         ensures { Gives (λ maps. maps) result (Ok flat) }
     {
@@ -66,8 +66,8 @@ impl ModuleMaps {
         })
     }
 
-    /// Returns the map of a module of this name and text that begins at this line. Returns
-    /// `OutOfMemory` only.
+    /// Returns the map of the module with this name and text that begins at `line` of the flat map.
+    /// The only error is `OutOfMemory`.
     pub(crate) fn map_of(
         &mut self,
         alloc: Global,
@@ -95,7 +95,7 @@ impl ModuleMaps {
         )
     }
 
-    /// Returns whether a token is at the first column of a line or before it.
+    /// Returns whether the flat map has a token at the first column of this line, or before.
     pub(crate) fn reaches(&self, line: u32) -> bool
         ensures { result ≡ is_some (meaning self.now (line, 0)) }
     {
@@ -137,7 +137,7 @@ fn map_of_tokens(
     Ok(SourceMap::of_parts(metadata, tokens, names, sources, contents))
 }
 
-// The tokens with lines that count from this one, and with new numbers of their sources and names.
+// The tokens with lines counted from `line`, and with new numbers for their sources and names.
 fn move_tokens(
     alloc: Global,
     tokens: &[RawToken],

@@ -30,14 +30,14 @@ pub struct SplitRamBundleModuleIter<'a> {
 /// Returns the modules of a bundle in turn, each with a map made of the index map of the bundle.
 /// The errors of `flatten` come first; an index without `x_facebook_offsets` is `NotARamBundle`.
 ///
-/// A module begins at the line that the list has for its number, and takes as many lines as its
-/// text has; on the last one it ends at that line's length in UTF-16 units. Its name is its number
-/// and `.js`. Its map has the tokens of its lines, which count from the first of them, and the
-/// sources with their contents and the names that these use, in the order of first use. A number
-/// for which the list has null gives no item. `InvalidRamBundleEntry` is the item of a module that
-/// the bundle refuses, whose number is past the list, whose text is not UTF-8, or with no token at
-/// the first column of its first line or before it. An item may be `OutOfMemory`; it loses that
-/// module alone.
+/// A module begins at the line that `x_facebook_offsets` has for its number, and takes as many
+/// lines as its text has. On the last one it ends at that line's length in UTF-16 units. Its name
+/// is its number and `.js`. Its map has the tokens of its lines, and the sources with their
+/// contents and the names that these tokens use, in the order of first use. Lines of the map count
+/// from the module's first line. A number whose offset is null gives no item.
+/// `InvalidRamBundleEntry` is the item of a module that the bundle refuses, whose number is past
+/// the offsets, whose text is not UTF-8, or with no token at the first column of its first line or
+/// before it. An item may be `OutOfMemory`; then only that module is lost.
 pub fn split_ram_bundle<'a>(
     alloc: Global,
     bundle: &'a RamBundle<'a>,

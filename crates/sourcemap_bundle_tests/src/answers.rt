@@ -3,7 +3,8 @@ use sourcemap_bundles::ram_bundle::{RamBundle, RamBundleModule};
 use sourcemap_errors::errors::{Error, Result};
 use std::alloc::Global;
 
-/// Returns what an error prints, and `io` for each of a file system.
+/// Returns the text of an error, or `io` for an error of the file system. `OutOfMemory` stays an
+/// error.
 pub fn error_text(alloc: Global, error: Error) -> Result<String> {
     match error {
         Error::OutOfMemory => Err(Error::OutOfMemory),
@@ -12,7 +13,7 @@ pub fn error_text(alloc: Global, error: Error) -> Result<String> {
     }
 }
 
-/// Returns bytes as a text, and an error as what it prints.
+/// Returns bytes as a text, or the text of an error.
 pub fn bytes_text(alloc: Global, answer: Result<&[u8]>) -> Result<String> {
     match answer {
         Ok(bytes) => Ok(String::from_utf8_lossy(alloc, bytes)?),
@@ -20,7 +21,7 @@ pub fn bytes_text(alloc: Global, answer: Result<&[u8]>) -> Result<String> {
     }
 }
 
-/// Returns the number and the bytes of a module, as `0=xyz`.
+/// Returns the number and the bytes of a module, as `0=xyz`, or the text of an error.
 pub fn module_text(alloc: Global, answer: Result<RamBundleModule<'_>>) -> Result<String> {
     match answer {
         Ok(found) => {
@@ -45,7 +46,7 @@ pub fn bundle_text(alloc: Global, bundle: &RamBundle<'_>) -> Result<String> {
     Ok(text)
 }
 
-/// Returns the same of a bundle, or what its error prints.
+/// Returns the `bundle_text` of a parsed bundle, or the text of the error of parsing.
 pub fn parsed_text(alloc: Global, parsed: Result<RamBundle<'_>>) -> Result<String> {
     match parsed {
         Ok(bundle) => bundle_text(alloc, &bundle),

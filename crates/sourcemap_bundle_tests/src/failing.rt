@@ -11,7 +11,7 @@ use std::io;
 use std::io::{ErrorKind, Read};
 use std::rt::Files;
 
-// What is asked of a path.
+// An access to a path, which may fail.
 #[derive(Clone, Copy, PartialEq, Eq)]
 enum Step {
     Metadata,
@@ -19,8 +19,9 @@ enum Step {
     Read,
 }
 
-// A file system with the startup code `m.js`, the marker, and files of these names, each ended by a
-// zero byte; of them `9.js` is a link. One step fails at one path.
+// A file system with the startup code `m.js`, the marker `UNBUNDLE`, and the files in `names`. A
+// zero byte ends each name. `9.js` is a link. The access `step` to `path` fails with an error of
+// `kind`.
 #[derive(Drop)]
 struct Disk<'a> {
     names: &'a [u8],
@@ -30,12 +31,12 @@ struct Disk<'a> {
 }
 
 impl Disk<'_> {
-    // Whether this step fails at this path.
     fn fails(&self, step: Step, path: &str) -> bool {
         step == self.step && path == self.path
     }
 
-    // The file at a path.
+    // Opens the file at `path`, which contains `bytes`. Fails if `Step::Open` fails there. If
+    // `Step::Read` fails there, reads of the file fail.
     fn file<'b>(&self, path: &str, bytes: &'b [u8]) -> io::Result<FakeFile<'b>> {
         if self.fails(Step::Open, path) {
             return Err(io::Error::from(self.kind));
@@ -56,7 +57,7 @@ impl Disk<'_> {
     }
 }
 
-// The names in a folder, which one read returns, or an error.
+// A folder. A read returns the names in it, or fails if there is an `error`.
 #[derive(Drop)]
 struct FakeFolder<'a> {
     names: &'a [u8],
@@ -145,7 +146,7 @@ impl<'a> Files for Disk<'a> {
     }
 }
 
-// What an error prints, and the kind of one of files.
+// The text of an error, or the kind of an error of the file system.
 fn error_text(alloc: Global, error: Error) -> Result<String> {
     match error {
         Error::Io(cause) => Ok(format!(in alloc; "{:?}", cause.kind())?),
@@ -167,8 +168,9 @@ fn is_bundle_text(alloc: Global, disk: &Disk<'_>) -> Result<String> {
     }
 }
 
-// What a row is about, the names, and which step fails at which path; whether there is a bundle, and
-// all that it answers, where the file system refuses, and where it has no memory.
+// A row: the access `step` to `path` fails, in a folder with these names. The wanted answer is
+// whether there is a bundle, and all that the bundle answers. It is `refused` if the access fails
+// with `PermissionDenied`, and `no_memory` if it fails with `OutOfMemory`.
 struct Row {
     about: &'static str,
     names: &'static [u8],

@@ -10,9 +10,10 @@ use std::rt::Files;
 
 static MAGIC: [u8; 5] = [0xe5, 0xd1, 0x0b, 0xfb, 0];
 
-// What a row is about, names in `js-modules`, where a slash at the end is a folder's, an at sign a
-// link's to the startup code, and a file holds its own name; whether that is a bundle, and all that
-// the bundle answers.
+// The rows: what a row is about, the names in `js-modules`, and the wanted answer. The answer is
+// whether there is a bundle, and all that the bundle answers. A name that ends with `/` is a
+// folder. A name that ends with `@` is a link to the startup code. Any other file but the marker
+// contains its own name.
 static FOLDERS: [(&str, &[&str], &str); 18] = [
     (
         "two modules",
@@ -94,7 +95,7 @@ static FOLDERS: [(&str, &[&str], &str); 18] = [
     ),
 ];
 
-// Makes a file or a folder of `js-modules`.
+// Makes a file, folder or link in `js-modules`.
 fn make_one<F: Files>(rt: &F, alloc: Global, name: &str) -> Result<()> {
     let path = format!(in alloc; "bundle_made/js-modules/{name}")?;
     if name == "UNBUNDLE" {
@@ -111,7 +112,7 @@ fn make_one<F: Files>(rt: &F, alloc: Global, name: &str) -> Result<()> {
     Ok(())
 }
 
-// Makes a bundle's folder, and nothing else is in it.
+// Makes the folder of a bundle anew, with exactly these names in `js-modules`.
 fn make<F: Files>(rt: &F, alloc: Global, names: &[&str]) -> Result<()> {
     let _ = fs::remove_dir_all(&(rt, alloc), "bundle_made");
     fs::create_dir_all(rt, "bundle_made/js-modules")?;
@@ -135,7 +136,8 @@ fn made_and_asked<F: Files>(rt: &F, alloc: Global, names: &[&str]) -> Result<Str
     Ok(answer)
 }
 
-// Where `js-modules` is missing, where it is a file, and where the startup code is a folder.
+// The answers if `js-modules` is missing, if it is a file, and if the path of the startup code is
+// that of a folder.
 fn asked_without_folder<F: Files>(rt: &F, alloc: Global) -> Result<String> {
     let _ = fs::remove_dir_all(&(rt, alloc), "bundle_alone");
     fs::create_dir(rt, "bundle_alone")?;
@@ -155,7 +157,7 @@ fn indexed_file<F: Files>(rt: &F, alloc: Global, path: &str) -> Result<String> {
     }
 }
 
-// A file with no module.
+// The answer of an indexed bundle without modules, in a file.
 fn written_and_asked<F: Files>(rt: &F, alloc: Global) -> Result<String> {
     let bytes = [0xe5u8, 0xd1, 0x0b, 0xfb, 0, 0, 0, 0, 0, 0, 0, 0];
     fs::write(rt, "bundle_file", bytes.as_slice())?;

@@ -12,7 +12,7 @@ static ONE: [u8; 26] = [
     0,
 ];
 
-// How many bytes of it there are, its startup code, its module 0.
+// The rows: the number of bytes that `ONE` is cut to, its startup code then, and its module 0 then.
 static CUTS: [(usize, &str, &str); 27] = [
     (0, "parse error: 0+12 past 0", "parse error: 0+12 past 0"),
     (1, "parse error: 0+12 past 1", "parse error: 0+12 past 1"),
@@ -43,7 +43,7 @@ static CUTS: [(usize, &str, &str); 27] = [
     (26, "ab", "0=xyz"),
 ];
 
-// The numbers of a header and an entry, in bytes, one after another.
+// A header alone: the magic number, the largest count of modules, and 2 bytes of startup code.
 static HUGE: [u8; 12] = [0xe5, 0xd1, 0x0b, 0xfb, 255, 255, 255, 255, 2, 0, 0, 0];
 
 // What a row is about, the bytes, and all that the bundle answers.
@@ -99,14 +99,14 @@ fn count_text(alloc: Global, bytes: &[u8]) -> Result<String> {
     Ok(format!(in alloc; "{count}")?)
 }
 
-// Of a copy of a bundle that owns its bytes.
+// All that a copy of a bundle answers. The bundle owns its bytes.
 fn copy_text(alloc: Global, bytes: &[u8]) -> Result<String> {
     let bundle = RamBundle::parse_indexed_from_vec(Vec::from_slice(alloc, bytes)?)?;
     let copy = bundle.clone()?;
     bundle_text(alloc, &copy)
 }
 
-// The source of a module's view.
+// The text of the view of module 0.
 fn view_text(alloc: Global, bytes: &[u8]) -> Result<String> {
     let bundle = RamBundle::parse_indexed_from_slice(bytes)?;
     match bundle.get_module(0)? {
@@ -115,7 +115,7 @@ fn view_text(alloc: Global, bytes: &[u8]) -> Result<String> {
     }
 }
 
-// The numbers of a header and of its first entry.
+// The numbers of a header and of its first entry, and the byte at 25.
 fn numbers(alloc: Global, bytes: &[u8]) -> Result<String> {
     let header = RamBundleHeader::read(bytes)?;
     let entry = ModuleEntry::read(bytes, 0)?;

@@ -1,4 +1,4 @@
--- The files of a file bundle: which names they have, and what comes of them.
+-- The files of a file bundle: their names, and the value of the bundle that is read from them.
 use Rattle.std.specs.Prelude.{◌≡◌, ◌<◌, ℕ, ◌+◌, ◌^◌, max, List, [], ◌++◌, codes, map, fold, string_bytes}
 use Rattle.std.specs.BTreeMap.{insert_entry}
 use Rattle.std.specs.List.{AllZip}
@@ -13,7 +13,7 @@ use Rattle.sourcemap_errors.specs.declared.errors.Error.{Error}
 use Rattle.sourcemap_errors.specs.declared.errors.Error.TheVariants.{Io, InvalidRamBundleIndex, NotARamBundle, OutOfMemory}
 use Rattle.sourcemap_bundles.specs.Modules.{BundleValue, FilesValue, files, indexed}
 
--- why a file bundle is refused; a read that failed for memory is `OutOfMemory`, and no `Io`
+-- the errors of reading a file bundle; a read that ran out of memory is `OutOfMemory`, not `Io`
 abbrev pub IsFileError : Error → Type 0
 IsFileError OutOfMemory = Unit {0}
 IsFileError (Io cause) = FromIo cause (Io cause)
@@ -30,7 +30,7 @@ IsNumbered name id = (digits : List ℕ) × (name ≡ digits ++ codes ".js") × 
 abbrev pub no_modules : List ℕ → FilesValue
 no_modules startup = record { startup = startup; count = 1; modules = [] }
 
--- one file more, with its number: of two with one number the later counts
+-- a file is added with its number, and replaces an earlier file with the same number
 abbrev pub with_file : FilesValue → ℕ × List ℕ → FilesValue
 with_file folder file = record {
   startup = folder.startup;
@@ -46,16 +46,16 @@ folder_of startup found = fold with_file (no_modules startup) found
 abbrev pub AreNumbered : List (List ℕ) → List (ℕ × List ℕ) → Type 0
 AreNumbered names found = AllZip (λ name file. IsNumbered name file.0) names found
 
--- what was read of files of these names, whatever they hold
+-- a file bundle that was read from files with these names, and with any contents
 abbrev pub IsReadBy : List (List ℕ) → List ℕ → FilesValue → Type 0
 IsReadBy names startup folder = (found : List (ℕ × List ℕ)) × AreNumbered names found × (folder ≡ folder_of startup found)
 
--- what was read of files in the order of the bytes of their names
+-- a file bundle that was read from files in the order of the bytes of their names
 abbrev pub IsFolder : FilesValue → Type 0
 IsFolder folder = (names : List (String Global)) × (startup : List ℕ)
     × IsSorted string_cmp names × IsReadBy (map string_bytes names) startup folder
 
--- a bundle that was read of such files
+-- the bundle is a file bundle, and its files were read in that order
 abbrev pub IsFileBundle : BundleValue → Type 0
 IsFileBundle (indexed header bytes) = ⊥
 IsFileBundle (files folder) = IsFolder folder

@@ -16,13 +16,13 @@ pub record ModuleValue : Type 0 where
   pub id : ℕ
   pub text : List ℕ
 
--- what a file bundle holds: its startup code, how many numbers modules may have, and the modules by their numbers
+-- a file bundle: its startup code, a count that exceeds all numbers of modules, and the modules by their numbers
 pub record FilesValue : Type 0 where
   pub startup : List ℕ
   pub count : ℕ
   pub modules : List (ℕ × List ℕ)
 
--- a bundle: the bytes of one after the numbers of its header, or files
+-- a bundle: the header of an indexed bundle with all its bytes, header included, or a file bundle
 pub data BundleValue : Type 0 where
   indexed : RamBundleHeader → List ℕ → BundleValue
   files : FilesValue → BundleValue
@@ -31,7 +31,7 @@ pub data BundleValue : Type 0 where
 abbrev pub HasBundleHeader : List ℕ → Type 0
 HasBundleHeader bytes = (12 ≤ length bytes) × (number_after 0 bytes ≡ bundle_magic)
 
--- the indexed bundle that bytes are
+-- the indexed bundle that these bytes are, or the error
 abbrev pub indexed_bundle : List ℕ → Result BundleValue Error
 indexed_bundle bytes = then_make (λ header.
     if header.magic == bundle_magic then Ok (indexed header bytes) else Err InvalidRamBundleMagic) (header_of bytes)
@@ -59,7 +59,7 @@ abbrev pub file_module : FilesValue → ℕ → Option ModuleValue
 file_module folder id =
     option_map (λ text. record { id = id; text = text }) (lookup (λ k. is_eq (nat_cmp id k)) folder.modules)
 
--- how many numbers modules may have
+-- the count, which exceeds all numbers of modules
 abbrev pub bundle_count : BundleValue → ℕ
 bundle_count (indexed header bytes) = header.module_count
 bundle_count (files folder) = folder.count
@@ -73,29 +73,29 @@ abbrev pub bundle_module : BundleValue → ℕ → Result (Option ModuleValue) E
 bundle_module (indexed header bytes) id = indexed_module header bytes id
 bundle_module (files folder) id = Ok (file_module folder id)
 
--- one item more, if there is one
+-- a module or an error is put before the items; without a module they stay as they are
 abbrev pub with_item : Result (Option ModuleValue) Error → List (Result ModuleValue Error) → List (Result ModuleValue Error)
 with_item (Ok None) items = items
 with_item (Ok (Some found)) items = Ok found ∷ items
 with_item (Err e) items = Err e ∷ items
 
--- the modules of so many numbers from `id` on, and the errors of those that are refused
+-- the modules of so many numbers from `id` on; a module that is refused is replaced by its error
 abbrev pub modules_from : BundleValue → ℕ → ℕ → List (Result ModuleValue Error)
 modules_from bundle zero id = []
 modules_from bundle (suc left) id = with_item (bundle_module bundle id) (modules_from bundle left (id + 1))
 
--- those of all numbers
+-- the modules of all numbers
 abbrev pub modules_of : BundleValue → List (Result ModuleValue Error)
 modules_of bundle = modules_from bundle (bundle_count bundle) 0
 
--- a view of a text in bytes, which is refused exactly where they are not UTF-8
+-- a view of this text, which is UTF-8; or the error `Utf8`, where the text is not UTF-8; or memory ran out
 abbrev pub IsViewOf : List ℕ → Result (List ℕ) Error → Type 0
 IsViewOf text (Ok view) = (view ≡ text) × IsUtf8 text
 IsViewOf text (Err OutOfMemory) = Unit {0}
 IsViewOf text (Err (Utf8 _)) = ¬ IsUtf8 text
 IsViewOf text (Err _) = ⊥
 
--- what comes of a file: the bundle that some bytes are, or why they are none, unless the read fails
+-- the result of reading a file: the bundle that some bytes are, or their error; or the read failed, or memory ran out
 abbrev pub IsOfFile : Result BundleValue Error → Type 0
 IsOfFile (Ok bundle) = (bytes : List ℕ) × (indexed_bundle bytes ≡ Ok bundle)
 IsOfFile (Err OutOfMemory) = Unit {0}

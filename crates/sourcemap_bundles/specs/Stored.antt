@@ -1,4 +1,4 @@
--- Which values stored bundles and modules are.
+-- The values of bundles and modules as they are stored.
 use Rattle.std.specs.Prelude.{ℕ, List, map, Result, Ok, Err}
 use Rattle.std.specs.Cow.{cow_slice_items}
 use Rattle.std.specs.declared.alloc.Global.{Global}
@@ -16,7 +16,7 @@ use Rattle.sourcemap_bundles.specs.declared.unbundle.UnbundleRamBundle.{Unbundle
 abbrev pub module_value : RamBundleModule → ModuleValue
 module_value found = record { id = found.id; text = found.text.now }
 
--- an item of the modules in turn
+-- an item of the iterator over modules
 abbrev pub item_value : Result RamBundleModule Error → Result ModuleValue Error
 item_value (Ok found) = Ok (module_value found)
 item_value (Err e) = Err e
@@ -24,7 +24,7 @@ item_value (Err e) = Err e
 abbrev pub indexed_value : IndexedRamBundle → BundleValue
 indexed_value bundle = indexed bundle.header (cow_slice_items bundle.bytes)
 
--- a file by its number
+-- the bytes of a file, with its number
 abbrev pub numbered_file_value : ℕ × Vec ℕ Global → ℕ × List ℕ
 numbered_file_value entry = (entry.0, entry.1.items)
 

@@ -67,8 +67,8 @@ impl<'a> IndexedRamBundle<'a> {
         Ok(Some(RamBundleModule { id, text }))
     }
 
-    /// Returns the bundle with bytes of its own, if it owns them, and with the same ones, if it
-    /// borrows them.
+    /// Returns a copy. Bytes that the bundle owns are copied, and bytes that it borrows are
+    /// borrowed again.
     pub(crate) fn clone(&self) -> Result<Self>
         ensures { Gives indexed_value result (Ok (indexed_value self.now)) }
     {

@@ -7,7 +7,7 @@ use sourcemap_source_views::sourceview::SourceView;
 use std::alloc::Global;
 use std::str;
 
-/// A module of a bundle, which it borrows.
+/// A module, borrowed from its bundle.
 #[derive(Debug, Drop)]
 pub struct RamBundleModule<'a> {
     pub(crate) id: usize,
@@ -15,21 +15,23 @@ pub struct RamBundleModule<'a> {
 }
 
 impl<'a> RamBundleModule<'a> {
-    /// Returns the number by which the bundle knows the module.
+    /// Returns the number of the module in its bundle.
     pub fn id(&self) -> usize
         ensures { result ≡ self.now.id }
     {
         self.id
     }
 
-    /// Returns the bytes of the module, without the zero byte at the end of one in an indexed bundle.
+    /// Returns the bytes of the module. The zero byte at the end of a module in an indexed bundle
+    /// is left out.
     pub fn data(&self) -> &'a [u8]
         ensures { result.now ≡ self.now.text.now }
     {
         self.text
     }
 
-    /// Returns a view of the module's text. Bytes that are not UTF-8 are `Utf8`.
+    /// Returns a view of the module's text. Bytes that are not UTF-8 are `Utf8`. Any other error is
+    /// `OutOfMemory`.
     pub fn source_view(&self, alloc: Global) -> Result<SourceView>
         ensures { IsViewOf self.now.text.now result }
     {

@@ -1,4 +1,4 @@
-//! Bundles of either kind, and the modules of one in turn.
+//! Bundles of either kind, and an iterator over the modules of a bundle.
 ghost use Rattle.std.specs.Prelude.{◌≡◌, ◌≤◌, ◌↔◌, IfErr, IfOk, IsTrue, Ok, length, option_map};
 ghost use Rattle.sourcemap_errors.specs.Answer.{Gives};
 ghost use Rattle.sourcemap_bundle_bytes.specs.Bundle.{Returns};
@@ -58,8 +58,8 @@ impl Drop for RamBundle<'_> {
 impl<'a> RamBundle<'a> {
     ghost use Rattle.sourcemap_bundles.specs.Iterators.{modules_left};
 
-    /// Returns the indexed bundle that these bytes are, which it borrows. The header alone is read:
-    /// fewer than 12 bytes are `Scroll`, another magic number is `InvalidRamBundleMagic`.
+    /// Returns the indexed bundle that these bytes are. The bundle borrows them. The header alone
+    /// is read: fewer than 12 bytes are `Scroll`, another magic number is `InvalidRamBundleMagic`.
     pub fn parse_indexed_from_slice(bytes: &'a [u8]) -> Result<Self>
         ensures { Returns (λ bundle. bundle) result (indexed_bundle bytes.now) }
     {
@@ -69,7 +69,7 @@ impl<'a> RamBundle<'a> {
         })
     }
 
-    /// Returns the same of bytes that it owns.
+    /// Returns what `parse_indexed_from_slice` returns, but the bundle owns the bytes.
     pub fn parse_indexed_from_vec(bytes: Vec<u8>) -> Result<Self>
         ensures { Returns (λ bundle. bundle) result (indexed_bundle bytes.items) }
     {
@@ -79,18 +79,22 @@ impl<'a> RamBundle<'a> {
         })
     }
 
-    /// Reads a file, and returns the indexed bundle that its bytes are. A failed read is `Io`.
+    /// Reads a file, and returns the indexed bundle that its bytes are. A failed read is `Io`, or
+    /// `OutOfMemory` if memory ran out. Any other error is one of `parse_indexed_from_slice`.
     pub fn parse_indexed_from_path<F: Files>(rt: &F, alloc: Global, path: &str) -> Result<Self>
         ensures { IsOfFile result }
     {
         RamBundle::parse_indexed_from_vec(fs::read(&(rt, alloc), path)?)
     }
 
-    /// Reads the file bundle with the startup code at `path`: the plain files of the folder
-    /// `js-modules` beside it, but for `UNBUNDLE`, each named by ASCII digits and `.js`. Of two with
-    /// one number that with the later name counts, in the order of bytes. No bundle there, by
-    /// `is_unbundle_path`, is `NotARamBundle`; another name, or a number without a successor in
-    /// `usize`, is `InvalidRamBundleIndex`; a failed read or listing is `Io`.
+    /// Reads the file bundle with the startup code at `path`. Its modules are the plain files of
+    /// the folder `js-modules` beside the startup code, without `UNBUNDLE`. Each is named by ASCII
+    /// digits and `.js`. If two have the same number, the one whose name is later in the order of
+    /// bytes is kept.
+    ///
+    /// Returns `NotARamBundle` if `is_unbundle_path` is false for `path`. Another name, or a number
+    /// without a successor in `usize`, is `InvalidRamBundleIndex`. A failed read or listing is
+    /// `Io`, or `OutOfMemory` if memory ran out.
     pub fn parse_unbundle_from_path<F: Files>(rt: &F, alloc: Global, path: &str) -> Result<Self>
         ensures files { IfOk result IsFileBundle }
         ensures refused { IfErr result IsFileError }
@@ -111,10 +115,11 @@ impl<'a> RamBundle<'a> {
         }
     }
 
-    /// Returns the module of that number, or none. In an indexed bundle a number that is not below
-    /// the count is `InvalidRamBundleIndex`, an entry of length 0 with an offset is
-    /// `InvalidRamBundleEntry`, and an entry or a module past the end of the bytes is `Scroll`, in
-    /// this order. It takes no memory.
+    /// Returns the module of that number, or none if the number has no module. An indexed bundle
+    /// has these errors, in this order. A number that is not below the count is
+    /// `InvalidRamBundleIndex`. An entry past the end of the bytes is `Scroll`. An entry of length
+    /// 0 with an offset other than 0 is `InvalidRamBundleEntry`. A module past the end of the bytes
+    /// is `Scroll`. Allocates nothing.
     pub fn get_module(&self, id: usize) -> Result<Option<RamBundleModule<'_>>>
         ensures { Returns (option_map module_value) result (bundle_module self.now id) }
     {
@@ -124,8 +129,8 @@ impl<'a> RamBundle<'a> {
         }
     }
 
-    /// Returns the count in the header of an indexed bundle, and one more than the greatest number
-    /// of a module of a file bundle, or 1.
+    /// Returns the count in the header of an indexed bundle. For a file bundle, returns one more
+    /// than the greatest number of a module, or 1 if there is no module.
     pub fn module_count(&self) -> usize
         ensures { result ≡ bundle_count self.now }
     {
@@ -135,7 +140,8 @@ impl<'a> RamBundle<'a> {
         }
     }
 
-    /// Returns the startup code. In an indexed bundle it is `Scroll` past the end of the bytes.
+    /// Returns the startup code, or `Scroll` if it passes the end of the bytes of an indexed
+    /// bundle.
     pub fn startup_code(&self) -> Result<&[u8]>
         ensures { Returns (λ code. code.now) result (bundle_startup self.now) }
     {
@@ -145,8 +151,8 @@ impl<'a> RamBundle<'a> {
         }
     }
 
-    /// Returns the modules in turn, by rising number. A number without a module gives no item, one
-    /// that is refused gives its error.
+    /// Iterates over the modules, by rising number. A number without a module is skipped. If
+    /// reading a module fails, the item is the error.
     #[tactic(auto, using(crate::proofs::ModulesLemmas::modules_length))]
     pub fn iter_modules(&self) -> RamBundleModuleIter<'_>
         ensures left { modules_left result ≡ modules_of self.now }
@@ -159,7 +165,8 @@ impl<'a> RamBundle<'a> {
         }
     }
 
-    /// Returns a copy. Bytes that the bundle borrows are borrowed again. Returns `OutOfMemory` only.
+    /// Returns a copy. Bytes that the bundle borrows are borrowed again. The only error is
+    /// `OutOfMemory`.
     pub fn clone(&self) -> Result<Self>
         ensures { Gives (λ bundle. bundle) result (Ok self.now) }
     {

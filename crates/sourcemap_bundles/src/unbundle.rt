@@ -22,7 +22,7 @@ use std::{fs, io};
 
 const MARKER: &str = "UNBUNDLE";
 
-/// What was read of the files of a bundle.
+/// What was read from the files of a file bundle.
 #[derive(Debug, Drop)]
 pub(crate) struct UnbundleRamBundle {
     startup_code: Vec<u8>,
@@ -52,7 +52,6 @@ impl UnbundleRamBundle {
         self.module_count
     }
 
-    /// Returns the startup code.
     pub(crate) fn startup_code(&self) -> &[u8]
         ensures { result.now ≡ self.now.startup_code.items }
     {
@@ -83,7 +82,8 @@ impl UnbundleRamBundle {
         })
     }
 
-    /// Adds the file of a module: of two with one number the later counts. Returns `OutOfMemory` only.
+    /// Adds the file of a module, which replaces an earlier one with the same number. The error is
+    /// `OutOfMemory`.
     #[tactic(auto, using(crate::proofs::FolderLemmas::entries_insert))]
     fn add(&mut self, id: usize, text: Vec<u8>) -> Result<()>
         requires { id + 1 < 2 ^ 64 }
@@ -95,7 +95,6 @@ impl UnbundleRamBundle {
         Ok(())
     }
 
-    /// Returns a copy.
     pub(crate) fn clone(&self) -> Result<Self>
         ensures { Gives files_value result (Ok (files_value self.now)) }
     {
@@ -111,7 +110,7 @@ impl UnbundleRamBundle {
 
 /// Whether `path` is the startup code of a file bundle: it is a file, and beside it
 /// `js-modules/UNBUNDLE` is a file that can be read and begins with the magic number of indexed
-/// bundles. Returns `OutOfMemory` only.
+/// bundles. The only error is `OutOfMemory`.
 pub fn is_unbundle_path<F: Files>(rt: &F, alloc: Global, path: &str) -> Result<bool>
     ensures { IsOkUnless result OutOfMemory }
 {
@@ -154,7 +153,7 @@ fn begins_with_magic<F: Files>(rt: &F, path: &str) -> Result<bool>
     }
 }
 
-/// What a failed look at a file comes to: false, but for memory.
+/// Returns false for a failed look at a file, or `OutOfMemory` if memory ran out.
 fn false_unless_memory(cause: io::Error) -> Result<bool>
     ensures { IsOkUnless result OutOfMemory }
 {
@@ -164,8 +163,8 @@ fn false_unless_memory(cause: io::Error) -> Result<bool>
     Ok(false)
 }
 
-/// Returns the names of the plain files of a folder but the marker's, in the order of their bytes. A
-/// link is none.
+/// Returns the names of the plain files of a folder, in the order of their bytes. `UNBUNDLE` is
+/// left out, and a link is not a plain file.
 fn file_names<F: Files>(rt: &F, alloc: Global, folder: Path<'_>) -> Result<Vec<String>>
     ensures sorted { IfOk result (λ names. IsSorted string_cmp names.items) }
     ensures refused { IfErr result IsFileError }
@@ -181,7 +180,8 @@ fn file_names<F: Files>(rt: &F, alloc: Global, folder: Path<'_>) -> Result<Vec<S
     Ok(names)
 }
 
-/// Reads the modules that these names stand for: of two with one number the later counts.
+/// Reads the modules from the files with these names. A later one replaces an earlier one with the
+/// same number.
 fn read_modules<F: Files>(
     rt: &F,
     alloc: Global,
@@ -216,7 +216,7 @@ fn module_number(name: &str) -> Result<usize>
     number_with_successor(digits).ok_or(Error::InvalidRamBundleIndex)
 }
 
-/// Returns the number that digits stand for, if it is not the greatest one.
+/// Returns the number that the digits stand for, if it is below `usize::MAX`.
 fn number_with_successor(digits: &str) -> Option<usize>
     ensures { SomeIff result (IsNumeral 10 digits.now × (digits_value 10 digits.now + 1 < 2 ^ 64)) (digits_value 10 digits.now) }
 {

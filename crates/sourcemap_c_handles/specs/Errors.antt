@@ -1,4 +1,4 @@
--- The codes of the header, and reports of errors.
+-- The error codes of the C header, and reports of errors.
 use Rattle.std.specs.Prelude.{◌≡◌, ℕ, ◌+◌, List, ◌∷◌, ◌++◌, ◌⊎◌, codes, drop, length, min, take, Option, Some, IfSome, Result, Ok, Err}
 use Rattle.sourcemap_errors.specs.Errors.{error_text}
 use Rattle.sourcemap_errors.specs.declared.errors.Error.{Error}
@@ -10,7 +10,7 @@ use Rattle.sourcemap_c_handles.specs.declared.errors.Failure.{Failure}
 use Rattle.sourcemap_c_handles.specs.declared.errors.Failure.TheVariants.{Library, Absent, WrongKind, PastLimit}
 use Rattle.sourcemap_c_handles.specs.declared.errors.Numbers.{Numbers}
 
--- the number of a code in the header
+-- the number of a code in the C header
 abbrev pub number_of : Code → ℕ
 number_of Code.Ok = 0
 number_of Code.Io = 1
@@ -65,7 +65,7 @@ code_of Absent = Code.Absent
 code_of WrongKind = Code.WrongKind
 code_of PastLimit = Code.PastLimit
 
--- Numbers.
+-- The numbers of a report.
 
 abbrev pub numbers_at : (number start size length : ℕ) → Numbers
 numbers_at number start size length = record { number = number; start = start; size = size; length = length }
@@ -88,7 +88,7 @@ abbrev pub failure_numbers : Failure → Numbers
 failure_numbers (Library error) = error_numbers error
 failure_numbers _ = one_number 0
 
--- Text.
+-- The text of a report.
 
 abbrev pub failure_text : Failure → Option (List ℕ)
 failure_text (Library error) = error_text error
@@ -100,7 +100,7 @@ failure_text PastLimit = Some (codes "a line would pass 4294967295")
 abbrev pub written : List ℕ → ℕ
 written text = min (length text) 255
 
--- the array after a text was written: the text, cut after 255 bytes, a zero byte, and the old bytes
+-- the array after a text was written to it: the text, cut after 255 bytes, a zero byte, and the old bytes after that
 abbrev pub over : List ℕ → List ℕ → List ℕ
 over text old = take (written text) text ++ 0 ∷ drop (written text + 1) old
 

@@ -1,11 +1,11 @@
--- The tokens, answers and ids that the structs of the C header stand for.
+-- The structs of the C header for tokens and for results of lookups.
 use Rattle.std.specs.Prelude.{Option, Some, None, false, true}
 use Rattle.sourcemap_tokens.specs.declared.tokens.RawToken.{RawToken}
 use Rattle.sourcemap_map_regular.specs.Token.{TokenValue, says}
 use Rattle.sourcemap_c_handles.specs.declared.layout.Found.{Found}
 use Rattle.sourcemap_c_handles.specs.declared.layout.MapToken.{MapToken}
 
--- a stored token
+-- the struct of a stored token
 abbrev pub map_token : RawToken → MapToken
 map_token raw = record {
   line = raw.dst_line;
@@ -28,11 +28,11 @@ raw_token token = record {
   is_range = token.is_range;
 }
 
--- a token that a lookup found: its original position is that of the position that was looked up
+-- the struct of a token that a lookup found, with the original position of the position that was looked up
 abbrev pub found_token : TokenValue → MapToken
 found_token token = record (map_token token.raw) { original_line = (says token).line; original_column = (says token).column }
 
--- the result of a lookup with this closest token
+-- the result of a lookup that found this closest token, or none
 abbrev pub found_in : Option TokenValue → Found
 found_in None = record {
   token = record { line = 0; column = 0; original_line = 0; original_column = 0; source = 0; name = 0; is_range = false };

@@ -8,7 +8,7 @@ use sourcemap_errors::errors::{Error, JsonFault};
 use std::alloc::{AllocError, Global};
 use std::fmt;
 
-/// The codes of the header.
+/// The codes of the C header.
 #[derive(Clone, Copy, PartialEq, Eq)]
 pub enum Code {
     Ok = 0,
@@ -37,13 +37,13 @@ pub enum Code {
     PastLimit = 34,
 }
 
-/// An error of the library, or one that only calls from C can make.
+/// An error of the library, or one that only calls from C can cause.
 #[derive(Drop)]
 pub enum Failure {
     Library(Error),
     /// No such text, id, module or item.
     Absent,
-    /// The handle is empty, or what it holds has no such call.
+    /// The handle is empty, or the call does not apply to its value.
     WrongKind,
     /// A line would pass 4294967295.
     PastLimit,
@@ -52,7 +52,7 @@ pub enum Failure {
 /// The result of a call before it is reported to C.
 pub type Outcome<T> = std::result::Result<T, Failure>;
 
-/// `sm_error`.
+/// The struct `sm_error` of the C header.
 #[repr(C)]
 #[derive(Drop)]
 pub struct ErrorReport {
@@ -68,7 +68,7 @@ pub struct ErrorReport {
 impl Code {
     ghost use Rattle.sourcemap_c_handles.specs.Errors.{number_of};
 
-    /// The number in the header.
+    /// The number of the code in the C header.
     pub fn number(self) -> u32
         ensures { result ≡ number_of self }
     {

@@ -10,7 +10,7 @@ use sourcemap_errors::errors::{Error, Result};
 use std::alloc::Global;
 use std::mem;
 
-/// A pointer and a flag for C. A handle of zeros is empty.
+/// A pointer, and a flag that says whether the handle holds a value. A handle of zeros is empty.
 #[repr(C)]
 pub struct Handle {
     pub(crate) sealed: Sealed,
@@ -76,8 +76,8 @@ impl Handle {
         };
     }
 
-    /// Boxes the value, drops the old one and stores the new one. The only error is `OutOfMemory`, and
-    /// then the handle is unchanged.
+    /// Boxes `held`, drops the old value and stores the new one. The only error is `OutOfMemory`,
+    /// and then the handle is unchanged.
     pub fn fill(&mut self, alloc: Global, held: Held) -> Result<()>
         ensures { MatchResult result (λ _. held_in self.new ≡ Some held)
             (λ e. (held_in self.new ≡ held_in self.old) × (e ≡ OutOfMemory)) }
@@ -99,7 +99,7 @@ impl Handle {
     }
 }
 
-// Never called: it compiles only if `Handle` is `Send`.
+// The next two functions never run. The second one compiles only if `Handle` is `Send`.
 fn is_sent<T: Send>() {}
 
 fn handles_are_sent() {

@@ -1,4 +1,4 @@
-//! The structs of the header, and conversions from and to the types of the library.
+//! The structs of the C header, and conversions from and to the types of the library.
 ghost use Rattle.std.specs.Prelude.{◌≡◌, None, option_map};
 ghost use Rattle.sourcemap_map_regular.specs.Token.{token_value};
 ghost use Rattle.sourcemap_c_handles.specs.Layout.{found_in, found_token, map_token, raw_token};
@@ -66,7 +66,7 @@ pub struct SectionStart {
 }
 
 impl MapToken {
-    /// The stored token.
+    /// The struct of a stored token.
     pub fn of_raw(raw: RawToken) -> MapToken
         ensures { result ≡ map_token raw }
     {
@@ -96,7 +96,8 @@ impl MapToken {
         }
     }
 
-    /// The token that a lookup found, with the original position of the position that was looked up.
+    /// The struct of a token that a lookup found, with the original position of the position that
+    /// was looked up.
     pub fn of_found(token: &Token<'_>) -> MapToken
         ensures { result ≡ found_token (token_value token.now) }
     {
@@ -109,7 +110,7 @@ impl MapToken {
 }
 
 impl Found {
-    /// No token was found.
+    /// The result of a lookup that found no token.
     pub fn none() -> Found
         ensures { result ≡ found_in None }
     {
@@ -128,7 +129,7 @@ impl Found {
         }
     }
 
-    /// The result of a lookup.
+    /// The result of a lookup that found this token, or none.
     pub fn of(token: Option<&Token<'_>>) -> Found
         ensures { result ≡ found_in (option_map (λ t. token_value t.now) token.entry) }
     {

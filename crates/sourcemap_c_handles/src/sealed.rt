@@ -36,7 +36,6 @@ impl Sealed {
         }
     }
 
-    /// Borrows the boxed value.
     pub(crate) fn get_mut(&mut self) -> &mut Held
         requires { IsTrue (is_some self.old.content) }
         ensures* lends { sem 𝓛 (BorrowsContent self.entry result) }
@@ -45,7 +44,6 @@ impl Sealed {
         unsafe { &mut *(self.at as *mut Held) }
     }
 
-    /// Returns the box.
     pub(crate) fn into_box(self) -> Box<Held>
         requires { IsTrue (is_some self.content) }
         ensures { Some result.value ≡ self.content }
@@ -53,7 +51,6 @@ impl Sealed {
         self.into_parts().into_box()
     }
 
-    /// Seals a box.
     pub(crate) fn of_box(held: Box<Held>) -> Sealed
         ensures { result.content ≡ Some held.value }
     {

@@ -88,8 +88,8 @@ abbrev pub traced : MapTree → (file : Result (List ℕ) Error) → Result (Lis
 traced t (Ok positions) = Ok (trace_of (meaning t) positions)
 traced t (Err e) = Err e
 
--- the output of a command for a map, and for an adjustment if it takes one, or its error; a map of the wrong
--- kind is reported first; `trace` also needs positions, and has no output here
+-- the output of a command for a map, or the error of the command; `compose` also takes an adjustment. A map of the
+-- wrong kind is reported before other errors. `trace` also needs positions, so it has no output here
 abbrev pub Returns : Command → MapTree → Option MapTree → Result (List ℕ) Error → Type 0
 Returns (Lookup line col) t _ answer = IsOkAnd answer (IsLookupLine t (line, col))
 Returns Tokens (leaf l) _ answer = answer ≡ Ok (flat_map token_line (tokens_from (held l) 0))
@@ -108,7 +108,7 @@ abbrev pub FileDecodes : Result (List ℕ) Error → Result MapTree Error → Ty
 FileDecodes (Ok bytes) decoded = BytesDecode bytes decoded
 FileDecodes (Err e) decoded = decoded ≡ Err e
 
--- the output of a command for a map, and for the map or the positions in its file if it takes one
+-- the output of a command for a map; the file holds the adjustment of `compose` or the positions of `trace`
 abbrev pub ReturnsWithFile : Result (List ℕ) Error → Command → MapTree → Result (List ℕ) Error → Type 0
 ReturnsWithFile file (Compose path) t answer = Then (FileDecodes file) (λ other a. Returns (Compose path) t (Some other) a) answer
 ReturnsWithFile file (Trace _) t answer = answer ≡ traced t file
@@ -131,7 +131,7 @@ pub data Ending : Type 0 where
   answered : Result (List ℕ) Error → Ending
   misused : Ending
 
--- a run of these words on these bytes and this file ends so
+-- a run with these words, these bytes and this file has this ending
 abbrev pub Ends : List (List ℕ) → (bytes : List ℕ) → (file : Result (List ℕ) Error) → Ending → Type 0
 Ends words bytes file (answered answer) =
     (command : Command) × AskFor words command × ReturnsOnBytes command bytes file answer
@@ -183,11 +183,11 @@ abbrev pub WithFile : Option (Result (List ℕ) Error) → (Result (List ℕ) Er
 WithFile (Some file) P = P file
 WithFile None P = (file : Result (List ℕ) Error) × MayBeRead file × P file
 
--- an error without a reply: out of memory, or a read error of a command
+-- an error without a reply: out of memory, or an error of a read, if the words ask for a command
 abbrev pub IsCutShort : List (List ℕ) → Error → Type 0
 IsCutShort words e = UnlessMemory e ((command : Command) × AskFor words command × UnlessReadFails e ⊥)
 
--- how a run of the program may end: with these arguments, the bytes of standard input, and what reading its file gives
+-- how a run of the program may end, by its arguments, the bytes of standard input, and the result of reading its file
 abbrev pub MayEnd : List (List ℕ) → (bytes : List ℕ) → (file : Result (List ℕ) Error) → Ending → Type 0
 MayEnd words bytes file (answered (Err e)) = Ends words bytes file (answered (Err e)) ⊎ IsCutShort words e
 MayEnd words bytes file ending = Ends words bytes file ending
@@ -197,8 +197,8 @@ abbrev pub PrintsRefusal : Error → Option (List ℕ) → Option (List ℕ) →
 PrintsRefusal e old new = (reported : Error) × ((reported ≡ e) ⊎ (reported ≡ OutOfMemory))
     × ((printed : List ℕ) × IsRefusal reported printed × Appends old new printed)
 
--- The reply, or the error instead of it, was printed, and the run ended with this status.
--- The last two are what standard output has before and after.
+-- The reply, or the error instead of it, was printed, and the run ended with this status. The last two arguments are
+-- what standard output has before and after the run.
 abbrev pub IsPrinted : Result Reply Error → ℕ → Option (List ℕ) → Option (List ℕ) → Type 0
 IsPrinted (Ok reply) status old new =
     (status ≡ reply.status) × Appends old new (string_bytes reply.text)
@@ -208,7 +208,8 @@ IsPrinted (Err e) status old new = (status ≡ 1) × PrintsRefusal e old new
 abbrev pub IsWriteError : Error → Type 0
 IsWriteError e = (cause : IoError) × FromIo cause e
 
--- the output and status of a run of these words on a reader's bytes; if they are unknown, for some bytes
+-- the status of a run with these words, and standard output before and after it; the input is the bytes of a reader, or
+-- some bytes if those are unknown
 abbrev pub Runs : List (List ℕ) → Option (List ℕ) → ℕ → Option (List ℕ) → Option (List ℕ) → Type 0
 Runs words input status old new = Reading input (λ bytes. WithFile None (λ file.
     (ending : Ending) × MayEnd words bytes file ending

@@ -136,16 +136,21 @@ pub fn adjusted_json(alloc: Global, map: DecodedMap, adjustment: DecodedMap) -> 
 ///   token.
 /// - `Rewrite`, `Flatten`, `Compose`, `Shift`: compact JSON and a newline. `Rewrite`: the map
 ///   rewritten with default options, a Hermes map with its scopes. `Flatten`: the flattened index
-///   map. `Compose`: the map adjusted by `adjustment`. `Shift`: the index map with each section moved
-///   down by this many rows.
+///   map. `Compose`: the map adjusted by `adjustment`. `Shift`: the index map with each section
+///   moved down by this many rows.
 ///
 /// `Compose` takes an adjustment, and no other command does. `Trace` also needs positions; use
 /// `sourcemap_trace::trace_text`.
 ///
-/// Errors: `IncompatibleSourceMap` if `Tokens` or `Rewrite` gets an index map, `Flatten` or `Shift`
-/// another map, or `Compose` a map that is not regular; if `Compose` would move a token past column
-/// 4294967295 or `Shift` a section past row 4294967295. `CannotFlatten` as by
-/// `SourceMapIndex::flatten`. Otherwise only `OutOfMemory`.
+/// Errors:
+///
+/// - `IncompatibleSourceMap` if `Tokens` or `Rewrite` gets an index map.
+/// - `IncompatibleSourceMap` if `Flatten` or `Shift` gets a map that is not an index map.
+/// - `IncompatibleSourceMap` if `Compose` gets a map or an adjustment that is not regular.
+/// - `IncompatibleSourceMap` if `Compose` would move a token past column 4294967295.
+/// - `IncompatibleSourceMap` if `Shift` would move a section past row 4294967295.
+/// - `CannotFlatten` as by `SourceMapIndex::flatten`.
+/// - Otherwise only `OutOfMemory`.
 pub fn apply<F: Files>(
     rt: &F,
     alloc: Global,

@@ -1,4 +1,4 @@
-//! A run of the program: from words and input to a reply, a text and an exit status.
+//! A run of the program: from words and input to a reply, which is a text and an exit status.
 ghost use Rattle.std.specs.Prelude.{◌≡◌, ℕ, List, Result, None, IfErr, IfOk, MatchResult, map, option_map, string_bytes};
 ghost use Rattle.std.specs.Io.KnownBytes.{Appends};
 ghost use Rattle.sourcemap.specs.Answer.{IsAnswer};
@@ -113,8 +113,8 @@ fn usage_reply(alloc: Global) -> Result<Reply>
     Ok(Reply { text, status: 2 })
 }
 
-/// Returns the reply of a run, given the bytes of the map and those of the file that `Compose` or
-/// `Trace` names, or the error of reading that file. Other commands ignore the file.
+/// Returns the reply of a run. `bytes` is the map. `file` is the bytes of the file that `Compose`
+/// or `Trace` names, or the error of reading that file. Other commands ignore `file`.
 ///
 /// - Status 0: the output of the command, as by `apply`, for `Trace` by `trace_text`.
 /// - Status 1: the text of the first error and a newline. Checked in this order: the map's bytes do
@@ -237,8 +237,8 @@ pub fn run<F: Files, R: Read, W: Write>(
     print_reply(alloc, reply, output)
 }
 
-/// Law: the same words, bytes and file have one reply. Only the text of an invalid header's error is
-/// not determined.
+/// Law: the same words, bytes and file have one reply. Only the texts of std's errors are not
+/// determined: those of an invalid header and of a failed read of the file.
 pub fn replies_are_determined()
     ensures { (words : List (List ℕ)) (bytes : List ℕ) (read : Result (List ℕ) Error) (a b : Ending)
         → Ends words bytes read a → Ends words bytes read b

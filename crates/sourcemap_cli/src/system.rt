@@ -10,9 +10,9 @@ use std::env::Env;
 use std::io::{ErrorKind, Write};
 use std::{env, io};
 
-/// Returns the arguments of the process after the program's name. If one is not UTF-8, returns an
-/// empty list: neither is a command. Returns `OutOfMemory` if memory runs out. Any other error of the
-/// environment is `Io`.
+/// Returns the arguments of the process after the program's name. If an argument is not UTF-8,
+/// returns an empty list, which is no command either. Returns `OutOfMemory` if memory runs out. Any
+/// other error of the environment is `Io`.
 pub fn words<R: Env + AllocGlobal>(rt: &R) -> Result<Vec<String>>
     ensures error { IfErr result (λ e. UnlessMemory e (IsIo e)) }
 {

@@ -9,7 +9,7 @@ use Rattle.sourcemap_compose.specs.declared.stretches.Stretch.{Stretch}
 use Rattle.sourcemap_compose.specs.Stretches.{is_before, stretches_by}
 use Rattle.sourcemap_compose.specs.Composition.{composed, moved, overlap}
 
--- an original position by numbers: source, line, column, name, and whether a range token gives it
+-- an original position: source id, line, column, name id, and whether a range token gives it
 pub record Origin : Type 0 where
   pub source : ℕ
   pub line : ℕ
@@ -17,7 +17,7 @@ pub record Origin : Type 0 where
   pub name : ℕ
   pub is_range : Bool
 
--- the distance of a position from a range token on its line
+-- the columns from a range token to a position on its line; 0 for other tokens and lines
 abbrev pub distance : RawToken → ℕ × ℕ → ℕ
 distance token p = if token.is_range && (token.dst_line == p.0) then p.1 - token.dst_col else 0
 
@@ -31,7 +31,7 @@ origin_by token p = record {
   is_range = token.is_range;
 }
 
--- the origin that the closest token gives
+-- the origin that the closest token gives to a position
 abbrev pub origin : List RawToken → ℕ × ℕ → Option Origin
 origin tokens p = option_map (λ token. origin_by token p) (closest_item destination position_cmp tokens p)
 
@@ -50,7 +50,7 @@ abbrev pub ClosestIsOnLine : List RawToken → ℕ × ℕ → Type 0
 ClosestIsOnLine tokens q =
     (t : RawToken) × (closest_item destination position_cmp tokens q ≡ Some t) × (t.dst_line ≡ q.0)
 
--- of all overlapping pairs, only those of `a` give tokens between the moved start of `a` and p
+-- of all overlapping pairs, only those of `a` give tokens from the moved start of `a` up to p, both included
 abbrev pub IsAloneUpTo : ℕ × ℕ → Stretch → (adjustments originals : List Stretch) → Type 0
 IsAloneUpTo p a adjustments originals =
     (b o : Stretch) → Contains adjustments b → Contains originals o → overlap b o ≡ true
@@ -58,7 +58,8 @@ IsAloneUpTo p a adjustments originals =
     → is_before p (destination (composed b o)) ≡ false
     → b ≡ a
 
--- the stretch `a` of the adjustment moves q, and no other stretch gives a token up to where q is moved
+-- the stretch `a` of the adjustment moves q. In the original, the token closest to q is on its line, and no two tokens
+-- have the same destination. No other stretch gives a token from the moved start of `a` up to the moved q
 pub record IsMovedAlone (original adjustment : List RawToken) (a : Stretch) (q : ℕ × ℕ) : Type 0 where
   pub stretch : Contains (stretches_by Adjustment adjustment) a
   pub inside : LiesIn q a

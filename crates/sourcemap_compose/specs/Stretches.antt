@@ -13,7 +13,8 @@ use Rattle.sourcemap_compose.specs.declared.stretches.Stretch.{Stretch}
 abbrev pub source : RawToken → ℕ × ℕ
 source token = (token.src_line, token.src_col)
 
--- the position of a token in the intermediate text, which is generated for the original and the source for the adjustment
+-- the position of a token in the intermediate text. This is the generated text of the original, and the source text of
+-- the adjustment
 abbrev pub position_by : Side → RawToken → ℕ × ℕ
 position_by Original = destination
 position_by Adjustment = source
@@ -38,11 +39,11 @@ abbrev pub stretches : (RawToken → ℕ × ℕ) → List RawToken → List Stre
 stretches position [] = []
 stretches position (token ∷ rest) = record { token = token; start = position token; end = end_before position token (slice_get rest 0) } ∷ stretches position rest
 
--- the stretches of tokens on one side, generated or original; the list of tokens may be in any order
+-- the stretches of the tokens of the original, or of the adjustment; the list of tokens may be in any order
 abbrev pub stretches_by : Side → List RawToken → List Stretch
 stretches_by side tokens = stretches (position_by side) (sorted_by (position_by side) position_cmp tokens)
 
--- the sorted copy of a list, or the list itself if there is none
+-- the sorted copy of a list, or the list itself if there is no copy
 abbrev pub copy_or : List RawToken → Option (Vec RawToken Global) → List RawToken
 copy_or tokens None = tokens
 copy_or tokens (Some copy) = copy.items

@@ -16,12 +16,14 @@ use std::alloc::Global;
 /// Returns the tokens of `original`, adjusted by those of `adjustment`. The generated text of the
 /// original is the source text of the adjustment.
 ///
-/// Each part of that text which is covered by one token of each list gives a token: its generated
-/// position is where the adjustment moves the start of the part, and its original position, source
-/// and name are those of the original. The tokens are sorted by generated position, and there are
-/// at most as many as in both lists together. Sources and names of the adjustment are ignored.
+/// Each part of that text which is covered by one token of each list gives a token. Its generated
+/// position is where the adjustment moves the start of the part. Its original position, source and
+/// name are those of the original's token. A range token with a source adds the columns from its
+/// own position to the start of the part to its original column, up to 4294967295.
 ///
-/// The error is `IncompatibleSourceMap` if a column exceeds 4294967295, else out of memory.
+/// The tokens are sorted by generated position, and there are at most as many as in both lists
+/// together. Sources and names of the adjustment are ignored. The errors are
+/// `IncompatibleSourceMap` if a generated column exceeds 4294967295, and out of memory.
 pub fn compose(
     alloc: Global,
     original: &[RawToken],
@@ -57,8 +59,8 @@ fn walk(alloc: Global, adjustments: &[RawToken], originals: &[RawToken]) -> Resu
     ensures few { IfOk result (λ tokens. length tokens.items
         ≤ length originals.now + length adjustments.now) }
 {
-    // between the longer length and the sum, if both cover the same text: so this grows at most
-    // once
+    // if both lists cover the same text, the count of tokens is between the longer length and the
+    // sum of both lengths, so that the buffer grows at most once
     let mut tokens = Vec::with_capacity(alloc, adjustments.len().max(originals.len()))?;
     let mut at_adjustment = 0;
     let mut at_original = 0;
@@ -84,7 +86,7 @@ fn walk(alloc: Global, adjustments: &[RawToken], originals: &[RawToken]) -> Resu
     Ok(tokens)
 }
 
-// Appends the token of a pair, if it overlaps.
+// Appends the token of a pair of stretches, if they overlap.
 fn push_pair(tokens: &mut Vec<RawToken>, a: Stretch, o: Stretch) -> Result<()>
     requires { overlap a o ≡ true → StartsOnBothLines a o }
     ensures pushed { OnOk result (tokens.new.items ≡ tokens.old.items ++ pair a o) }
@@ -99,7 +101,6 @@ fn push_pair(tokens: &mut Vec<RawToken>, a: Stretch, o: Stretch) -> Result<()>
     Ok(())
 }
 
-// Whether each stretch starts before the other ends.
 fn overlap(a: Stretch, o: Stretch) -> bool
     ensures { result ≡ overlap a o }
 {
@@ -117,7 +118,7 @@ fn later_start(a: Stretch, o: Stretch) -> (u32, u32)
 }
 
 // The token of an overlapping pair: the original's token, at the position to which the adjustment
-// moves it.
+// moves the start of the overlap.
 fn compose_pair(a: Stretch, o: Stretch) -> Result<RawToken>
     requires { StartsOnBothLines a o }
     ensures { result ≡ cond (overflows_column (composed a o)) (Err IncompatibleSourceMap)

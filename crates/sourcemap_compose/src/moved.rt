@@ -13,9 +13,15 @@ pub fn composed_tokens_stay_within()
         → AllWithin sources names new }
 {}
 
-/// A law: a moved position keeps its source, original position and name. The premises: the original
-/// is well-formed, its generated positions are distinct, the closest token is on the position's
-/// line, and no other stretch of the adjustment gives a token up to where it is moved.
+/// A law: a moved position keeps its source, original position, name and range flag. The premises:
+///
+/// - The composition has no error.
+/// - The tokens of the original are in order and within its counts, with at most 4294967295
+///   sources.
+/// - No two of these tokens have the same generated position.
+/// - The token closest to the position is on the line of the position.
+/// - A stretch of the adjustment covers the position. No other stretch gives a token from the moved
+///   start of this stretch up to the moved position.
 pub fn moved_positions_answer_as_before()
     ensures { (sources names : ℕ) (original adjustment new : List RawToken)
         (a : Stretch) (q : ℕ × ℕ)

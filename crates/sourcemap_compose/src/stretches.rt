@@ -9,13 +9,13 @@ use sourcemap_errors::errors::Result;
 use sourcemap_tokens::tokens::RawToken;
 use std::alloc::Global;
 
-/// Which of two maps a token belongs to. The generated text of the original is the source text of
-/// the adjustment: the intermediate text.
+/// Which of two maps a token belongs to. The intermediate text is the generated text of the
+/// original, and the source text of the adjustment.
 #[derive(Clone, Copy, Debug)]
 pub enum Side {
     /// The map that is adjusted.
     Original,
-    /// The map that adjusts it.
+    /// The map that adjusts the original.
     Adjustment,
 }
 

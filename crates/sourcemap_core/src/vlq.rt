@@ -1,3 +1,3 @@
-//! Numbers written as digits of base 64: the segments of a map's text.
+//! Segments of `mappings`: numbers written as VLQ digits of base 64.
 
 pub use sourcemap_vlq::vlq::{generate_vlq_segment, parse_vlq_segment};

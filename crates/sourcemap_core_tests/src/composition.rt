@@ -130,7 +130,8 @@ static COMPOSED: [(&str, &[Way], &[Way], &str); 21] = [
     ("none at all", &[], &[], ""),
 ];
 
-// Label, an original token, and the token after columns from 10 on moved to line 5.
+// Label, an original token, and the adjusted token. The adjustment moves columns from 10 on, on
+// line 0, to the start of line 5.
 static CUT: [(&str, Row, Row); 5] = [
     (
         "ten columns of a range token fall away",
@@ -159,7 +160,7 @@ static CUT: [(&str, Row, Row); 5] = [
     ),
 ];
 
-// Without source and name if there is no original position.
+// The token has no source and no name if `way` has no original position.
 fn token_of(way: Way, source: u32, name: u32) -> RawToken {
     let (dst, (line, col)) = way;
     if (line, col) == (NO_ID, NO_ID) {

@@ -75,7 +75,7 @@ fn finds_among_equals_by_few_comparisons(rt: HostRuntime) {
     }
 }
 
-// Sorted positions of tokens. Two are equal, and line 3 has none.
+// Sorted positions of tokens. Two are equal, and lines 1 and 3 have no tokens.
 static POSITIONS: [(u32, u32); 5] = [(0, 3), (2, 5), (2, 5), (2, 9), (4, 0)];
 
 // The tokens at these positions, identified by their index.
@@ -112,8 +112,8 @@ fn finds_between_lines(rt: HostRuntime) {
     }
 }
 
-// 70,000 tokens, `a_line` on each second line, identified by their index. Columns are 0, 10, 10, 20,
-// 30 and so on.
+// 70,000 tokens, `a_line` on each second line, identified by their index. Columns are 0, 10, 10,
+// 20, 30 and so on.
 fn tokens_on_many_lines(alloc: Global, a_line: u32) -> Result<TokenList> {
     let mut tokens = Vec::new(alloc);
     for at in 0..70_000u32 {

@@ -115,7 +115,8 @@ static READ: [(&str, Texts, &str); 20] = [
     ),
 ];
 
-// As `0:18=0:2:2#1+`: generated position, source with original position, name, `+` for a range token.
+// As `0:18=0:2:2#1+`: generated position, source with original position, name, `+` for a range
+// token.
 fn push_token(out: &mut String, token: &RawToken) -> Result<()> {
     write!(out, " {}:{}", token.dst_line, token.dst_col)?;
     if token.src_id != NO_ID {
@@ -134,7 +135,7 @@ fn push_token(out: &mut String, token: &RawToken) -> Result<()> {
     Ok(())
 }
 
-/// Each token in turn.
+/// The text of all tokens, in their order.
 pub fn tokens_text(alloc: Global, tokens: &[RawToken]) -> Result<String> {
     let mut out = String::new(alloc);
     for token in tokens {
@@ -158,7 +159,8 @@ fn reads_mappings(rt: HostRuntime) {
     }
 }
 
-/// Generated line and column, then source with original line and column, then name, then range flag.
+/// Generated line and column, then source with original line and column, then name, then range
+/// flag.
 pub type Row = ((u32, u32), (u32, u32, u32), u32, bool);
 
 /// No source and no original position.

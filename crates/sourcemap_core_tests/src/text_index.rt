@@ -9,7 +9,7 @@ const MOST: usize = 4294967295;
 
 static TEXTS: [&str; 7] = ["b", "a", "b", "", "ab", "a", ""];
 
-// The number of each text, then the number of texts.
+// The number of each text, then how many different texts there are.
 fn numbers(alloc: Global, texts: &[&str]) -> Result<String> {
     let mut index = TextIndex::new(alloc)?;
     let mut answer = String::new(alloc);
@@ -55,8 +55,8 @@ fn count_numbered<'a>(index: &mut TextIndex<'a>, texts: &'a [String]) -> Result<
     Ok(texts.len())
 }
 
-// That count on the first and on a second pass, whether the last text is in the index, and whether a
-// text that was not entered is.
+// The result of `count_numbered` on a first and on a second pass. Then whether the last text is in
+// the index, and whether a text that was not entered is in the index.
 fn numbering_text(alloc: Global, start: &str, end: &str, count: usize) -> Result<String> {
     let texts = numbered_texts(alloc, start, end, count)?;
     let other = format!(in alloc; "{start}{:08}{end}", count)?;
@@ -77,7 +77,7 @@ fn numbers_many_texts(rt: HostRuntime) {
     check(&rt, "usual texts", answer, "3000 3000 true false");
 }
 
-// All of these have one hash: bench/colliding.py writes them.
+// All texts of this test have the same hash. bench/colliding.py writes such texts.
 #[test]
 fn numbers_texts_that_collide(rt: HostRuntime) {
     let answer = numbering_text(

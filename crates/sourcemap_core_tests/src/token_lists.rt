@@ -205,7 +205,7 @@ fn equal_texts_have_one_number(rt: HostRuntime) {
     );
 }
 
-// Texts with one digest: only their bytes differ.
+// Texts with the same digest: only their bytes differ.
 static COLLIDING: [&str; 4] = [
     "d2Vd/J8r/!qq!p9iuh1fYfw2a&.#!M};",
     "d2Vd/J8r/!qq!p9ifPNtsXs0*y~xFn!I",

@@ -96,7 +96,7 @@ fn writes_segments(rt: HostRuntime) {
     }
 }
 
-// The indexes of the set bits of twenty, and their text.
+// The indexes of the bits that are set among twenty bits, and the text of these bits.
 static BITS: [(&[usize], &str); 4] = [(&[12], "AAB"), (&[5], "g"), (&[0, 11], "Bg"), (&[], "")];
 
 fn bits(alloc: Global, positions: &[usize]) -> Result<Vec<bool>> {
@@ -119,7 +119,7 @@ fn writes_bits(rt: HostRuntime) {
     }
 }
 
-// A text, the indexes of the set bits of twenty, and the text with these bits appended.
+// A text, the indexes of the bits that are set among twenty, and the text with the bits appended.
 static APPENDED: [(&str, &[usize], &str); 3] = [
     (";", &[12], ";AAB"),
     ("", &[5], "g"),

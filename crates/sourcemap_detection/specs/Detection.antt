@@ -6,7 +6,7 @@ use Rattle.sourcemap_records.specs.Bytes.{HoldJson}
 use Rattle.sourcemap_records.specs.Jsontypes.{minimal_of}
 use Rattle.sourcemap_records.specs.declared.jsontypes.MinimalRawSourceMap.{MinimalRawSourceMap}
 
--- the keys are those of an index map, or of a map
+-- the keys are those of an index map, or of a map without sections
 abbrev pub has_map_keys : MinimalRawSourceMap → Bool
 has_map_keys keys =
     keys.sections
@@ -14,10 +14,10 @@ has_map_keys keys =
     && (keys.sources || keys.source_root || keys.sources_content || keys.names)
     && keys.mappings)
 
--- a value has such keys; one that is not an object, or whose version is not a `u32`, does not
+-- the value has such keys; a value that is not an object, or whose version is not a `u32`, does not have them
 abbrev pub is_map : Data → Bool
 is_map d = option_map_or has_map_keys (minimal_of d) false
 
--- bytes with such a value after the junk header, if there is one
+-- after the junk header, if there is one, the bytes are the JSON text of such a value
 abbrev pub AreMap : List ℕ → Type 0
 AreMap bytes = (d : Data) × HoldJson bytes d × IsTrue (is_map d)

@@ -40,11 +40,11 @@ fn false_unless_memory(error: Error) -> Result<bool>
     }
 }
 
-/// Returns whether bytes are a source map, after the junk header, if there is one: a JSON object that
-/// has `sections`, or `mappings` with `version` or `file` and with one of `sources`, `sourceRoot`,
-/// `sourcesContent` and `names`. A null key counts as missing. Other values are not checked, except
-/// that a version must be a `u32`. Bytes with an invalid header or invalid JSON are not a map. The
-/// error is `OutOfMemory`.
+/// Returns whether bytes are a source map, after the junk header, if there is one. A source map is
+/// a JSON object that has `sections`. Or it has `mappings`, at least one of `version` and `file`,
+/// and at least one of `sources`, `sourceRoot`, `sourcesContent` and `names`. A null key counts as
+/// missing. Other values are not checked, except that a version must be a `u32`. Bytes with an
+/// invalid header or invalid JSON are not a map. The error is `OutOfMemory`.
 pub fn is_sourcemap_slice(alloc: Global, bytes: &[u8]) -> Result<bool>
     ensures answer { IfOk result (λ is. IsTrue is ↔ AreMap bytes.now) }
     ensures err { IsOkUnless result OutOfMemory }
@@ -55,7 +55,7 @@ pub fn is_sourcemap_slice(alloc: Global, bytes: &[u8]) -> Result<bool>
     }
 }
 
-// Whether the bytes that were read are a map. They are not if a read failed.
+// Whether the bytes that were read are a map. False if a read failed.
 fn read_is_map(alloc: Global, read: Result<Vec<u8>>) -> Result<bool>
     ensures answer { MatchResult read
         (λ bytes. IfOk result (λ is. IsTrue is ↔ AreMap bytes.items))

@@ -1,4 +1,4 @@
-//! The map that a reference to a map holds itself.
+//! The map that is embedded in a reference, as a data URL.
 ghost use Rattle.std.specs.Prelude.{ℕ, List, IfOk, IfSome, option_map};
 ghost use Rattle.sourcemap_errors.specs.Answer.{IsAnswer};
 ghost use Rattle.sourcemap_index.specs.Family.{map_tree};
@@ -11,13 +11,13 @@ use sourcemap_index::family::DecodedMap;
 use sourcemap_references::detector::SourceMapRef;
 use std::alloc::Global;
 
-/// What may hold a map itself, as a data URL.
+/// A reference that may contain its map, as a data URL.
 pub trait EmbeddedSourceMap {
     // The text that may be a data URL.
     ghost url: { Self → List ℕ };
 
-    /// Returns the map in a text that starts with `data:`, with the errors of `decode_data_url`.
-    /// Returns none for any other text, which names a file.
+    /// Decodes the map in a reference that starts with `data:`. Returns `None` for any other
+    /// reference, such as the path of a file. Returns the errors of `decode_data_url`.
     fn get_embedded_sourcemap(&self) -> Result<Option<DecodedMap>>
         ensures answer { IsAnswer (option_map map_tree) (EmbeddedAnswer (url self.now)) result }
         ensures well_formed { IfOk result (λ found. IfSome found (λ m. IsWellFormed (map_tree m))) };

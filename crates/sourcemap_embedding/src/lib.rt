@@ -1,4 +1,4 @@
-//! Maps that stand, as data URLs, in the references to them.
+//! Maps that are embedded in references, as data URLs.
 #![tactic(auto)]
 
 pub mod embedded;

@@ -12,8 +12,8 @@ use std::io::ErrorKind;
 use std::rt::Files;
 
 // A fake file system of six files: `/a.js`; `/late.js`, which fails after its first byte;
-// `/never.js`, which cannot be opened; `/strange.js`, without metadata; `/grown.js` and `/cut.js`,
-// whose metadata report fewer or more bytes than they have.
+// `/never.js`, which cannot be opened; `/strange.js`, without metadata; `/grown.js`, whose metadata
+// report too few bytes; and `/cut.js`, whose metadata report too many.
 #[derive(Drop)]
 struct Broken {
     // the kind of all errors

@@ -77,8 +77,9 @@ fn count_contents(builder: &SourceMapBuilder, count: u32) -> usize {
     held
 }
 
-/// Loads contents of the first `count` sources and returns how many were loaded. After `OutOfMemory`
-/// the loaded ones stay, and a second call loads the others.
+/// Loads contents of all sources and returns how many were loaded. After `OutOfMemory` the contents
+/// that were loaded stay. They are counted for the first `count` sources, and a second call loads
+/// the others.
 pub fn load<F: Files>(
     rt: &F,
     builder: &mut SourceMapBuilder,

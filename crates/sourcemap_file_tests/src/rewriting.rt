@@ -35,7 +35,8 @@ const FOUR: &str =
 
 const ROOT: &str = r#"{"mappings":"ACAA","sourceRoot":"sub","sources":["a.js","c.js"]}"#;
 
-// A map, options of rewriting, and the sources with their contents.
+// A map, and the options of its rewriting. `want` has the sources of the rewritten map with their
+// contents.
 struct Row {
     about: &'static str,
     text: &'static str,

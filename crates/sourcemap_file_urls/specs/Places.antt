@@ -57,7 +57,7 @@ path_of url = if bytes_eq url.scheme (codes "file") && not (has_host url) then t
 abbrev pub named_path : Parts → List ℕ → Option (List ℕ)
 named_path base reference = option_and_then path_of (result_ok (parse_url (Some base) reference))
 
--- the result is that path, or none if the texts are long
+-- the result is `named_path`, or out of memory; if the texts are long, it may be none
 abbrev pub NamesPath : Parts → List ℕ → Result (Option (List ℕ)) Error → Type 0
 NamesPath base reference (Ok None) = (named_path base reference ≡ None) ⊎ IsLong (length (serialize base) + length reference)
 NamesPath base reference (Ok (Some path)) = named_path base reference ≡ Some path
@@ -67,6 +67,6 @@ NamesPath base reference (Err e) = e ≡ OutOfMemory
 abbrev pub joined : List ℕ → Bool → List ℕ → Parsed Parts
 joined path folder reference = and_then (parse_url None (url_text path folder)) (λ base. parse_url (Some base) reference)
 
--- the path of the file that a reference points to, relative to a path: none if that is not absolute
+-- the path of the file that a reference points to, relative to `path`: none if `path` is not absolute
 abbrev pub path_from : List ℕ → Bool → List ℕ → Option (List ℕ)
 path_from path folder reference = if starts_at_root path then option_and_then path_of (result_ok (joined path folder reference)) else None

@@ -9,7 +9,8 @@ use Rattle.sourcemap_errors.specs.declared.errors.Error.TheVariants.{OutOfMemory
 abbrev pub IsLong : ℕ → Type 0
 IsLong size = 2 ^ 28 ≤ size
 
--- the result for texts of that size, if the URL Standard parses them to `parsed`: the URL, none if it is rejected or long, or out of memory
+-- the result for texts of `size` bytes, if the URL Standard parses them to `parsed`:
+-- the URL, none if the texts are rejected or long, or out of memory
 abbrev pub ReadsAs : ℕ → Parsed Parts → Result (Option Parts) Error → Type 0
 ReadsAs size parsed (Ok (Some url)) = parsed ≡ Ok url
 ReadsAs size parsed (Ok None) = IsErr parsed ⊎ IsLong size

@@ -62,7 +62,7 @@ fn decode_text(alloc: Global, text: &str) -> Result<Option<String>>
 }
 
 /// Returns the path of the file that a reference points to, relative to `base`: `url_path` of both
-/// joined. The only error is `OutOfMemory`.
+/// joined. Returns `None` if `join` or `url_path` does. The only error is `OutOfMemory`.
 pub fn named_path(alloc: Global, base: &Url, reference: &str) -> Result<Option<String>>
     ensures { IsAnswer (option_map string_bytes) (NamesPath base.now reference.now) result }
 {
@@ -95,7 +95,6 @@ fn end_of(has_slash: bool) -> &'static str
     if has_slash { "/" } else { "" }
 }
 
-// Appends a slash and the escaped component.
 fn push_component(text: &mut String, part: &str) -> Result<()>
     ensures adds { OnOk result (string_bytes text.new
         ≡ string_bytes text.old ++ escaped (part.now ∷ [])) }

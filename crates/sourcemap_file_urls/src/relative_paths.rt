@@ -10,9 +10,10 @@ use std::alloc::Global;
 
 /// Returns the path of `target` relative to the folder of the file `base`.
 ///
-/// Both paths are split at each `/` and `\`, and empty parts are ignored. The result is `../` for
-/// each part of the folder after the parts with which both start, then the rest of `target`, or `.`
-/// if that is empty. The only error is `OutOfMemory`.
+/// Both paths are split at each `/` and `\`, and empty parts are ignored. The parts with which the
+/// folder and `target` both start are left out. The result is `../` for each other part of the
+/// folder, then the other parts of `target`. It is `.` if there are no other parts. The only error
+/// is `OutOfMemory`.
 pub fn make_relative_path(alloc: Global, base: &str, target: &str) -> Result<String>
     ensures { Gives string_bytes result (Ok (relative_path base.now target.now)) }
 {
@@ -66,7 +67,7 @@ fn push_joined(path: &mut String, target: &str) -> Result<()>
     Ok(())
 }
 
-// The folder of the base and the target, both after the parts with which both start.
+// The rest of each path after the parts with which the folder of `base` and `target` both start.
 fn without_common<'a, 'b>(base: &'a str, target: &'b str) -> (&'a str, &'b str)
     ensures { (folder_parts result.0.now, parts result.1.now)
         ≡ after_common (folder_parts base.now) (parts target.now) }
@@ -123,7 +124,6 @@ fn next_part(path: &str) -> Option<(&str, &str)>
     None
 }
 
-// The path before its first separator, and the rest after it.
 fn split_first_part(path: &str) -> (&str, &str)
     ensures before { result.0.now ≡ before_first separates path.now }
     ensures after { result.1.now ≡ after_first separates path.now }
@@ -135,7 +135,6 @@ fn split_first_part(path: &str) -> (&str, &str)
     (&path[..end], &path[end + 1..])
 }
 
-// The index of the first separator of a path, or the path's length.
 fn first_separator(path: &[u8]) -> usize
     ensures { result ≡ position_or_len separates path.now }
 {

@@ -1,12 +1,12 @@
--- The bytes after a junk header. Some servers put one before JSON, so that a browser cannot execute
--- it as a script: a first byte `)`, `]`, `}` or `'`, and all bytes up to the first newline.
+-- The bytes after a junk header. Some servers put a junk header before JSON, so that a browser cannot execute
+-- the JSON as a script. The header is a first byte `)`, `]`, `}` or `'`, and all bytes up to the first newline.
 use Rattle.std.specs.Prelude.{ℕ, List, [], ◌∷◌, Option, Some, None, Bool, false, not, ◌&&◌, ◌||◌, ◌==◌, if◌then◌else◌}
 
 abbrev pub begins_junk : List ℕ → Bool
 begins_junk [] = false
 begins_junk (b ∷ _) = (b == 41) || (b == 93) || (b == 125) || (b == 39)
 
--- the next byte is not a newline
+-- there is a next byte, and it is not a newline
 abbrev pub continues_line : List ℕ → Bool
 continues_line [] = false
 continues_line (b ∷ _) = not (b == 10)
@@ -19,6 +19,6 @@ after_junk (b ∷ bs) =
     else if (b == 13) && continues_line bs then None
     else after_junk bs
 
--- the bytes without the junk header, if there is one
+-- the bytes without the junk header, if there is one; None if the header is invalid
 abbrev pub after_header : List ℕ → Option (List ℕ)
 after_header bytes = if begins_junk bytes then after_junk bytes else Some bytes

@@ -1,4 +1,4 @@
--- The bytes that a reader that drops a junk header still returns, by its state.
+-- A reader that drops a junk header: the bytes that it still returns, by its state.
 use Rattle.std.specs.Prelude.{◌≡◌, ℕ, List, [], drop, take, length, Result, Ok, ◌++◌, ◌≤◌, Option, Some, None, option_map, option_and_then, Bool, true, false, ◌&&◌, if◌then◌else◌, IsTrue, IfOk, OnOk, IfErr, IfSome, IsSome}
 use Rattle.std.specs.Io.KnownBytes.{IsAtEnd}
 use Rattle.std.specs.IoError.{error_kind}
@@ -22,18 +22,19 @@ remaining_in (InHeader after_return) bytes = if after_return && continues_line b
 remaining_in AfterHeader bytes = Some bytes
 remaining_in Invalid bytes = None
 
--- what the reader returns after it has classified a chunk
+-- what the reader returns for a chunk and the bytes `later`, where a `Skipped` says which bytes of the chunk belong to
+-- the header
 abbrev pub remaining_after : Skipped → List ℕ → List ℕ → Option (List ℕ)
 remaining_after (StillJunk after_return) chunk later = remaining_in (InHeader after_return) later
 remaining_after (Ends junk_len) chunk later = Some (drop junk_len chunk ++ later)
 remaining_after IsInvalid chunk later = None
 
--- the header ends within the chunk
+-- if the header ends in the chunk, it has at most `size` bytes there
 abbrev pub IsWithin : Skipped → ℕ → Type 0
 IsWithin (Ends junk_len) size = junk_len ≤ size
 IsWithin _ size = Unit {0}
 
--- the header may continue
+-- the next bytes may belong to the header
 abbrev pub IsInHeader : HeaderState → Type 0
 IsInHeader Start = Unit {0}
 IsInHeader (InHeader _) = Unit {0}
@@ -67,7 +68,7 @@ Outputs remaining old new bytes =
     → (ys : List ℕ) × (remaining new.reader ≡ Some ys)
     × (remaining_in old.state xs ≡ option_map (λ later. bytes ++ later) (remaining_in new.state ys))
 
--- a buffer begins with bytes that make the header invalid in some state within it
+-- the buffer begins with bytes that make the header invalid, in some state in which they may belong to the header
 abbrev pub ContainsInvalidHeader : List ℕ → Type 0
 ContainsInvalidHeader buf = (state : HeaderState) × (count : ℕ) × IsInHeader state × (count ≤ length buf)
     × ((later : List ℕ) → remaining_in state (take count buf ++ later) ≡ None)

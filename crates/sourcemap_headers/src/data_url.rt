@@ -41,7 +41,7 @@ fn body(url: &[u8]) -> Option<&[u8]>
 /// Decodes the data URL of a source map: `data:application/json`, then `;charset=utf-8`,
 /// `;charset=utf8` or nothing, then `;base64,` and standard base64. The base64 must be what
 /// encoding the bytes gives: padded, without white space, and without bits set after the last byte.
-/// Letter case matters. Returns `InvalidDataUrl` for any other text, otherwise only `OutOfMemory`.
+/// Letter case matters. The errors are `InvalidDataUrl` for any other text, and `OutOfMemory`.
 pub fn data_url_bytes(alloc: Global, url: &str) -> Result<Vec<u8>>
     ensures { IsAnswer (λ v. v.items) (DataUrlAnswer url.now) result }
 {
@@ -55,8 +55,8 @@ pub fn data_url_bytes(alloc: Global, url: &str) -> Result<Vec<u8>>
     }
 }
 
-/// Encodes bytes as a data URL with the charset `utf-8`, which `data_url_bytes` decodes. Returns
-/// only `OutOfMemory`.
+/// Encodes bytes as a data URL with the charset `utf-8`, which `data_url_bytes` decodes. The only
+/// error is `OutOfMemory`.
 pub fn data_url(alloc: Global, bytes: &[u8]) -> Result<String>
     ensures text { IfOk result (λ url. string_bytes url ≡ data_url_of bytes.now) }
     ensures reads_back { IfOk result (λ url. Holds (string_bytes url) bytes.now) }
@@ -67,7 +67,7 @@ pub fn data_url(alloc: Global, bytes: &[u8]) -> Result<String>
     Ok(url)
 }
 
-/// A law: decoding a data URL has exactly one result.
+/// A law: a data URL determines the result of decoding it.
 pub fn data_urls_have_one_answer()
     ensures { (url : List ℕ) (a b : Answer (List ℕ) SourceMapError)
         → DataUrlAnswer url a → DataUrlAnswer url b → a ≡ b }

@@ -32,7 +32,8 @@ enum Skipped {
     IsInvalid,
 }
 
-/// Classifies the first chunk, which is not empty.
+/// Decides which bytes of the first chunk belong to the junk header: none, if its first byte begins
+/// no header. The chunk is not empty.
 fn skip_first(chunk: &[u8]) -> Skipped
     requires { 0 < length chunk.now }
     ensures junk { (later : List ℕ)
@@ -46,7 +47,8 @@ fn skip_first(chunk: &[u8]) -> Skipped
     }
 }
 
-/// Classifies the next chunk within a header.
+/// Decides which bytes of a chunk belong to a junk header that begins with the chunk or before it.
+/// `follows_return`: the last byte before the chunk is a carriage return of the header.
 fn skip_junk(follows_return: bool, chunk: &[u8]) -> Skipped
     ensures junk { (later : List ℕ)
         → remaining_in (HeaderState.InHeader follows_return) (chunk.now ++ later)
@@ -130,7 +132,7 @@ impl<R: Read + Drop> StripHeaderReader<R> {
         }
     }
 
-    /// Reads until there are bytes from after the header.
+    /// Reads until there are bytes from after the header, or the inner reader is at its end.
     fn read_after_junk(&mut self, buf: &mut [u8]) -> io::Result<usize>
         requires not_empty { 0 < length buf.old }
         requires sound { has_failed self.old ≡ false }
@@ -194,13 +196,14 @@ impl<R: Read + Drop> Read for StripHeaderReader<R> {
         ensures bound { ReadsAtMost result buf.new }
         ensures bytes { ReadConsumes (remaining_of R.remaining self.old)
             (remaining_of R.remaining self.new) result buf.new }
-        // each read with a buffer that is not empty refuses an invalid header, and none gets past
-        // it
+        // each read into a buffer that is not empty refuses an invalid header, and no read gets
+        // past the header
         ensures refused { HasInvalidHeader R.remaining self.old → 0 < length buf.old
             → IsErr result }
         ensures stays { HasInvalidHeader R.remaining self.old
             → HasInvalidHeader R.remaining self.new }
-        // once the error was found, each later read returns it, one into an empty buffer too
+        // once the header was found to be invalid, each later read is an error, even one into an
+        // empty buffer
         ensures again { IsTrue (has_failed self.old) → IsErr result × IsTrue (has_failed self.new) }
         ensures error { IfErr result (λ e. IsTrue (has_failed self.new)
             → error_kind e ≡ InvalidData) }
@@ -208,7 +211,7 @@ impl<R: Read + Drop> Read for StripHeaderReader<R> {
         ensures in_buffer { has_failed self.old ≡ false → IsTrue (has_failed self.new)
             → ContainsInvalidHeader buf.new }
         ensures sound { OnOk result (has_failed self.new ≡ false) }
-        // an empty buffer does not read from the inner reader
+        // a read into an empty buffer does not read from the inner reader
         ensures empty { length buf.old ≡ 0 → has_failed self.old ≡ false
             → (result ≡ Ok 0) × (self.new ≡ self.old) }
     {

@@ -8,7 +8,8 @@ use Rattle.sourcemap_hermes_scopes.specs.ScopeLists.{ScopeEntry}
 use Rattle.sourcemap_hermes_scopes.specs.SourceScopes.{AreOfEntries}
 use Rattle.sourcemap_hermes.specs.Map.{HermesValue, AreFewScopes}
 
--- what a record with these scopes of its sources decodes to: first the error that there are too many scopes, then those of the regular map
+-- what a record with these scopes of its sources decodes to;
+-- the error that there are too many scopes comes before the errors of the regular map
 abbrev pub EntriesDecode : Fields → List ScopeEntry → Result HermesValue Error → Type 0
 EntriesDecode r entries (Ok h) =
     AreFewScopes entries × RecordDecodes r (Ok h.map) × (h.scopes.entries ≡ entries) × AreOfEntries h.scopes
@@ -24,7 +25,7 @@ DecodesWith r (Some entries) answer = EntriesDecode r entries answer
 abbrev pub HermesDecodes : Fields → Result HermesValue Error → Type 0
 HermesDecodes r answer = DecodesWith r r.x_facebook_sources answer
 
--- what the record of a Hermes map decodes to; the record of an index map is an error
+-- what a record of any kind decodes to as a Hermes map; the record of an index map is an error
 abbrev pub RecordDecodesAsHermes : Tree → Result HermesValue Error → Type 0
 RecordDecodesAsHermes (plain fields) answer = HermesDecodes fields answer
 RecordDecodesAsHermes (indexed _ _) answer = answer ≡ Err IncompatibleSourceMap

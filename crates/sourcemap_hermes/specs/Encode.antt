@@ -17,7 +17,7 @@ abbrev pub scoped : Tree → List ScopeEntry → Tree
 scoped (plain fields) entries = plain (with_scopes fields entries)
 scoped (indexed fields sections) entries = indexed (with_scopes fields entries) sections
 
--- a record that the map is written as: one of the regular map, with the scopes as decoded
+-- a record that the map is written as: a record of the regular map, with the scopes as decoded
 abbrev pub IsRecordOf : HermesValue → Tree → Type 0
 IsRecordOf h t = (r : Tree) × IsRecordOfRegular h.map r × (t ≡ scoped r h.scopes.entries)
 
@@ -25,11 +25,12 @@ IsRecordOf h t = (r : Tree) × IsRecordOfRegular h.map r × (t ≡ scoped r h.sc
 abbrev pub IsCompactTextOf : HermesValue → List ℕ → Type 0
 IsCompactTextOf h text = (t : Tree) × IsRecordOf h t × (text ≡ compact_text (written t))
 
--- `back` has the meaning of `h` at every position, all its parts, and the functions of its sources
+-- `back` has the functions of the sources of `h`, and its regular map restores that of `h`
 abbrev pub Restores : (h back : HermesValue) → Type 0
 Restores h back = RestoresRegular h.map back.map × (back.scopes ≡ h.scopes)
 
--- the result of a call that encodes a map: a record that the map is written as, and that reads back; no error but out of memory
+-- the result of a call that encodes a map: a record that the map is written as, no error but out of memory;
+-- the record of a well-formed map reads back
 abbrev pub RecordAnswer : HermesValue → Result Tree Error → Type 0
 RecordAnswer h (Ok t) = IsRecordOf h t × IsFine t × (IsWellFormed h → ReadsBack (HermesDecodes (flat t)) (Restores h))
 RecordAnswer h (Err _) = ⊥

@@ -9,14 +9,14 @@ use Rattle.sourcemap_map_regular.specs.Token.{token_at}
 use Rattle.sourcemap_hermes_scopes.specs.SourceScopes.{IsInOrderAt, picked_scopes}
 use Rattle.sourcemap_hermes.specs.Map.{HermesValue, token_scope, function_name}
 
--- the rewritten map: each source has the functions of the first of its old ids, or none
+-- the rewritten map: each source has the functions of the old id by which a token first uses it, or none
 abbrev pub rewritten : Removal → HermesValue → HermesValue
 rewritten removal h = record {
   map = map_rewritten removal h.map;
   scopes = picked_scopes h.scopes (first_ids h.map);
 }
 
--- the result of a rewriting: that of the regular map, with the scopes as above
+-- the result of a rewriting: that of the regular map, with the scopes of `rewritten`
 abbrev pub Rewrites : RewriteOptions → HermesValue → Result HermesValue Error → Type 0
 Rewrites options h (Ok new) = MapRewrites options h.map (Ok new.map) × (new.scopes ≡ picked_scopes h.scopes (first_ids h.map))
 Rewrites options h (Err e) = LacksFolder options e
@@ -25,7 +25,7 @@ Rewrites options h (Err e) = LacksFolder options e
 abbrev pub HasDistinctSources : HermesValue → Type 0
 HasDistinctSources h = AreDistinct (resolved_sources h.map)
 
--- the scope of the token at an index, looked up so many columns after it
+-- the scope of the token at an index, looked up at a position `extra_columns` after the token
 abbrev pub scope_at_distance : HermesValue → (index extra_columns : ℕ) → Option (List ℕ)
 scope_at_distance h index extra_columns =
     option_and_then (λ t. token_scope h.scopes (record t { extra_columns = extra_columns })) (token_at h.map index)

@@ -26,8 +26,8 @@ impl Encodable for SourceMapHermes {
     fn as_raw_sourcemap(&self) -> Result<RawSourceMap>
         ensures answer { IsAnswer tree (RecordAnswer (hermes_value self.now)) result }
         ensures fine { IfOk result (λ r. IsFine (tree r)) }
-        // Decoded again, a well-formed map has the same meaning at every position, all its parts
-        // and the functions of its sources.
+        // Decoded again, a well-formed map has the same meaning at every position, the parts that
+        // `KeepsParts` names, and the functions of its sources.
         ensures reads_back { IfOk result (λ r. IsWellFormed (hermes_value self.now)
             → ReadsBack (HermesDecodes (flat (tree r))) (Restores (hermes_value self.now))) }
     {
@@ -73,14 +73,15 @@ pub fn written_records_are_determined()
 {}
 
 /// A law: the bytes that a map is written as are the compact text of its record's value. No number
-/// in that has a fraction.
+/// in this value has a fraction.
 pub fn written_maps_are_compact()
     ensures { (h : HermesValue) (text : List ℕ)
         → IsEncoded (RecordAnswer h) text → IsCompactTextOf h text }
 {}
 
 /// A law: the bytes that a well-formed map is written as decode to a map with the same meaning at
-/// every position, all its parts and the functions of its sources.
+/// every position, and with the functions of its sources. Its regular map keeps the parts that
+/// `KeepsParts` names.
 pub fn written_maps_read_back()
     ensures { (h : HermesValue) (text : List ℕ)
         → IsEncoded (RecordAnswer h) text → IsWellFormed h

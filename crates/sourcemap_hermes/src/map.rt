@@ -28,11 +28,11 @@ impl SourceMapHermes {
         self.scopes.count()
     }
 
-    /// The name of the function that contains a token's original position. For a range token that
-    /// was looked up, the column is as far after the token's as the lookup was. `None` where the
-    /// source has no function map, no function starts so early, or the function has no name.
-    /// Requires functions of the source sorted by where they start; otherwise the result is
-    /// unspecified.
+    /// The name of the function that contains a token's original position. After a lookup on the
+    /// line of a range token, the original column includes the columns from the token to the
+    /// position. `None` where the source has no function map, no function starts so early, or the
+    /// function has no name. Requires functions of the source sorted by where they start; otherwise
+    /// the result is unspecified.
     pub fn get_scope_for_token(&self, token: Token<'_>) -> Option<&str>
         ensures { IsInOrderAt (hermes_value self.now).scopes (token_value token.entry).raw.src_id
             → option_copied result

@@ -13,10 +13,10 @@ use sourcemap_map_rewrite::options::RewriteOptions;
 use std::rt::Files;
 
 impl SourceMapHermes {
-    /// The map with each source and each name that a token uses, once, as `rewrite` of its regular
-    /// map returns it. A source that had several ids gets the scopes of the one that tokens use
-    /// first, or none if that had none. Scopes are moved. If no two sources resolve against
-    /// `sourceRoot` to the same text, each token keeps its scope.
+    /// Rewrites the regular map as its `rewrite` does: the result has each source and each name
+    /// that a token uses, once. A source that had several ids gets the scopes of the id that tokens
+    /// use first, or none if that id had none. Scopes are moved. If the map is well-formed, and no
+    /// two sources resolve against `sourceRoot` to the same text, each token keeps its scope.
     ///
     /// With `load_local_source_contents`, sources without contents are read from files, as by
     /// `rewrite` of the regular map. Returns `Io` of kind `InvalidInput` if the folder is not
@@ -28,12 +28,13 @@ impl SourceMapHermes {
             (hermes_value self).map (hermes_value h).map) }
         ensures tokens { IfOk result (λ h. TokensMeanLess (removal_of options.now)
             (hermes_value self).map (hermes_value h).map) }
-        // Where names are kept and no prefix is cut, that is the same meaning.
+        // Where names are kept and no prefix is cut, each position keeps its meaning.
         ensures same { LeavesMeaning (removal_of options.now)
             → IfOk result (λ h. MeansTheSame (hermes_value h).map (hermes_value self).map) }
         ensures well_formed { IfOk result
             (λ h. IsWellFormed (hermes_value self) → IsWellFormed (hermes_value h)) }
-        // If no two sources resolve to the same text, each token keeps its scope.
+        // If no two sources of a well-formed map resolve to the same text, each token keeps its
+        // scope.
         ensures scopes { IfOk result
             (λ h. IsWellFormed (hermes_value self) → HasDistinctSources (hermes_value self)
             → KeepsScopes (hermes_value self) (hermes_value h)) }

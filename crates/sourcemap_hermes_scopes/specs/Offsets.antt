@@ -8,7 +8,7 @@ use Rattle.sourcemap_mappings.specs.Segment.{Segment, sum_at, parts_of}
 use Rattle.sourcemap_mappings.specs.Read.{lines_of}
 use Rattle.sourcemap_hermes_scopes.specs.declared.offsets.HermesScopeOffset.{HermesScopeOffset}
 
--- the offset of a segment: `here` are the segments of its line up to and with it, `all` those of the text
+-- the offset of a segment: `here` are the segments of its line, `all` those of the text, both up to and with it
 abbrev pub segment_offset : List Segment → List Segment → HermesScopeOffset
 segment_offset here all = record {
   line = (1 + sum_at 2 all) % 2 ^ 32;
@@ -16,7 +16,7 @@ segment_offset here all = record {
   name_index = sum_at 1 all;
 }
 
--- the offsets of some segments of a line, after `here` in the line and `before` in the text
+-- the offsets of some segments of a line, after `here` in the line and `before` in earlier lines
 abbrev pub line_offsets : List Segment → List Segment → List Segment → List HermesScopeOffset
 line_offsets before here [] = []
 line_offsets before here (s ∷ later) =

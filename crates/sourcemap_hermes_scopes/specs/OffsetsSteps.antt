@@ -5,7 +5,7 @@ use Rattle.sourcemap_hermes_scopes.specs.declared.offsets.HermesScopeOffset.{Her
 use Rattle.sourcemap_hermes_scopes.specs.Offsets.{segment_offset, line_offsets, SegmentsRead}
 
 -- `last` has the sums after the segments `before` of earlier lines and `here` of the line that is read;
--- where `here` is not empty, it is the offset of its last segment
+-- where `here` is not empty, `last` is the offset of the last segment of `here`
 abbrev pub IsLastOffset : (before here : List Segment) → HermesScopeOffset → Type 0
 IsLastOffset before here last = last ≡ segment_offset here (before ++ here)
 

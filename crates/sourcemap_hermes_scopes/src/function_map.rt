@@ -39,8 +39,8 @@ fn offset_position(offset: &HermesScopeOffset) -> (u64, u32)
 }
 
 impl HermesFunctionMap {
-    /// The function map that scope mappings encode. `None` if a segment of them is invalid. The only
-    /// error is `OutOfMemory`.
+    /// The function map that scope mappings encode. `None` if a segment of them is invalid. The
+    /// only error is `OutOfMemory`.
     pub fn read(alloc: Global, mappings: &str) -> Result<Option<HermesFunctionMap>>
         ensures map { IfOk result (StandsFor mappings.now) }
         ensures memory { IfErr result (λ e. e ≡ OutOfMemory) }
@@ -56,8 +56,8 @@ impl HermesFunctionMap {
 
     /// The index of the name of the function that contains an original position, whose line and
     /// column count from 0. That is the first function that starts at the position, else the last
-    /// one that starts before it. Requires functions sorted by where they start; otherwise the
-    /// result is unspecified.
+    /// one that starts before it. `None` if no function starts so early. Requires functions sorted
+    /// by where they start; otherwise the result is unspecified.
     pub fn name_index(&self, line: u32, col: u32) -> Option<u32>
         ensures { AreOffsetsInOrder self.now
             → result ≡ option_map offset_name (closest_offset self.now (line, col)) }

@@ -103,7 +103,7 @@ pub(crate) fn read_offsets(alloc: Global, text: &str) -> Result<Vec<HermesScopeO
     Ok(offsets)
 }
 
-/// A law: scope mappings encode one list of offsets, or none.
+/// A law: scope mappings determine what they encode: one list of offsets, or none.
 pub fn scope_mappings_are_determined()
     ensures { (text : List ℕ) (a b : Option (List HermesScopeOffset)) → StandsFor text a
         → StandsFor text b → a ≡ b }

@@ -88,8 +88,8 @@ impl SourceScopes {
     }
 
     /// The name of the function that contains a position of the source with this id. Line and
-    /// column count from 0. That is the first function that starts at the position, else the last
-    /// one that starts before it. `None` where no function starts so early, the source has no
+    /// column count from 0. The function is the first that starts at the position, else the last
+    /// that starts before it. `None` where no function starts so early, the source has no
     /// function map, or the function has no name. Requires functions sorted by where they start;
     /// otherwise the result is unspecified.
     pub fn scope(&self, source: u32, line: u32, col: u32) -> Option<&str>
@@ -100,9 +100,9 @@ impl SourceScopes {
         self.name(source, index)
     }
 
-    /// The scopes of the sources with these ids, in this order, moved and not copied. A source has
-    /// none if its id has none. If an id is repeated, the result is unspecified. The only error is
-    /// `OutOfMemory`. Requires at most 4294967295 ids.
+    /// The scopes of the sources with these ids, in this order, moved and not copied. An id that
+    /// has no scopes has none in the result. If an id is repeated, the result is unspecified. The
+    /// only error is `OutOfMemory`. Requires at most 4294967295 ids.
     pub fn select(self, alloc: Global, ids: &[u32]) -> Result<SourceScopes>
         requires { length ids.now ≤ 4294967295 }
         ensures select { IsDistinct nat_eq ids.now

@@ -1,5 +1,5 @@
 // Ends the test and prints the row, unless the result is the wanted text. A library may not abort a
-// process, so this cannot be shared.
+// process, so the test crates cannot share this function.
 use std::fmt::Debug;
 use std::process::Abort;
 use std::result;

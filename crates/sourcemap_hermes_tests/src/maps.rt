@@ -30,10 +30,10 @@ static NAMES: [(&str, u32, &str); 13] = [
     (TWO_FUNCTIONS, 5, "foo"),
     (TWO_FUNCTIONS, 7, "foo"),
     (SECOND_SOURCE, 0, "f"),
-    // Lists that are shorter or longer than that of the sources.
+    // Lists of scopes that are shorter or longer than the list of sources.
     (SHORT, 0, "none"),
     (LONG, 0, "f"),
-    // The last line of a source.
+    // The last possible line of a source, 4294967295.
     (LAST_LINE, 0, "f"),
     // Invalid scope mappings.
     (BROKEN, 0, "none"),
@@ -72,10 +72,10 @@ const NO_TOKEN: &str =
 pub const NO_SOURCE: &str =
     r#"{"version":3,"sources":["a.js"],"mappings":"A","x_facebook_sources":[[{"names":["f"],"mappings":"AAA"}]]}"#;
 
-// Texts that are written unchanged.
+// Texts of maps that are decoded and then written unchanged.
 static WRITTEN: [&str; 4] = [SECOND_SOURCE, SHORT, LONG, BROKEN];
 
-// Maps with scopes of each kind.
+// Maps whose lists of scopes are complete, too short, too long or invalid.
 static MAPS: [&str; 7] = [
     TWO_FUNCTIONS,
     SECOND_SOURCE,
@@ -166,7 +166,7 @@ fn equals_copy(map: &SourceMapHermes) -> Result<bool> {
     Ok(map.clone()? == *map)
 }
 
-// Whether a reader decodes to the same map as its bytes.
+// Whether decoding from a reader gives an equal map.
 fn is_streamed(alloc: Global, text: &str, map: &SourceMapHermes) -> Result<bool> {
     Ok(SourceMapHermes::from_reader(alloc, text.as_bytes())? == *map)
 }

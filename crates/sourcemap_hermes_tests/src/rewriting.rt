@@ -28,15 +28,15 @@ fn write_rewritten(alloc: Global, map: Result<SourceMapHermes>) -> Result<String
     }
 }
 
-// Tokens of the third source and of the first.
+// The first token has the third source, the second token has the first source.
 const TURNED: &str =
     r#"{"mappings":"AEAA,CFAA","sources":["a.js","b.js","c.js"],"x_facebook_sources":[[{"mappings":"AAA","names":["f"]}],null,[{"mappings":"AAA","names":["h"]}]]}"#;
 
-// Two sources of one text, of which the second comes first.
+// Two sources with the same text. The second one is used first.
 const TWINS: &str =
     r#"{"mappings":"ACAA,CDAA","sources":["a.js","a.js"],"x_facebook_sources":[[{"mappings":"AAA","names":["f"]}],[{"mappings":"AAA","names":["g"]}]]}"#;
 
-// Two sources of one text, of which the first has no functions.
+// Two sources with the same text. The first one has no functions.
 const HALF: &str =
     r#"{"mappings":"AAAA,CCAA","sources":["a.js","a.js"],"x_facebook_sources":[null,[{"mappings":"AAA","names":["g"]}]]}"#;
 
@@ -73,7 +73,8 @@ static DEFAULT: [(&str, &str); 12] = [
         ROOTED,
         r#"{"mappings":"AAAA","names":[],"sources":["r/b.js"],"version":3,"x_facebook_sources":[[{"mappings":"AAA","names":["g"]}]]}"#,
     ),
-    // Lists of scopes that are as long as that of the sources left, or shorter, but not empty.
+    // Lists of scopes that are not empty. One is as long as the list of remaining sources, one is
+    // shorter.
     (
         r#"{"mappings":"ACAA","sources":["a.js","b.js"],"x_facebook_sources":[null]}"#,
         r#"{"mappings":"AAAA","names":[],"sources":["b.js"],"version":3,"x_facebook_sources":[null]}"#,

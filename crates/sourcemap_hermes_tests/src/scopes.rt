@@ -1,4 +1,5 @@
-// Lookups in scopes, their selection by id and their encoding. Expected values are worked out by hand.
+// Lookups in scopes, their selection by id and their encoding. Expected values are worked out by
+// hand.
 use crate::checks::check;
 use crate::maps::name_or_none;
 use serde_json::Value;
@@ -39,7 +40,8 @@ fn name_at_position(alloc: Global, text: &str, source: u32, line: u32, col: u32)
     name_or_none(alloc, scopes.scope(source, line, col))
 }
 
-// The lists of two sources. The first has the names a, b and c, and these mappings.
+// A record with the scopes of two sources. The first source has the names a, b and c, and these
+// mappings. The second one has no scopes.
 fn with_mappings(alloc: Global, mappings: &str) -> Result<String> {
     let head = r#"{"x_facebook_sources":[[{"names":["a","b","c"],"mappings":""#;
     Ok(format!(in alloc; r#"{head}{mappings}"}}],null]}}"#)?)
@@ -79,7 +81,7 @@ static MAPPINGS: [(&str, u32, u32, &str); 31] = [
     ("AAF", 4294967294, 0, "a"),
     // A name index out of range.
     ("AGA", 0, 0, "none"),
-    // Equal offsets: the first one at them, the last one after them.
+    // Equal offsets: a lookup at them finds the first one, a lookup after them finds the last one.
     ("KAA,ACA,ACA", 0, 5, "a"),
     ("KAA,ACA,ACA", 0, 6, "c"),
     // Invalid segments.
@@ -100,7 +102,7 @@ fn names_of_functions(rt: HostRuntime) {
     }
 }
 
-// Unsorted offsets: some name of the source or none.
+// Unsorted offsets. A lookup gives any name of the source, or none.
 static UNORDERED: [&str; 3] = ["KAA,LCA,UCA", "AAE;ACD", "UAA,FCA,FCA,UDA"];
 
 fn is_some_name_or_none(alloc: Global, mappings: &str, col: u32) -> Result<bool> {
@@ -130,7 +132,7 @@ const EMPTY: &str = r#"{"x_facebook_sources":[]}"#;
 const LISTS: &str =
     r#"{"x_facebook_sources":[[],[{"names":["f"],"mappings":"!"},{"names":["g"],"mappings":"AAA"}],[{"names":["h"],"mappings":"AAA"},{"names":["i"],"mappings":"!"}],null]}"#;
 
-// Lists, a source, an original line and column, and the function name.
+// A record with lists of scopes, a source id, an original line and column, and the function name.
 static SOURCES: [(&str, u32, u32, u32, &str); 13] = [
     (ROW, 0, 0, 0, "<global>"),
     (ROW, 0, 1, 5, "foo"),
@@ -170,7 +172,8 @@ fn selected_written(alloc: Global, text: &str, ids: &[u32]) -> Result<String> {
     write_scopes(alloc, selected.into_entries())
 }
 
-// Label, lists, ids to select, and the lists then.
+// A label, a record with lists of scopes, and the ids to select. Then the record with the selected
+// lists.
 static SELECTED: [(&str, &str, &[u32], &str); 5] = [
     (
         "one of two",
@@ -216,7 +219,8 @@ fn name_when_selected(alloc: Global, text: &str, ids: &[u32], source: u32) -> Re
     name_or_none(alloc, selected.scope(source, 0, 0))
 }
 
-// Label, lists, ids to select, a source by its new id, and the function name at its start.
+// A label, a record with lists of scopes, and the ids to select. Then a source by its new id, and
+// the function name at its start.
 static MOVED: [(&str, &str, &[u32], u32, &str); 5] = [
     ("the selected one", SECOND, &[1], 0, "f"),
     ("the first of two that are turned", SECOND, &[1, 0], 0, "f"),
@@ -257,7 +261,8 @@ fn copy_written(alloc: Global, scopes: &SourceScopes) -> Result<String> {
     write_scopes(alloc, scopes.copy_entries()?)
 }
 
-// Whether scopes equal their copy, those of the same text, and those of another.
+// Whether the scopes of `text` equal three others: their copy, the scopes that `text` gives when it
+// is decoded again, and those of `other`.
 fn compare_scopes(alloc: Global, text: &str, other: &str) -> Result<(bool, bool, bool)> {
     let scopes = scopes(alloc, text)?;
     let as_copy = is_as_its_copy(&scopes)?;
@@ -281,8 +286,8 @@ fn copies_are_equal(rt: HostRuntime) -> Result<()> {
     Ok(())
 }
 
-// Scope mappings, an original line and column, and the name index of the function, or that there is
-// no function map.
+// Scope mappings, and an original line and column. Then the name index of the function there, and
+// whether a copy of the function map is equal; or that there is no function map.
 static FUNCTIONS: [(&str, u32, u32, &str); 5] = [
     ("AAA,KCC", 0, 0, "Some(0) true"),
     ("AAA,KCC", 1, 5, "Some(1) true"),

@@ -1,4 +1,4 @@
--- What one section, JSON values, bytes and data URLs stand for, and which records are those of index maps.
+-- The maps that JSON values, bytes and data URLs stand for, and the sections and index maps that records stand for.
 use Rattle.std.specs.Prelude.{◌≡◌, ℕ, List, Some, None, nat_lt, MatchOption, Result, Ok, Err}
 use Rattle.std.specs.Bool.{MatchBool}
 use Rattle.serde_json.specs.Data.{Data}
@@ -21,18 +21,18 @@ SectionDecodes s answer = MatchOption s.map
 abbrev pub index_with : IndexParts → List MapSection → IndexValue
 index_with parts ss = record { parts = parts; sections = ss }
 
--- the index of these keys and sections
+-- the index of these keys of a record, and of these sections sorted by offset
 abbrev pub index_in : Fields → List MapSection → IndexValue
 index_in fields ss = record { parts = index_parts fields; sections = by_offset ss }
 
--- the index that a record of sections stands for, or its first error
+-- the index that a record with sections stands for, or its first error
 abbrev pub PartsDecode : Fields → Sections → Result IndexValue Error → Type 0
 PartsDecode fields sections answer =
     MatchBool (nat_lt 4294967295 (count sections))
     (answer ≡ Err IncompatibleSourceMap)
     (Then (λ a. SectionsDecode sections a) (λ ss a. a ≡ Ok (index_in fields ss)) answer)
 
--- the same of any record; one of another kind is an error before its keys are decoded
+-- the index that a record stands for; a record without sections is an error before its keys are decoded
 abbrev pub IndexDecodes : Tree → Result IndexValue Error → Type 0
 IndexDecodes (plain fields) answer = answer ≡ Err IncompatibleSourceMap
 IndexDecodes (indexed fields sections) answer = PartsDecode fields sections answer

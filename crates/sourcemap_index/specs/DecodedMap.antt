@@ -28,7 +28,7 @@ IsValueOf t d = (r : Tree) × IsRecordOf t r × (d ≡ written r)
 abbrev pub IsTextOf : MapTree → List ℕ → Type 0
 IsTextOf t text = (d : Data) × IsValueOf t d × (text ≡ compact_text d)
 
--- how deep indexes are nested; JSON has more levels
+-- how deep index maps are nested; the JSON text of a map has more levels
 abbrev mutual
   pub levels : MapTree → ℕ
   levels (leaf l) = 0
@@ -39,7 +39,7 @@ abbrev mutual
   deepest (hollow head rest) = deepest rest
   deepest (filled head t rest) = max (levels t) (deepest rest)
 
--- what the map is written as has at most 127 levels: a regular map has two, a Hermes map up to five, and an index three
--- more than the deepest of its maps, or at most four where it has none
+-- the map is written as JSON of at most 127 levels. A regular map takes two levels, a Hermes map up to five. An index
+-- takes three more than the deepest of its maps, and at most four if it has no maps
 abbrev pub IsShallow : MapTree → Type 0
 IsShallow t = (d : Data) → IsValueOf t d → depth d ≤ max_depth

@@ -1,4 +1,4 @@
--- The records that maps, sections and lists of sections are written as, numbers in range.
+-- The records that maps, sections and lists of sections are written as. Their numbers are below 2^32.
 use Rattle.std.specs.Prelude.{◌≡◌, None, Some, MatchOption, Result, Ok, Err}
 use Rattle.sourcemap_errors.specs.declared.errors.Error.{Error}
 use Rattle.sourcemap_records.specs.Jsontypes.{Tree, Section, Sections, IsInRange, AreSectionsInRange, IsSectionInRange}
@@ -14,7 +14,7 @@ abbrev pub SectionsWrite : MapSections → Result Sections Error → Type 0
 SectionsWrite ss (Ok rs) = AreWrittenBy IsLeafAnswer ss rs × AreSectionsInRange rs
 SectionsWrite ss (Err _) = ⊥
 
--- the record of one section
+-- one section is written as this record
 abbrev pub SectionIsWritten : MapSection → Section → Type 0
 SectionIsWritten s r =
     (r.head ≡ s.head) × IsSectionInRange r

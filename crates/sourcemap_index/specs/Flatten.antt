@@ -14,11 +14,11 @@ use Rattle.sourcemap_index_flatten.specs.declared.gathering.Gathering.{Gathering
 use Rattle.sourcemap_index_flatten.specs.declared.gathering.FlatMap.{FlatMap}
 use Rattle.sourcemap_map_rewrite.specs.declared.options.RewriteOptions.{RewriteOptions}
 
--- the pieces, with the flat map of one more map from this offset on
+-- these pieces and one more: the flat map of this map, from this offset on
 abbrev pub map_added : List Piece → ℕ × ℕ → MapTree → Result (List Piece) (List ℕ)
 map_added before offset t = on_ok (flat t) (λ m. with_piece before (offset, m))
 
--- with that of one more section
+-- these pieces and one more: the flat map of the section's map; an error if the section has no map
 abbrev pub section_map_added : List Piece → SectionHead → Option MapTree → Result (List Piece) (List ℕ)
 section_map_added before head None = Err (unresolved head.url)
 section_map_added before head (Some t) = map_added before (offset_of head) t
@@ -26,11 +26,11 @@ section_map_added before head (Some t) = map_added before (offset_of head) t
 abbrev pub section_added : List Piece → MapSection → Result (List Piece) (List ℕ)
 section_added before s = section_map_added before s.head s.map
 
--- these pieces were due, and they are gathered
+-- `due` is no error but a list of pieces, and exactly these are gathered
 abbrev pub Gathered : Result (List Piece) (List ℕ) → Gathering → Type 0
 Gathered due g = (pieces : List Piece) × (due ≡ Ok pieces) × Gathers pieces g
 
--- and made one
+-- `due` is no error but a list of pieces, and `flat` is their concatenation
 abbrev pub IsFlatOf : Result (List Piece) (List ℕ) → FlatMap → Type 0
 IsFlatOf due flat = (pieces : List Piece) × (due ≡ Ok pieces) × IsFlat pieces flat
 
@@ -38,7 +38,7 @@ IsFlatOf due flat = (pieces : List Piece) × (due ≡ Ok pieces) × IsFlat piece
 abbrev pub IsSectionInOrder : MapSection → Type 0
 IsSectionInOrder s = IfSome s.map HasTokensInOrder
 
--- Flattened, and then rewritten.
+-- An index flattened, and then rewritten.
 
 -- the error of flattening, or the result of rewriting the flat map
 abbrev pub RewriteAnswer : RewriteOptions → MapTree → Result MapValue Error → Type 0
@@ -52,7 +52,7 @@ SaysFlatLess removal t m = (whole : MapValue) × (flat t ≡ Ok whole) × SaysFl
 abbrev pub MeansFlatLess : Removal → MapTree → MapValue → Type 0
 MeansFlatLess removal t m = (whole : MapValue) × (flat t ≡ Ok whole) × MeansLess removal whole m
 
--- wherever the index answers, the map answers the same, without what is removed
+-- wherever a position has a meaning in the index, it has the same in the map, without what is removed
 abbrev pub AnswersLess : Removal → MapTree → MapValue → Type 0
 AnswersLess removal t m =
     (whole : MapValue) × (flat t ≡ Ok whole)

@@ -1,4 +1,4 @@
--- An index changed in one part, and borrowed mutably section by section.
+-- An index of which one part is changed, or one section is borrowed mutably.
 use Rattle.std.specs.Prelude.{◌≡◌, ℕ, List, slice_set, Option, None}
 use Rattle.std.specs.Option.{OnSome}
 use Rattle.std.specs.Borrow.{LendsSo, MutBor, Fml}
@@ -22,7 +22,7 @@ with_file i file = record i { parts = record i.parts { file = file } }
 abbrev pub with_debug_id : IndexValue → Option (List ℕ) → IndexValue
 with_debug_id i id = record i { parts = record i.parts { debug_id = id } }
 
--- the index with this section instead of one of its own
+-- the index with its section `id` replaced by this one
 abbrev pub with_section : IndexValue → ℕ → MapSection → IndexValue
 with_section i id s = record i { sections = slice_set i.sections id s }
 

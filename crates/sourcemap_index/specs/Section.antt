@@ -1,4 +1,4 @@
--- A section changed in one part, and borrowed mutably.
+-- A section of which one part is changed, or the map is borrowed mutably.
 use Rattle.std.specs.Prelude.{◌≡◌, ℕ, List, map, Option, Some}
 use Rattle.std.specs.Option.{OnSome}
 use Rattle.std.specs.Borrow.{LendsSo, MutBor, Fml}
@@ -26,6 +26,6 @@ LendsMap self result = LendsSo section_row map_row self result
     (λ new m. OnSome result (section_value new ≡ with_map (section_value self.now) (Some (map_tree m))))
     (λ new. section_value new ≡ section_value self.now)
 
--- the sections that an iterator has left
+-- the sections that an iterator has still to return
 abbrev pub sections_left : SourceMapSectionIter → List MapSection
 sections_left it = map section_value it.sections.now

@@ -1,4 +1,4 @@
-//! Which map of any kind records, JSON values, bytes and data URLs hold.
+//! Decodes JSON values, bytes, readers and data URLs to maps of any kind, or to index maps alone.
 ghost use Rattle.std.specs.Prelude.{◌≡◌, ℕ, List, Err, IfErr, IfOk, IfSome, Result};
 ghost use Rattle.serde_json.specs.Data.{Data};
 ghost use Rattle.serde_json.specs.View.{view};
@@ -50,10 +50,11 @@ fn decode_owned(alloc: Global, bytes: Vec<u8>) -> Result<DecodedMap>
 
 /// Returns the map in these bytes, after a junk header if there is one. Errors come in this order:
 /// an invalid header is `Io` of kind `InvalidData`; bytes that are not JSON are `BadJson(Parse)`;
-/// JSON that is no record is `BadJson(Shape)`. Of a record without sections the errors of
+/// JSON that is no record is `BadJson(Shape)`. If the record has no sections, the errors of
 /// `decode_hermes` follow if its sources have scopes, else those of `decode_regular`. A record with
-/// sections is an index map: more than 4294967295 sections are `IncompatibleSourceMap`, then comes
-/// the first error of their maps, in the order of the text. Its own scopes are ignored.
+/// sections is an index map, and its own scopes are ignored. More than 4294967295 sections are
+/// `IncompatibleSourceMap`. Then follows the first error of the sections' maps, in the order of the
+/// text.
 pub fn decode_slice(alloc: Global, bytes: &[u8]) -> Result<DecodedMap>
     ensures answer { IsAnswer map_tree (BytesDecode bytes.now) result }
     // No other answer is right.
@@ -157,8 +158,8 @@ impl SourceMapIndex {
     }
 }
 
-/// A law: a JSON value, bytes and a data URL each stand for one map, or for none for one reason. Of
-/// an invalid header the kind of the error is determined.
+/// A law: a JSON value, bytes or a data URL stands for one map, or for none because of one error.
+/// Of the error for an invalid header, only the kind is determined.
 pub fn answers_are_determined()
     ensures values { (d : Data) (a b : Result MapTree Error)
         → ValueDecodes d a → ValueDecodes d b → a ≡ b }
@@ -168,8 +169,8 @@ pub fn answers_are_determined()
         → UrlDecodes url a → UrlDecodes url b → AreSame a b }
 {}
 
-/// A law: a text is `InvalidDataUrl` exactly if it is no data URL. No JSON value, no bytes and no
-/// payload are.
+/// A law: decoding a text as a data URL gives `InvalidDataUrl` exactly if the text is no data URL.
+/// Decoding a JSON value, bytes or a payload never gives it.
 pub fn only_urls_give_invalid_data_url()
     ensures values { (d : Data) → ¬ ValueDecodes d (Err InvalidDataUrl) }
     ensures bytes { (bytes : List ℕ) → ¬ BytesDecode bytes (Err InvalidDataUrl) }

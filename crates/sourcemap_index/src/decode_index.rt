@@ -1,4 +1,4 @@
-//! Which map of any kind a record stands for, section by section.
+//! Decodes a record to a map of any kind, section by section.
 ghost use Rattle.std.specs.Prelude.{◌≡◌, Ok, OnOk, IfErr, IfOk, map};
 ghost use Rattle.sourcemap_errors.specs.Answer.{IsAnswer, Gives};
 ghost use Rattle.sourcemap_errors.specs.declared.errors.Error.TheVariants.{OutOfMemory};
@@ -107,7 +107,6 @@ fn decode_section(alloc: Global, part: RawSection) -> Result<SourceMapSection>
     }
 }
 
-// Sorts sections stably by offset.
 fn sort_sections(sections: &mut Vec<SourceMapSection>) -> Result<()>
     ensures sorted { OnOk result (map section_value sections.new.items
         ≡ by_offset (map section_value sections.old.items)) }

@@ -1,4 +1,4 @@
-//! A map of any kind.
+//! Calls of a map of any kind: its debug id, and its record, JSON value and JSON text.
 ghost use Rattle.std.specs.Prelude.{◌≡◌, ℕ, List, Result, IfOk, IfErr, IfSome, OnOk};
 ghost use Rattle.serde_json.specs.View.{view};
 ghost use Rattle.sourcemap_errors.specs.Answer.{UnlessMemory, Gives, IsAnswer};
@@ -60,7 +60,8 @@ impl DecodedMap {
     /// The map as a JSON value, with its keys in byte order. The only error is `OutOfMemory`.
     pub fn to_value(&self) -> Result<Value>
         ensures written { IfOk result (λ v. IsValueOf (map_tree self.now) (view v)) }
-        // Read back, a well-formed map means the same at every position, with all parts kept.
+        // Read back, a well-formed map means the same at every position, and `KeepsParts` says
+        // which parts it keeps.
         ensures reads_back { IfOk result (λ v. IsWellFormed (map_tree self.now)
             → ReadsBack (ValueDecodes (view v)) (Restores (map_tree self.now))) }
         ensures memory { IfErr result (λ e. e ≡ OutOfMemory) }
@@ -81,7 +82,8 @@ impl DecodedMap {
     /// `OutOfMemory`.
     pub fn into_value(self) -> Result<Value>
         ensures written { IfOk result (λ v. IsValueOf (map_tree self) (view v)) }
-        // Read back, a well-formed map means the same at every position, with all parts kept.
+        // Read back, a well-formed map means the same at every position, and `KeepsParts` says
+        // which parts it keeps.
         ensures reads_back { IfOk result (λ v. IsWellFormed (map_tree self)
             → ReadsBack (ValueDecodes (view v)) (Restores (map_tree self))) }
         ensures memory { IfErr result (λ e. e ≡ OutOfMemory) }
@@ -91,8 +93,8 @@ impl DecodedMap {
         raw.into_value(alloc)
     }
 
-    /// Returns the map of a JSON value. The error is `BadJson(Shape)` if the value is no record,
-    /// else that of `decode_slice`.
+    /// Returns the map of a JSON value. The error is `BadJson(Shape)` if the value is no record.
+    /// Other errors are those that `decode_slice` returns for the record.
     pub fn from_value(alloc: Global, value: &Value) -> Result<Self>
         ensures answer { IsAnswer map_tree (ValueDecodes (view value.now)) result }
         ensures only { (due : Result MapTree Error) → ValueDecodes (view value.now) due

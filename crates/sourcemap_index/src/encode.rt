@@ -235,7 +235,7 @@ fn record_with(
     }
 }
 
-// The same lines: they are below 2^32.
+// Returns the same lines. Its use is the clause `small`: each line is below 2^32.
 fn checked_lines(lines: Option<Vec<Option<u32>>>) -> Option<Vec<Option<u32>>>
     ensures value { option_map (λ v. v.items) result ≡ option_map (λ v. v.items) lines }
     ensures small { IfSome result (λ v. AllByRecursion (λ n. IfSome n FitsU32) v.items) }
@@ -258,7 +258,7 @@ fn look_at(numbers: &[Option<u32>])
     }
 }
 
-// The same number: it is below 2^32.
+// Returns the same number. Its use is the clause `small`: the number is below 2^32.
 fn check_number(number: Option<u32>) -> Option<u32>
     ensures value { result ≡ number }
     ensures small { IfSome result FitsU32 }

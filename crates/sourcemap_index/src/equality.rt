@@ -1,4 +1,4 @@
-//! Equality of maps of any kind, of index maps and of sections: of all that they hold.
+//! Equality of maps of any kind, of index maps and of sections, by all that they hold.
 ghost use Rattle.std.specs.Prelude.{◌≡◌, map, nat_eq, option_map, string_bytes};
 ghost use Rattle.std.specs.Bool.{Decides};
 ghost use Rattle.std.specs.Ordering.{on};
@@ -110,7 +110,7 @@ impl PartialEq for SourceMapSection {
     }
 }
 
-/// Indexes are equal exactly if their files, debug ids, bundle lists and sections are, in order.
+/// Indexes are equal exactly if their files, debug ids, bundle lists and lists of sections are.
 impl PartialEq for SourceMapIndex {
     ghost eq = { on index_value same_index };
 

@@ -1,11 +1,11 @@
-//! The types of maps of any kind, index maps and sections, which name one another.
+//! The types of maps of any kind, of index maps and of sections, which hold one another.
 use sourcemap_hermes::map::SourceMapHermes;
 use sourcemap_map_regular::map::SourceMap;
 use sourcemap_records::jsontypes::DebugId;
 use std::alloc::Global;
 
-/// A section of an index map: an offset in the generated text, and the map from there on, or its
-/// URL. Lines and columns count from 0, columns in UTF-16 units.
+/// A section of an index map: an offset in the generated text, with the map from there on, the URL
+/// of this map, both or neither. Lines and columns count from 0, columns in UTF-16 units.
 #[derive(Debug, Drop)]
 #[cycle(family)]
 pub struct SourceMapSection {

@@ -27,13 +27,15 @@ impl SourceMapIndex {
     /// tokens ignores it. A Hermes map counts as its regular map, without scopes. The file is that
     /// of the index; there is no root and no debug id.
     ///
-    /// The error is `CannotFlatten` for the first section, in order, that has no map, whose map
-    /// cannot be flattened, or that brings more than 4294967295 sources or names or a token past
-    /// line or column 4294967295. Any other error is `OutOfMemory`.
+    /// The error is `CannotFlatten` for the first section, in order, that cannot be added. It has
+    /// no map, or its map cannot be flattened itself. Or with it there are more than 4294967295
+    /// sources or names, or one of its tokens passes line or column 4294967295. Any other error is
+    /// `OutOfMemory`.
     pub fn flatten(&self) -> Result<SourceMap>
         ensures answer { IsAnswer (λ m. m) (FlatAnswer (index_tree (index_value self.now))) result }
         ensures tokens { IfOk result (SaysFlat (index_tree (index_value self.now))) }
-        // It answers wherever the index does, if no section reaches into the next one.
+        // Wherever a position has a meaning in the index, it has the same in the flat map. The
+        // premise: no section reaches into the next one.
         ensures meaning { IfOk result (λ m. IsOrderly (index_tree (index_value self.now))
             → AnswersLike (index_tree (index_value self.now)) m) }
         ensures well_formed { IfOk result (λ m. IsWellFormed (index_tree (index_value self.now))
@@ -44,7 +46,7 @@ impl SourceMapIndex {
     }
 
     /// The flat map of `flatten`, rewritten as by `SourceMap::rewrite`. With
-    /// `load_local_source_contents`, contents that are missing then are read from files. Returns
+    /// `load_local_source_contents`, contents that are still missing are read from files. Returns
     /// the errors of `flatten` first, then those of `rewrite`: `Io` of kind `InvalidInput` if
     /// contents are to be loaded and the folder is not absolute, else `OutOfMemory` only.
     pub fn flatten_and_rewrite<F: Files>(
@@ -56,14 +58,16 @@ impl SourceMapIndex {
             (RewriteAnswer options.now (index_tree (index_value self))) result }
         ensures tokens { IfOk result
             (SaysFlatLess (removal_of options.now) (index_tree (index_value self))) }
-        // It means at every position what the flat map does, less what the options take away, also
-        // where sections are out of order.
+        // At every position the result means what the flat map means, less what the options remove.
+        // This also holds if sections are out of order.
         ensures means { IfOk result
             (MeansFlatLess (removal_of options.now) (index_tree (index_value self))) }
-        // It answers wherever the index does, less what the options take away.
+        // Wherever a position has a meaning in the index, it has the same in the result, less what
+        // the options remove. The premise: no section reaches into the next one.
         ensures meaning { IfOk result (λ m. IsOrderly (index_tree (index_value self))
             → AnswersLess (removal_of options.now) (index_tree (index_value self)) m) }
-        // Where names are kept and no prefix is cut, that is the same meaning.
+        // If names are kept and no prefix is cut, the options remove nothing: the meaning is the
+        // same.
         ensures same { LeavesMeaning (removal_of options.now) → IfOk result (λ m.
             IsOrderly (index_tree (index_value self))
             → AnswersLike (index_tree (index_value self)) m) }

@@ -1,4 +1,4 @@
-//! An index map: its getters and setters, and the lookup of a position.
+//! An index map: its constructors, getters and setters.
 ghost use Rattle.std.specs.Prelude.{◌≡◌, ◌≢◌, None, Ok, length, map, min, option_map, slice_get, string_bytes};
 ghost use Rattle.std.specs.Bool.{Decides};
 ghost use Rattle.std.specs.Option.{option_copied};
@@ -27,8 +27,9 @@ impl SourceMapIndex {
         SourceMapIndex::new_ram_bundle_compatible(alloc, file, sections, None, None)
     }
 
-    /// An index of these sections and bundle lists, without debug id: the line at which each module
-    /// of a bundle starts, and the path of each.
+    /// An index of these sections and bundle lists, without debug id. `x_facebook_offsets` has the
+    /// line at which each module of a bundle starts, `x_metro_module_paths` the path of each
+    /// module.
     pub fn new_ram_bundle_compatible(
         alloc: Global,
         file: Option<String>,
@@ -122,8 +123,8 @@ impl SourceMapIndex {
         self.x_facebook_offsets.is_some() & self.x_metro_module_paths.is_some()
     }
 
-    /// The line, from 0, at which each module of a bundle starts, if the index has that list.
-    /// `None` in it is a number without a module.
+    /// The line, from 0, at which each module of a bundle starts, if the index has that list. An
+    /// item of the list is `None` if no module has its number.
     pub fn x_facebook_offsets(&self) -> Option<&[Option<u32>]>
         ensures { option_map (λ xs. xs.now) result
             ≡ (index_value self.now).parts.x_facebook_offsets }

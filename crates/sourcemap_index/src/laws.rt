@@ -1,4 +1,4 @@
-//! Laws of maps of any kind as they are stored.
+//! Laws on maps of any kind that are decoded or written.
 ghost use Rattle.std.specs.Prelude.{◌≡◌, ◌≤◌, false, List, Ok, ℕ, ◌↔◌};
 ghost use Rattle.serde_json.specs.Data.{Data};
 ghost use Rattle.serde_json.specs.Written.{has_float};
@@ -27,7 +27,8 @@ pub fn regular_maps_are_of_a_kind()
         → UrlHasResult RegularDecodes url (Ok m) ↔ UrlDecodes url (Ok (leaf (regular m))) }
 {}
 
-/// A law: the same of Hermes maps.
+/// A law: a JSON value, bytes or a data URL stand for a Hermes map exactly if they stand for it as
+/// a map of any kind.
 pub fn hermes_maps_are_of_a_kind()
     ensures values { (d : Data) (h : HermesValue)
         → ValueHasResult RecordDecodesAsHermes d (Ok h) ↔ ValueDecodes d (Ok (leaf (hermes h))) }
@@ -49,15 +50,15 @@ pub fn read_maps_are_well_formed()
         → IsWellFormed t × HasTokensInOrder t }
 {}
 
-/// A law: a map is written as one text, and no number of its value has a fraction, so that the
-/// value is printed as that text.
+/// A law: a map is written as one text. No number of the JSON value that it is written as has a
+/// fraction, so the value is printed as this text.
 pub fn written_values_have_one_text()
     ensures whole { (t : MapTree) (d : Data) → IsValueOf t d → has_float d ≡ false }
     ensures once { (t : MapTree) (a b : List ℕ) → IsTextOf t a → IsTextOf t b → a ≡ b }
 {}
 
-/// A law: the bytes that a map of any kind is written as are the compact text of its record's
-/// value, for no number in that has a fraction.
+/// A law: the bytes that a map of any kind is written as are the compact text of its record's JSON
+/// value. The reason is that no number of this value has a fraction.
 pub fn encoded_texts_are_compact()
     ensures { (t : MapTree) (text : List ℕ) → IsEncoded (RecordAnswer t) text → IsTextOf t text }
 {}
@@ -69,8 +70,8 @@ pub fn maps_of_forty_levels_are_shallow()
 {}
 
 /// A law: the bytes that a well-formed map of any kind is written as, and a data URL of them, stand
-/// for a map of the same meaning at every position, with all parts kept. It requires JSON of few
-/// enough levels to be read.
+/// for a map of the same meaning at every position. `KeepsParts` says which parts that map keeps.
+/// The law requires JSON of few enough levels to be read.
 pub fn encoded_texts_read_back()
     ensures bytes { (t : MapTree) (text : List ℕ)
         → IsEncoded (RecordAnswer t) text → IsWellFormed t → IsShallow t

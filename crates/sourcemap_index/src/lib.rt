@@ -1,4 +1,5 @@
-//! Maps of any kind, decoded from records, JSON values, bytes and data URLs, and their calls.
+//! Maps of any kind and their calls. The maps are decoded from records, JSON values, bytes and
+//! data URLs.
 #![tactic(auto)]
 
 mod clone;

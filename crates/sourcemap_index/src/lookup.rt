@@ -11,8 +11,8 @@ use crate::family::{DecodedMap, SourceMapIndex, SourceMapSection};
 use sourcemap_map_regular::token::Token;
 use sourcemap_tokens::search::greatest_lower_bound;
 
-// A position relative to the offset of its section. It stops at 0, which matters for sections out
-// of order alone.
+// A position relative to the offset of its section. The differences stop at 0, which matters only
+// if sections are out of order.
 fn relative_position(offset: (u32, u32), line: u32, col: u32) -> (u32, u32)
     ensures { result ≡ relative_position offset (line, col) }
 {
@@ -28,7 +28,6 @@ impl SourceMapIndex {
     ghost use Rattle.sourcemap_index.specs.Family.{index_value, section_value};
     ghost use Rattle.sourcemap_index.specs.Lookup.{HasToken, IsAmong};
 
-    // The section with the closest offset to a position.
     fn closest_section(&self, line: u32, col: u32) -> Option<&SourceMapSection>
         ensures own { IfSome result
             (λ s. IsAmong (index_value self.now).sections (section_value s.now)) }
@@ -62,11 +61,12 @@ impl SourceMapIndex {
         }
     }
 
-    /// The closest token to a generated position: that of the section with the closest offset, at
-    /// the position relative to that offset. Only on the section's first line does its column
-    /// count. The token is one of the section's own map, with its index there. There is none if no
-    /// section is at or before the position, or if the closest one has no map. Requires sorted
-    /// sections at every depth; otherwise the result is some token of one of its maps, or none.
+    /// The closest token to a generated position. It is looked up in the section with the closest
+    /// offset, at the position relative to this offset. The offset's column counts only on the
+    /// section's first line. The token is one of the section's own map, with its index there. There
+    /// is none if no section is at or before the position, if the closest section has no map, or if
+    /// this map has no closest token. Requires sorted sections at every depth; otherwise the result
+    /// is some token of one of the maps in the index, or none.
     pub fn lookup_token(&self, line: u32, col: u32) -> Option<Token<'_>>
         ensures value { IsInOrder (index_tree (index_value self.now))
             → option_map token_value result
@@ -114,9 +114,9 @@ impl DecodedMap {
     }
 
     /// The closest token to a generated position: the first one at the position, else the last one
-    /// before it, on its line or an earlier one. On its own line a range token adds the columns
-    /// between to its source column, up to 4294967295. In an index it is the token of the closest
-    /// section, as by `SourceMapIndex::lookup_token`.
+    /// before it, on its line or an earlier one. If a range token is on the line of the position,
+    /// the columns from the token to the position are added to its source column, up to 4294967295.
+    /// In an index it is the token of the closest section, as by `SourceMapIndex::lookup_token`.
     #[inline(always)]
     pub fn lookup_token(&self, line: u32, col: u32) -> Option<Token<'_>>
         ensures value { IsInOrder (map_tree self.now)

@@ -15,8 +15,8 @@ impl SourceMapIndex {
 
     /// The original name of the function at a generated position, as by
     /// `SourceMap::get_original_function_name`. The walk begins at the token that `lookup_token`
-    /// returns and goes back along the map of its section alone, whose positions count in the view.
-    /// Allocates nothing.
+    /// returns, and goes back over the tokens of one map alone, that of the token's section. The
+    /// view is read at the positions that tokens have in this map. Allocates nothing.
     pub fn get_original_function_name(
         &self,
         line: u32,
@@ -36,10 +36,10 @@ impl SourceMapIndex {
 impl DecodedMap {
     ghost use Rattle.sourcemap_index.specs.Family.{map_tree};
 
-    /// The original name of the function at a generated position. A Hermes map has one for columns
-    /// of line 0, the bytecode, alone, and ignores the minified name and the view. Other maps guess
-    /// it by the minified name in a view of the generated text; without both the result is `None`.
-    /// Allocates nothing.
+    /// The original name of the function at a generated position. A Hermes map has names only for
+    /// columns of line 0, the bytecode, and ignores the minified name and the view. Other maps
+    /// guess the name by the minified name and a view of the generated text. They return `None` if
+    /// one of these is missing. Allocates nothing.
     pub fn get_original_function_name(
         &self,
         line: u32,

@@ -50,12 +50,13 @@ pub record IsEntered (entered : List TextEntry) (text : List ℕ) (number : ℕ)
   pub table : IsTable entered t
   pub text_id : id_of text (texts_entered entered) ≡ Some number
 
--- the table after `entered`, and the numbers of these
+-- the table after `entered`, and the numbers of `entries`
 pub record AreEntered (entered entries : List TextEntry) (numbers : List ℕ) (t : Table) : Type 0 where
   pub table : IsTable entered t
   pub each : numbers ≡ numbers_among entered entries
 
--- an entry at its number: appended, or replacing the contents of an earlier one
+-- the entries after `e` was entered: appended if its number is new, otherwise in place of the earlier entry, but only
+-- if `e` has contents
 abbrev pub put_at : ℕ → TextEntry → List TextEntry → List TextEntry
 put_at number e entries =
     cond (nat_lt number (length entries))

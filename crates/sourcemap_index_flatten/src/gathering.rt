@@ -52,7 +52,7 @@ pub struct FlatMap<'a> {
 }
 
 impl<'a> Gathering<'a> {
-    /// No maps, with capacity for `tokens` tokens. The only error is `OutOfMemory`.
+    /// An empty gathering, with capacity for `tokens` tokens. The only error is `OutOfMemory`.
     pub fn with_capacity(alloc: Global, tokens: usize) -> Result<Self>
         ensures ok { IfOk result (Gathers []) }
         ensures memory { IsOkUnless result OutOfMemory }

@@ -40,7 +40,7 @@ impl<'a> Table<'a> {
         })
     }
 
-    // Enters these in order. Returns the number of each.
+    // Enters `entries` in order. Returns the number of each.
     pub(crate) fn enter_all(&mut self, alloc: Global, entries: &[Entry<'a>]) -> Result<Vec<u32>>
         ensures ok { (before : List TextEntry) → IsTable before self.old
             → IfOk result (λ numbers. AreEntered (before ++ entry_values entries.now)
@@ -96,7 +96,8 @@ fn is_full(ids: &TextIndex<'_>, text: &str) -> bool
     !ids.contains(text)
 }
 
-// Appends the entry, or replaces the contents of the one at its number.
+// Appends `item` if its number is new. Otherwise puts it in place of the entry with this number, if
+// `item` has contents.
 fn push_or_replace<'a>(entries: &mut Vec<Entry<'a>>, number: usize, item: Entry<'a>) -> Result<()>
     ensures ok { OnOk result (entry_values entries.new.items
         ≡ put_at number (entry_value item.entry) (entry_values entries.old.items)) }

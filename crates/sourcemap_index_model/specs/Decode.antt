@@ -11,7 +11,7 @@ use Rattle.sourcemap_hermes_scopes.specs.ScopeLists.{ScopeEntry}
 use Rattle.sourcemap_hermes.specs.Decode.{EntriesDecode}
 use Rattle.sourcemap_index_model.specs.MapTree.{regular, hermes, IndexParts, MapTree, leaf, index, MapSection, section_offset, sections_from}
 
--- the results of two steps: an error of the first, or what the next makes of its value
+-- the result of two steps: the error of the first step, or what the second makes of the value of the first
 abbrev pub Then : {X Y : Type 0} → (Result X Error → Type 0) → (X → Result Y Error → Type 0) → Result Y Error → Type 0
 Then First Next answer = ((x : _) × First (Ok x) × Next x answer) ⊎ IsErrAnd answer (λ e. First (Err e))
 
@@ -42,8 +42,8 @@ by_offset ss = sorted_by {K = ℕ × ℕ} section_offset position_cmp ss
 abbrev pub index_of : Fields → List MapSection → MapTree
 index_of fields ss = index (index_parts fields) (sections_from (by_offset ss))
 
--- the map that a record decodes to, or the error: too many sections are an error before anything in
--- them is decoded; else it is the first error in the order of the text
+-- the map that a record decodes to, or the error; too many sections are an error before any section
+-- is decoded; otherwise the first error in the order of the text is returned
 abbrev mutual
   pub TreeDecodes : Tree → Result MapTree Error → Type 0
   TreeDecodes (plain fields) answer = LeafDecodes fields fields.x_facebook_sources answer

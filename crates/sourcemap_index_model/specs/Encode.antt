@@ -28,7 +28,7 @@ index_fields parts = record {
   debug_id = parts.debug_id;
 }
 
--- the map is written as this record; `IsOf` says so of regular and Hermes maps, the leaves
+-- the map is written as this record; `IsOf` says which records its regular and Hermes maps are written as
 abbrev mutual
   pub IsWrittenBy : (LeafMap → Tree → Type 0) → MapTree → Tree → Type 0
   IsWrittenBy IsOf (leaf l) r = IsOf l r
@@ -55,7 +55,7 @@ RestoresLeaf (regular m) (regular back) = RestoresRegular m back
 RestoresLeaf (hermes h) (hermes back) = RestoresHermes h back
 RestoresLeaf _ _ = ⊥
 
--- all parts and scopes are kept at every level
+-- `back` has the parts of the index maps of `t`, and restores each regular map and each Hermes map, at every level
 abbrev mutual
   pub KeepsParts : (back t : MapTree) → Type 0
   KeepsParts (leaf back) (leaf l) = RestoresLeaf l back
@@ -68,16 +68,17 @@ abbrev mutual
   KeepSections (filled head t rest) (filled head' t' rest') = (head ≡ head') × KeepsParts t t' × KeepSections rest rest'
   KeepSections _ _ = ⊥
 
--- `back` has the same meaning as `t` at every position, and the same parts
+-- `back` has the same meaning as `t` at every position, and keeps its parts
 abbrev pub Restores : (t back : MapTree) → Type 0
 Restores t back = MeansTheSame back t × KeepsParts back t
 
--- the result of a call that encodes a map: a record that the map is written as, and that reads back; no error but out of memory
+-- the result of a call that encodes a map: a record that the map is written as; if the map is well-formed, the record
+-- reads back; no error but out of memory
 abbrev pub RecordAnswer : MapTree → Result Tree Error → Type 0
 RecordAnswer t (Ok r) = IsRecordOf t r × IsFine r × (IsWellFormed t → ReadsBack (TreeDecodes r) (Restores t))
 RecordAnswer t (Err _) = ⊥
 
--- a record that a regular or Hermes map is written as, and that reads back
+-- a record that a regular or Hermes map is written as; if the map is well-formed, the record reads back
 abbrev pub IsLeafAnswer : LeafMap → Tree → Type 0
 IsLeafAnswer (regular m) r = RecordAnswerRegular m (Ok r)
 IsLeafAnswer (hermes h) r = RecordAnswerHermes h (Ok r)

@@ -1,4 +1,4 @@
--- The regular map that an index map is flattened to, or the error, and its meaning.
+-- The regular map that an index map is flattened to, or the error. The meaning of this regular map.
 use Rattle.std.specs.Prelude.{◌≡◌, ℕ, Bool, ◌&&◌, ◌||◌, if◌then◌else◌, nat_lt, nat_eq, List, [], ◌∷◌, ◌++◌, length, map, filter, flat_map, codes, Option, Some, None, is_some, option_and_then, unwrap_or, IfSome, Result, Ok, Err, string_bytes}
 use Rattle.std.specs.List.{enumerate_from, list_any}
 use Rattle.std.specs.Str.{bytes_eq}
@@ -32,7 +32,7 @@ names_in pieces = kept_once (flat_map (λ piece. piece.1.names) pieces)
 abbrev pub source_entries : MapValue → List (List ℕ × Option (List ℕ))
 source_entries m = map (λ source. (source.1, contents_of m source.0)) (enumerate_from 0 (resolved_sources m))
 
--- the last contents of a source of this text
+-- the last contents among the sources with this text
 abbrev pub contents_in : List Piece → List ℕ → Option (List ℕ)
 contents_in pieces text =
     option_and_then (λ source. source.1)
@@ -74,7 +74,7 @@ unresolved url = codes "Section has an unresolved sourcemap: " ++ unwrap_or url 
 abbrev pub passes_the_end : ℕ × ℕ → Bool
 passes_the_end p = nat_lt 4294967295 p.0 || nat_lt 4294967295 p.1
 
--- adds a piece; an error if there are too many sources or names then, else if a position is too large
+-- adds a piece; an error if there are then too many sources or names, or else if a position of the piece is too large
 abbrev pub with_piece : List Piece → Piece → Result (List Piece) (List ℕ)
 with_piece before piece =
     let pieces = before ++ piece ∷ [] in
@@ -85,7 +85,7 @@ with_piece before piece =
     else
     Ok pieces
 
--- the next step on a result, if it is no error
+-- applies the next step to a result, unless the result is an error
 abbrev pub on_ok : {X Y E : Type 0} → Result X E → (X → Result Y E) → Result Y E
 on_ok (Ok x) next = next x
 on_ok (Err e) next = Err e
@@ -108,7 +108,7 @@ FlatAnswer t (Ok m) = flat t ≡ Ok m
 FlatAnswer t (Err (CannotFlatten reason)) = flat t ≡ Err (string_bytes reason)
 FlatAnswer t (Err _) = ⊥
 
--- Its meaning.
+-- Meaning of the flattened map.
 
 -- the meanings of the map's tokens are the flat list, sorted stably by position
 abbrev pub SaysFlat : MapTree → MapValue → Type 0

@@ -10,7 +10,7 @@ pub data LeafMap : Type 0 where
   regular : MapValue → LeafMap
   hermes : HermesValue → LeafMap
 
--- its regular map
+-- the regular map that a map without sections is or holds
 abbrev pub held : LeafMap → MapValue
 held (regular m) = m
 held (hermes h) = h.map
@@ -27,7 +27,7 @@ mutual
     leaf : LeafMap → MapTree
     index : IndexParts → MapSections → MapTree
 
-  -- sections in order; `hollow` is one without a map
+  -- the sections of an index map, one after the other; `hollow` is a section without a map
   pub data MapSections : Type 0 where
     no_sections : MapSections
     hollow : SectionHead → MapSections → MapSections
@@ -55,7 +55,7 @@ abbrev pub section_with : SectionHead → Option MapTree → MapSections → Map
 section_with head None rest = hollow head rest
 section_with head (Some t) rest = filled head t rest
 
--- sections of a list
+-- a list of sections as `MapSections`
 abbrev pub sections_from : List MapSection → MapSections
 sections_from [] = no_sections
 sections_from (s ∷ ss) = section_with s.head s.map (sections_from ss)
@@ -68,7 +68,7 @@ pub record IndexValue : Type 0 where
 abbrev pub index_tree : IndexValue → MapTree
 index_tree i = index i.parts (sections_from i.sections)
 
--- `OfMap` of each map without sections, and `OfSections` of the sections of each index map, at every depth
+-- at every depth, `OfMap` holds of each map without sections, and `OfSections` of the sections of each index map
 abbrev mutual
   pub AtEachLevel : (LeafMap → Type 0) → (MapSections → Type 0) → MapTree → Type 0
   AtEachLevel OfMap OfSections (leaf l) = OfMap l

@@ -10,13 +10,13 @@ use Rattle.sourcemap_index_model.specs.MapTree.{MapTree, leaf, index, held, MapS
 abbrev pub relative_position : (offset p : ℕ × ℕ) → ℕ × ℕ
 relative_position offset p = (p.0 - offset.0, (if p.0 == offset.0 then p.1 - offset.1 else p.1))
 
--- the result of the section with the closest offset at the relative position; no other section is searched
+-- what the section with the closest offset returns for the position relative to it; no other section is searched
 abbrev pub closest_answer : {Y : Type 0} → List ((ℕ × ℕ) × (ℕ × ℕ → Option Y)) → ℕ × ℕ → Option Y
 closest_answer sections p =
     option_and_then (λ section. section.1 (relative_position section.0 p))
     (closest_item (λ section. section.0) position_cmp sections p)
 
--- the closest token to a position: in an index map that of its closest section
+-- the closest token to a position; in an index map, the closest token of the closest section
 abbrev mutual
   pub lookup : MapTree → ℕ × ℕ → Option TokenValue
   lookup (leaf l) p = lookup_regular (held l) p

@@ -9,7 +9,7 @@ use Rattle.sourcemap_index_model.specs.MapTree.{LeafMap, regular, hermes, held, 
 abbrev pub AreSectionsInOrder : MapSections → Type 0
 AreSectionsInOrder ss = IsSortedByKey {K = ℕ × ℕ} section_offset position_cmp (section_list ss)
 
--- sections are sorted at every level, so that a binary search finds the closest one
+-- sections are sorted at every level, so that a binary search finds the closest section
 abbrev pub IsInOrder : MapTree → Type 0
 IsInOrder t = AtEachLevel (λ l. Unit {0}) AreSectionsInOrder t
 
@@ -24,8 +24,8 @@ abbrev pub IsWellFormedLeaf : LeafMap → Type 0
 IsWellFormedLeaf (regular m) = IsWellFormedRegular m
 IsWellFormedLeaf (hermes h) = IsWellFormedHermes h
 
--- each source id of a token is one of its map or none; there are at most 2^32 - 1 sections and
--- scopes of sources, and sections are sorted
+-- each regular map and each Hermes map is well-formed; each index map has at most 2^32 - 1 sections,
+-- which are sorted
 abbrev pub IsWellFormed : MapTree → Type 0
 IsWellFormed t = AtEachLevel IsWellFormedLeaf AreWellFormedSections t
 

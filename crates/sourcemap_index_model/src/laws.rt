@@ -40,8 +40,8 @@ pub fn same_tree_decides()
     ensures equivalence { IsEquivalence same_tree }
 {}
 
-/// A law: the tokens of a flattened map are those of the sections, with the same sources and names,
-/// each at its generated position in the whole, sorted stably.
+/// A law: the tokens of a flattened map are those of the sections, with the same sources and names.
+/// Each has its generated position in the whole map. They are sorted stably by this position.
 pub fn flat_maps_say_the_flat_list()
     ensures { (t : MapTree) (m : MapValue) → HasTokensInOrder t → flat t ≡ Ok m → SaysFlat t m }
 {}
@@ -63,9 +63,10 @@ pub fn maps_are_written_once()
     ensures { (t : MapTree) (a b : Tree) → IsRecordOf t a → IsRecordOf t b → a ≡ b }
 {}
 
-/// A law: a record that satisfies the contract for each regular and each Hermes map in it does so
-/// for the whole: a well-formed map reads back with its meaning and all its parts. The premise
-/// `IsInRange` holds for every record of the code: numbers are below 2^32, a debug id has 16 bytes.
+/// A law: if each regular and each Hermes map in a map is written as the contracts demand, so is
+/// the whole map. Then a well-formed map reads back with its meaning, and with the parts that
+/// `KeepsParts` names. The premise `IsInRange` holds for every record of the code: numbers are
+/// below 2^32, a debug id has 16 bytes.
 pub fn written_records_read_back()
     ensures { (t : MapTree) (r : Tree) → IsWrittenBy IsLeafAnswer t r
         → IsInRange r → RecordAnswer t (Ok r) }

@@ -13,7 +13,7 @@ const FULL: &str =
 const UNSORTED: &str =
     r#"{"sections":[{"offset":{"line":10,"column":4},"map":{"sources":["b.js"],"mappings":"AAAA"}},{"offset":{"line":0,"column":0},"url":"u"}]}"#;
 
-// The getter called.
+// Which getter a row of `ANSWERS` calls.
 #[derive(Clone, Copy)]
 enum Getter {
     Parts,
@@ -28,7 +28,7 @@ fn parts_as_text(alloc: Global, index: &SourceMapIndex) -> Result<String> {
     Ok(format!(in alloc; "{:?} {counts:?}", index.get_file())?)
 }
 
-/// The lists of a bundle, and whether the index is one.
+/// The offsets and module paths of an index map, and whether it is for a RAM bundle.
 pub fn lists_text(alloc: Global, index: &SourceMapIndex) -> Result<String> {
     let offsets = index.x_facebook_offsets();
     let paths = index.x_metro_module_paths();

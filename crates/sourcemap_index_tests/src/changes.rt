@@ -43,7 +43,7 @@ fn sections(alloc: Global) -> Result<Vec<SourceMapSection>> {
     Ok(sections)
 }
 
-/// The index of a file, of these sections.
+/// An index map with the file `test.js` and these sections.
 pub fn index_of_file(alloc: Global, sections: Vec<SourceMapSection>) -> Result<SourceMapIndex> {
     let file = String::from_str(alloc, "test.js")?;
     Ok(SourceMapIndex::new(alloc, Some(file), sections))

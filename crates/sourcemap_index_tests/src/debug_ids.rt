@@ -35,13 +35,13 @@ fn read(alloc: Global, text: &str) -> Result<String> {
 const BOTH: &str =
     r#"{"sections":[],"debug_id":"11111111-1111-1111-1111-111111111111","debugId":"00000000-0000-0000-0000-000000000000"}"#;
 
-// The text of an index, and its debug id beside the text that it is written as, or the error.
+// The text of an index map. Then its debug id and the text that it is written as, or the error.
 static READ: [(&str, &str); 8] = [
     (
         r#"{"sections":[]}"#,
         r#"none {"sections":[],"sources":null,"version":3}"#,
     ),
-    // Under the newer key or the older one it is written with hyphens, under the newer one.
+    // An id under `debugId` or `debug_id` is written under `debugId`, with hyphens.
     (
         r#"{"sections":[],"debugId":"0123456789abcdef0123456789abcdef"}"#,
         r#"01234567-89ab-cdef-0123-456789abcdef {"debugId":"01234567-89ab-cdef-0123-456789abcdef","sections":[],"sources":null,"version":3}"#,
@@ -50,7 +50,7 @@ static READ: [(&str, &str); 8] = [
         r#"{"sections":[],"debug_id":"0123456789abcdef0123456789abcdef"}"#,
         r#"01234567-89ab-cdef-0123-456789abcdef {"debugId":"01234567-89ab-cdef-0123-456789abcdef","sections":[],"sources":null,"version":3}"#,
     ),
-    // The newer key is used, in any order.
+    // `debugId` wins over `debug_id`, in any order of the keys.
     (
         BOTH,
         r#"00000000-0000-0000-0000-000000000000 {"debugId":"00000000-0000-0000-0000-000000000000","sections":[],"sources":null,"version":3}"#,
@@ -59,12 +59,12 @@ static READ: [(&str, &str); 8] = [
         r#"{"debugId":"00000000-0000-0000-0000-000000000000","debug_id":"11111111-1111-1111-1111-111111111111","sections":[]}"#,
         r#"00000000-0000-0000-0000-000000000000 {"debugId":"00000000-0000-0000-0000-000000000000","sections":[],"sources":null,"version":3}"#,
     ),
-    // A key with null is as none.
+    // A key with the value null counts as missing.
     (
         r#"{"sections":[],"debug_id":"11111111-1111-1111-1111-111111111111","debugId":null}"#,
         r#"11111111-1111-1111-1111-111111111111 {"debugId":"11111111-1111-1111-1111-111111111111","sections":[],"sources":null,"version":3}"#,
     ),
-    // Both keys are read, so what is no id is an error under either.
+    // Both keys are read, so an invalid id under either key is an error.
     (
         r#"{"sections":[],"debugId":"0123456789abcdef"}"#,
         "bad json: a field has the wrong type",
@@ -91,8 +91,8 @@ fn set(alloc: Global, text: &str, id: Option<&str>) -> Result<String> {
     text_with(alloc, &mut *map_of(alloc, text)?, id)
 }
 
-// The text of an index, the debug id that it gets, and its debug id then beside the text that it is
-// written as. Neither key of the text counts any more.
+// The text of an index map, and the debug id that is set, which replaces any in the text. Then the
+// debug id of the map, and the text that it is written as.
 static SET: [(&str, Option<&str>, &str); 4] = [
     (
         r#"{"sections":[],"file":"test.js"}"#,
@@ -109,7 +109,7 @@ static SET: [(&str, Option<&str>, &str); 4] = [
         None,
         r#"none {"sections":[],"sources":null,"version":3}"#,
     ),
-    // The debug id of a section's map is its own.
+    // A section's map keeps its own debug id.
     (
         r#"{"debugId":"00000000-0000-0000-0000-000000000000","sections":[{"offset":{"line":0,"column":0},"map":{"sections":[],"debugId":"11111111-1111-1111-1111-111111111111"}}]}"#,
         None,
@@ -124,14 +124,13 @@ fn debug_ids_of_indexes_are_set(rt: HostRuntime) {
     }
 }
 
-// An index of no sections.
 fn empty_index(alloc: Global) -> Result<Box<DecodedMap>> {
     let index = index_of_file(alloc, Vec::new(alloc))?;
     box_result(alloc, Ok(DecodedMap::Index(index)))
 }
 
-// An index that was made gets a debug id: whether it had none before, and whether it is then the map
-// of a text with that id, and has it.
+// Sets the debug id of an index map that was made from parts. Returns whether it had none before,
+// whether it then equals the map of a text with that id, and whether it has the id.
 fn made_text(alloc: Global, map: &mut DecodedMap) -> Result<String> {
     let had_none = map.debug_id().is_none();
     map.set_debug_id(DebugId::parse(ID));

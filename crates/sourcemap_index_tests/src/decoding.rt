@@ -41,7 +41,7 @@ fn describe(alloc: Global, answer: Result<DecodedMap>) -> Result<String> {
     }
 }
 
-// A text, and the sections of its index or its error.
+// A text, and the sections of its index map, the kind of another map, or the error.
 static TEXTS: [(&str, &str); 19] = [
     // Sections are sorted stably by offset.
     (
@@ -52,13 +52,13 @@ static TEXTS: [(&str, &str); 19] = [
         r#"{"sections":[{"offset":{"line":0,"column":0},"url":"u","map":{"mappings":"A"}}]}"#,
         r#"0:0 Some("u") a map;"#,
     ),
-    // Other keys of the record are ignored.
+    // Beside `sections`, the keys of regular maps and Hermes maps are ignored.
     (
         r#"{"sections":[],"x_facebook_sources":[],"mappings":"!"}"#,
         "",
     ),
     (r#"{"sections":null,"mappings":"A"}"#, "a regular map"),
-    // Scopes of sources make a Hermes map, in a section, too.
+    // A map with `x_facebook_sources` is a Hermes map, in a section, too.
     (
         r#"{"x_facebook_sources":[],"mappings":"A"}"#,
         "a Hermes map",
@@ -75,7 +75,7 @@ static TEXTS: [(&str, &str); 19] = [
         r#"{"x_facebook_sources":[],"mappings":"!"}"#,
         "invalid base64 character: !",
     ),
-    // Scopes that are no records are an error, and those whose text cannot be read are none.
+    // Scopes without `mappings` are an error. Scopes with invalid mappings are not.
     (
         r#"{"x_facebook_sources":[[{"names":["f"]}]],"mappings":"A"}"#,
         "bad json: a field has the wrong type",
@@ -140,7 +140,7 @@ fn index_text(alloc: Global, answer: Result<SourceMapIndex>) -> Result<String> {
     }
 }
 
-// A text, and the sections of the index that it is, or why it is none.
+// A text, and the sections of its index map, or why it is no index map.
 static INDEXES: [(&str, &str); 8] = [
     (
         r#"{"sections":[{"offset":{"line":3,"column":0},"url":"p"},{"offset":{"line":1,"column":2},"map":{"mappings":"A"}}]}"#,

@@ -81,7 +81,7 @@ fn read_back(alloc: Global, value: &Value) -> Result<Value> {
     DecodedMap::from_value(alloc, value)?.into_value()
 }
 
-// The text that a map is written as, read back and written once more.
+// Writes the map of a text, reads it back, and returns the text that it is then written as.
 fn written_again(alloc: Global, text: &str) -> Result<String> {
     let value = value_of(alloc, text)?;
     value_text(alloc, read_back(alloc, &value))
@@ -114,14 +114,14 @@ fn debug_ids_of_hermes_maps_are_set(rt: HostRuntime) {
     check(&rt, text, ids(rt.alloc(), text), want);
 }
 
-// What a text is read as by the reader of regular maps, and by that of Hermes maps.
+// The errors of reading a text as a regular map and as a Hermes map.
 fn kinds(alloc: Global, text: &str) -> Result<String> {
     let regular = error_of(alloc, SourceMap::from_slice(alloc, text.as_bytes()))?;
     let hermes = error_of(alloc, SourceMapHermes::from_slice(alloc, text.as_bytes()))?;
     Ok(format!(in alloc; "{regular}; {hermes}")?)
 }
 
-// A text, and why neither, one or the other takes it.
+// A text, and its errors as a regular map and as a Hermes map.
 static KINDS: [(&str, &str); 3] = [
     (SHORT, "encountered incompatible sourcemap format; no error"),
     (

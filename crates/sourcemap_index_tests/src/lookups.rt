@@ -6,15 +6,15 @@ use sourcemap::types::{SourceMapIndex, Token};
 use sourcemap_test_support::results::box_result;
 use std::alloc::Global;
 
-// Two maps, the second from the middle of a line on.
+// Two sections, the second of which starts in the middle of a line.
 const TWO: &str =
     r#"{"version":3,"sections":[{"offset":{"line":0,"column":0},"map":{"version":3,"sources":["a.js"],"names":[],"mappings":"AAAA"}},{"offset":{"line":10,"column":4},"map":{"version":3,"sources":["b.js"],"names":[],"mappings":"AAAA"}}]}"#;
 
-// The column counts from the offset on the first line of a section alone.
+// Only on the first line of a section do columns count from its offset.
 const LINES: &str =
     r#"{"sections":[{"offset":{"line":2,"column":4},"map":{"sources":["a.js"],"mappings":"AAAA,IAAI;IACA"}}]}"#;
 
-// A range token counts from its own position in the map of its section.
+// Columns after a range token count from its position in the map of the section.
 const RANGED: &str =
     r#"{"sections":[{"offset":{"line":1,"column":3},"map":{"sources":["a.js"],"mappings":"AAAO","rangeMappings":"B"}}]}"#;
 
@@ -106,9 +106,9 @@ fn positions_are_looked_up_in_the_closest_section(rt: HostRuntime) {
     }
 }
 
-// An index, a line and a column, and the text of the token there by the index, and by its flattened
-// map. Where the earlier section has a token after the start of the later one, the flattened map
-// has it there.
+// An index map, a line and a column. Then the text of the token there by the index map, and by its
+// flattened map. They differ where the earlier section has a token after the start of the later
+// section: only the flattened map finds that token.
 static FLAT_POSITIONS: [(&str, u32, u32, &str, &str); 4] = [
     (TWO, 10, 4, "b.js:0:0", "b.js:0:0"),
     (TWO, 10, 9, "b.js:0:0", "b.js:0:0"),

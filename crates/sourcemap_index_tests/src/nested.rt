@@ -52,8 +52,8 @@ fn read(alloc: Global, depth: usize) -> Result<String> {
     looked_up(alloc, map_of(alloc, text.as_str()))
 }
 
-// How many indexes there are in one another, and what a text of them is read as. Each is three levels
-// of the text, and the innermost map two.
+// How many index maps are nested, and what their text is read as. In the JSON text, each index map
+// adds three levels of nesting, and the innermost map adds two.
 static TEXTS: [(usize, &str); 4] = [
     (20, "a.js:0:0"),
     (41, "a.js:0:0"),
@@ -88,7 +88,7 @@ fn flatten_nested(alloc: Global, depth: usize) -> Result<String> {
     again(|| flat_looked_up(alloc, &*map))
 }
 
-// What a map made of another one prints at position 0:0, and whether it is the same map.
+// The text of the token at 0:0 in a map that was made from another, and whether both are equal.
 fn text_beside(alloc: Global, map: &DecodedMap, made: &DecodedMap) -> Result<String> {
     let token = token_text(alloc, made.lookup_token(0, 0))?;
     Ok(format!(in alloc; "{token} {}", *made == *map)?)
@@ -125,7 +125,7 @@ fn move_nested(alloc: Global, depth: usize) -> Result<String> {
     moved_text(alloc, &*nested_index(alloc, depth)?, value)
 }
 
-// How many sections a map is printed with.
+// How many sections occur in the `Debug` text of a map.
 fn sections_printed(alloc: Global, map: &DecodedMap) -> Result<String> {
     let text = format!(in alloc; "{map:?}")?;
     let count = text.split("SourceMapSection {").skip(1).count();
@@ -168,8 +168,8 @@ fn write_nested(alloc: Global, depth: usize) -> Result<String> {
     written_text(alloc, &*nested_index(alloc, depth)?)
 }
 
-// How many indexes there are in one another, and what is read of the text that they are written as:
-// what is written at any depth is no text for a reader past 127 levels.
+// How many index maps are nested, and what the text that they are written as is read as. Maps of
+// any depth are written, but a text that nests deeper than 127 levels cannot be read.
 static WRITTEN: [(usize, &str); 4] = [
     (20, "a.js:0:0 true"),
     (41, "a.js:0:0 true"),

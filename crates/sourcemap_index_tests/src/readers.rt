@@ -1,4 +1,5 @@
-// Readers that give a byte a read, are interrupted before each and fail, for maps of each kind.
+// Maps of each kind, read from readers that return one byte a read, are interrupted before each
+// read, or fail.
 use crate::checks::check;
 use crate::lookups::token_text;
 use crate::maps::map_of;
@@ -18,7 +19,7 @@ const HERMES: &str = r#"{"sources":["a.js"],"mappings":"AAAA","x_facebook_source
 const INDEX: &str =
     r#"{"sections":[{"offset":{"line":0,"column":0},"map":{"sources":["a.js"],"mappings":"AAAA"}}]}"#;
 
-// A text, and whether it is a map; each is also read after a junk header.
+// Texts of maps of each kind, and of a regular map after a junk header.
 static TEXTS: [&str; 4] = [
     REGULAR,
     HERMES,
@@ -31,7 +32,7 @@ fn halting_reader(text: &str, reads: usize, kind: ErrorKind) -> HaltingReader<'_
     HaltingReader::new(text.as_bytes(), reads, kind)
 }
 
-// What a map prints at position 0:0, or its error.
+// The text of the token at 0:0 in a map, or the error.
 fn position_text(alloc: Global, map: Result<Box<DecodedMap>>) -> Result<String> {
     match map {
         Ok(map) => token_text(alloc, map.lookup_token(0, 0)),
@@ -48,7 +49,7 @@ fn is_as_from_slice(alloc: Global, map: &DecodedMap, text: &str) -> Result<bool>
     Ok(*map_of(alloc, text)? == *map)
 }
 
-// Whether a reader of a text is read as its bytes are.
+// Whether a reader of a text decodes to the same map as a slice of its bytes.
 fn is_read_alike(alloc: Global, text: &str) -> Result<String> {
     let reader = halting_reader(text, usize::MAX, ErrorKind::TimedOut);
     let map = box_result(alloc, DecodedMap::from_reader(alloc, reader))?;
@@ -101,7 +102,7 @@ fn read_error(alloc: Global, kind: Kind, text: &str, reads: usize) -> Result<Str
     }
 }
 
-// A kind of maps, the text of one, and that of a map of another kind.
+// A kind of map, a text of a map of this kind, and a text of a map of another kind.
 static KINDS: [(Kind, &str, &str); 3] = [
     (Kind::Regular, REGULAR, INDEX),
     (Kind::Hermes, HERMES, REGULAR),

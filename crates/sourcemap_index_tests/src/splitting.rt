@@ -8,8 +8,8 @@ use sourcemap::types::{SourceMap, SourceMapIndex};
 use sourcemap_test_support::results::error_of;
 use std::alloc::Global;
 
-// One module, `xyz`, after the startup code `ab`; the same without its last two bytes; and with two
-// lines, `xy` and `z`.
+// `ONE` has one module, `xyz`, after the startup code `ab`. `CUT` lacks its last two bytes. In
+// `LINES` the module has two lines, `xy` and `z`.
 const ONE: &[u8] = b"\xe5\xd1\x0b\xfb\x01\0\0\0\x02\0\0\0\x02\0\0\0\x04\0\0\0abxyz\0";
 
 const CUT: &[u8] = b"\xe5\xd1\x0b\xfb\x01\0\0\0\x02\0\0\0\x02\0\0\0\x04\0\0\0abxy";
@@ -231,7 +231,7 @@ fn items_text(alloc: Global, items: SplitRamBundleModuleIter<'_>) -> Result<Stri
     Ok(text)
 }
 
-// All of them, or why the bundle is not split.
+// The first nine items, or why the bundle is not split.
 fn split_text(alloc: Global, bundle: &RamBundle<'_>, index: &SourceMapIndex) -> Result<String> {
     match split_ram_bundle(alloc, bundle, index) {
         Ok(items) => items_text(alloc, items),
@@ -258,7 +258,7 @@ static ITEMS: [&str; 3] = [
     r#"2.js [w] {"file":"2.js","mappings":"AACEA","names":["n"],"sources":["a.js"],"sourcesContent":["A"],"version":3}"#,
 ];
 
-// Whether an item is the wanted one, or was refused for lack of memory.
+// Whether an item is the wanted one, or its error is `OutOfMemory`.
 fn is_wanted_or_out_of_memory(
     alloc: Global,
     item: Result<(String, SourceView, SourceMap)>,
@@ -271,7 +271,7 @@ fn is_wanted_or_out_of_memory(
     }
 }
 
-// How many of the three modules are items as they should be, refused ones among them.
+// How many of the three items are the wanted ones or `OutOfMemory`.
 fn wanted_items(alloc: Global, bundle: &RamBundle<'_>, index: &SourceMapIndex) -> Result<usize> {
     let items = split_ram_bundle(alloc, &*bundle, index)?;
     let mut count = 0usize;
@@ -295,8 +295,8 @@ fn split_where_memory_fails(alloc: Global) -> Result<String> {
     Ok(format!(in alloc; "{count} | {again}")?)
 }
 
-// If one allocation of the test fails, only the item that needed it is lost, and the bundle is split
-// completely by the next call.
+// If one allocation of the test fails, only the item that needed it is lost, and the bundle is
+// split completely by the next call.
 #[test]
 fn an_error_of_an_item_costs_no_other(rt: HostRuntime) {
     check(

@@ -8,7 +8,7 @@ use sourcemap_test_support::results::{again, box_result, error_of};
 use std::alloc::Global;
 use std::rt::Files;
 
-// Two maps, the second from the middle of a line on.
+// Two sections, the second of which starts in the middle of a line.
 const TWO: &str =
     r#"{"sections":[{"offset":{"line":0,"column":0},"map":{"sources":["a.js"],"mappings":"AAAA"}},{"offset":{"line":10,"column":4},"map":{"sources":["b.js"],"mappings":"AAAA"}}]}"#;
 
@@ -25,19 +25,19 @@ const NESTED: &str =
 const BUNDLE: &str =
     r#"{"sections":[],"x_facebook_offsets":[5,null],"x_metro_module_paths":["a.js"]}"#;
 
-// The second section has a Hermes map, from the middle of a line on.
+// The second section has a Hermes map, and starts in the middle of a line.
 const HERMES: &str =
     r#"{"sections":[{"offset":{"line":0,"column":0},"map":{"sources":["a.js"],"mappings":"AAAA"}},{"offset":{"line":1,"column":2},"map":{"sources":["b.js"],"mappings":"AAAA;AAAA","x_facebook_sources":[[{"names":["f"],"mappings":"AAA"}],null]}}]}"#;
 
-// Two sections whose maps have a source of one text.
+// Two sections whose maps have the same source, with different contents.
 const SHARED: &str =
     r#"{"sections":[{"offset":{"line":0,"column":0},"map":{"sources":["a.js"],"sourcesContent":["x"],"mappings":"AAAA"}},{"offset":{"line":1,"column":0},"map":{"sources":["a.js"],"sourcesContent":["y"],"mappings":"AAAA","ignoreList":[0]}}]}"#;
 
-// The column counts from the offset on the first line of a section alone.
+// Only on the first line of a section do columns count from its offset.
 const INDENTED: &str =
     r#"{"sections":[{"offset":{"line":10,"column":4},"map":{"sources":["a.js"],"mappings":"AAAA;AAAA"}}]}"#;
 
-// Of two errors that of the first section.
+// Each section has an error, and that of the first section is returned.
 const PAST_THE_COLUMNS: &str =
     r#"{"sections":[{"offset":{"line":0,"column":4294967295},"map":{"sources":["a.js"],"mappings":"CAAA"}},{"offset":{"line":1,"column":0}}]}"#;
 
@@ -92,12 +92,12 @@ static FLAT: [(&str, &str); 13] = [
         r#"{"sections":[{"offset":{"line":2,"column":3},"map":{"sections":[{"offset":{"line":1,"column":0},"map":{"sources":["a.js"],"mappings":"AAAA"}}]}}]}"#,
         r#"{"mappings":";;;AAAA","names":[],"sources":["a.js"],"version":3}"#,
     ),
-    // Of two errors the first one, which is deeper.
+    // Of two errors the first is returned, which is that of a nested index map.
     (
         r#"{"sections":[{"offset":{"line":0,"column":0},"map":{"sections":[{"offset":{"line":0,"column":0},"url":"inner"}]}},{"offset":{"line":1,"column":0},"url":"outer"}]}"#,
         "cannot flatten the indexed sourcemap: Section has an unresolved sourcemap: inner",
     ),
-    // The last line of a nested index, moved down by one more.
+    // A token on the last line of a nested index map, which moves down by one line.
     (
         r#"{"sections":[{"offset":{"line":1,"column":0},"map":{"sections":[{"offset":{"line":4294967295,"column":0},"map":{"sources":["a.js"],"mappings":"AAAA"}}]}}]}"#,
         "cannot flatten the indexed sourcemap: a position passes 4294967295",
@@ -133,8 +133,8 @@ fn flat_rewritten<F: Files>(
 const UNUSED: &str =
     r#"{"sections":[{"offset":{"line":0,"column":0},"map":{"sources":["x.js","a.js"],"sourcesContent":["x","y"],"mappings":"ACAA"}}]}"#;
 
-// An index, whether names are kept, whether contents are loaded from files, and its flattened map
-// rewritten or the error.
+// An index map, whether names are kept, and whether contents are loaded from files. Then its
+// flattened map after the rewriting, or the error.
 static REWRITTEN: [(&str, bool, bool, &str); 6] = [
     (
         TWO,
@@ -160,7 +160,7 @@ static REWRITTEN: [(&str, bool, bool, &str); 6] = [
         false,
         r#"{"file":"f","mappings":";;IAAA;AAAA","names":[],"sources":["r/a.js"],"sourcesContent":["x"],"version":3}"#,
     ),
-    // The error of the flattened map comes before that of the options.
+    // The error of flattening comes before that of the options.
     (
         LINKED,
         true,
@@ -209,7 +209,8 @@ const TWO_ROWS: &str =
 const FOUR_ROWS: &str =
     r#"{"sections":[{"offset":{"line":0,"column":0}},{"offset":{"line":10,"column":0}},{"offset":{"line":20,"column":0}},{"offset":{"line":4294967295,"column":0}}]}"#;
 
-// An index, how many rows it moves down, whether it can, and its sections then.
+// An index map, and by how many rows its sections move down. Then whether they can, and the
+// sections afterwards.
 static MOVED: [(&str, u32, &str); 8] = [
     (TWO_ROWS, 0, "true 0:0 None no map;10:0 None no map;"),
     (
@@ -275,8 +276,8 @@ fn moved_to(alloc: Global, text: &str, rows: u32, after: &str) -> Result<String>
     moved_beside(alloc, &mut *index_of(alloc, text)?, rows, &*after)
 }
 
-// An index, how many rows it moves down, the index that it is then in all its parts, and whether it
-// can.
+// An index map, by how many rows its sections move down, and the whole index map afterwards. Then
+// whether the sections can move, and whether the result equals that index map.
 static MOVED_WHOLE: [(&str, u32, &str, &str); 4] = [
     (FILED, 0, FILED, "true true"),
     (FILED, 4294967294, FILED_LOWER, "true true"),
@@ -343,7 +344,7 @@ static WRITTEN: [(&str, &str); 9] = [
         BUNDLE,
         r#"{"sections":[],"sources":null,"version":3,"x_facebook_offsets":[5,null],"x_metro_module_paths":["a.js"]}"#,
     ),
-    // Each of the two lists of a bundle is written, if it is there, in a section, too.
+    // Each of the two lists of a RAM bundle is written if the index map has it, in a section, too.
     (
         r#"{"sections":[],"x_facebook_offsets":[]}"#,
         r#"{"sections":[],"sources":null,"version":3,"x_facebook_offsets":[]}"#,
@@ -352,7 +353,7 @@ static WRITTEN: [(&str, &str); 9] = [
         r#"{"sections":[{"offset":{"line":0,"column":0},"map":{"sections":[],"x_facebook_offsets":[5,null],"x_metro_module_paths":["a.js"]}}],"x_metro_module_paths":["b.js"]}"#,
         r#"{"sections":[{"map":{"sections":[],"sources":null,"version":3,"x_facebook_offsets":[5,null],"x_metro_module_paths":["a.js"]},"offset":{"column":0,"line":0},"url":null}],"sources":null,"version":3,"x_metro_module_paths":["b.js"]}"#,
     ),
-    // A regular map and a Hermes map write neither.
+    // A regular map and a Hermes map write neither list.
     (
         r#"{"sections":[{"offset":{"line":0,"column":0},"map":{"mappings":"A","x_facebook_offsets":[5],"x_metro_module_paths":["a.js"]}},{"offset":{"line":1,"column":0},"map":{"mappings":"A","x_facebook_offsets":[5],"x_metro_module_paths":["a.js"],"x_facebook_sources":[]}}]}"#,
         r#"{"sections":[{"map":{"mappings":"A","names":[],"sources":[],"version":3},"offset":{"column":0,"line":0},"url":null},{"map":{"mappings":"A","names":[],"sources":[],"version":3,"x_facebook_sources":[]},"offset":{"column":0,"line":1},"url":null}],"sources":null,"version":3}"#,
@@ -405,7 +406,7 @@ fn compare_maps(alloc: Global, text: &str, other: &str) -> Result<String> {
     compared_text(alloc, &*map_of(alloc, text)?, other)
 }
 
-// Whether a copy of an index is equal to it, and the index to another map.
+// Two maps, whether the first equals its copy, and whether the two are equal.
 static COMPARED: [(&str, &str, &str); 7] = [
     (NESTED, NESTED, "true true"),
     (LINKED, NEITHER, "true false"),

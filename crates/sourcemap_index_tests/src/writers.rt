@@ -1,5 +1,5 @@
-// Writers that take a byte a write, are interrupted, take none or fail, and buffers that are
-// consumed, for maps of each kind.
+// Maps of each kind, written to writers that take one byte a write, are interrupted, take nothing
+// or fail. They are also written to buffers, which are consumed.
 use crate::checks::check;
 use crate::maps::map_of;
 use sourcemap::encoder::encode;
@@ -28,13 +28,13 @@ enum Way {
     Failing(Option<usize>),
     // one that is interrupted before each byte, and takes no more than so many
     Halting(Option<usize>),
-    // a buffer, which is consumed
+    // a buffer that the `to_writer` of the map's kind consumes
     Buffered,
-    // the same, for a map of any kind
+    // a buffer that `encode` consumes, the call for maps of any kind
     AnyBuffered,
 }
 
-// By the call of its own kind.
+// Writes a map by the `to_writer` of its kind.
 fn put<W: Write + Drop>(map: &DecodedMap, writer: W) -> Result<()> {
     match map {
         DecodedMap::Regular(map) => map.to_writer(writer),
@@ -83,7 +83,8 @@ fn encode_buffered(alloc: Global, map: &DecodedMap, writer: &mut NarrowWriter) -
     encode(alloc, map, BufWriter::new(alloc, writer)?)
 }
 
-// A buffer that is dropped discards the error of its last write, so the writer has its memory first.
+// A buffer that is dropped discards the error of its last write. So the writer allocates enough
+// memory first.
 fn by_buffer(alloc: Global, map: &DecodedMap, is_any: bool) -> Result<String> {
     let mut writer = NarrowWriter {
         held: Vec::with_capacity(alloc, LONGEST)?,
@@ -126,7 +127,7 @@ fn all_bytes_are_written(rt: HostRuntime) {
     }
 }
 
-// So many characters of a text, and what is said after them.
+// The first `most` characters of a text, a space, and the text of an error.
 fn cut_text(alloc: Global, text: &str, most: usize, error: &str) -> Result<String> {
     let mut out = String::new(alloc);
     for letter in text.chars().take(most) {

@@ -15,6 +15,6 @@ abbrev pub matching_id : List (List ℕ) → List ℕ → Option ℕ → Option 
 matching_id texts text None = None
 matching_id texts text (Some id) = cond (is_text text (slice_get texts id)) (Some id) None
 
--- ids by digest, and others by string, find exactly the ids of `texts`
+-- the id of each text of `texts` is found in `firsts` by its digest, or else in `others`; any other text has no id
 abbrev pub IsIndex : (ℕ → Option ℕ) → (List ℕ → Option ℕ) → List (List ℕ) → Type 0
 IsIndex firsts others texts = (text : List ℕ) → option_or (matching_id texts text (firsts (digest text))) (others text) ≡ id_of text texts

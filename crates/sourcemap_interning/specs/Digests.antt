@@ -11,7 +11,7 @@ fold_halves product = (product / 2 ^ 64 + product % 2 ^ 64) % 2 ^ 64
 abbrev pub mix : ℕ → ℕ → ℕ
 mix digest number = fold_halves ((digest + number) % 2 ^ 64 * 13787848793156543929)
 
--- all whole words of eight bytes, then each remaining byte
+-- the digest of a text, which mixes in all whole words of eight bytes, then each remaining byte
 unfoldable pub digest : List ℕ → ℕ
 digest text =
     let words = first_chunks 8 (length text / 8) text in

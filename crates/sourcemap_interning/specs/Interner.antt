@@ -17,7 +17,7 @@ AreDistinct texts = (text : List ℕ) (id : ℕ) → slice_get texts id ≡ Some
 abbrev pub with_text : List (List ℕ) → List ℕ → List (List ℕ)
 with_text texts text = cond (is_some (id_of text texts)) texts (texts ++ text ∷ [])
 
--- the id that `add` returns: `IncompatibleSourceMap` for a new string if there are 4294967295
+-- the id that `add` returns, or `IncompatibleSourceMap` for a new string if there are 4294967295 strings already
 abbrev pub id_for : List (List ℕ) → List ℕ → Result ℕ Error
 id_for texts text = existing_or_next (id_of text texts) (length texts) where
   existing_or_next : Option ℕ → ℕ → Result ℕ Error

@@ -23,10 +23,11 @@ start_of mask hash = bit_and hash mask
 abbrev pub number_in_tree : BTreeMap (Bor (List ℕ)) ℕ → List ℕ → Option ℕ
 number_in_tree tree text = get_by (λ key. slice_cmp nat_cmp text key.now) tree
 
--- the slot exists and has a number, or has none
+-- the slot exists and has a number
 abbrev pub IsTaken : List Slot → ℕ → Type 0
 IsTaken slots slot_index = (slot : Slot) × (slice_get slots slot_index ≡ Some slot) × (slot.number ≢ 4294967295)
 
+-- the slot exists and has no number
 abbrev pub IsFree : List Slot → ℕ → Type 0
 IsFree slots slot_index = (slot : Slot) × (slice_get slots slot_index ≡ Some slot) × (slot.number ≡ 4294967295)
 
@@ -38,7 +39,7 @@ abbrev pub AreRight : List (List ℕ) → List Slot → Type 0
 AreRight texts slots =
     (slot_index : ℕ) (slot : Slot) → slice_get slots slot_index ≡ Some slot → slot.number ≢ 4294967295 → IsRight texts slot
 
--- the `count` slots from `start` on are taken, each by another text
+-- the `count` slots from `start` on are taken, each by a text other than `text`
 abbrev pub ArePassed : List (List ℕ) → List Slot → ℕ → List ℕ → ℕ → Type 0
 ArePassed texts slots start text count =
     (k : ℕ) → k < count → (slot : Slot) × (slice_get slots (start + k) ≡ Some slot) × (slot.number ≢ 4294967295)
@@ -64,7 +65,7 @@ pub record IsReached (slots : List Slot) (start number : ℕ) : Type 0 where
 abbrev pub AreTaken : List Slot → ℕ → Type 0
 AreTaken slots start = (k : ℕ) → k < 32 → IsTaken slots (start + k)
 
--- each text has its number in a slot that a search reaches, or in `others` if its slots were full
+-- each text has its number in a slot that a search reaches, or in `others` if all slots of the search are taken
 pub record IsIndex (texts : List (List ℕ)) (mask : ℕ) (slots : List Slot) (others : List ℕ → Option ℕ) : Type 0 where
   pub few : length texts ≤ 4294967295
   pub distinct : AreDistinct texts

@@ -34,7 +34,8 @@ fn with_bytes(digest: u64, bytes: &[u8]) -> u64
     sum
 }
 
-// The lower half of the product alone would lose bits of the last bytes of a word.
+// Adds both halves of the product. The lower half alone would lose bits of the last bytes of a
+// word.
 fn mix(digest: u64, number: u64) -> u64
     ensures { result ≡ mix digest number }
 {

@@ -63,7 +63,7 @@ impl Interner {
         ensures id { Gives (λ id. id) result (id_for self.old text.now) }
         ensures texts { OnOk result (self.new ≡ with_text self.old text.now) }
         ensures unchanged { OnErr result (self.new ≡ self.old) }
-        // equal strings have equal ids, and `get` returns the string of its id
+        // equal strings have equal ids, and `get` of the id returns the string
         ensures index { IfOk result (λ id. id_of text.now self.new ≡ Some id) }
         ensures text { IfOk result (λ id. slice_get self.new id ≡ Some text.now) }
         // only a new string within the limit allocates
@@ -176,7 +176,8 @@ fn put_first(
     Ok(())
 }
 
-// The same for a string whose digest another string has: its id goes to `others`.
+// Appends a string to `texts`, and its id to `others`, since its digest is in `firsts` already. If
+// memory runs out, neither changes.
 fn put_other(
     texts: &mut Vec<String>,
     others: &mut BTreeMap<String, u32>,

@@ -19,7 +19,7 @@ const FIRST_MASK: usize = 31;
 /// the text goes to a tree. So n texts take n log n time at worst, also if their hashes collide.
 #[derive(Drop)]
 pub struct TextIndex<'a> {
-    // by number
+    // the texts, by number
     texts: Vec<&'a str>,
     slots: Vec<Slot>,
     // one less than the number of slots at which a search can start
@@ -101,7 +101,7 @@ impl<'a> TextIndex<'a> {
         Ok(number)
     }
 
-    // Grows the table once there are more texts than half of the start slots.
+    // Grows the table once there are at least half as many texts as start slots.
     fn grow(&mut self) -> Result<(), AllocError>
         ensures { self.new ≡ self.old }
     {

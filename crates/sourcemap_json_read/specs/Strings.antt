@@ -9,13 +9,14 @@ use Rattle.json.specs.Lex.{lex, in_string}
 abbrev pub IsUtf8UpTo : List ℕ → ℕ → ℕ → Type 0
 IsUtf8UpTo text from at = IsUtf8 (drop at text) → IsUtf8 (drop from text)
 
--- Within a string, the part of `before` that `after` no longer has decodes to `decoded`, and the string goes on with `after`.
+-- Within a string, `before` begins with a part that decodes to `decoded`. The string goes on with `after`.
 pub record IsDecodedBetween (before decoded after : List ℕ) : Type 0 where
   pub bytes : content plain before ≡ prepend decoded (content plain after)
   pub goes_on : lex in_string before ≡ lex in_string after
 
--- The string from index `from` to index `at` was decoded and appended to `old`, which gives `new`. Either may end within
--- a character: if `new` and the text after it are UTF-8 together, so are `old` and the text after it.
+-- The string from index `from` to index `at` was decoded and appended to `old`, which gives `new`. Both `old` and `new`
+-- may end within a character. If `new` and the text from `at` on are UTF-8 together, so are `old` and the text from
+-- `from` on.
 pub record IsReadUpTo (old text : List ℕ) (from : ℕ) (new : List ℕ) (at : ℕ) : Type 0 where
   pub bytes : prepend new (content plain (drop at text)) ≡ prepend old (content plain (drop from text))
   pub goes_on : lex in_string (drop at text) ≡ lex in_string (drop from text)

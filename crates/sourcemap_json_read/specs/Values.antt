@@ -10,12 +10,12 @@ abbrev pub BeginsWithValue : ℕ → List Token → Data → List Token → Type
 BeginsWithValue depth old d new =
     (j : json.Json) × (json.value depth old ≡ Some (j, new)) × (of_json j ≡ Some d)
 
--- `old` begins with an array's items, fewer than `most` of at most `depth` levels each, and its end
+-- `old` begins with the items of an array and its end: fewer than `most` items, each of at most `depth` levels
 abbrev pub BeginsWithItems : ℕ → ℕ → List Token → Items → List Token → Type 0
 BeginsWithItems depth most old ds new =
     (js : json.Items) × (json.items (json.value depth) most old ≡ Some (js, new)) × (of_items js ≡ Some ds)
 
--- `old` begins with an object's members and its end; the members are put into `before` one after another
+-- `old` begins with the members of an object and its end. Inserted into `before` one after another, they give `after`
 abbrev pub BeginsWithMembers : ℕ → ℕ → List Token → Members → Members → List Token → Type 0
 BeginsWithMembers depth most old before after new =
     (ms : json.Members) × (json.members (json.value depth) most old ≡ Some (ms, new))

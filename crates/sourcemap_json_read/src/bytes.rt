@@ -43,7 +43,8 @@ pub(crate) fn is_word_end(text: &[u8], at: usize) -> bool
     is_punctuation(byte) | is_white(byte)
 }
 
-/// Returns the index after the white space that starts at `from`. The same lexemes follow.
+/// Returns the index after the white space that starts at `from`. From there on the text has the
+/// same lexemes as from `from` on.
 #[inline(always)]
 pub(crate) fn skip_space(text: &[u8], from: usize) -> usize
     ensures same { lex between (drop result text.now) ≡ lex between (drop from text.now) }

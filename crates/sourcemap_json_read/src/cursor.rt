@@ -1,5 +1,5 @@
-//! A cursor over the tokens of a JSON text. It decodes each string into its own buffer. It supports
-//! the forms that source maps are written in, and stops with `Unsupported` at any other.
+//! A cursor over the tokens of a JSON text. It returns each string decoded, as a `String`. It
+//! supports the forms that source maps are written in, and stops with `Unsupported` at any other.
 ghost use Rattle.std.specs.Prelude.{◌≡◌, ◌<◌, ◌+◌, ◌^◌, IfOk, drop, length};
 ghost use Rattle.std.specs.Str.{IsUtf8};
 ghost use Rattle.json.specs.Ascii.{quote};
@@ -85,9 +85,10 @@ impl<'a> Model for Cursor<'a> {
 }
 
 impl<'a> Cursor<'a> {
-    /// A cursor at the start of a text. It allocates one scratch buffer for all strings with escapes
-    /// or characters past ASCII: no string decodes to more bytes than the JSON text has, and the
-    /// rest is for blocks stored past its end. Without such a string the buffer is never written.
+    /// A cursor at the start of a text. It allocates one scratch buffer for all strings with
+    /// escapes or characters past ASCII. No string decodes to more bytes than the JSON text has.
+    /// The further capacity is for blocks that are stored past the end of a decoded string. If the
+    /// text has no string with escapes or characters past ASCII, the buffer is never written.
     pub(crate) fn new(alloc: Global, text: &'a [u8]) -> Result<Cursor<'a>, AllocError>
         ensures { IfOk result
             (λ cursor. cursor ≡ record { tokens = tokens text.now; bytes = text.now }) }

@@ -9,8 +9,8 @@ ghost use Rattle.sourcemap_json_read.specs.Strings.{IsReadUpTo, IsUtf8UpTo, IsDe
 use crate::blocks::store_byte;
 use crate::bytes::byte_at;
 
-/// Decodes the escape at `at` into the buffer from `to` on. Returns the indices after the bytes
-/// stored and after the escape.
+/// Decodes the escape at `at` into the buffer from `to` on. Returns the index after the stored
+/// bytes in the buffer, and the index after the escape in the text.
 #[inline(always)]
 pub(crate) fn store_escape(
     buffer: &mut [u8],
@@ -46,8 +46,8 @@ pub(crate) fn short_escape_at(text: &[u8], at: usize) -> u8
     short_escape(text[at + 1])
 }
 
-// The byte that a backslash and each byte decode to, or 0. A table costs the same for each byte,
-// branches are often mispredicted.
+// For each byte, what a backslash and this byte decode to, or 0. A table takes the same time for
+// each byte, while branches are often mispredicted.
 #[rattlefmt::skip]
 static SHORT: [u8; 256] = [
     0, 0, 0, 0, 0, 0, 0, 0, 0, 0, 0, 0, 0, 0, 0, 0,
@@ -103,8 +103,8 @@ fn store_bytes(buffer: &mut [u8], to: usize, bytes: &[u8])
     buffer[to..to + bytes.len()].copy_from_slice(bytes);
 }
 
-/// The character of the `\u` escape at `at`, or of two that are a pair of surrogates, and the index
-/// after it.
+/// The character of the `\u` escape at `at`, or of the two escapes there that are a surrogate pair.
+/// Also returns the index after the escape or the pair.
 fn unicode_escape(text: &[u8], at: usize) -> Option<(char, usize)>
     requires { at ≤ length text.now }
     ensures decodes { IfSome result
@@ -121,7 +121,6 @@ fn unicode_escape(text: &[u8], at: usize) -> Option<(char, usize)>
     Some((character, at + 12))
 }
 
-/// The character of a pair of surrogates.
 fn surrogate_pair(high: u32, low: u32) -> Option<char>
     ensures high { IfSome result (λ _. is_high_surrogate high ≡ true) }
     ensures low { IfSome result (λ _. is_low_surrogate low ≡ true) }

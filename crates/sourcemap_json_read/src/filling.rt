@@ -10,12 +10,13 @@ use crate::escapes::short_escape_at;
 use crate::runs::{block_stops, is_plain, stops};
 use std::simd::prelude::*;
 
-/// The free bytes that the buffer needs where blocks are stored.
+/// The number of free bytes that the buffer must have for `fill` to decode another block.
 pub(crate) const SLACK: usize = 160;
 
-/// Decodes the string from `from` on into the buffer from `start` on. Stops before a `\u` escape,
-/// near the end of the text and where the buffer is nearly full. Returns the indices reached in the
-/// buffer and in the text.
+/// Decodes the string from `from` on into the buffer from `start` on. Stops before a byte that is
+/// neither plain nor the start of a two-byte escape, such as the closing quote or a `\u` escape.
+/// Also stops near the end of the text, and when the buffer is nearly full. Returns the indices
+/// reached in the buffer and in the text.
 pub(crate) fn fill(buffer: &mut [u8], start: usize, text: &[u8], from: usize) -> (usize, usize)
     requires { (start + 4 ≤ length buffer.old) × (from ≤ length text.now) }
     ensures len { length buffer.new ≡ length buffer.old }
@@ -52,8 +53,9 @@ pub(crate) fn fill(buffer: &mut [u8], start: usize, text: &[u8], from: usize) ->
     (to, at)
 }
 
-// Decodes the rest of a block, from `from` to `end`, with the given stops. Also returns whether all
-// of it was decoded. An escape may reach one byte past the block.
+// Decodes the rest of a block, from `from` to `end`. `stops` is the mask of the bytes in it that
+// are not plain. Also returns whether all of it was decoded. An escape may reach one byte past the
+// block.
 #[inline(always)]
 fn fill_block(
     buffer: &mut [u8],
@@ -96,7 +98,7 @@ fn fill_block(
     }
 }
 
-/// Copies plain bytes, where the text or the buffer is too short for a whole block.
+/// Copies plain bytes where the text or the buffer is too short for `fill`.
 pub(crate) fn fill_run(buffer: &mut [u8], start: usize, text: &[u8], from: usize) -> (usize, usize)
     requires { (start ≤ length buffer.old) × (from ≤ length text.now) }
     ensures len { length buffer.new ≡ length buffer.old }
@@ -120,7 +122,6 @@ pub(crate) fn fill_run(buffer: &mut [u8], start: usize, text: &[u8], from: usize
     fill_by_bytes(buffer, to, text, at)
 }
 
-// Copies plain bytes one by one.
 #[inline(never)]
 fn fill_by_bytes(buffer: &mut [u8], start: usize, text: &[u8], from: usize) -> (usize, usize)
     requires { (start ≤ length buffer.old) × (from ≤ length text.now) }

@@ -1,4 +1,4 @@
-//! Reads JSON texts to JSON values. Each string is decoded directly into its own buffer.
+//! Reads JSON texts to JSON values, by a fast path for the forms that source maps are written in.
 #![tactic(auto)]
 
 pub mod blocks;

@@ -1,4 +1,4 @@
-//! Runs of plain bytes: those that a JSON string has unescaped.
+//! Runs of plain bytes: bytes that a JSON string may contain without an escape.
 ghost use Rattle.std.specs.Prelude.{◌≡◌, ◌+◌, ◌-◌, ◌≤◌, ◌++◌, IfOk, length, take, drop, map};
 ghost use Rattle.std.specs.List.{prefix_len};
 ghost use Rattle.std.specs.Simd.Lanes.{mask_l};
@@ -76,7 +76,7 @@ pub fn stops(bytes: u8x32) -> u64
     (quotes | backslashes | controls).to_bitmask()
 }
 
-/// `stops` of 64 bytes.
+/// The same mask as by `stops`, for 64 bytes.
 #[inline(always)]
 pub(crate) fn block_stops(bytes: u8x64) -> u64
     ensures { result ≡ mask_l (map is_stop bytes) }
@@ -87,7 +87,7 @@ pub(crate) fn block_stops(bytes: u8x64) -> u64
     (quotes | backslashes | controls).to_bitmask()
 }
 
-/// A mask of the bytes that end a run of ASCII.
+/// A mask of the bytes that end a run of plain ASCII bytes.
 #[inline(always)]
 fn bare_stops(bytes: u8x32) -> u64
     ensures { result ≡ mask_l (map is_bare_stop bytes) }

@@ -1,4 +1,4 @@
-//! JSON strings, each decoded into its own buffer.
+//! One JSON string, decoded to a `String`.
 ghost use Rattle.std.specs.Prelude.{◌≡◌, ◌+◌, ◌^◌, ◌<◌, ◌≤◌, length, take, drop, Some, IfOk, IfSome, string_bytes};
 ghost use Rattle.std.specs.Str.{IsUtf8};
 ghost use Rattle.json.specs.Text.{content, plain};
@@ -15,9 +15,9 @@ use simdutf8::compat::from_utf8;
 use std::alloc::{AllocError, Global};
 use std::str::from_utf8_unchecked;
 
-/// Decodes the string whose first byte after the opening quote is at `start`. Also returns the index
-/// after the closing quote. Overwrites `scratch`, where strings with escapes or characters past
-/// ASCII are decoded first.
+/// Decodes the string whose first byte after the opening quote is at `start`. Also returns the
+/// index after the closing quote. Overwrites `scratch`, where strings with escapes or characters
+/// past ASCII are decoded first.
 pub(crate) fn read_string(
     alloc: Global,
     text: &[u8],
@@ -90,8 +90,8 @@ fn unescape(buffer: &mut Vec<u8>, text: &[u8], start: usize) -> Result<(usize, u
     }
 }
 
-/// Extends the buffer by zeros if fewer than `SLACK` bytes follow `to`: by what the rest of the text
-/// may need, at most [`ZEROS`].
+/// Extends the buffer by zeros if fewer than `SLACK` bytes follow `to`. It adds as many as the last
+/// `left` bytes of the text may need, at most as many as [`ZEROS`] has.
 #[inline(always)]
 fn extend_with_zeros(buffer: &mut Vec<u8>, to: usize, left: usize) -> Result<(), AllocError>
     requires { (to ≤ length buffer.old.items) × (left < 2 ^ 63) }
@@ -105,7 +105,8 @@ fn extend_with_zeros(buffer: &mut Vec<u8>, to: usize, left: usize) -> Result<(),
     Ok(())
 }
 
-/// Decodes what `fill` stopped at: an escape, or plain bytes near an end.
+/// Decodes what `fill` stopped at: an escape, or plain bytes near the end of the text or the
+/// buffer. Returns `None` if nothing at `at` can be decoded.
 #[inline(always)]
 fn fill_rare(buffer: &mut [u8], to: usize, text: &[u8], at: usize) -> Option<(usize, usize)>
     requires { (to + 4 ≤ length buffer.old) × (at ≤ length text.now) }

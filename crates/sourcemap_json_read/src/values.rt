@@ -1,5 +1,5 @@
-//! JSON values from bytes. The fast path follows a cursor, and keeps each string in the buffer that
-//! the cursor decoded it into. Where the fast path stops, the kit's reader reads from the start.
+//! JSON values from bytes. The fast path follows a cursor, and moves the cursor's strings into the
+//! value. At a form that it does not support, the kit's reader reads the text again from the start.
 ghost use Rattle.std.specs.Prelude.{◌≡◌, ◌≤◌, length, Some, None, IfOk, IfErr, IsUtf8};
 ghost use Rattle.serde_json.specs.Data.{no_members, depth as nesting};
 ghost use Rattle.serde_json.specs.Errors.{IsMemory, IsOfText};
@@ -13,12 +13,12 @@ use crate::stop::Stop;
 use serde_json::{Error, Map, Value};
 use std::alloc::{AllocError, Global};
 
-// The levels of arrays and objects that the kit's reader accepts.
+// The most levels of arrays and objects that the kit's reader accepts.
 const MAX_DEPTH: usize = 127;
 
 /// Returns the JSON value of these bytes, as the kit's `Value::from_slice` does. Returns a syntax
-/// error if they are not UTF-8, are not a JSON text or nest deeper than 127 levels. Of duplicate keys
-/// the last value is kept. Any other error is out of memory.
+/// error if they are not UTF-8, are not a JSON text or nest deeper than 127 levels. Of duplicate
+/// keys the last value is kept. Any other error is out of memory.
 pub fn value_from_slice(alloc: Global, bytes: &[u8]) -> Result<Value, Error>
     ensures ok { IfOk result (λ v. IsUtf8 bytes.now × (read_json bytes.now ≡ Some (view v))) }
     ensures nests { IfOk result (λ v. nesting (view v) ≤ max_depth) }
@@ -33,7 +33,6 @@ pub fn value_from_slice(alloc: Global, bytes: &[u8]) -> Result<Value, Error>
     }
 }
 
-/// Reads the value by the fast path.
 fn read_fast(alloc: Global, bytes: &[u8]) -> Result<Value, Stop>
     ensures utf8 { IfOk result (λ _. IsUtf8 bytes.now) }
     ensures value { IfOk result (λ v. read_json bytes.now ≡ Some (view v)) }
@@ -47,9 +46,8 @@ fn read_fast(alloc: Global, bytes: &[u8]) -> Result<Value, Stop>
     }
 }
 
-/// Reads the value that starts with `first`, the step that the cursor has just read, of at most
-/// `depth` levels. Inlined into the loops over items and members, so that a string or a number takes
-/// no call.
+/// Reads a value of at most `depth` levels. `first` is its first step, which the cursor has just
+/// read. Inlined into the loops over items and members, so that a string or a number takes no call.
 #[cycle(read)]
 #[inline(always)]
 fn read(alloc: Global, first: Step, cursor: &mut Cursor<'_>, depth: usize) -> Result<Value, Stop>

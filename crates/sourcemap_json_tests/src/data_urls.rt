@@ -1,4 +1,4 @@
-// Data URLs, decoded with each charset and refused with any other form.
+// Data URLs: decoded without a charset and with UTF-8, refused in any other form, and written.
 use crate::checks::check;
 use sourcemap_errors::errors::Result;
 use sourcemap_json::data_url::{data_url, data_url_bytes};

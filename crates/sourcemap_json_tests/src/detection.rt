@@ -115,7 +115,7 @@ fn a_failed_read_is_no_map(rt: HostRuntime) {
     }
 }
 
-// Whether a reader that runs out of memory after `reads` reads returns `OutOfMemory`.
+// Whether detection returns `OutOfMemory` if the reader runs out of memory after `reads` reads.
 fn runs_out_of_memory(alloc: Global, bytes: &[u8], reads: usize) -> bool {
     let reader = HaltingReader::new(bytes, reads, ErrorKind::OutOfMemory);
     matches!(is_sourcemap(alloc, reader), Err(Error::OutOfMemory))

@@ -66,7 +66,7 @@ fn drops_the_header(rt: HostRuntime) {
     }
 }
 
-// A label, bytes, and what a slice keeps of them, or the error.
+// A label, bytes, and what `strip_junk_header` keeps of them, or the error.
 static STRIPPED: [(&str, &[u8], &str); 3] = [
     ("a header without end", b")]}", ""),
     (
@@ -95,8 +95,8 @@ fn strips_the_header(rt: HostRuntime) {
     }
 }
 
-// A label, bytes, the buffer size of each read, and the byte that it gives: `.` for none, `?` for
-// invalid data, `~` for the error of the inner reader.
+// A label, bytes, the buffer size of each read, and the results of the reads. A result is the byte
+// read, `.` for none, `?` for invalid data, or `~` for the error of the inner reader.
 static INVALID: [(&str, &[u8], [usize; 4], &str); 2] = [
     (
         "an empty buffer, then the same error at each read",
@@ -166,8 +166,8 @@ impl Read for FailsOnce<'_> {
     }
 }
 
-// A label, how many bytes are left where the inner reader fails, the kind of its error, and the result
-// of reading `)]}x\nab`.
+// A label, how many bytes are left where the inner reader fails, the kind of its error, and the
+// result of reading `)]}x\nab`.
 static PASSED_ON: [(&str, usize, ErrorKind, &str); 6] = [
     (
         "at the first read, of the kind of an invalid header",

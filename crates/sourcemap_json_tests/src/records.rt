@@ -9,7 +9,8 @@ fn read(alloc: Global, text: &str) -> Result<RawSourceMap> {
     RawSourceMap::from_owned(alloc, Value::from_str(alloc, text)?)
 }
 
-// Each has one value of the wrong type, or an invalid number or debug id.
+// Each text has one value of the wrong type, an invalid number or debug id, or lacks a required
+// key.
 static WRONG_SHAPE: [&str; 15] = [
     r#"[]"#,
     r#"null"#,
@@ -164,7 +165,8 @@ fn debug_ids(rt: HostRuntime) {
 
 const NAMES: &str = r#"{"names":[1.5,true,7,"a"],"mappings":null,"version":3}"#;
 
-// The number of names, and the names after the first, whose digits are the kit's.
+// The number of names, and the names after the first. The first is left out, since the kit chooses
+// the digits that it is written with.
 fn names_text(alloc: Global, names: &[Value]) -> Result<String> {
     let mut text = format!(in alloc; "{}", names.len())?;
     for name in names.iter().skip(1) {

@@ -15,7 +15,7 @@ use std::alloc::Global;
 use std::io::ErrorKind;
 use std::str;
 
-// A label, bytes, and their reference after its mark, or the error.
+// A label, bytes, and the reference in them with `#` or `@` before it for its mark, or the error.
 static LOCATED: [(&str, &[u8], &str); 18] = [
     (
         "the first of two, without the white space around it",
@@ -195,8 +195,8 @@ fn views_have_the_same_reference(rt: HostRuntime) {
     }
 }
 
-// A label, the start of a long text, what it then repeats 3,000 times, its end, and its reference
-// after its mark, or the error.
+// A label. Then a long text: its start, the piece that it repeats 3,000 times, and its end. Then
+// the reference with `#` or `@` before it for its mark, or the error.
 static LONG: [(&str, &[u8], &[u8], &[u8], &str); 8] = [
     (
         "after many lines",
@@ -260,7 +260,8 @@ fn long(alloc: Global, head: &[u8], piece: &[u8], tail: &[u8]) -> Result<Vec<u8>
     Ok(bytes)
 }
 
-// The reference of a slice of a long text, and that of a reader of it if it differs.
+// The reference that is found in a slice of a long text. If a reader of the text finds another one,
+// both are returned.
 fn slice_and_reader(alloc: Global, head: &[u8], piece: &[u8], tail: &[u8]) -> Result<String> {
     let bytes = long(alloc, head, piece, tail)?;
     let found = locate_sourcemap_reference_slice(alloc, bytes.as_slice());
@@ -382,7 +383,7 @@ fn failing(kind: ErrorKind) -> NarrowReader<'static> {
     }
 }
 
-// The kind of a failed read, and the results.
+// The kind of a failed read, the result of locating a reference, and the result of detection.
 static FAILED: [(ErrorKind, &str, &str); 2] = [
     (ErrorKind::OutOfMemory, "OutOfMemory", "OutOfMemory"),
     (ErrorKind::TimedOut, "Io(Kind(TimedOut))", "false"),

@@ -1,4 +1,5 @@
-// The value that a text is read to, as compact JSON, or `none` on an error.
+// The value that a text is read to, as compact JSON, or `none` on an error other than out of
+// memory.
 use serde_json::{Category, Result, Value};
 use sourcemap_json_read::values::value_from_slice;
 use std::alloc::Global;

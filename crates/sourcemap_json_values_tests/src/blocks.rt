@@ -1,4 +1,5 @@
-// Strings with escapes, whose runs of plain bytes end at each index of a block that matters.
+// Strings with escapes between runs of plain bytes. The lengths of the runs are around those of
+// blocks.
 use crate::answers::{answer, kit_answer};
 use crate::checks::check;
 use serde_json::Result;
@@ -31,7 +32,8 @@ static WIDE: [(&str, &str); 3] = [
     (r"\t😀\u0041", r"\t😀A"),
 ];
 
-// Escapes that are invalid or do not end the string.
+// Ends of a JSON text: each has an invalid escape or control byte, or leaves the string without its
+// closing quote.
 static ERRORS: [&str; 7] = [
     r"\n",
     r"\",

@@ -20,7 +20,8 @@ static BYTES: [(&[u8], &str); 23] = [
     (b"\xff", "none"),
     (b"[1]\x80", "none"),
     (b"[1\x00]", "none"),
-    // Outside of strings, and in a key that a duplicate replaces.
+    // Bytes past ASCII outside of strings; invalid bytes in a key, and in a value that a duplicate
+    // key replaces.
     (b"\xef\xbb\xbf1", "none"),
     (b"[\xc2\xa01]", "none"),
     (b"[1,\xc3\xa9]", "none"),
@@ -41,7 +42,7 @@ fn only_bytes_of_utf8_are_read(rt: HostRuntime) {
     }
 }
 
-// Bytes amid ASCII, and whether they are UTF-8 there.
+// Bytes between ASCII bytes, and whether they are UTF-8 there.
 static AMID: [(&[u8], bool); 8] = [
     (b"\xc3\xa9", true),
     (b"\xf0\x9f\x98\x80", true),

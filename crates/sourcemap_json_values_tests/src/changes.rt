@@ -11,7 +11,7 @@ static TEXTS: [&str; 4] = [
     r#"[18446744073709551615,0,7,{},"",[[[["a"]]]]]"#,
 ];
 
-// The bytes put in, one that is not UTF-8 among them.
+// The bytes that are put into the texts. Each of the two past ASCII is not UTF-8 by itself.
 const BYTES: &[u8] = b"\"\\{}[]:, \n\x1f09-+.eEnulatrfsbd\xc3\xa9x";
 
 // The next pseudorandom number.

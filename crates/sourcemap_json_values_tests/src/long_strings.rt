@@ -1,5 +1,5 @@
-// Strings with escapes far from the end of the JSON text, so that whole blocks are decoded, and strings
-// for which the buffer is short.
+// Strings with escapes far from the end of the JSON text, so that whole blocks are decoded. Also
+// strings that are longer than the buffer is at first.
 use crate::answers::{answer, kit_answer};
 use crate::checks::check;
 use serde_json::Result;
@@ -21,13 +21,14 @@ static SPELLED: [(&str, &str); 11] = [
     (r#"\b\f\r"#, r#"\b\f\r"#),
 ];
 
-// What a string may not have.
+// Each of these makes the JSON text invalid if it is put into a string.
 static ERRORS: [&str; 6] = ["\t", r"\x", r"\u00g0", r"\ud83d\n", "\\\u{1}", r#"",,""#];
 
-// Around the lengths of blocks and of their doubles, and those at which the first buffer ends.
+// Ranges for the number of letters before an escape: around the lengths of one and two blocks, and
+// around the length of the buffer at first.
 static OFFSETS: [(usize, usize); 2] = [(0, 140), (3900, 4110)];
 
-// A plain run, `inner` and a byte as a string, followed by a string of `rest` bytes.
+// An array of two strings: `before` letters, `inner` and a letter, then a string of `rest` letters.
 fn surround(alloc: Global, before: usize, inner: &str, rest: usize) -> Result<String> {
     let first = "a".repeat(alloc, before)?;
     let last = "z".repeat(alloc, rest)?;
@@ -53,7 +54,8 @@ fn escapes_at_each_index_of_a_block_are_read(rt: HostRuntime) -> Result<()> {
     Ok(())
 }
 
-// The rest is about as long as the last few bytes that are decoded one by one.
+// Whole blocks are decoded only far enough from the end of the text. The lengths of `rest` are
+// around this distance.
 #[test]
 fn escapes_before_each_length_of_rest_are_read(rt: HostRuntime) -> Result<()> {
     for (spelled, written) in SPELLED.iter() {
@@ -88,7 +90,8 @@ fn texts_without_an_end_are_refused(rt: HostRuntime) -> Result<()> {
     Ok(())
 }
 
-// Strings longer than the buffer is at first, and shorter ones that find it used.
+// Strings longer than the buffer is at first, and after them shorter strings, which reuse the
+// buffer.
 #[test]
 fn strings_longer_than_the_first_buffer_are_read(rt: HostRuntime) -> Result<()> {
     for before in 0..70 {

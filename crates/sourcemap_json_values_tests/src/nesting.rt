@@ -4,7 +4,8 @@ use crate::checks::check;
 use serde_json::Result;
 use std::alloc::Global;
 
-// What opens and closes a level, the number of levels, and what the innermost holds.
+// A text that opens levels, the text that closes them, how often both are repeated, and what the
+// innermost level holds.
 static LEVELS: [(&str, &str, usize, &str); 7] = [
     ("[", "]", 1, "7"),
     ("[", "]", 127, ""),

@@ -3,7 +3,7 @@ use crate::answers::{answer, kit_answer};
 use crate::checks::check;
 use serde_json::Result;
 
-// A JSON text, and its value in compact JSON.
+// A JSON text, and its value in compact JSON, or `none` if the text is invalid.
 static STRINGS: [(&str, &str); 36] = [
     (r#""""#, r#""""#),
     (r#""plain""#, r#""plain""#),
@@ -86,7 +86,8 @@ static NUMBERS: [(&str, &str); 34] = [
     ("Infinity", "none"),
 ];
 
-// Whole numbers of more than 64 bits are floats, which the kit writes.
+// Whole numbers past the integers of 64 bits. They are read as floats, so the kit's result is
+// expected.
 static FAR_NUMBERS: [&str; 3] = [
     "18446744073709551616",
     "99999999999999999999",

@@ -1,8 +1,8 @@
-// Arrays and objects, white space, and what follows a value or replaces one.
+// Arrays and objects. Also texts with white space or more around a value, or without a value.
 use crate::answers::{answer, kit_answer};
 use crate::checks::check;
 
-// A JSON text, and its value in compact JSON, with the keys of an object in order.
+// A JSON text, and its value in compact JSON with sorted keys, or `none` if the text is invalid.
 static ARRAYS: [(&str, &str); 20] = [
     ("[]", "[]"),
     ("[ ]", "[]"),

@@ -64,7 +64,7 @@ static VALUES: [(&str, &str); 20] = [
     ("[[[[[[[[7]]]]]]]]", "[[[[[[[[7]]]]]]]]"),
 ];
 
-// Around the lengths of the blocks that are copied.
+// Lengths of runs: around those of the blocks that are copied, and longer ones.
 static LENGTHS: [usize; 11] = [0, 1, 15, 31, 32, 33, 63, 64, 65, 1100, 5000];
 
 fn compact_text(alloc: Global, value: &Value) -> Result<String> {
@@ -98,7 +98,8 @@ fn check_written(rt: &impl Abort, alloc: Global, value: Value, want: &str) -> Re
     Ok(())
 }
 
-// `run` repeated `len` times, then `between`, then as many again, with `around` at both ends.
+// `run` repeated `len` times, then `between`, then `run` as often again, with `around` at both
+// ends.
 fn two_runs(alloc: Global, run: &str, len: usize, between: &str, around: &str) -> Result<String> {
     let mut text = String::from_str(alloc, around)?;
     for part in [run, between, run].iter() {
@@ -111,7 +112,8 @@ fn two_runs(alloc: Global, run: &str, len: usize, between: &str, around: &str) -
     Ok(text)
 }
 
-// `len` letters in turn, with one that needs an escape at `index` if that is within.
+// `len` letters in turn. If `index` is below `len`, a character that needs an escape is there
+// instead.
 fn letters(alloc: Global, len: u8, index: u8) -> Result<String> {
     let mut text = String::new(alloc);
     for at in 0..len {

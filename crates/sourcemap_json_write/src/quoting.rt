@@ -1,4 +1,4 @@
-//! JSON strings in quotes: runs of plain bytes, and an escape for each byte that ends one.
+//! JSON strings in quotes: runs of plain bytes, and an escape for each byte that ends a run.
 ghost use Rattle.std.specs.Prelude.{◌≡◌, ◌+◌, ◌<◌, ◌≤◌, [], ◌∷◌, ◌++◌, true, length, take, IfOk, OnOk};
 ghost use Rattle.json.specs.Ascii.{backslash, quote};
 ghost use Rattle.json.specs.Filled.{Placed};
@@ -13,7 +13,7 @@ use sourcemap_json_read::runs::{copy_run, stops};
 use std::alloc::AllocError;
 use std::simd::prelude::*;
 
-// The letters of the short escapes of control bytes, or 0.
+// For each control byte, the letter of its short escape, or 0 if it has none.
 const LETTERS: [u8; 32] = [
     0, 0, 0, 0, 0, 0, 0, 0, b'b', b't', b'n', 0, b'f', b'r', 0, 0, 0, 0, 0, 0, 0, 0, 0, 0, 0, 0, 0,
     0, 0, 0, 0, 0,
@@ -48,7 +48,7 @@ fn put_escaped(out: &mut Vec<u8>, text: &[u8]) -> Result<(), AllocError>
     let mut try_blocks = true;
     loop {
         let from = put_blocks(out, text, at, try_blocks)?;
-        // no block is tried again where `\u` escapes are close to each other
+        // once `\u` escapes are close to each other, no block is tried again
         try_blocks = from - at > LONG;
         let rest = &text[from..];
         if is_plain(rest) {
@@ -64,8 +64,9 @@ fn put_escaped(out: &mut Vec<u8>, text: &[u8]) -> Result<(), AllocError>
     }
 }
 
-// Appends a long string from `from` on, escaped, through a buffer extended by many bytes at once.
-// Returns the index reached, which may be `from`.
+// Appends a part of a long string, from `from` on, escaped. `out` is first extended by many zeros
+// at once, and finally cut after the last byte written. Returns the index reached in the string,
+// which may be `from`.
 #[inline(always)]
 fn put_blocks(
     out: &mut Vec<u8>,
@@ -88,9 +89,9 @@ fn put_blocks(
     Ok(at)
 }
 
-// Writes the string from `from` on, escaped, into the buffer from `start` on. Stops before a byte that
-// needs a `\u` escape, near the end of the string and where the buffer is nearly full. Returns the
-// indices reached in the buffer and in the string.
+// Writes the string from `from` on, escaped, into the buffer from `start` on. Stops before a byte
+// that needs a `\u` escape, near the end of the string and where the buffer is nearly full. Returns
+// the indices reached in the buffer and in the string.
 fn fill(buffer: &mut [u8], start: usize, text: &[u8], from: usize) -> (usize, usize)
     requires { (start ≤ length buffer.old) × (from ≤ length text.now) }
     ensures to_within { result.0 ≤ length buffer.new }

@@ -1,6 +1,6 @@
-//! Strings that need no escape, tested and copied whole. Three blocks, which may overlap, cover a
-//! short string of one to three times their length, so neither the test nor the copy goes byte by
-//! byte.
+//! Strings that need no escape, tested and copied by blocks. A short string that is one to three
+//! times as long as a block is covered by three blocks, which may overlap. So neither the test nor
+//! the copy goes byte by byte.
 ghost use Rattle.std.specs.Prelude.{◌≡◌, ◌+◌, ◌≤◌, [], ◌∷◌, ◌++◌, length, OnOk};
 ghost use Rattle.std.specs.Bool.{OnTrue};
 ghost use Rattle.json.specs.Ascii.{quote};
@@ -15,11 +15,11 @@ use std::simd::Simd;
 // The length of the longest short string.
 const SHORT: usize = 48;
 
-/// A longer string is written by blocks, without a test of the whole string first.
+/// A string longer than this is written by blocks, without a test of the whole string first.
 pub(crate) const LONG: usize = 1024;
 
-// As many zeros as any short string in quotes has bytes. A vector is extended by them, in one test
-// and a few stores, and the string is then written over them.
+// At least as many zeros as a short string in quotes has bytes. A vector is extended by them, with
+// one test of its capacity and a few stores. The string is then written over them.
 static ZEROS: [u8; 64] = [0; 64];
 
 /// Whether a string is short and needs no escape.
@@ -71,7 +71,7 @@ pub(crate) fn put_between_quotes(out: &mut Vec<u8>, text: &[u8]) -> Result<(), A
     Ok(())
 }
 
-/// Appends bytes to `out`, a few of them without a call.
+/// Appends bytes to `out`. If they are few, they are copied without a call.
 #[inline(always)]
 pub(crate) fn put_bytes(out: &mut Vec<u8>, text: &[u8]) -> Result<(), AllocError>
     ensures { OnOk result (out.new.items ≡ out.old.items ++ text.now) }

@@ -14,8 +14,8 @@ use itoa::Buffer;
 use serde_json::{Map, Number, Value};
 use std::alloc::{AllocError, Global};
 
-/// Returns the compact JSON text of a value, as the kit's `to_vec` does, and faster where strings have
-/// escapes. The error is out of memory.
+/// Returns the compact JSON text of a value, as the kit's `to_vec` does, and faster where strings
+/// have escapes. The error is out of memory.
 pub fn value_to_vec(alloc: Global, value: &Value) -> Result<Vec<u8>, AllocError>
     ensures text { IfOk result (λ b. has_float (view value.now) ≡ false
         → b.items ≡ compact_text (view value.now)) }
@@ -56,8 +56,8 @@ impl From<AllocError> for Refusal {
     }
 }
 
-/// Appends the text of a value to `out`. Inlined into the loops over items and members, so that most
-/// values take no call: a function that may recurse has a large frame.
+/// Appends the text of a value to `out`. Inlined into the loops over items and members, so that
+/// most values take no call: a function that may recurse has a large frame.
 #[cycle(put)]
 #[inline(always)]
 fn put_value(out: &mut Vec<u8>, value: &Value) -> Result<(), Refusal>

@@ -28,7 +28,8 @@ BeginsLine tokens index = 0 < index → line_at tokens index ≢ line_at tokens 
 abbrev pub ContinuesLine : List RawToken → ℕ → Type 0
 ContinuesLine tokens index = (0 < index) × (line_at tokens index ≡ line_at tokens (index - 1))
 
--- the table of the first n tokens: each line once, and all tokens from its first up to that of the next line are on it
+-- the table of the first n tokens, with one row for each line that holds one of them. The tokens from the first of a
+-- row up to, not including, the first of the next row are on the line of the row
 pub record IsLineTable (tokens : List RawToken) (n : ℕ) (table : LineTable) : Type 0 where
   pub same_length : length table.firsts ≡ length table.lines
   pub few : length table.lines ≤ n
@@ -67,7 +68,7 @@ Rises number low high = (index : ℕ) → low ≤ index → index + 1 < high →
 abbrev pub col_at : List RawToken → RawToken → ℕ → ℕ
 col_at tokens d index = (slice_index_or tokens index d).dst_col
 
--- the number of binary digits of n, at most `most`
+-- the number of binary digits of n, or `most` if there are more
 abbrev pub digits_within : (most n : ℕ) → ℕ
 digits_within zero n = 0
 digits_within (suc most) n = if n == 0 then 0 else suc (digits_within most (n / 2))

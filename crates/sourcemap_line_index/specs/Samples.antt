@@ -9,7 +9,8 @@ pub record AreColumns (tokens : List RawToken) (columns : List ℕ) : Type 0 whe
   pub own : (k : ℕ) (d : RawToken) → k < length columns → slice_index columns k ≡ col_at tokens d (8 * k)
   pub all : length tokens ≤ 8 * length columns
 
--- none, or those of tokens on so few lines that a search by samples stays within its bound
+-- there are no samples, or they are the columns of every eighth token. In the second case lines hold at least 32
+-- tokens on average, so that a search by samples stays within its bound of comparisons
 abbrev pub AreSamples : (tokens : List RawToken) (lines : ℕ) (columns : List ℕ) → Type 0
 AreSamples tokens lines columns = 0 < length columns → AreColumns tokens columns × (32 * lines ≤ length tokens)
 
@@ -19,7 +20,8 @@ pub record HasRisingColumns (tokens : List RawToken) (first end : ℕ) : Type 0 
   pub within : end ≤ length tokens
   pub rises : (d : RawToken) → Rises (col_at tokens d) first end
 
--- the index of the first of these tokens that is not left of a column, end if there is none
+-- of the tokens from first up to, not including, end, the index of the first that is not left of a column; end if there
+-- is no such token
 pub record IsFirstAtColumn (tokens : List RawToken) (first end col index : ℕ) : Type 0 where
   pub at_least : first ≤ index
   pub at_most : index ≤ end

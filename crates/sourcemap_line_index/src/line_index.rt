@@ -88,7 +88,7 @@ impl LineIndex {
     /// Returns the index of the token closest to the probe's position, in the list that the table
     /// was built from. If tokens are at that position, this is the first of them, else the last
     /// token before it. Allocates nothing. With d binary digits in the count of tokens it makes at
-    /// most 2 (d + 1) comparisons, however many tokens are equal.
+    /// most 2 (d + 1) comparisons, however many tokens have the same position.
     pub fn closest<P: Probe>(&self, tokens: &[RawToken], probe: &mut P) -> Option<usize>
         requires { IsTableOf tokens.now self.now }
         ensures answer { result
@@ -103,7 +103,7 @@ impl LineIndex {
         self.closest_by_samples(tokens, &[], probe)
     }
 
-    // `closest` with the column samples of the list, or with an empty slice.
+    // As `closest`. `samples` holds the column samples of the list, or is empty.
     #[inline(always)]
     pub(crate) fn closest_by_samples<P: Probe>(
         &self,
@@ -134,7 +134,8 @@ impl LineIndex {
     }
 
     // The range of the tokens on the probe's line, as first index and end. If the line holds no
-    // token, both are the index of the first token of a later line.
+    // token, both are the index of the first token of a later line, or the token count if there is
+    // none.
     #[inline(always)]
     fn span_of<P: Probe>(&self, tokens: &[RawToken], probe: &mut P) -> (usize, usize)
         requires { IsTableOf tokens.now self.now }

@@ -104,7 +104,7 @@ impl Probe for KeyProbe {
     }
 }
 
-// Above this, an `if` selects the steps, which compiles to a conditional move.
+// For more steps than this, `if_less` uses an `if`, which compiles to a conditional move.
 const FAR: usize = 4096;
 
 // `steps` if `a < b`, else 0. A branch would be mispredicted half of the time, so `steps` is

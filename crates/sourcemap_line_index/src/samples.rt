@@ -25,7 +25,7 @@ const FEW: usize = 16;
 // search by samples could exceed its bound of comparisons.
 const LONG: usize = 32;
 
-/// The columns of every eighth token of a list with long lines. Empty for any other list.
+/// The columns of every eighth token of a long list with long lines. Empty for any other list.
 #[derive(Debug, Drop)]
 pub(crate) struct ColumnSamples {
     columns: Vec<u32>,
@@ -40,8 +40,8 @@ impl Model for ColumnSamples {
 }
 
 impl ColumnSamples {
-    /// Takes the samples of tokens on `lines` lines. There are none if lines are short. The only
-    /// error is out of memory.
+    /// Samples the columns of tokens that are on `lines` lines. There are no samples if the tokens
+    /// are few or the lines are short. The only error is out of memory.
     pub(crate) fn new(
         alloc: Global,
         tokens: &[RawToken],
@@ -58,7 +58,6 @@ impl ColumnSamples {
         Ok(ColumnSamples { columns })
     }
 
-    /// The samples as a slice.
     pub(crate) fn as_slice(&self) -> &[u32]
         ensures { result.now ≡ self.now }
     {
@@ -103,7 +102,8 @@ pub(crate) fn first_by_samples<P: Probe>(
     let low = first.div_ceil(SPACING);
     let high = end.div_ceil(SPACING);
     let index = SPACING * first_sample(samples, low, high, probe);
-    // the sample before this one is left of the column, so the result is after it
+    // the sample before the token at `index` is left of the column, so the result is after that
+    // sample
     let from = first.max(index.saturating_sub(SPACING - 1));
     first_linear(tokens, from, end.min(index), probe)
 }
@@ -179,7 +179,8 @@ fn first_at_column<P: Probe>(tokens: &[RawToken], first: usize, end: usize, prob
     index
 }
 
-// The same by a linear search: for few tokens it is faster, since the processor can fetch ahead.
+// `first_at_column` by a linear search. For few tokens this is faster, since the processor can
+// fetch ahead.
 fn first_linear<P: Probe>(tokens: &[RawToken], first: usize, end: usize, probe: &mut P) -> usize
     requires { HasRisingColumns tokens.now first end }
     ensures found { IsFirstAtColumn tokens.now first end (P.position probe.old).1 result }

@@ -16,7 +16,7 @@ use std::alloc::Global;
 use std::marker::Model;
 
 /// Tokens sorted by generated position, with the table of their lines, and samples of their columns
-/// if lines are long. No method separates them.
+/// if lines are long. No method changes the tokens, so the table and the samples always match them.
 #[derive(Debug)]
 pub struct TokenList {
     tokens: Vec<RawToken>,
@@ -68,8 +68,8 @@ impl TokenList {
         TokenList::with_table(tokens, lines)
     }
 
-    /// Takes tokens and their table, built together. The only error is out of memory, and both are
-    /// dropped then.
+    /// Takes tokens in order and the table of their lines. The only error is out of memory, and
+    /// both are dropped then.
     pub fn with_table(tokens: Vec<RawToken>, lines: LineIndex) -> Result<TokenList>
         requires { IsTableOf tokens.items lines }
         ensures { Gives (λ list. list) result (Ok tokens.items) }
@@ -109,8 +109,8 @@ impl TokenList {
     /// tokens are at that position, this is the first of them, else the last token before it.
     ///
     /// The second value is the number of comparisons of this line and column with a number. With d
-    /// binary digits in the count of tokens it is at most 2 (d + 1), however many tokens are equal.
-    /// Allocates nothing.
+    /// binary digits in the count of tokens it is at most 2 (d + 1), however many tokens have the
+    /// same position. Allocates nothing.
     #[inline(always)]
     pub fn closest_steps(&self, line: u32, col: u32) -> (Option<(usize, RawToken)>, u32)
         ensures answer { result.0 ≡ closest_token self.now (line, col) }
@@ -127,9 +127,10 @@ impl TokenList {
         (with_token(tokens, index), probe.count())
     }
 
-    /// The same token, found by a binary search among all tokens. It is for callers that search
-    /// many lists in turn, so that none is in the processor's cache. There it is faster than the
-    /// table, since the branches of the search let the processor fetch ahead.
+    /// Returns the token that `closest_steps` returns, with its index, found by a binary search
+    /// among all tokens. This is for callers that search many lists in turn, so that no list is in
+    /// the processor's cache. Then it is faster than a search by the table, since its branches let
+    /// the processor fetch ahead.
     pub fn closest_among_many(&self, line: u32, col: u32) -> Option<(usize, RawToken)>
         ensures answer { result ≡ closest_token self.now (line, col) }
         // the index is the token's own

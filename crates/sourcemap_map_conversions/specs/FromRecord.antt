@@ -1,4 +1,4 @@
--- Which parts a record is read as.
+-- The parts of a regular map that a record is read as.
 use Rattle.std.specs.Prelude.{◌≡◌, ℕ, ◌≤◌, ◌⊎◌, List, [], length, map, fold, codes, Option, option_map, unwrap_or, Result, Ok, Err}
 use Rattle.std.specs.Ordering.{nat_cmp}
 use Rattle.std.specs.BTreeSet.{insert_key}

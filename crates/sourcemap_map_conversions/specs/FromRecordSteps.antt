@@ -1,4 +1,4 @@
--- The fields of a record between the record and the parts of a map.
+-- Steps from a record to the parts of a map: the fields of the record that are used, and what they are read as.
 use Rattle.std.specs.Prelude.{◌≡◌, ◌≤◌, vec_len, List, map, option_map, string_bytes}
 use Rattle.serde_json.specs.View.{view}
 use Rattle.sourcemap_tokens.specs.declared.tokens.RawToken.{RawToken}
@@ -38,7 +38,7 @@ pub record HaveFewItems (lists : RecordLists) : Type 0 where
   pub sources : vec_len lists.sources ≤ 4294967295
   pub contents : vec_len lists.contents ≤ 4294967295
 
--- what the fields are read as
+-- the metadata that these fields of a record are read as
 abbrev pub metadata_read : RecordMetadata → MetadataValue
 metadata_read metadata = record {
   file = option_map file_read (option_map view metadata.file);

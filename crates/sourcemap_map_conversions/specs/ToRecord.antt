@@ -22,7 +22,7 @@ written_contents count contents =
 abbrev pub written_ids : List ℕ → Option (List ℕ)
 written_ids ids = if length ids == 0 then None else Some ids
 
--- the texts of tokens in a map with so many names; they read back as the reduced list
+-- the texts of `mappings` and `rangeMappings` of tokens in a map with so many names. They read back as the reduced list
 pub record AreTextsOf (names : ℕ) (tokens : List RawToken) (mappings : List ℕ) (ranges : Option (List ℕ)) : Type 0 where
   pub text : IsWritten names tokens mappings
   pub bits : IsRangeText tokens ranges

@@ -1,4 +1,4 @@
--- The parts of a map between the map and its record.
+-- Steps from the parts of a map to its record.
 use Rattle.std.specs.Prelude.{◌≡◌, ℕ, List, [], length, map, Option, Some, None, option_map, string_bytes, if◌then◌else◌, is_some}
 use Rattle.std.specs.List.{list_any}
 use Rattle.serde_json.specs.View.{view}
@@ -28,14 +28,14 @@ others_view others = record {
   contents = contents_in others.contents;
 }
 
--- the lists in the types of a record
+-- the lists of a map, converted to the types that a record has
 pub record AreListsOf (name_texts source_texts : List (List ℕ)) (content_texts : List (Option (List ℕ))) (ignored : List ℕ) (lists : WrittenLists) : Type 0 where
   pub names : map view lists.names.items ≡ map string name_texts
   pub sources : map text_view lists.sources.items ≡ map Some source_texts
   pub contents : map text_view lists.contents.items ≡ fitted (length source_texts) content_texts
   pub ids : lists.ids.items ≡ ignored
 
--- contents if there are some
+-- these contents, or none if no source has contents
 abbrev pub some_contents : List (Option (List ℕ)) → Option (List (Option (List ℕ)))
 some_contents contents = if list_any is_some contents then Some contents else None
 

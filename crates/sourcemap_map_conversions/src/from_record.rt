@@ -1,4 +1,4 @@
-//! Reads a JSON record as a regular map.
+//! Reads a JSON record as the parts of a regular map.
 ghost use Rattle.std.specs.Prelude.{◌≡◌, ◌≤◌, Ok, Result, List, IfOk, IsTrue, ◌↔◌, length, map, option_map, string_bytes, vec_len};
 ghost use Rattle.serde_json.specs.View.{view, number_view};
 ghost use Rattle.sourcemap_errors.specs.Answer.{IsAnswer, Gives};
@@ -181,7 +181,7 @@ fn number_text(alloc: Global, number: Number) -> Result<String>
     Ok(String::new(alloc))
 }
 
-// An empty name for a value that is neither a string nor a number.
+// The text of a name: empty for a value that is neither a string nor a number.
 fn name_text(alloc: Global, name: Value) -> Result<String>
     ensures { Gives string_bytes result (Ok (name_read (view name))) }
 {
@@ -205,7 +205,8 @@ fn all_names(alloc: Global, mut names: Vec<Value>) -> Result<Vec<String>>
     Ok(texts)
 }
 
-// Frees the unused capacity, once it is a quarter of the list. Looks at every 4096th length alone.
+// Frees the unused capacity if it is at least a quarter of the whole capacity. Does so only at
+// lengths that are multiples of 4096.
 fn shrink_by_quarters(names: &mut Vec<Value>)
     ensures items { names.new.items ≡ names.old.items }
     ensures len { vec_len names.new ≡ vec_len names.old }

@@ -54,7 +54,7 @@ struct FileAndRoot {
     root: Option<String>,
 }
 
-// The lists in the types of a record.
+// The lists of a map, converted to the types that a record has.
 #[derive(Drop)]
 struct WrittenLists {
     names: Vec<Value>,
@@ -249,7 +249,7 @@ fn ids_if_some(ids: Vec<u32>) -> Option<Vec<u32>>
     if ids.is_empty() { None } else { Some(ids) }
 }
 
-/// Returns the id unchanged, with the fact that it is sixteen bytes.
+/// Returns the id unchanged. The clause `bytes` states that it has sixteen bytes.
 pub fn checked_id(id: Option<DebugId>) -> Option<DebugId>
     ensures value { result ≡ id }
     ensures bytes { IfSome result IsId }

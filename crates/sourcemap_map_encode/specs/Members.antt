@@ -28,7 +28,7 @@ abbrev pub part : Bool → Entry → List ℕ
 part later (key, None) = []
 part later (key, Some d) = key_text later key ++ compact_text d
 
--- whether a member precedes what follows these entries
+-- whether a member precedes what is written after these entries
 abbrev pub later_after : Bool → List Entry → Bool
 later_after later [] = later
 later_after later (e ∷ es) = later_after (later || is_some e.1) es
@@ -71,7 +71,7 @@ contents_entry count contents = (codes "sourcesContent", option_map (written_lis
 abbrev pub version_entry : Entry
 version_entry = (codes "version", Some (written_number 3))
 
--- the members before `mappings`; `mappings`, `names` and `rangeMappings`; the members of sources
+-- three groups of members: those before `mappings`; `mappings`, `names` and `rangeMappings`; those of sources
 abbrev pub leading_entries : MapValue → List Entry
 leading_entries m = debug_id_entry m.debug_id ∷ file_entry m.file ∷ ids_entry m.ignored ∷ []
 
@@ -84,7 +84,7 @@ source_entries m = root_entry m.root ∷ sources_entry m.sources ∷ contents_en
 abbrev pub map_entries : MapValue → List ℕ → Option (List ℕ) → List Entry
 map_entries m mappings ranges = leading_entries m ++ (token_entries m mappings ranges ++ (source_entries m ++ version_entry ∷ []))
 
--- an id of 16 bytes, sorted indices of 32 bits
+-- the debug id, if any, has 16 bytes; the ignored ids have 32 bits and are sorted
 pub record HasSoundLeadingMembers (m : MapValue) : Type 0 where
   pub id : IfSome m.debug_id IsId
   pub small : AllByRecursion FitsU32 m.ignored

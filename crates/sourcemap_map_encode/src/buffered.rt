@@ -8,10 +8,10 @@ ghost use Rattle.sourcemap_map_encode.specs.Buffered.{Grows};
 use sourcemap_errors::errors::Result;
 use std::io::Write;
 
-/// The size in bytes from which the buffer is written out.
+/// A buffer of at least this many bytes is written out.
 pub(crate) const PIECE: usize = 1 << 14;
 
-// One write of line ends.
+// The line ends of one write.
 static LINE_ENDS: [u8; PIECE] = [b';'; PIECE];
 
 /// Writes the buffer's content and clears the buffer.
@@ -26,7 +26,7 @@ pub(crate) fn flush<W: Write>(writer: &mut W, buffer: &mut String) -> Result<()>
     Ok(())
 }
 
-/// Flushes a buffer of at least `PIECE` bytes.
+/// Flushes the buffer if it has at least `PIECE` bytes.
 pub(crate) fn flush_piece<W: Write>(writer: &mut W, buffer: &mut String) -> Result<()>
     ensures text { OnOk result (Grows (W.contents writer.old) (string_bytes buffer.old)
         (W.contents writer.new) (string_bytes buffer.new) []) }
@@ -53,7 +53,7 @@ pub(crate) fn put<W: Write>(writer: &mut W, buffer: &mut String, text: &str) -> 
     Ok(())
 }
 
-/// Writes `count` times `;`. From `PIECE` on they are not copied to the buffer.
+/// Writes `;` `count` times. Each `PIECE` of them is written at once, without a copy in the buffer.
 pub(crate) fn put_line_ends<W: Write>(writer: &mut W, buffer: &mut String, count: u32) -> Result<()>
     ensures text { OnOk result (Grows (W.contents writer.old) (string_bytes buffer.old)
         (W.contents writer.new) (string_bytes buffer.new) (replicate count semicolon)) }

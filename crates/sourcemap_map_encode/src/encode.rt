@@ -49,7 +49,7 @@ pub fn encode_in_parts<W: Write>(alloc: Global, map: &SourceMap, writer: &mut W)
     flush(writer, &mut buffer)
 }
 
-// The members before `mappings`. Returns whether there is one.
+// Writes the members before `mappings`. Returns whether there is such a member.
 fn put_leading_members<W: Write>(
     alloc: Global,
     writer: &mut W,
@@ -124,7 +124,7 @@ fn put_ids<W: Write>(
     Ok(true)
 }
 
-// `mappings`, `names` and `rangeMappings`: keys are in the order of their bytes.
+// Writes `mappings`, `names` and `rangeMappings` in this order, the order of the bytes of keys.
 fn put_tokens<W: Write>(
     alloc: Global,
     writer: &mut W,
@@ -247,7 +247,7 @@ fn has_contents(map: &SourceMap) -> bool
     false
 }
 
-// `sourcesContent`, one item for each source, if a source has contents.
+// Writes `sourcesContent` if a source has contents, with one item for each source.
 fn put_contents<W: Write>(
     alloc: Global,
     writer: &mut W,

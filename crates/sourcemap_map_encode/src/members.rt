@@ -29,7 +29,8 @@ pub(crate) fn put_key<W: Write>(
     put(writer, buffer, ":")
 }
 
-/// Writes a member whose value is a string, if there is one. Returns `later` for the next member.
+/// Writes a member whose value is the string `text`. Writes nothing if `text` is `None`. `later`
+/// says whether a member precedes this one. Returns whether a member precedes the next one.
 pub(crate) fn put_text_if<W: Write>(
     alloc: Global,
     writer: &mut W,

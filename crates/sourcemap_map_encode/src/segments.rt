@@ -27,7 +27,7 @@ const START: RawToken = RawToken {
     is_range: false,
 };
 
-// Columns are compared first: most neighbours differ there.
+// Compares columns first, since most tokens differ from the previous token in the column.
 pub(crate) fn is_repeat(previous: Option<&RawToken>, token: &RawToken) -> bool
     ensures { result ≡ repeats (option_copied previous.entry) token.now }
 {
@@ -58,7 +58,7 @@ fn has_name(token: RawToken, names: u32) -> bool
     token.src_id != NO_ID && token.name_id < names
 }
 
-// Writes the separators before the segment of `token`; `line` is the line of the text written so far.
+// Writes the separators before the segment of `token`. The text written so far ends on `line`.
 fn put_gap<W: Write>(
     writer: &mut W,
     buffer: &mut String,

@@ -9,7 +9,7 @@ use Rattle.std.specs.Cmp.Lexicographic.{pointwise}
 use Rattle.std.proofs.Common.{rules}
 use Rattle.sourcemap_map_parts.specs.TextLists.{same_text}
 
--- the sources by id, without the root, and the root
+-- the sources by id, not yet resolved, and the root that they are resolved against
 pub record SourcesValue : Type 0 where
   pub root : Option (List ℕ)
   pub texts : List (List ℕ)

@@ -61,7 +61,7 @@ impl MapMetadata {
         }
     }
 
-    /// All three fields.
+    /// Metadata with these three fields.
     pub fn with(
         file: Option<String>,
         ignored: BTreeSet<u32>,
@@ -134,7 +134,7 @@ impl MapMetadata {
         &self.ignored
     }
 
-    /// The same with an empty ignore list.
+    /// The metadata with an empty ignore list.
     pub fn without_ignored(self, alloc: Global) -> MapMetadata
         ensures { result ≡ record self { ignored = [] } }
     {

@@ -21,7 +21,7 @@ use std::marker::Model;
 pub struct Sources {
     root: Option<String>,
     texts: Vec<String>,
-    // The sources resolved against the root; `None` if they are the same as `texts`.
+    // The sources resolved against the root. With `None` they are the same as `texts`.
     resolved: Option<Vec<String>>,
 }
 
@@ -75,9 +75,10 @@ impl Sources {
         })
     }
 
-    /// Replaces the root and resolves all sources against it, with one slash in between. Sources
-    /// that start with `/`, `http:` or `https:` are absolute and ignore the root. The only error is
-    /// `OutOfMemory`, and then nothing changes.
+    /// Replaces the root and resolves all sources against it: the root less one slash at its end,
+    /// then `/`, then the source. Sources that start with `/`, `http:` or `https:` are absolute and
+    /// ignore the root. An empty root changes no source. The only error is `OutOfMemory`, and then
+    /// nothing changes.
     pub fn set_root(&mut self, root: Option<String>) -> Result<()>
         ensures { Changes result self.old self.new
             (record self.old { root = option_map string_bytes root }) }
@@ -116,7 +117,7 @@ impl Sources {
         }
     }
 
-    /// All sources without the root.
+    /// All sources, not resolved against the root.
     pub fn unresolved(&self) -> &[String]
         ensures texts { map string_bytes result.now ≡ self.now.texts }
         ensures few { length result.now ≤ 4294967295 }
@@ -135,8 +136,8 @@ impl Sources {
         }
     }
 
-    /// Sets the text of an existing source, without the root. The only error is `OutOfMemory`, and
-    /// then nothing changes.
+    /// Sets the text of an existing source, before it is resolved against the root. The only error
+    /// is `OutOfMemory`, and then nothing changes.
     pub fn set(&mut self, id: u32, text: &str) -> Result<()>
         requires { id < length self.old.texts }
         ensures { Changes result self.old self.new (record self.old {
@@ -152,7 +153,7 @@ impl Sources {
         Ok(())
     }
 
-    /// The sources without the root, and the resolved sources where they differ from those.
+    /// The unresolved sources, and the resolved ones. `None` means that both are the same.
     pub fn into_lists(self) -> (Vec<String>, Option<Vec<String>>)
         ensures given { texts_of result.0 ≡ self.texts }
         ensures resolved { texts_of (unwrap_or result.1 result.0) ≡ resolved_texts self }
@@ -167,7 +168,7 @@ impl Sources {
         (texts, resolved)
     }
 
-    /// The root, and the sources without it.
+    /// The root, and the unresolved sources.
     pub fn into_unresolved(self) -> (Option<String>, Vec<String>)
         ensures root { option_map string_bytes result.0 ≡ self.root }
         ensures texts { texts_of result.1 ≡ self.texts }
@@ -270,7 +271,7 @@ fn resolve_all(alloc: Global, root: &str, sources: &[String]) -> Result<Vec<Stri
     Ok(all)
 }
 
-// The resolved sources, or `None` if the root changes none of them.
+// The resolved sources, or `None` for an empty root, which changes none of them.
 fn resolve_if_rooted(
     alloc: Global,
     root: &str,
@@ -301,8 +302,8 @@ fn put_text(texts: &mut Vec<String>, id: usize, text: String)
     texts[id] = text;
 }
 
-// Updates the resolved sources before a source is set. Without a list of them, one is made: the
-// root may apply to the new text.
+// Updates the resolved sources before a source is set. A missing list is made, unless the root is
+// empty: another root may apply to the new text.
 fn update_resolved(
     alloc: Global,
     resolved_list: &mut Option<Vec<String>>,

@@ -21,7 +21,8 @@ IsRecordOf m t =
     × IsWritten (length m.names) m.tokens mappings × IsRangeText m.tokens ranges
     × (t ≡ plain (record_with m mappings ranges))
 
--- the parts of a map that survive encoding and decoding
+-- `back` has the parts of `m`. It may lack repeated tokens, name ids that name nothing, and contents that belong to no
+-- source
 pub record KeepsParts (back m : MapValue) : Type 0 where
   pub tokens : back.tokens ≡ reduced (length m.names) m.tokens
   pub file : back.file ≡ m.file
@@ -32,15 +33,16 @@ pub record KeepsParts (back m : MapValue) : Type 0 where
   pub ignored : back.ignored ≡ m.ignored
   pub debug_id : back.debug_id ≡ m.debug_id
 
--- a map that restores another has the same meaning at every position, and all its parts
+-- `back` means the same as `m` at every position, and keeps the parts of `m`
 abbrev pub Restores : (m back : MapValue) → Type 0
 Restores m back = MeansTheSame back m × KeepsParts back m
 
--- decoding succeeds, by the results that `Answers` allows, and its result satisfies `IsRestored`
+-- `Answers` allows a successful result of decoding, and the decoded map satisfies `IsRestored`
 abbrev pub ReadsBack : {Y : Type 0} → (Result Y Error → Type 0) → (Y → Type 0) → Type 0
 ReadsBack Answers IsRestored = (back : _) × Answers (Ok back) × IsRestored back
 
--- the result of encoding a map: its record, which decodes to a map that restores it; there is no error but `OutOfMemory`
+-- the result of encoding a map: its record. If the map is well-formed, the record decodes to a map that restores it.
+-- There is no error but `OutOfMemory`
 abbrev pub RecordAnswer : MapValue → Result Tree Error → Type 0
 RecordAnswer m (Ok t) = IsRecordOf m t × IsFine t × (IsWellFormed m → ReadsBack (RecordDecodes (flat t)) (Restores m))
 RecordAnswer m (Err _) = ⊥

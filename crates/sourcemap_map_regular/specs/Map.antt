@@ -36,13 +36,13 @@ made_of file tokens names sources contents = record {
   debug_id = None;
 }
 
--- each token names a source of the map or none, and a name of the map or none
+-- each token has the id of a source of the map, or it has no source, no original position and no name
 abbrev pub IsWellFormed : MapValue → Type 0
 IsWellFormed m = AllWithin (length m.sources) (length m.names) m.tokens
 
 -- Meaning.
 
--- the original position of a generated position: source, line and column in it, name, and whether the
+-- what a token says of a generated position: source, line and column in the source, name, and whether the
 -- token is a range token
 pub record Meaning : Type 0 where
   pub source : Option (List ℕ)
@@ -61,7 +61,7 @@ name_of m id = slice_get m.names id
 abbrev pub contents_of : MapValue → ℕ → Option (List ℕ)
 contents_of m id = item_at m.contents id
 
--- the sum, at most 4294967295
+-- the sum of column and distance, but at most 4294967295
 abbrev pub column_after : ℕ → ℕ → ℕ
 column_after column distance = min (column + distance) 4294967295
 
@@ -75,8 +75,8 @@ meaning_of m token extra_columns = record {
   is_range = token.is_range;
 }
 
--- a token of a map: its fields, its index in the list, and the columns from the token to the position
--- that was looked up
+-- a token of a map: its fields, its index in the list, and the columns that a lookup adds to its original
+-- column
 pub record TokenValue : Type 0 where
   pub map_of : MapValue
   pub raw : RawToken

@@ -23,7 +23,7 @@ used_sources m = kept_once (present (map (λ t. source_of m t.src_id) m.tokens))
 abbrev pub used_names : MapValue → List (List ℕ)
 used_names m = kept_once (present (map (λ t. name_of m t.name_id) m.tokens))
 
--- the old id of each source in use: the one by which a token first uses it
+-- for each source in use, the old id by which a token first uses it
 abbrev pub first_ids : MapValue → List ℕ
 first_ids m = firsts_of (resolved_sources m) (map (λ t. t.src_id) m.tokens)
 
@@ -39,7 +39,7 @@ contents_if m text t =
 abbrev pub contents_for : MapValue → List ℕ → Option (List ℕ)
 contents_for m text = slice_get (present (map (contents_if m text) m.tokens)) 0
 
--- the prefixes to cut; `~` means the common prefix of the sources without the root
+-- the prefixes to cut; `~` stands for the common prefix of the sources before they are resolved against the root
 abbrev pub cuts : Removal → MapValue → List (List ℕ)
 cuts removal m = all_prefixes removal.prefixes m.sources
 

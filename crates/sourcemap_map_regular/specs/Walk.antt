@@ -4,7 +4,7 @@ use Rattle.sourcemap_map_regular.specs.Map.{MapValue, TokenValue, says, lookup}
 use Rattle.sourcemap_map_regular.specs.Token.{token_at}
 use Rattle.sourcemap_source_views.specs.Walk.{guessed_name}
 
--- an optional token before others; without it there are none
+-- the token, if there is one, before the others; without a token the list is empty
 abbrev pub in_front : Option TokenValue → List TokenValue → List TokenValue
 in_front None tokens = []
 in_front (Some token) tokens = token ∷ tokens
@@ -25,6 +25,6 @@ name_of t = (says t).name
 abbrev pub guessed_from : (source minified : List ℕ) → TokenValue → Option (List ℕ)
 guessed_from source minified t = guessed_name position_of name_of source minified (t ∷ tokens_before t.map_of t.index)
 
--- the same from the token closest to a position
+-- the original name of the function with this minified name, guessed from the token closest to a position
 abbrev pub function_name : MapValue → (source minified : List ℕ) → ℕ × ℕ → Option (List ℕ)
 function_name m source minified p = option_and_then (guessed_from source minified) (lookup m p)

@@ -25,7 +25,7 @@ IsEncoded Encodes text = (t : Tree) × Encodes (Ok t) × IsText t text
 abbrev pub IsCompactTextOf : MapValue → List ℕ → Type 0
 IsCompactTextOf m text = (t : Tree) × IsRecordOf m t × (text ≡ compact_text (written t))
 
--- an `Io` error of a write; if its kind is `OutOfMemory`, the error is `OutOfMemory` instead
+-- an `Io` error of a write, of any kind but `OutOfMemory`; a write error of that kind becomes the error `OutOfMemory`
 abbrev pub IsIo : Error → Type 0
 IsIo (Io cause) = FromIo cause (Io cause)
 IsIo _ = ⊥

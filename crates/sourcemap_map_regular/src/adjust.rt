@@ -13,16 +13,18 @@ use sourcemap_errors::errors::Result;
 use sourcemap_line_index::token_list::TokenList;
 
 impl SourceMap {
-    /// Adjusts the map to a later version of its generated text: `adjustment` maps the later text to
-    /// the text that this map describes. The new tokens have generated positions in the later text.
-    /// All other parts are unchanged, and sources and names of `adjustment` are ignored. The errors
-    /// are `IncompatibleSourceMap` if a token moves beyond column 4294967295, and `OutOfMemory`; they
-    /// leave the map unchanged.
+    /// Adjusts the map to a later version of its generated text: `adjustment` maps the later text
+    /// to the text that this map describes. The new tokens have generated positions in the later
+    /// text. All other parts are unchanged, and sources and names of `adjustment` are ignored. The
+    /// errors are `IncompatibleSourceMap` if a token moves beyond column 4294967295, and
+    /// `OutOfMemory`; they leave the map unchanged.
     ///
-    /// A position that a stretch of `adjustment` moves keeps its meaning if the map is well-formed, no
-    /// two of its tokens have one generated position, the token closest to the position is on its
-    /// line, and no other stretch gives a token from the moved start of this stretch up to the moved
-    /// position.
+    /// A position that a stretch of `adjustment` moves keeps its meaning if all of this holds:
+    ///
+    /// - The map is well-formed, and no two of its tokens have the same generated position.
+    /// - The token closest to the position is on the line of the position.
+    /// - No other stretch gives a token from the moved start of this stretch up to the moved
+    ///   position.
     pub fn adjust_mappings(&mut self, adjustment: &SourceMap) -> Result<()>
         ensures value { Gives (λ _. self.new) result (adjusted self.old adjustment.now) }
         ensures unchanged { OnErr result (self.new ≡ self.old) }

@@ -30,8 +30,9 @@ impl SourceMap {
         Ok(())
     }
 
-    /// Sets `sourceRoot`. Getters return each source after the root and one slash, except sources
-    /// that begin with `/`, `http:` or `https:`. The only error is `OutOfMemory`.
+    /// Sets `sourceRoot`. Getters then prefix each source with the root and one slash. Sources that
+    /// begin with `/`, `http:` or `https:` get no prefix. With an empty root, no source gets one.
+    /// The only error is `OutOfMemory`.
     pub fn set_source_root(&mut self, root: Option<&str>) -> Result<()>
         ensures { Changes result self.old self.new
             (record self.old { root = option_copied root.entry }) }
@@ -60,8 +61,8 @@ impl SourceMap {
         Ok(())
     }
 
-    /// Sets the contents of the source with this id, which must exist. The list of contents then has
-    /// one item for each source. The only error is `OutOfMemory`.
+    /// Sets the contents of the source with this id, which must exist. The list of contents then
+    /// has one item for each source. The only error is `OutOfMemory`.
     pub fn set_source_contents(&mut self, id: u32, contents: Option<&str>) -> Result<()>
         requires { id < length self.old.sources }
         ensures { Changes result self.old self.new (record self.old {

@@ -19,8 +19,8 @@ use std::alloc::Global;
 use std::io::Read;
 
 /// Decodes a record as a regular map; sections and function names of the record are ignored. The
-/// errors are, in this order, `IncompatibleSourceMap` for more than 4294967295 sources, names or
-/// contents, the first error of the mappings, and `OutOfMemory` at any time.
+/// errors are, in this order: `IncompatibleSourceMap` if there are more than 4294967295 sources,
+/// names or contents; then the first error of the mappings. `OutOfMemory` can come at any time.
 pub fn decode_regular(alloc: Global, rsm: RawSourceMap) -> Result<SourceMap>
     ensures answer { IsAnswer (λ m. m) (RecordDecodes (flat (tree rsm))) result }
     // The result is determined.
@@ -84,8 +84,8 @@ fn decode_owned(alloc: Global, bytes: Vec<u8>) -> Result<SourceMap>
 impl SourceMap {
     /// Decodes a regular map from bytes, which may begin with a junk header. The errors are `Io` of
     /// kind `InvalidData` for an invalid header, `BadJson(Parse)` if the rest is not JSON,
-    /// `BadJson(Shape)` if the JSON is no record, `IncompatibleSourceMap` for a map of another kind,
-    /// which is not decoded, and those of `decode_regular`.
+    /// `BadJson(Shape)` if the JSON is no record, `IncompatibleSourceMap` for a map of another
+    /// kind, which is not decoded, and those of `decode_regular`.
     pub fn from_slice(alloc: Global, bytes: &[u8]) -> Result<Self>
         ensures answer { IsAnswer (λ m. m) (BytesHaveResult RegularDecodes bytes.now) result }
         // The result is determined.
@@ -96,8 +96,9 @@ impl SourceMap {
         decode_slice(alloc, bytes)
     }
 
-    /// Decodes a regular map from a reader, which is first read to its end. The errors are `Io` of a
-    /// read and those of `from_slice`. The bytes are dropped as soon as their JSON value is parsed.
+    /// Decodes a regular map from a reader, which is first read to its end. The errors are `Io` of
+    /// a read and those of `from_slice`. The bytes are dropped as soon as their JSON value is
+    /// parsed.
     pub fn from_reader<R: Read + Drop>(alloc: Global, reader: R) -> Result<Self>
         ensures answer { Reading (R.remaining reader)
             (λ bytes. IsAnswerRead (λ m. m) (BytesHaveResult RegularDecodes bytes) result) }

@@ -12,7 +12,7 @@ use sourcemap_map_conversions::parts::Parts;
 use sourcemap_map_conversions::to_record::{into_record, record_of};
 use sourcemap_records::jsontypes::RawSourceMap;
 
-/// Encoding as a record, by each kind of map.
+/// A map of any kind, which can be encoded as a record.
 pub trait Encodable {
     ghost use Rattle.std.specs.Prelude.{Result};
     ghost use Rattle.sourcemap_errors.specs.declared.errors.Error.{Error};
@@ -33,13 +33,15 @@ impl Encodable for SourceMap {
 
     ghost encodes = { RecordAnswer };
 
-    /// The record of the map. It always has version 3, sources without the root, names and mappings.
-    /// It has file, root, `rangeMappings`, debug id and ignore list if the map does, and contents,
-    /// one item for each source, if a source has contents. The only error is `OutOfMemory`.
+    /// The record of the map. It always has version 3, sources without the root, names and
+    /// mappings. It has file, root, `rangeMappings`, debug id and ignore list if the map does, and
+    /// contents, one item for each source, if a source has contents. The only error is
+    /// `OutOfMemory`.
     fn as_raw_sourcemap(&self) -> Result<RawSourceMap>
         ensures answer { IsAnswer tree (RecordAnswer self.now) result }
         ensures fine { IfOk result (λ r. IsFine (tree r)) }
-        // The record of a well-formed map decodes to a map with the same parts and the same meaning.
+        // The record of a well-formed map decodes to a map with the same meaning. That map has the
+        // same parts, except for what `KeepsParts` allows.
         ensures reads_back { IfOk result (λ r. IsWellFormed self.now
             → ReadsBack (RecordDecodes (flat (tree r))) (Restores self.now)) }
     {
@@ -62,8 +64,8 @@ impl SourceMap {
     ghost use Rattle.sourcemap_map_regular.specs.Encode.{RecordAnswer};
     ghost use Rattle.sourcemap_map_regular.specs.MapStored.{parts_in};
 
-    /// The same record; consumes the map. Texts are moved, and tokens are dropped as soon as they are
-    /// encoded. The only error is `OutOfMemory`.
+    /// The record that `as_raw_sourcemap` returns; consumes the map. Texts are moved, and tokens
+    /// are dropped as soon as they are encoded. The only error is `OutOfMemory`.
     pub fn into_raw_sourcemap(self) -> Result<RawSourceMap>
         ensures { IsAnswer tree (RecordAnswer self) result }
     {
@@ -75,7 +77,7 @@ impl SourceMap {
     }
 }
 
-/// A law: a map has one record.
+/// A law: a map determines its record.
 pub fn written_records_are_determined()
     ensures { (m : MapValue) (a b : Tree) → IsRecordOf m a → IsRecordOf m b → a ≡ b }
 {}

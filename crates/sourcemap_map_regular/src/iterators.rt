@@ -98,7 +98,8 @@ impl<'a> Iterator for SourceIter<'a> {
     }
 }
 
-/// The contents of each source of a map, if the map has them.
+/// The contents of each source of a map, in order of their ids; `None` for a source without
+/// contents.
 #[derive(Drop)]
 pub struct SourceContentsIter<'a> {
     pub(crate) map: &'a SourceMap,
@@ -188,7 +189,7 @@ impl SourceMap {
         }
     }
 
-    /// The contents of each source, if the map has them.
+    /// The contents of each source, in order of their ids; `None` for a source without contents.
     pub fn source_contents(&self) -> SourceContentsIter<'_>
         ensures rest { contents_left result ≡ fitted (length self.now.sources) self.now.contents }
         ensures bound { length (contents_left result) ≤ 4294967295 }

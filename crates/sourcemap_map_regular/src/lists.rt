@@ -15,7 +15,8 @@ pub struct MapLists<'a> {
     pub names: &'a [String],
     /// The sources, resolved against `sourceRoot`.
     pub sources: &'a [String],
-    /// The contents of each source, as a view. `None` where a source has none.
+    /// The contents of sources by id, as views; `None` for a source without contents. The list may
+    /// be shorter or longer than `sources`.
     pub contents: &'a [Option<SourceView>],
     /// The source ids of the ignore list.
     pub ignored: &'a BTreeSet<u32>,

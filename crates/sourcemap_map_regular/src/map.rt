@@ -74,10 +74,10 @@ impl SourceMap {
     ghost use Rattle.sourcemap_map_regular.specs.MapStored.{map_over, parts_in};
     ghost use Rattle.sourcemap_map_regular.specs.Token.{meaning_of_token, lookup, token_at, token_value};
 
-    /// A map of these parts, with its tokens sorted stably by generated position. It has no root, an
-    /// empty ignore list and no debug id. `None` for the contents is the same as an empty list. There
-    /// may be at most 4294967295 names, sources and contents each. A token whose source or name id
-    /// does not exist has no source or name. The only error is `OutOfMemory`.
+    /// A map of these parts, with its tokens sorted stably by generated position. It has no root,
+    /// an empty ignore list and no debug id. `None` for the contents is the same as an empty list.
+    /// There may be at most 4294967295 names, sources and contents each. A token whose source or
+    /// name id does not exist has no source or name. The only error is `OutOfMemory`.
     pub fn new(
         alloc: Global,
         file: Option<&str>,
@@ -171,7 +171,8 @@ impl SourceMap {
         *self.names.allocator()
     }
 
-    /// The token with this index, from 0 on in order of generated position; `None` after the last.
+    /// The token with this index; `None` after the last token. Indices count from 0, in order of
+    /// generated position.
     pub fn get_token(&self, index: usize) -> Option<Token<'_>>
         ensures { option_map token_value result ≡ token_at self.now index }
     {
@@ -195,7 +196,7 @@ impl SourceMap {
 
     /// The token closest to a generated position: the first token at the position, or else the last
     /// token before it, on its line or on an earlier one. A range token on the line of the position
-    /// adds the columns between both to its original column, up to 4294967295.
+    /// adds the columns from the token to the position to its original column, up to 4294967295.
     #[inline(always)]
     pub fn lookup_token(&self, line: u32, col: u32) -> Option<Token<'_>>
         ensures value { option_map token_value result ≡ lookup self.now (line, col) }
@@ -204,8 +205,9 @@ impl SourceMap {
         self.lookup_token_steps(line, col).0
     }
 
-    /// The same token, and the number of comparisons that the lookup made: at most 2 (d + 1), where
-    /// the number of tokens has d binary digits. It allocates no memory.
+    /// The token that `lookup_token` returns, and the number of comparisons that the lookup made.
+    /// This number is at most 2 (d + 1), where the number of tokens has d binary digits. The lookup
+    /// allocates no memory.
     #[inline(always)]
     pub fn lookup_token_steps(&self, line: u32, col: u32) -> (Option<Token<'_>>, u32)
         ensures value { option_map token_value result.0 ≡ lookup self.now (line, col) }
@@ -244,8 +246,9 @@ impl SourceMap {
         }
     }
 
-    /// The same token as by `lookup_token`, found without the table of lines. This is faster if lookups
-    /// alternate between many maps, such as the sections of an index, and none is in the cache.
+    /// The token that `lookup_token` returns, found without the table of lines. This is faster if
+    /// lookups alternate between many maps, such as the maps of the sections of an index, and no
+    /// map is in the cache.
     pub fn lookup_token_among_many(&self, line: u32, col: u32) -> Option<Token<'_>>
         ensures value { option_map token_value result ≡ lookup self.now (line, col) }
         ensures meaning { option_map meaning_of_token result ≡ meaning self.now (line, col) }
@@ -278,8 +281,8 @@ impl SourceMap {
         }
     }
 
-    /// A view of the contents of the source with this id, if the map has them. The map keeps the view,
-    /// so this allocates no memory.
+    /// A view of the contents of the source with this id, if the map has them. The map keeps the
+    /// view, so this allocates no memory.
     pub fn get_source_view(&self, id: u32) -> Option<&SourceView>
         ensures { option_copied result ≡ contents_of self.now id }
     {

@@ -20,11 +20,11 @@ impl SourceMap {
     ghost use Rattle.sourcemap_map_regular.specs.Map.{IsWellFormed, MeansTheSame};
     ghost use Rattle.sourcemap_map_regular.specs.Rewrite.{first_ids, LeavesMeaning, MeansLess, Rewrites, TokensMeanLess};
 
-    /// Reduces the map to the sources and names that tokens use, each once, in the order of first use.
-    /// Sources are resolved against `sourceRoot`, and the result has no root. If several sources are
-    /// equal, the contents are those of the first token whose source has contents. File and debug id
-    /// are kept, and the ignore list is cleared. As the options say, names and contents are dropped
-    /// and prefixes are cut from sources.
+    /// Reduces the map to the sources and names that tokens use, each once, in the order of first
+    /// use. Sources are resolved against `sourceRoot`, and the result has no root. If several
+    /// sources are equal, the contents are those of the first token whose source has contents. File
+    /// and debug id are kept, and the ignore list is cleared. As the options say, names and
+    /// contents are dropped and prefixes are cut from sources.
     ///
     /// With `load_local_source_contents`, sources without contents are read from files. The source,
     /// before any prefix is cut, is resolved against the URL of the folder, which is `base_path`
@@ -45,8 +45,8 @@ impl SourceMap {
         Ok(map)
     }
 
-    /// The same map, and for each of its sources the old id: the one by which a token first uses it.
-    /// The errors are those of `rewrite`.
+    /// The map that `rewrite` returns, and for each of its sources the old id by which a token
+    /// first uses that source. The errors are those of `rewrite`.
     pub fn rewrite_with_ids<F: Files>(
         self,
         rt: &F,
@@ -101,7 +101,7 @@ impl SourceMap {
     }
 }
 
-/// A law: the default options remove nothing, and rewriting a second time changes nothing.
+/// A law: the default options remove nothing, and a second rewriting by them changes nothing.
 pub fn default_rewriting_is_final()
     ensures default { (options : RewriteOptions)
         → IsDefault options → removal_of options ≡ no_removal }

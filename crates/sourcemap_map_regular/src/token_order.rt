@@ -41,7 +41,7 @@ fn compare(a: &Token<'_>, b: &Token<'_>) -> Ordering
         .then(a.is_range().cmp(&b.is_range()))
 }
 
-/// Tokens are equal if their getters return equal texts and numbers; ids may differ.
+/// Tokens are equal if their getters return equal positions, texts and range flags; ids may differ.
 impl PartialEq for Token<'_> {
     ghost eq = { same_token };
 
@@ -56,8 +56,8 @@ impl Eq for Token<'_> {
     ghost laws = { same_token_equiv };
 }
 
-/// By generated position, source, original position, name, and range flag, as the getters return
-/// them; no source and no name come first.
+/// Compares generated position, source, original position, name and range flag, in this order, as
+/// the getters return them. A missing source or name comes first.
 impl Ord for Token<'_> {
     ghost cmp = { token_cmp };
 

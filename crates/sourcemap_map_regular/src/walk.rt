@@ -7,7 +7,7 @@ use crate::token::Token;
 use sourcemap_source_views::sourceview::SourceView;
 use sourcemap_source_views::walk::WalkedToken;
 
-/// The previous token is the one before it in the map.
+/// The previous token is the token at the next lower index of the map.
 impl<'a> WalkedToken for Token<'a> {
     type Name = &'a str;
 
@@ -47,8 +47,8 @@ impl SourceMap {
     /// generated text. The search starts at the token closest to the position and goes back over at
     /// most 128 tokens, to the first token at which the generated text has `minified_name` while it
     /// has `function` at the token before. Returns the name of the token that was found; `None` if
-    /// there is no such token, if it has no name, or if `minified_name` is no identifier. It allocates
-    /// no memory.
+    /// there is no such token, if it has no name, or if `minified_name` is no identifier. It
+    /// allocates no memory.
     pub fn get_original_function_name(
         &self,
         line: u32,

@@ -18,8 +18,8 @@ use sourcemap_json_write::writing::value_to_vec;
 use std::alloc::Global;
 use std::io::Write;
 
-/// The compact JSON text of the map, as bytes. The errors are those of `as_raw_sourcemap`, which are
-/// none for regular maps, Hermes maps and index maps, and `OutOfMemory`.
+/// The compact JSON text of the map, as bytes. The errors are `OutOfMemory` and those of
+/// `as_raw_sourcemap`. For regular maps, Hermes maps and index maps there is only `OutOfMemory`.
 pub fn encode_to_vec<M: Encodable>(alloc: Global, map: &M) -> Result<Vec<u8>>
     ensures text { IfOk result (λ text. IsEncoded (M.encodes map.now) text.items) }
     ensures error { IfErr result (λ e. UnlessMemory e (M.encodes map.now (Err e))) }
@@ -28,10 +28,10 @@ pub fn encode_to_vec<M: Encodable>(alloc: Global, map: &M) -> Result<Vec<u8>>
     Ok(value_to_vec(alloc, &value)?)
 }
 
-/// Writes the compact JSON text of the map to a borrowed writer. The text is complete before the first
-/// write, so nothing is written if the record cannot be made or memory runs out before that. The
-/// error of a write is `Io`, or `OutOfMemory` if it is of that kind; the writer may then have any part
-/// of the text.
+/// Writes the compact JSON text of the map to a borrowed writer. The text is complete before the
+/// first write, so nothing is written if the record cannot be made or memory runs out before that.
+/// The error of a write is `Io`, or `OutOfMemory` if it is of that kind; the writer may then have
+/// any part of the text.
 pub fn encode_to<M: Encodable, W: Write>(alloc: Global, map: &M, writer: &mut W) -> Result<()>
     ensures written { OnOk result ((text : List ℕ) × IsEncoded (M.encodes map.now) text
         × Appends (W.contents writer.old) (W.contents writer.new) text) }
@@ -45,8 +45,8 @@ pub fn encode_to<M: Encodable, W: Write>(alloc: Global, map: &M, writer: &mut W)
 }
 
 /// Writes the compact JSON text of the map. The errors are those of [`encode_to`]. The writer is
-/// consumed, so its contents are tested, not proved; [`encode_to`] proves the contents of a borrowed
-/// writer.
+/// consumed, so its contents are tested, not proved; [`encode_to`] proves the contents of a
+/// borrowed writer.
 pub fn encode<M: Encodable, W: Write + Drop>(alloc: Global, map: &M, mut writer: W) -> Result<()>
     ensures encoded { OnOk result ((text : List ℕ) × IsEncoded (M.encodes map.now) text) }
     ensures error { IfErr result (λ e. UnlessMemory e (M.encodes map.now (Err e) ⊎ IsIo e)) }
@@ -55,9 +55,9 @@ pub fn encode<M: Encodable, W: Write + Drop>(alloc: Global, map: &M, mut writer:
 }
 
 impl SourceMap {
-    /// Writes the compact JSON text of the map. The errors are `Io` of a write, and `OutOfMemory`. The
-    /// writer is consumed, so its contents are tested, not proved; [`encode_to`] proves the contents of
-    /// a borrowed writer.
+    /// Writes the compact JSON text of the map. The errors are `Io` of a write, and `OutOfMemory`.
+    /// The writer is consumed, so its contents are tested, not proved; [`encode_to`] proves the
+    /// contents of a borrowed writer.
     pub fn to_writer<W: Write + Drop>(&self, writer: W) -> Result<()>
         ensures encoded { OnOk result ((text : List ℕ) × IsEncoded (RecordAnswer self.now) text) }
         ensures error { IfErr result (λ e. UnlessMemory e (IsIo e)) }
@@ -69,7 +69,8 @@ impl SourceMap {
     pub fn to_data_url(&self) -> Result<String>
         ensures url { IfOk result (λ url. (text : List ℕ) × IsEncoded (RecordAnswer self.now) text
             × (string_bytes url ≡ data_url_of text) × Holds (string_bytes url) text) }
-        // The text of a well-formed map decodes to a map with the same parts and the same meaning.
+        // The text of a well-formed map decodes to a map with the same meaning. That map has the
+        // same parts, except for what `KeepsParts` allows.
         ensures reads_back { IfOk result (λ url. IsWellFormed self.now
             → ReadsBack (UrlHasResult RegularDecodes (string_bytes url)) (Restores self.now)) }
         ensures memory { IsOkUnless result OutOfMemory }
@@ -88,8 +89,9 @@ pub fn written_maps_are_compact()
         → IsEncoded (RecordAnswer m) text → IsCompactTextOf m text }
 {}
 
-/// A law: the text of a well-formed map decodes to one with the same parts and the same meaning
-/// everywhere.
+/// A law: the text of a well-formed map decodes to a map with the same meaning at every position.
+/// It has the same parts, but it may lack repeated tokens, name ids that name nothing, and contents
+/// that belong to no source.
 pub fn written_maps_read_back()
     ensures { (m : MapValue) (text : List ℕ)
         → IsEncoded (RecordAnswer m) text → IsWellFormed m

@@ -3,7 +3,7 @@ use Rattle.std.specs.Prelude.{ℕ, List, [], ◌∷◌, fold, Option, Some, None
 use Rattle.sourcemap_interning.specs.Interner.{id_of, with_text}
 use Rattle.sourcemap_tokens.specs.Tokens.{no_id}
 
--- the texts of a list of optional ones
+-- the texts in a list of optional texts
 abbrev pub present : List (Option (List ℕ)) → List (List ℕ)
 present [] = []
 present (None ∷ texts) = present texts

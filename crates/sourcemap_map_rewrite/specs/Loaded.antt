@@ -7,8 +7,8 @@ use Rattle.sourcemap_map_rewrite.specs.KeptContents.{AreKept}
 use Rattle.sourcemap_map_rewrite.specs.Options.{options_folder}
 use Rattle.sourcemap_map_rewrite.specs.declared.options.RewriteOptions.{RewriteOptions}
 
--- the contents of these sources after loading: the options name a folder, and only a source without contents may have
--- the contents of a file in it
+-- the contents of these sources after loading: the options give a folder, and only sources without contents whose
+-- texts resolve to paths of files may get contents
 abbrev pub AreLoaded : RewriteOptions → List (List ℕ) → (before after : List (Option (List ℕ))) → Type 0
 AreLoaded options sources before after = IsSomeAnd (options_folder options) (λ folder. Fills folder sources before after)
 
@@ -23,7 +23,7 @@ abbrev pub AreKeptOrNone : Bool → (numbers order : List ℕ) → (contents : L
 AreKeptOrNone with_contents numbers order contents count unloaded =
     MatchBool with_contents (AreKept numbers order contents count unloaded) (unloaded ≡ replicate count None)
 
--- the contents of these sources: kept ones first, then loaded ones
+-- the contents of these sources: `before` are the kept contents, and loading adds others
 pub record AreKeptAndLoaded (options : RewriteOptions) (sources : List (List ℕ)) (numbers order : List ℕ)
     (contents : List (Option (List ℕ))) (count : ℕ) (after : List (Option (List ℕ))) : Type 0 where
   pub before : List (Option (List ℕ))

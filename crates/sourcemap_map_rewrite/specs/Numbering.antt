@@ -9,7 +9,7 @@ use Rattle.sourcemap_map_rewrite.specs.Kept.{present, kept_once, number_in}
 use Rattle.sourcemap_map_rewrite.specs.declared.numbering.NewNumbers.{NewNumbers}
 use Rattle.sourcemap_map_rewrite.specs.declared.numbering.Numbering.{Numbering}
 
--- the texts with an optional one appended, unless they contain it
+-- the texts; if there is an optional text that they lack, it is appended
 abbrev pub with_text_if : List (List ℕ) → Option (List ℕ) → List (List ℕ)
 with_text_if texts None = texts
 with_text_if texts (Some text) = with_text texts text
@@ -19,7 +19,7 @@ abbrev pub first_some : {X Y : Type 0} → (X → Option Y) → List X → Optio
 first_some f [] = None
 first_some f (x ∷ xs) = option_or (f x) (first_some f xs)
 
--- the text is one of these, if there is a text
+-- if there is a text, it is one of these texts
 abbrev pub IsListedIfAny : List (List ℕ) → Option (List ℕ) → Type 0
 IsListedIfAny texts None = Unit {0}
 IsListedIfAny texts (Some text) = (n : ℕ) × (id_of text texts ≡ Some n)
@@ -32,7 +32,7 @@ texts_in_use texts ids = kept_once (present (map (slice_get texts) ids))
 abbrev pub seen_texts : List (List ℕ) → NewNumbers → List (List ℕ)
 seen_texts texts n = texts_in_use texts n.order.items
 
--- the old number has a new one, which is the index of its text in `seen_texts`
+-- the old number has a new number, which is the index of its text in `seen_texts`
 pub record IsSeen (texts : List (List ℕ)) (n : NewNumbers) (id : ℕ) : Type 0 where
   pub text : List ℕ
   pub number : ℕ
@@ -40,12 +40,12 @@ pub record IsSeen (texts : List (List ℕ)) (n : NewNumbers) (id : ℕ) : Type 0
   pub numbered : slice_get n.numbers.items id ≡ Some number
   pub interned : id_of text (seen_texts texts n) ≡ Some number
 
--- the old number has no new one, or was seen
+-- the old number has no new number, or was seen
 abbrev pub IsSeenOrNot : (texts : List (List ℕ)) → NewNumbers → ℕ → Type 0
 IsSeenOrNot texts n id =
     (slice_get n.numbers.items id ≡ Some no_id) ⊎ ((k : ℕ) × (slice_get n.order.items k ≡ Some id))
 
--- all old numbers that were seen have new ones, and no others
+-- each old number that was seen has a new number, and no other old number has one
 pub record AreNumbered (texts : List (List ℕ)) (n : NewNumbers) : Type 0 where
   pub many : length n.numbers.items ≡ length texts
   pub seen : AllByRecursion (IsSeen texts n) n.order.items
@@ -61,7 +61,7 @@ pub record IsNumbering (texts : List (List ℕ)) (n : Numbering) : Type 0 where
   pub numbered : AreNumbered texts n.seen
   pub index : n.ids ≡ seen_texts texts n.seen
 
--- the numbering after an old number got its new one
+-- the numbering after an old number got its new number
 pub record Assigns (text : List ℕ) (id number : ℕ) (old new : Numbering) : Type 0 where
   pub numbered : id_of text new.ids ≡ Some number
   pub index : new.ids ≡ with_text old.ids text

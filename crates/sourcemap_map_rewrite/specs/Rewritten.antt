@@ -31,7 +31,7 @@ sources_used sources tokens = texts_in_use sources (map (λ t. t.src_id) tokens)
 abbrev pub names_used : List (List ℕ) → List RawToken → List (List ℕ)
 names_used names tokens = texts_in_use names (map (λ t. t.name_id) tokens)
 
--- the old number of each source in use: the one by which a token first uses it
+-- the old number of each source in use; if it has several, the number by which a token first uses it
 abbrev pub first_ids_used : List (List ℕ) → List RawToken → List ℕ
 first_ids_used sources tokens = firsts_of sources (map (λ t. t.src_id) tokens)
 
@@ -57,7 +57,7 @@ pub record AreRewritten (sources names paths : List (List ℕ)) (contents : List
   pub first_ids_are : p.first_ids.items ≡ first_ids_used sources tokens
   pub contents_are : AreResultingContents options sources contents tokens p.contents.items
 
--- at most 4294967295 names, sources and contents, so that each has an id
+-- the names, the sources and the contents are at most 4294967295 each, so that each item has an id
 pub record AreFew (p : RewrittenParts) : Type 0 where
   pub names : vec_len p.names ≤ 4294967295
   pub sources : vec_len p.sources ≤ 4294967295

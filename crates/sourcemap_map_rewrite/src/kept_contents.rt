@@ -40,7 +40,8 @@ pub(crate) fn without_contents(alloc: Global, count: usize) -> Result<Vec<Option
     Ok(list)
 }
 
-// The contents by new number. If several old numbers share one, the first with contents wins.
+// The contents by new number. If several old numbers share a new number, the first old number with
+// contents wins.
 pub(crate) fn kept_contents(
     alloc: Global,
     mut contents: Vec<Option<SourceView>>,

@@ -9,7 +9,7 @@ use sourcemap_errors::errors::Result;
 use std::alloc::Global;
 use std::mem;
 
-// Leaves an empty string at `id`.
+// Moves the text at `id` out of the list, and leaves an empty string.
 fn take_text(alloc: Global, texts: &mut Vec<String>, id: usize) -> String
     requires { id < vec_len texts.old }
     ensures taken { slice_get (texts_of texts.old) id ≡ Some (string_bytes result) }

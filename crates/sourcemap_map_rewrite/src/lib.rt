@@ -1,6 +1,6 @@
 //! The steps of `rewrite` on the lists of a map: drops unused sources and names, deduplicates the
-//! others, renumbers tokens, moves contents along or loads them from files, and cuts prefixes.
-//! Nothing here depends on the type of a map.
+//! others, renumbers tokens, moves contents with their sources or loads them from files, and cuts
+//! prefixes. Nothing here depends on the type of a map.
 #![tactic(auto)]
 
 mod cut_sources;

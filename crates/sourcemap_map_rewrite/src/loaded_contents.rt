@@ -39,7 +39,7 @@ fn contents_if(
     Ok(kept)
 }
 
-// The same, with an item for each source even if contents are not kept.
+// The kept contents by new number; `None` for each source if contents are not kept.
 fn contents_or_none(
     alloc: Global,
     contents: Vec<Option<SourceView>>,
@@ -64,7 +64,7 @@ fn contents_or_none(
     Ok(kept)
 }
 
-// Then loads contents from files for sources that have none.
+// The result of `contents_or_none`, with contents loaded from files for sources that have none.
 fn contents_loaded<F: Files>(
     rt: &F,
     alloc: Global,

@@ -13,14 +13,14 @@ use std::alloc::Global;
 
 #[derive(Drop)]
 pub(crate) struct NewNumbers {
-    // the new number of each old one, `NO_ID` if that was not seen
+    // the new number of each old number; `NO_ID` if the old number was not seen
     pub(crate) numbers: Vec<u32>,
     // the old numbers that were seen, in order of first use
     pub(crate) order: Vec<u32>,
 }
 
-// Assigns new numbers in the order of first use. Equal texts get one number. Each old number is
-// looked up once in the index of texts, then in `seen`.
+// Assigns new numbers in the order of first use. Equal texts get one number. The first use of an
+// old number looks up its text in `ids`. Later uses find its new number in `seen`.
 #[derive(Drop)]
 pub(crate) struct Numbering<'a> {
     pub(crate) seen: NewNumbers,
@@ -45,7 +45,7 @@ impl<'a> Numbering<'a> {
         })
     }
 
-    // The new number of an old one; `NO_ID` if that is no index of a text.
+    // The new number of the old number `id`; `NO_ID` if `id` is no index of a text.
     pub(crate) fn number(&mut self, texts: &'a [String], id: u32) -> Result<u32>
         requires few { length texts.now ≤ 4294967295 }
         requires numbering { IsNumbering (map string_bytes texts.now) self.old }
@@ -70,7 +70,7 @@ impl<'a> Numbering<'a> {
         Ok(number)
     }
 
-    // Assigns a number to an old one that has none yet.
+    // Assigns a new number to the old number `id`, which has none yet.
     fn assign(&mut self, text: &'a str, id: u32) -> Result<u32>
         requires within { id < vec_len self.old.seen.numbers }
         requires below_max { id_of text.now self.old.ids ≡ None → length self.old.ids < 4294967295 }

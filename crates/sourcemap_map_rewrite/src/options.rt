@@ -7,16 +7,17 @@ pub struct RewriteOptions<'a> {
     pub with_names: bool,
     /// Whether contents of sources are kept.
     pub with_source_contents: bool,
-    /// Whether sources without contents are read from files. The source, before any prefix is cut,
-    /// is resolved against the URL of the folder that `current_dir` and `base_path` give. A file
-    /// that cannot be read or is not UTF-8 is skipped. If the folder is not absolute, `rewrite`
-    /// returns `Io` of kind `InvalidInput`.
+    /// Whether contents are loaded from files for sources without contents. The source, before any
+    /// prefix is cut, is resolved against the URL of the folder that `current_dir` and `base_path`
+    /// give. A file that cannot be read or is not UTF-8 is skipped. If the folder is not absolute,
+    /// `rewrite` returns `Io` of kind `InvalidInput`.
     pub load_local_source_contents: bool,
-    /// The folder of the sources. It is appended to `current_dir`; an absolute one replaces it.
+    /// The folder of the sources. A relative `base_path` is appended to `current_dir`, an absolute
+    /// `base_path` replaces it.
     pub base_path: Option<&'a str>,
     /// Prefixes to cut from sources. A prefix that does not end with `/` gets one. Of the prefixes
-    /// that a source starts with, only the first is cut. `~` means the common prefix of the paths
-    /// among the sources, and is tried last.
+    /// that a source starts with, only the first is cut. `~` means the common prefix of the
+    /// absolute paths among the sources, and is tried last.
     pub strip_prefixes: &'a [&'a str],
     /// The folder that a relative `base_path` starts from. `None` is the same as the empty string.
     pub current_dir: Option<&'a str>,

@@ -17,7 +17,7 @@ use sourcemap_source_views::sourceview::SourceView;
 use std::alloc::Global;
 use std::rt::Files;
 
-// The sources with the root, if there are such, otherwise those without.
+// The sources as resolved against `sourceRoot` if they are given, otherwise the sources as written.
 fn rooted_or_plain<'a>(rooted: &'a Option<Vec<String>>, sources: &'a Vec<String>) -> &'a [String]
     ensures { map string_bytes result.now ≡ texts_of (unwrap_or rooted.now sources.now) }
 {
@@ -54,13 +54,14 @@ pub struct RewrittenParts {
     pub sources: Vec<String>,
     /// The contents of `sources`.
     pub contents: Vec<Option<SourceView>>,
-    /// For each of `sources` its old id: the one by which a token first uses it.
+    /// For each of `sources` its old id. If it had several, the id by which a token first uses it.
     pub first_ids: Vec<u32>,
 }
 
-/// Rewrites the parts of a map. `with_root` has the sources resolved against `sourceRoot`, if the map
-/// has one. The common prefix that `~` means is that of `sources`. The errors are `Io` of kind
-/// `InvalidInput` if contents are to be loaded and the folder is not absolute, and `OutOfMemory`.
+/// Rewrites the parts of a map. `with_root` has the sources resolved against `sourceRoot`, if the
+/// map has a `sourceRoot`. The common prefix that `~` means is that of `sources`. The errors are
+/// `Io` of kind `InvalidInput` if contents are to be loaded and the folder is not absolute, and
+/// `OutOfMemory`.
 pub fn rewritten_parts<F: Files>(
     rt: &F,
     alloc: Global,

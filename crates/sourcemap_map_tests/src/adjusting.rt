@@ -7,7 +7,7 @@ use sourcemap::types::{RawToken, SourceMap, Token};
 use sourcemap_test_support::results::box_result;
 use std::alloc::Global;
 
-// A token that starts before the position that is moved, and one that starts after it.
+// One token starts before position 8:30, the other after it. `MOVED` moves 8:30 to 17:23.
 const CUT: [Row; 2] = [
     ((8, 28), (0, 102, 35), NONE, false),
     ((8, 40), (0, 102, 50), NONE, false),
@@ -15,7 +15,8 @@ const CUT: [Row; 2] = [
 
 const MOVED: [Row; 1] = [((17, 23), (0, 8, 30), NONE, false)];
 
-// One position that two tokens come from, and originals that start before it or at it.
+// `TWICE` moves position 0:5 to both 3:0 and 4:0. The token of `BEFORE` starts before 0:5. The
+// token of `THERE` starts at 0:5.
 const TWICE: [Row; 2] = [
     ((3, 0), (0, 0, 5), NONE, false),
     ((4, 0), (0, 0, 5), NONE, false),
@@ -25,23 +26,23 @@ const BEFORE: [Row; 1] = [((0, 0), (0, 1, 1), NONE, false)];
 
 const THERE: [Row; 1] = [((0, 5), (0, 1, 1), NONE, false)];
 
-// Two originals at one position.
+// Two tokens at one generated position.
 const EQUAL: [Row; 2] = [
     ((0, 5), (0, 1, 1), NONE, false),
     ((0, 5), (0, 2, 2), NONE, false),
 ];
 
-// A range token, and an adjustment of what is after its start.
+// A range token. `AFTER_START` moves a position after its start.
 const RANGE: [Row; 1] = [((0, 0), (0, 0, 7), NONE, true)];
 
-// One whose source ends a few columns after its start, and one without a source.
+// A range token with an original column close to the last one, and a range token without a source.
 const FAR_RANGE: [Row; 1] = [((0, 0), (0, 0, 4294967290), NONE, true)];
 
 const BARE_RANGE: [Row; 1] = [((0, 0), (NONE, NONE, NONE), NONE, true)];
 
 const AFTER_START: [Row; 1] = [((5, 0), (0, 0, 10), NONE, false)];
 
-// The last column, from the first.
+// Moves column 0 to the last column.
 const LAST: [Row; 1] = [((0, NONE), (0, 0, 0), NONE, false)];
 
 static NEIGHBOURS: [Row; 2] = [
@@ -49,7 +50,7 @@ static NEIGHBOURS: [Row; 2] = [
     ((0, 1), (0, 1, 2), NONE, false),
 ];
 
-// Two tokens, and adjustments that take both to one position.
+// Two tokens. `TOGETHER` moves both to one position.
 const APART: [Row; 2] = [
     ((0, 0), (0, 1, 1), NONE, false),
     ((0, 5), (0, 2, 2), NONE, false),
@@ -60,8 +61,8 @@ const TOGETHER: [Row; 2] = [
     ((0, 0), (0, 0, 5), NONE, false),
 ];
 
-// A text of three lines that was edited within each of them: five columns were put at column 4 of
-// the first line, those from 2 up to 5 of the second were cut out, and the first three of the last.
+// The map of a text of three lines, each of which was edited. Five columns were inserted at column
+// 4 of the first line. Columns 2 to 4 of the second line and 0 to 2 of the third were removed.
 const EDITED: [Row; 5] = [
     ((0, 0), (0, 0, 0), NONE, false),
     ((0, 9), (0, 0, 4), NONE, false),
@@ -70,14 +71,15 @@ const EDITED: [Row; 5] = [
     ((2, 0), (0, 2, 3), NONE, false),
 ];
 
-// Three lines after a new one.
+// Moves each of three lines down by one line.
 const A_LINE_DOWN: [Row; 3] = [
     ((1, 0), (0, 0, 0), NONE, false),
     ((2, 0), (0, 1, 0), NONE, false),
     ((3, 0), (0, 2, 0), NONE, false),
 ];
 
-// The tokens of both maps, a position, and the text of the token there.
+// The tokens of the original map, then those of the adjustment. A position, and the text of the
+// token of the adjusted map that is closest to it.
 static ADJUSTED: [(&[Row], &[Row], (u32, u32), &str); 13] = [
     (&APART, &TOGETHER, (0, 0), "o.js:1:1"),
     (&APART, &TOGETHER, (0, 3), "o.js:2:2"),
@@ -94,7 +96,7 @@ static ADJUSTED: [(&[Row], &[Row], (u32, u32), &str); 13] = [
     (&BEFORE, &LAST, (0, NONE), "o.js:1:1"),
 ];
 
-// A map of one source and two names, which those of the adjustment are not to replace.
+// A map of one source and two names. Those of the adjustment must not replace them.
 fn original(alloc: Global, rows: &[Row]) -> Made {
     make_map(alloc, rows, &["k", "m"], &["o.js"])
 }
@@ -103,8 +105,8 @@ fn adjustment(alloc: Global, rows: &[Row]) -> Made {
     make_map(alloc, rows, &["n"], &["t.js"])
 }
 
-// Adjusts a map. If out of memory, the call is repeated; the map must be unchanged, else the error is
-// one that no adjustment returns.
+// Adjusts a map. If memory runs out, the call is repeated. But if the failed call changed the map,
+// this returns an error that no adjustment returns.
 fn adjust_again(map: &mut SourceMap, before: &SourceMap, by: &SourceMap) -> Result<()> {
     match map.adjust_mappings(by) {
         Err(Error::OutOfMemory) if *map != *before => Err(Error::NotARamBundle),
@@ -137,9 +139,9 @@ fn adjusted_maps_are_looked_up(rt: HostRuntime) {
     }
 }
 
-// Label, the tokens of both maps, and all those of the adjusted map, as in `1:2=0:1:5#1+`: the
-// position, the number of the source, the line and the column there, the number of the name if
-// there is one, and `+` for a range token.
+// Label. The tokens of the original map, then those of the adjustment. All tokens of the adjusted
+// map, each as in `1:2=0:1:5#1+`: generated position, source id, original line and column, name id
+// if there is one, and `+` for a range token.
 static LISTS: [(&str, &[Row], &[Row], &str); 23] = [
     (
         "a token that is cut and one that is not, but none of the next line",
@@ -348,9 +350,9 @@ fn adjusted_maps_have_these_tokens_and_no_others(rt: HostRuntime) {
     }
 }
 
-// Label, the tokens of both maps, a position of the later text, the one that is moved there, and
-// what the adjusted map says of the first and the map before it of the second, with `+` where a
-// range token says so.
+// Label. The tokens of the original map, then those of the adjustment. The new position, then the
+// old position that the adjustment moves to it. The text that the adjusted map prints at the new
+// position, and the original map at the old position. A `+` after the text marks a range token.
 static ALIKE: [(&str, [&[Row]; 2], [(u32, u32); 2], &str); 9] = [
     (
         "where a token was cut",
@@ -436,8 +438,10 @@ fn moved_positions_keep_their_meaning(rt: HostRuntime) {
     }
 }
 
-// Two tokens that are taken to one position, in the order in which they stood; then the tokens of
-// `AAAA,KAAK`, and of `EAAA`; then those of `AAAO` with ranges `B`, and of `EAAU`.
+// The tokens of the original map, those of the adjustment, and the adjusted map as text. In the
+// first row two tokens move to one position and keep their order. In the second row the mappings of
+// the two maps are `AAAA,KAAK` and `EAAA`. In the third row they are `AAAO`, with range mappings
+// `B`, and `EAAU`.
 static WRITTEN: [(&[Row], &[Row], &str); 3] = [
     (
         &APART,

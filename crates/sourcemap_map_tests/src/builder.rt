@@ -7,7 +7,7 @@ use sourcemap::jsontypes::DebugId;
 use sourcemap::types::{RawToken, SourceMap};
 use std::alloc::Global;
 
-// A call of a builder, named as the call where no comment says otherwise.
+// A call of a builder. A comment names the call where the variant does not.
 #[derive(Clone, Copy)]
 enum Step<'a> {
     File(&'a str),
@@ -15,17 +15,18 @@ enum Step<'a> {
     DebugId(&'a str),
     Ignore(u32),
     Strip(&'a str),
-    // `set_source` and `set_source_contents` of a source that is there
+    // `set_source`, then `set_source_contents`, each with the id of an existing source
     Show(u32, &'a str),
     Contents(u32, Option<&'a str>),
     Source(&'a str),
     Name(&'a str),
-    // `add`: position, line and column of the source, source, name
+    // `add`: generated position, original line and column, source, name
     Token((u32, u32), (u32, u32), &'a str, Option<&'a str>),
-    // `add_raw`: the same with the number of a source and no name, and whether it is a range token
+    // `add_raw` without a name: generated position, original line and column, source id, whether it
+    // is a range token
     Raw((u32, u32), (u32, u32), Option<u32>, bool),
-    // `add_token`: the token that the map of this text has at this column of line 0, and whether
-    // its name is wanted
+    // `add_token` with a token of another map: the text of that map, the token's column on line 0,
+    // whether the name is added too
     Found(&'a str, u32, bool),
 }
 
@@ -120,7 +121,7 @@ fn push_source(out: &mut String, builder: &SourceMapBuilder, id: u32) -> Result<
     Ok(())
 }
 
-// The results of getters: file and root, then the first sources with their contents.
+// What getters return: file and `sourceRoot`, then the first four sources with their contents.
 fn state(alloc: Global, builder: &SourceMapBuilder) -> Result<String> {
     let head = (builder.get_file(), builder.get_source_root());
     let mut out = format!(in alloc; "{head:?}")?;
@@ -130,7 +131,8 @@ fn state(alloc: Global, builder: &SourceMapBuilder) -> Result<String> {
     Ok(out)
 }
 
-// Whether a failed step left the builder unchanged; the source of a token may be added.
+// Whether a failed step left the builder unchanged. `add` and `add_token` may have added the source
+// of the token.
 fn is_as_before(step: &Step<'_>, before: &str, after: &str) -> bool {
     match step {
         Step::Token(_, _, _, _) => after.starts_with(before),
@@ -151,7 +153,7 @@ fn take_again(
     take(alloc, builder, step)
 }
 
-// Takes a step. If out of memory, the builder must be unchanged, and the step is repeated.
+// Takes a step. If memory runs out, `is_as_before` must hold, and the step is repeated.
 fn take_twice(alloc: Global, builder: &mut SourceMapBuilder, step: &Step<'_>) -> Result<Answer> {
     let before = state(alloc, builder)?;
     match take(alloc, builder, step) {
@@ -174,7 +176,8 @@ fn built(alloc: Global, steps: &[Step<'_>]) -> Result<SourceMapBuilder> {
     Ok(builder)
 }
 
-// An id as itself, a token as `0:5=1:1:4#0`: position, source, name, and `+` for a range token.
+// Appends `-`, an id as a number, or a token as in `0:5=1:1:4#0+`. The parts of a token are its
+// generated position, source id, original line and column, name id, and `+` for a range token.
 fn push_answer(out: &mut String, answer: Answer) -> Result<()> {
     match answer {
         Answer::Done => out.push('-')?,
@@ -225,14 +228,14 @@ fn write_built(alloc: Global, builder: Result<SourceMapBuilder>) -> Result<Strin
     Ok(record.into_value(alloc)?.to_string(alloc)?)
 }
 
-// Steps of a builder of the file `f`.
+// Steps of a builder, and what they lead to.
 #[derive(Clone, Copy)]
 struct Row {
     about: &'static str,
     steps: &'static [Step<'static>],
     // results of the steps
     answers: &'static str,
-    // results of getters after the steps
+    // results of getters after the steps, of a builder for the file `f`
     getters: &'static str,
     written: &'static str,
 }

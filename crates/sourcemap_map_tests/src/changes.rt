@@ -31,8 +31,8 @@ static CHANGES: [Change<'static>; 10] = [
     Change::NoNames,
 ];
 
-// Which of these changes the map: all but removing the debug id that it lacks, and the last id
-// to be ignored, which is ignored already.
+// For each of `CHANGES`, `+` if it changes the map, else `=`. The map has no debug id to remove.
+// The id of the last `Ignore` is ignored already.
 const MARKS: &str = "+=++++++=+";
 
 fn make(map: &mut SourceMap, change: &Change<'_>) -> Result<()> {
@@ -69,8 +69,8 @@ fn set_contents(map: &mut SourceMap, id: u32, text: &str) -> Result<()> {
     }
 }
 
-// Makes a change, and says whether it changed the map. If out of memory, the map must be unchanged,
-// and the change is repeated.
+// Makes a change. Returns `+` if it changed the map, else `=`. If memory runs out, the change is
+// repeated. But if the failed call changed the map, this returns `!`.
 fn mark_beside(map: &mut SourceMap, before: &SourceMap, change: &Change<'_>) -> Result<char> {
     let mut outcome = make(map, change);
     if matches!(outcome, Err(Error::OutOfMemory)) {
@@ -156,7 +156,7 @@ fn push_names(out: &mut String, map: &SourceMap) -> Result<()> {
     Ok(())
 }
 
-// Sources with `sourceRoot`, contents, ignored ids, names.
+// Sources as resolved against `sourceRoot`, then contents, ignored ids and names.
 fn push_lists(out: &mut String, map: &SourceMap) -> Result<()> {
     push_sources(out, map)?;
     out.push_str("| ")?;
@@ -177,7 +177,7 @@ fn lists_of(alloc: Global, map: Made) -> Result<String> {
     lists_text(alloc, &*map?)
 }
 
-// A root, and the lists of the map after it.
+// A `sourceRoot`, and the lists of the map once it is set.
 static ROOTS: [(&str, &str); 3] = [
     (
         "root",

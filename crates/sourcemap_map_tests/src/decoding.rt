@@ -7,7 +7,7 @@ use sourcemap::{DecodedMap, Error, SourceMap, decode, decode_data_url, decode_sl
 use sourcemap_test_support::results::{again, error_of};
 use std::alloc::Global;
 
-// The map of the crate's documentation.
+// The map of the documentation of the crate `sourcemap`.
 const README: &str =
     r#"{"version":3,"sources":["coolstuff.js"],"names":["x","alert"],"mappings":"AAAA,GAAIA,GAAI,EACR,IAAIA,GAAK,EAAG,CACVC,MAAM"}"#;
 
@@ -135,7 +135,7 @@ fn proper_beginnings_of_a_text_are_no_json(rt: HostRuntime) {
     }
 }
 
-// Whether a map equals its copy, and whether it differs from it without its debug id.
+// Whether a map equals its copy, and whether the two differ once the map has lost its debug id.
 fn compare_copy(map: &mut DecodedMap) -> Result<(bool, bool)> {
     let copy = map.clone()?;
     let is_same = copy == *map;

@@ -1,4 +1,4 @@
-// The texts of errors, with their positions.
+// The texts that errors print, and the positions in these texts.
 use crate::checks::check;
 use sourcemap::Error;
 use sourcemap::errors::{Base64Fault, RangeFault, Result};

@@ -1,11 +1,11 @@
-//! Which texts are identifiers, and with which one a text starts.
+//! Which texts are identifiers, and which identifier a text starts with.
 use crate::checks::check;
 use sourcemap::Result;
 use sourcemap::js_identifiers::{get_javascript_token, is_valid_javascript_identifier};
 use sourcemap_test_support::results::optional_text;
 use std::alloc::Global;
 
-// A text, whether it is an identifier, and the one with which its first word starts.
+// A text, whether it is an identifier, and the identifier that its first word starts with.
 static TEXTS: [(&str, &str); 32] = [
     ("foo_$123", "true [foo_$123]"),
     (" foo", "false [foo]"),
@@ -20,7 +20,7 @@ static TEXTS: [(&str, &str); 32] = [
     ("ひらがな", "true [ひらがな]"),
     ("へんすう_test", "true [へんすう_test]"),
     ("결제사_연결():De", "false [결제사_연결]"),
-    // nothing counts as an identifier, and yet no word starts with one
+    // the empty text counts as an identifier, but it has no word that starts with one
     ("", "true none"),
     ("   ", "false none"),
     ("1a", "false none"),
@@ -31,16 +31,16 @@ static TEXTS: [(&str, &str); 32] = [
     ("aé.b", "false [aé]"),
     ("a\u{200c}b", "true [a\u{200c}b]"),
     ("\u{200d}a", "false none"),
-    // a combining mark continues and does not start
+    // a combining mark continues an identifier, but does not start one
     ("e\u{301}", "true [e\u{301}]"),
     ("\u{301}e", "false none"),
     ("\t\n a b", "false [a]"),
-    // white space past ASCII parts words
+    // white space outside of ASCII separates words
     ("\u{a0}a\u{a0}b", "false [a]"),
     ("a\u{2028}b", "false [a]"),
-    // of ID_Start, and not of XID_Start
+    // a character in ID_Start, but not in XID_Start
     ("\u{37a}", "false none"),
-    // a letter that takes two units
+    // a letter of two UTF-16 units
     ("𝒳1", "true [𝒳1]"),
     ("👌", "false none"),
     ("a👌", "false [a]"),

@@ -1,5 +1,6 @@
 //! Tests of regular maps, by the names that users know: decoding of bytes, data URLs and records,
-//! construction from parts and by builders, lookups, changes, rewriting, encoding, and views of texts.
+//! construction from parts and by builders, lookups, changes, rewriting, encoding, and views of
+//! texts.
 #![tactic(auto)]
 
 #[cfg(test)]

@@ -43,8 +43,8 @@ fn tables_hold_where_lines_begin_and_end(rt: HostRuntime) {
     }
 }
 
-// Texts of `a` alone, but for these ends from these positions on, and how long the text is: blocks
-// of bytes are looked at at once, and these stand around their edges.
+// Line ends, the position where they start, and the length of the text. All other characters are
+// `a`. The text is read in blocks of bytes, and these line ends are near the edges of blocks.
 static ENDS: [(&str, usize, usize); 27] = [
     ("\n", 30, 64),
     ("\n", 31, 64),
@@ -87,7 +87,7 @@ fn with_ends(alloc: Global, ends: &str, position: usize, length: usize) -> Resul
     Ok(text)
 }
 
-// The lines of a text, found one character after the other.
+// The ranges of the lines of an ASCII text, found one character after the other.
 fn lines_by_character(alloc: Global, text: &str) -> Result<String> {
     let mut answer = String::new(alloc);
     let mut start = 0usize;

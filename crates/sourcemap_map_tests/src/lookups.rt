@@ -1,4 +1,4 @@
-// Maps of tokens that are looked up, written as records, and looked up as they are read back.
+// Maps made of tokens: lookups in them, their text, and lookups after they are read back.
 use crate::checks::check;
 use crate::samples::{Made, bare, map_text, range_map, readme, record_of};
 use sourcemap::decoder::decode_regular;
@@ -7,7 +7,7 @@ use sourcemap::types::Token;
 use sourcemap_test_support::results::box_result;
 use std::alloc::Global;
 
-// A position, and the text of the token there.
+// A position, and the text of the token closest to it.
 type Lookup = (u32, u32, &'static str);
 
 static README: [Lookup; 6] = [
@@ -19,14 +19,15 @@ static README: [Lookup; 6] = [
     (u32::MAX, u32::MAX, "coolstuff.js:2:8"),
 ];
 
-// A range token adds the distance of columns on its own line alone.
+// On its own line, a range token adds the distance in columns to the original column. On later
+// lines it adds nothing.
 static RANGED: [Lookup; 3] = [
     (0, 4, "coolstuff.js:0:0"),
     (0, 9, "coolstuff.js:0:9"),
     (3, 9, "coolstuff.js:0:5"),
 ];
 
-/// What a token prints.
+/// What a token prints, or `none`.
 pub fn token_text(alloc: Global, token: Option<Token<'_>>) -> Result<String> {
     match token {
         None => Ok(String::from_str(alloc, "none")?),
@@ -34,7 +35,7 @@ pub fn token_text(alloc: Global, token: Option<Token<'_>>) -> Result<String> {
     }
 }
 
-/// What a map prints at a position.
+/// What the token closest to a position prints, or `none`.
 pub fn looked_up(alloc: Global, map: Made, line: u32, col: u32) -> Result<String> {
     let map = map?;
     token_text(alloc, map.lookup_token(line, col))

@@ -1,57 +1,57 @@
-// Names of functions that are guessed by a map and a view of the text that was made of its sources.
+// Names of functions, guessed from a map and a view of the generated text.
 use crate::checks::check;
 use sourcemap::decoder::decode_slice;
 use sourcemap::{DecodedMap, Result, SourceMap, SourceView, Token};
 use std::alloc::Global;
 
-// What a bundler made: the function `foo` of the source is `b` in the text.
+// The generated text of `MAP`. The function `foo` of the source is called `b` here.
 const TEXT: &str = "function b(){}";
 
 const MAP: &str = r#"{"version":3,"sources":["a.js"],"names":["foo"],"mappings":"AAAA,SAASA"}"#;
 
-// The same map in an index, two lines and three columns after its start.
+// An index map. Its section has the same tokens as `MAP`, and starts at line 2, column 3.
 const INDEX: &str =
     r#"{"sections":[{"offset":{"line":2,"column":3},"map":{"sources":["a.js"],"names":["foo"],"mappings":"AAAA,SAASA"}}]}"#;
 
-// The first line is bytecode.
+// A Hermes map. The first line of its generated text is bytecode.
 const HERMES: &str =
     r#"{"sources":["a.js"],"names":[],"mappings":"AAAA,EAAC;AAAA","x_facebook_sources":[[{"names":["<global>","f"],"mappings":"AAA,CCA"}]]}"#;
 
 // A map, a line, a column, what a function is called in the text, and its name in the source.
 static NAMES: [(&str, (u32, u32), &str, &str); 17] = [
     (MAP, (0, 9), "b", "foo"),
-    // Behind the token, and on a later line.
+    // After the token of the name, and on a later line.
     (MAP, (0, 13), "b", "foo"),
     (MAP, (1, 0), "b", "foo"),
     // Another name, and two that are no identifiers.
     (MAP, (0, 9), "c", "none"),
     (MAP, (0, 9), "b.c", "none"),
     (MAP, (0, 9), "", "none"),
-    // Before the token: the word `function` is the closest.
+    // Before the token of the name. The closest token is that of the word `function`.
     (MAP, (0, 0), "b", "none"),
     (MAP, (0, 8), "b", "none"),
-    // Places of the text are looked for as the section's own map has them.
+    // The text is searched at positions of the section's map, not of the index map.
     (INDEX, (2, 12), "b", "foo"),
     (INDEX, (3, 0), "b", "foo"),
     (INDEX, (2, 12), "c", "none"),
     (INDEX, (2, 9), "b", "none"),
     // Before the section.
     (INDEX, (0, 9), "b", "none"),
-    // By columns of bytecode, whatever the name; other lines have none.
+    // By the column of the bytecode alone. Only line 0 is bytecode, so other lines have no names.
     (HERMES, (0, 0), "b", "<global>"),
     (HERMES, (0, 1), "b", "<global>"),
     (HERMES, (0, 7), "b", "f"),
     (HERMES, (1, 0), "b", "none"),
 ];
 
-// A boxed map: the prover handles dropping a box as one step, and dropping a map as one step for each
-// part, at each return.
+// A boxed map: the prover handles dropping a box as one step, and dropping a map as one step for
+// each part, at each return.
 fn map_of(alloc: Global, text: &str) -> Result<Box<DecodedMap>> {
     let map = decode_slice(alloc, text.as_bytes())?;
     Ok(Box::new(alloc, map)?)
 }
 
-// The same of a regular map.
+// A boxed regular map, for the same reason.
 fn regular_of(alloc: Global, text: &str) -> Result<Box<SourceMap>> {
     let map = SourceMap::from_slice(alloc, text.as_bytes())?;
     Ok(Box::new(alloc, map)?)
@@ -86,7 +86,7 @@ fn names_of_functions_are_guessed_by_maps(rt: HostRuntime) {
     }
 }
 
-// A map, whether there is a name, whether there is a view, and the answer.
+// A map, whether the call has a minified name, whether it has a view, and the answer.
 static LESS: [(&str, bool, bool, &str); 9] = [
     (MAP, true, true, "foo"),
     (MAP, false, true, "none"),
@@ -119,7 +119,7 @@ fn maps_but_hermes_maps_need_a_name_and_a_view(rt: HostRuntime) {
     }
 }
 
-// The name by the call of the map's kind.
+// The name that the method of `SourceMap`, `SourceMapIndex` or `SourceMapHermes` returns.
 fn name_by_kind(alloc: Global, map: &str, (line, col): (u32, u32)) -> Result<String> {
     let view = SourceView::new(alloc, TEXT)?;
     let map = map_of(alloc, map)?;
@@ -143,11 +143,11 @@ fn each_kind_of_map_names_functions(rt: HostRuntime) {
     check(&rt, "hermes", name_by_kind(rt.alloc(), HERMES, (0, 7)), "f");
 }
 
-// The column of the last token on the second line, where one without a source stands at each column
-// up to it, and the name of `b` at that one.
+// A column, and the name of `b` at this column of the second line. Each column of that line, up to
+// this one, has a token without a source.
 static FAR: [(u32, &str); 4] = [(0, "foo"), (99, "foo"), (125, "foo"), (126, "none")];
 
-// The map above, with these tokens on a second line.
+// `MAP` with a second line. Its tokens have no source, one at each column from 0 to `last`.
 fn with_second_line(alloc: Global, last: u32) -> Result<String> {
     let mut text = String::from_str(
         alloc,
@@ -175,7 +175,7 @@ fn walks_are_128_tokens_long(rt: HostRuntime) {
 const WITH_CONTENTS: &str =
     r#"{"version":3,"sources":["a.js","b.js","c.js"],"sourcesContent":["x\ny",null,"abc👌def\r\nblah"],"names":[],"mappings":"AAAA,CCAA,CCAA,C"}"#;
 
-// The id of a source, a line of its contents, and that line.
+// A source id, a line number, and the text of this line of the contents.
 static LINES: [(u32, u32, &str); 9] = [
     (0, 0, "x"),
     (0, 1, "y"),
@@ -201,7 +201,7 @@ fn line_of_source(alloc: Global, id: u32, line: u32) -> Result<String> {
     line_text(alloc, map.get_source_view(id), line)
 }
 
-// The same by the token that leads to the source; the fourth one leads to none.
+// As `line_of_source`, by the token that leads to the source. The fourth token leads to none.
 fn line_of_token(alloc: Global, id: u32, line: u32) -> Result<String> {
     let map = regular_of(alloc, WITH_CONTENTS)?;
     let view = match map.get_token(id as usize) {

@@ -5,7 +5,8 @@ use sourcemap::errors::Result;
 use sourcemap::types::{SourceMap, Token, TokenIter};
 use std::alloc::Global;
 
-// Whether the first two are equal, but not by their numbers, and the second is before the third.
+// Whether the first two tokens are equal, whether their raw tokens are equal, and whether the
+// second token is before the third.
 fn compare_tokens(map: &SourceMap) -> Option<(bool, bool, bool)> {
     let first = map.get_token(0)?;
     let second = map.get_token(1)?;
@@ -28,8 +29,8 @@ fn tokens_are_ordered_by_their_answers(rt: HostRuntime) {
     check(&rt, "order", answer, "Some((true, false, true))");
 }
 
-// Label, a position, whether seeking it finds a token, and the position and source of the token
-// after that.
+// Label, a position, and whether `seek` finds a token for it. Then the generated position and the
+// source id of the next token.
 static SOUGHT: [(&str, u32, u32, &str); 5] = [
     ("before all tokens", 0, 1, "false (0, 2) 0"),
     ("at the first of two tokens", 0, 2, "true (0, 2) 4"),
@@ -71,7 +72,7 @@ fn seeking_goes_on_after_the_closest_token(rt: HostRuntime) {
     }
 }
 
-// A position, and its token printed in short, in full and for whoever debugs.
+// A position, and the closest token as printed by `{}`, `{:#}` and `{:?}`.
 static PRINTED: [(u32, u32, &str); 4] = [
     (0, 1, "none"),
     (0, 2, "a.js:0:0|a.js:0:0 (0:2)|<Token a.js:0:0 (0:2)>"),

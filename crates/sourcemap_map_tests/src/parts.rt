@@ -1,5 +1,5 @@
-// Encoding in parts: the bytes that `encode_to` writes, tokens on far lines, and writers that take
-// little, are interrupted or fail.
+// Encoding in parts writes the same text as encoding at once. Also: tokens on far lines, and
+// writers that take one byte a write, are interrupted or fail.
 use crate::checks::check;
 use crate::samples::{Made, NONE, make_map, mixed_map, range_map, readme};
 use crate::writing::{BARE, WRITTEN, cut_writing, outcome_text, regular};
@@ -27,8 +27,8 @@ fn are_line_ends(buf: &[u8]) -> bool {
 }
 
 impl Write for LineCounter {
-    // A piece that begins and ends with an end of a line is taken to hold nothing else, so that
-    // many of them are counted fast.
+    // If the first and last byte of a piece end lines, all its bytes are assumed to end lines. So
+    // many line ends are counted fast.
     fn write(&mut self, buf: &[u8]) -> io::Result<usize> {
         self.longest = self.longest.max(buf.len());
         if are_line_ends(buf) {
@@ -54,7 +54,8 @@ fn far(alloc: Global) -> Made {
     make_map(alloc, &[row], &[], &[])
 }
 
-// The other bytes, how many lines end, and that no write was long.
+// Encodes the map with the far token. Returns the bytes that end no line, the number of line ends,
+// and whether no write was longer than 65536 bytes.
 fn far_text(alloc: Global) -> Result<String> {
     let map = far(alloc)?;
     let mut writer = LineCounter {
@@ -76,7 +77,8 @@ fn far_lines_take_little_memory(rt: HostRuntime) {
     check(&rt, "a far line", far_text(rt.alloc()), want);
 }
 
-// What a writer holds that takes one byte a write and so many of them.
+// What a writer holds at the end, and the error if there is one. The writer takes one byte a write,
+// and at most `left` bytes.
 fn held_text(alloc: Global, map: &SourceMap, left: Option<usize>) -> Result<String> {
     let mut writer = NarrowWriter {
         held: Vec::new(alloc),
@@ -99,7 +101,7 @@ fn parts_are_the_text(rt: HostRuntime) {
     }
 }
 
-// The same bytes as `encode_to_vec` answers, for a map with tokens of all kinds.
+// Checks that `encode_in_parts` writes the bytes that `encode_to_vec` returns.
 fn check_same(rt: &impl Abort, alloc: Global, about: &str, map: Made) {
     let outcome = match map {
         Ok(map) => same_text(alloc, &*map),
@@ -125,7 +127,7 @@ fn parts_are_the_text_of_made_maps(rt: HostRuntime) {
     check_same(&rt, alloc, "many tokens", many(alloc));
 }
 
-// Tokens that take several pieces, and a text that is longer than a piece.
+// A map with mappings that take several pieces, and contents that are longer than a piece.
 fn many(alloc: Global) -> Made {
     let text = many_text(alloc)?;
     regular(alloc, text.as_str())

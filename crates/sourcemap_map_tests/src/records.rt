@@ -27,7 +27,7 @@ fn record(alloc: Global, text: &str) -> Result<RawSourceMap> {
     RawSourceMap::from_owned(alloc, Value::from_str(alloc, text)?)
 }
 
-// The results of `==` and `!=`.
+// `=` if both operators say equal, `!` if both say different, `?` if `==` and `!=` disagree.
 fn verdict(is_equal: bool, is_different: bool) -> char {
     match (is_equal, is_different) {
         (true, false) => '=',
@@ -55,7 +55,7 @@ fn records_that_differ_in_a_field_are_not_equal(rt: HostRuntime) -> Result<()> {
     Ok(())
 }
 
-// The first two are equal, and each of the others differs from them in one field.
+// The first two sections are equal. Each other section differs from them in one field.
 const SECTIONS: &str = r#"{"sections":[
     {"offset":{"line":1,"column":2},"url":"u","map":{"mappings":"A"}},
     {"offset":{"line":1,"column":2},"url":"u","map":{"mappings":"A"}},

@@ -186,7 +186,7 @@ fn contents_are_loaded_from_absolute_folders_alone(rt: HostRuntime) {
     }
 }
 
-// Label, a map, and the ids that the sources of the map rewritten by default had in it.
+// Label and a map. For each source of the map rewritten by default, its id in the old map.
 static OLD_IDS: [(&str, &str, &str); 4] = [
     ("the second source alone is used", TWO_SOURCES, "[1]"),
     ("the second source is used first", TWO_NAMES, "[1, 0]"),

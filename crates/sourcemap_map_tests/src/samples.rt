@@ -12,10 +12,10 @@ use std::alloc::Global;
 /// A map in a box, as `box_result` makes it, or an error.
 pub type Made = Result<Box<SourceMap>>;
 
-/// No id, and the line and column of no original position.
+/// No id. Also the original line and column of a token without an original position.
 pub const NONE: u32 = u32::MAX;
 
-/// Generated line and column, then source with original line and column, then name, then range flag.
+/// Generated line and column, then source id with original line and column, name id, range flag.
 pub type Row = ((u32, u32), (u32, u32, u32), u32, bool);
 
 // The tokens of the map of the documentation of the crate `sourcemap`, the last of them first.
@@ -38,8 +38,8 @@ static RANGED: [Row; 3] = [
     ((0, 5), (0, 0, 5), NONE, true),
 ];
 
-// Two tokens that differ only in the ids of their sources, which have the same text; a range token; a
-// token without a source.
+// Two tokens that differ only in the ids of their sources, which have the same text. Then a range
+// token, and a token without a source.
 static MIXED: [Row; 4] = [
     ((0, 2), (0, 0, 0), NONE, false),
     ((0, 2), (4, 0, 0), NONE, false),
@@ -47,7 +47,7 @@ static MIXED: [Row; 4] = [
     ((1, 4), (NONE, NONE, NONE), NONE, false),
 ];
 
-// A range token, and one before it, both without a source.
+// A range token, and a token before it. Neither has a source.
 static BARE: [Row; 2] = [
     ((1, 0), (NONE, NONE, NONE), NONE, true),
     ((0, 0), (NONE, NONE, NONE), NONE, false),
@@ -82,7 +82,7 @@ fn map_of(alloc: Global, rows: &[Row], names: &[&str], sources: &[&str]) -> Resu
     SourceMap::new(alloc, Some("f"), tokens, names, sources, None)
 }
 
-// At most nine texts.
+// Copies of the texts. More than nine texts are an error.
 fn texts(alloc: Global, all: &[&str]) -> Result<Vec<String>>
     ensures { IfOk result (λ texts. vec_len texts ≤ 9) }
 {
@@ -127,7 +127,7 @@ pub fn record_of(map: Made) -> Result<RawSourceMap> {
     map?.as_raw_sourcemap()
 }
 
-/// The text of a map, by the record of one that is consumed.
+/// The text of a map, by the record that `into_raw_sourcemap` makes of it.
 pub fn map_text(alloc: Global, map: Made) -> Result<String> {
     record_written(alloc, Box::into_inner(map?).into_raw_sourcemap())
 }

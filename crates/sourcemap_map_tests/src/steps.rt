@@ -6,8 +6,8 @@ use sourcemap::types::{RawToken, SourceMap};
 use sourcemap_test_support::results::box_result;
 use std::alloc::Global;
 
-// A position, how many comparisons a lookup of it takes at least and at most, and the column in the
-// source that the closest token has.
+// A position, and how many comparisons its lookup may take at least and at most. Then the text of
+// `steps_text`.
 type Counted = ((u32, u32), u32, u32, &'static str);
 
 // A token at this position, identified by its original column.
@@ -23,7 +23,7 @@ fn token(position: (u32, u32), src_col: u32) -> RawToken {
     }
 }
 
-// A map of as many tokens at line 0, column 0, identified by their index.
+// A map of `count` tokens at line 0, column 0. The original column of each token is its index.
 fn equal_tokens(alloc: Global, count: u32) -> Made {
     let mut tokens = Vec::new(alloc);
     for src_col in 0..count {
@@ -35,7 +35,7 @@ fn equal_tokens(alloc: Global, count: u32) -> Made {
 // The generated positions of two tokens.
 static POSITIONS: [(u32, u32); 2] = [(0, 3), (2, 5)];
 
-// A map of tokens at these positions, identified by their index.
+// A map of tokens at `POSITIONS`. The original column of each token is its index.
 fn two_lines(alloc: Global) -> Made {
     let mut tokens = Vec::new(alloc);
     for (at, position) in POSITIONS.iter().enumerate() {
@@ -44,8 +44,8 @@ fn two_lines(alloc: Global) -> Made {
     map_of(alloc, tokens)
 }
 
-// A map of five tokens at columns 0 to 4 of line 0, and of 3,000 at each third column of line 2,
-// identified by their index.
+// A map of five tokens at columns 0 to 4 of line 0, and 3,000 tokens at each third column of
+// line 2. The original column of each token is its index.
 fn long_line(alloc: Global) -> Made {
     let mut tokens = Vec::new(alloc);
     for number in 0..5 {
@@ -64,7 +64,8 @@ fn map_of(alloc: Global, tokens: Vec<RawToken>) -> Made {
     box_result(alloc, map)
 }
 
-// The closest token, and whether it took as many comparisons as it may.
+// The original column of the closest token, and whether the lookup took as many comparisons as
+// allowed.
 fn steps_text(alloc: Global, map: &SourceMap, row: &Counted) -> Result<String> {
     let (position, least, most, _) = *row;
     let (found, steps) = map.lookup_token_steps(position.0, position.1);

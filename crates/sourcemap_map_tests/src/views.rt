@@ -9,9 +9,10 @@ const SMILES: &str = "abc👌def\nblah";
 
 const MIXED: &str = "\r\n\né👌👌x\r\n\r";
 
-// A text, and the part of a line from a column on, so many units long.
+// A text. A line, a column, and a length in UTF-16 units. The slice of this length that starts at
+// the column.
 static SLICES: [(&str, (u32, u32, u32), &str); 49] = [
-    // A slice that ends inside of a pair has all of it.
+    // A slice that ends inside of a surrogate pair has the whole pair.
     (SMILES, (0, 0, 3), "[abc]"),
     (SMILES, (0, 3, 1), "[👌]"),
     (SMILES, (0, 3, 2), "[👌]"),
@@ -19,7 +20,7 @@ static SLICES: [(&str, (u32, u32, u32), &str); 49] = [
     (SMILES, (0, 0, 4), "[abc👌]"),
     (SMILES, (0, 0, 5), "[abc👌]"),
     (SMILES, (0, 0, 6), "[abc👌d]"),
-    // From the middle of a pair on: from after it.
+    // A slice that starts inside of a surrogate pair begins after the pair.
     (SMILES, (0, 4, 0), "[]"),
     (SMILES, (0, 4, 1), "[]"),
     (SMILES, (0, 4, 2), "[d]"),
@@ -50,7 +51,7 @@ static SLICES: [(&str, (u32, u32, u32), &str); 49] = [
     (MIXED, (2, 2, 2), "[👌]"),
     (MIXED, (2, 4, 1), "[]"),
     (MIXED, (2, 4, 2), "[x]"),
-    // Behind the last end of a line there is an empty line.
+    // After the last line end there is an empty line.
     (MIXED, (3, 0, 0), "[]"),
     (MIXED, (4, 0, 0), "[]"),
     (MIXED, (4, 0, 1), "none"),
@@ -66,7 +67,7 @@ static SLICES: [(&str, (u32, u32, u32), &str); 49] = [
     ("abc", (0, 1, 4294967295), "none"),
     ("abc", (0, 1, 1), "[b]"),
     ("abc", (4294967295, 0, 0), "none"),
-    // An empty text, and an end of a line at the end.
+    // An empty text, and a line end at the end of a text.
     ("", (0, 0, 0), "[]"),
     ("", (0, 1, 0), "none"),
     ("x\r", (1, 0, 0), "[]"),
@@ -143,7 +144,7 @@ static LINES_BY_INDEX: [(&str, u32, &str); 21] = [
     ("a\r\nb\nc", 4294967295, "none"),
     ("a\nb\nc\n", 0, "[a]"),
     ("a\nb\nc\n", 1, "[b]"),
-    // Behind the last line end there is an empty line.
+    // After the last line end there is an empty line.
     ("a\nb\nc\n", 2, "[c]"),
     ("a\nb\nc\n", 3, "[]"),
     ("a\nb\nc\n", 4, "none"),

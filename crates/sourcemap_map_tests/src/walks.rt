@@ -5,7 +5,7 @@ use sourcemap::sourceview::{SourceView, WalkedToken};
 use sourcemap_test_support::results::{optional_text, push_optional};
 use std::alloc::Global;
 
-// A line, a column and a name.
+// One token of a `Chain`.
 #[derive(Clone, Copy)]
 struct ChainToken {
     line: u32,
@@ -13,7 +13,7 @@ struct ChainToken {
     name: Option<&'static str>,
 }
 
-// A token, and the earlier ones in the order of the walk.
+// A token, and the tokens before it in the order of the walk.
 #[derive(Clone, Copy)]
 struct Chain<'a> {
     here: ChainToken,
@@ -55,7 +55,7 @@ impl<'a> WalkedToken for Chain<'a> {
     }
 }
 
-// Texts, positions from the last one on, and the identifiers at them.
+// A text, the positions of tokens from the last one back, and the identifier at each position.
 static WALKS: [(&str, &[(u32, u32)], &str); 18] = [
     ("abc👌def", &[(0, 5), (0, 4), (0, 3)], " [def] [def] none"),
     ("abc👌def", &[(0, 3), (0, 4), (0, 5)], " none [def] [def]"),
@@ -78,7 +78,7 @@ static WALKS: [(&str, &[(u32, u32)], &str); 18] = [
     ),
     ("éa=b", &[(0, 3), (0, 1), (0, 0)], " [b] [a] [éa]"),
     ("", &[(0, 0)], " none"),
-    // Each column of one run, and the same column twice.
+    // Every column of a text, and the same column twice.
     (
         "a1b1",
         &[(0, 4), (0, 3), (0, 2), (0, 1), (0, 0)],
@@ -94,7 +94,7 @@ static WALKS: [(&str, &[(u32, u32)], &str); 18] = [
         &[(0, 3), (0, 3), (0, 1), (0, 1), (0, 0)],
         " [cd] [cd] [b] [b] [ab]",
     ),
-    // Letters of two units, and a character that is no letter but goes on an identifier.
+    // Letters of two UTF-16 units, and a character that is no letter but continues an identifier.
     (
         "𐊀𐊀b",
         &[(0, 4), (0, 3), (0, 2), (0, 1), (0, 0)],
@@ -116,7 +116,7 @@ static WALKS: [(&str, &[(u32, u32)], &str); 18] = [
         &[(0, 3), (0, 2), (0, 1), (0, 0)],
         " none none none [a]",
     ),
-    // Lines in turn, and columns that the line does not reach.
+    // Line after line, and columns past the end of the line.
     (
         "abcd\nef\nabcd",
         &[(2, 2), (1, 2), (1, 1), (0, 3), (0, 1)],
@@ -163,11 +163,11 @@ fn walks_find_the_identifier_at_each_position(rt: HostRuntime) {
     }
 }
 
-// A walk in the text `function b(){}`: how many tokens stand after that text, and the columns and
-// the names of those in it, from the last one on.
+// A walk from the last token back, for the text `function b(){}`. First how many tokens are on the
+// line after this text. Then the columns and names of the tokens in the text.
 type Walk = (u32, &'static [(u32, &'static str)]);
 
-// Label, a name in that text, a walk, and the name that is guessed.
+// Label, a name in the generated text, a walk, and the name that is guessed.
 static NAMES: [(&str, &str, Walk, &str); 10] = [
     (
         "the name after the word",
@@ -262,8 +262,8 @@ fn walks_guess_the_name_after_the_word_function(rt: HostRuntime) {
     }
 }
 
-// Texts with a token at column 9 that has the name `foo`, and one at column 0; what the function is
-// called in the text, and the name that is guessed.
+// A text, what the function is called in it, and the name that is guessed. One token has the column
+// 9 and the name `foo`, another has the column 0 and no name.
 static COMPARED: [(&str, &str, &str); 9] = [
     ("function bc(){}", "b", "none"),
     ("function bc(){}", "bc", "[foo]"),

@@ -90,7 +90,7 @@ fn decode_boxed(alloc: Global, text: &str) -> Result<Box<DecodedMap>> {
     box_result(alloc, decode_slice(alloc, text.as_bytes()))
 }
 
-// By the record of a map that is borrowed, and of one that is consumed.
+// The text of a map, by the record of a borrowed map, then by that of a consumed map.
 
 fn by_record(alloc: Global, text: &str) -> Result<String> {
     record_written(alloc, record_of(regular(alloc, text)))
@@ -100,7 +100,7 @@ fn by_moved_record(alloc: Global, text: &str) -> Result<String> {
     map_text(alloc, regular(alloc, text))
 }
 
-// By the value of a map of any kind that is borrowed, and of one that is consumed.
+// The text of a map of any kind, by the value of a borrowed map, then by that of a consumed map.
 
 fn by_value(alloc: Global, text: &str) -> Result<String> {
     let map = decode_boxed(alloc, text)?;
@@ -197,7 +197,8 @@ fn put(alloc: Global, text: &str, call: Call, writer: &mut NarrowWriter) -> Resu
     }
 }
 
-// What a writer holds that takes so many bytes, and the error that the call answers, if any.
+// What a writer holds at the end, and the error of the call if there is one. The writer takes at
+// most `left` bytes.
 fn held_text(alloc: Global, text: &str, call: Call, left: Option<usize>) -> Result<String> {
     let mut writer = NarrowWriter {
         held: Vec::new(alloc),
@@ -207,7 +208,7 @@ fn held_text(alloc: Global, text: &str, call: Call, left: Option<usize>) -> Resu
     outcome_text(alloc, writer.held.as_slice(), outcome)
 }
 
-/// What a writer holds, or that and the error's text.
+/// What a writer holds, and after it the text of the error if there is one.
 pub fn outcome_text(alloc: Global, held: &[u8], outcome: Result<()>) -> Result<String> {
     match outcome {
         Ok(()) => Ok(String::from_str(alloc, str::from_utf8(held)?)?),
@@ -240,8 +241,8 @@ fn bytes_are_written_one_by_one(rt: HostRuntime) {
     }
 }
 
-// Writes a map to a writer that needs no more memory. If out of memory, the writer must be empty, and
-// the call is repeated.
+// Writes a map to a writer that needs no more memory. If memory runs out, the writer must still be
+// empty, and the call is repeated.
 fn encode_again<M: Encodable>(alloc: Global, map: &M, writer: &mut NarrowWriter) -> Result<String> {
     let mut outcome = encode_to(alloc, map, writer);
     if matches!(outcome, Err(Error::OutOfMemory)) {
@@ -278,7 +279,7 @@ fn nothing_is_written_without_memory(rt: HostRuntime) {
     }
 }
 
-/// What a writer holds that fails after some bytes of this text, and the error.
+/// What a writer holds if it fails after `most` characters of this text, and the error.
 pub fn cut_writing(alloc: Global, text: &str, most: usize) -> Result<String> {
     let mut out = String::new(alloc);
     for letter in text.chars().take(most) {

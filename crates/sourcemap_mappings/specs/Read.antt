@@ -35,7 +35,8 @@ abbrev pub PartRead : Counts → ℕ → List Segment → List ℕ → Segment �
 PartRead counts index before part s =
     (s.index ≡ index) × Reads part s.numbers × (segment_error counts (before ++ s ∷ []) s ≡ None)
 
--- the first error of such a part: of its digits, otherwise of its numbers
+-- the first error of a part that is not empty, with this index and after the segments `before`:
+-- of its digits, otherwise of its numbers
 abbrev pub PartError : Counts → ℕ → List Segment → List ℕ → Error → Type 0
 PartError counts index before part e =
     HasError part e
@@ -91,7 +92,8 @@ LinesError counts n before (text ∷ texts) e =
     LineError counts n before text e
     ⊎ ((line : Line) × LineRead counts n before text line × LinesError counts (n + 1) (before ++ line.segments) texts e)
 
--- each line with the text of its range bits: a missing one is empty, those after the last line are ignored
+-- each line with the text of its range bits, which is empty where it is missing;
+-- range bits after the last line are ignored
 abbrev pub with_range_bits : List (List ℕ) → List (List ℕ) → List LineText
 with_range_bits [] ranges = []
 with_range_bits (line ∷ lines) [] = (line, []) ∷ with_range_bits lines []

@@ -45,7 +45,8 @@ pub record AddsFirstPart (counts : Counts) (position : PartPosition) (bits : Lis
   pub split : parts_of line ≡ part ∷ option_map_or (λ rest. parts_of rest.now) tail []
   pub adds : AddsParts counts position bits before here (part ∷ []) old new sums
 
--- the same for any segments before it, where the earlier sums become the later ones
+-- the tokens of the first part of a line are added, whatever segments are before it;
+-- the earlier sums become the later ones
 pub record TakesPart (counts : Counts) (position : PartPosition) (bits line : List ℕ) (earlier later : Sums) (old new : List RawToken) (tail : Option (Bor (List ℕ))) : Type 0 where
   pub added : (before here : List Segment) → AreSums before here earlier → AddsFirstPart counts position bits before here line old new later tail
   pub shorter : IfSome tail (λ rest. length rest.now < length line)

@@ -17,7 +17,7 @@ pub record AreSteps (numbers : List ℤ) (read : Numbers) : Type 0 where
   pub five : length read.steps ≡ 5
   pub each : (k : ℕ) → k < 5 → slice_index read.steps k ≡ step k (record { index = 0; numbers = numbers })
 
--- the numbers of a line's first part, and the line after it, None if it is the last part
+-- the numbers of a line's first part; `tail` is the rest of the line after its `,`, None if it is the last part
 pub record HasFirstPart (line : List ℕ) (read : Numbers) (tail : Option (Bor (List ℕ))) : Type 0 where
   pub part : List ℕ
   pub numbers : List ℤ
@@ -43,7 +43,7 @@ pub record HasPartError (line : List ℕ) (e : Error) : Type 0 where
   pub some : part ≢ []
   pub error : HasError part e
 
--- an error of a line's digits as that of its part, which ends at the `,`
+-- an error in the digits of a line, as the error of its first part: a `,` means that this part ends within a number
 abbrev pub error_in_part : Error → Error
 error_in_part (InvalidBase64 c) = if c == comma then VlqLeftover else InvalidBase64 c
 error_in_part e = e

@@ -45,7 +45,7 @@ abbrev pub last_field : (RawToken → Bool) → (RawToken → ℕ) → List RawT
 last_field passes field tokens = option_map_or field (last_or None (filter passes tokens)) 0
 
 -- what the next token on line n is relative to, after the tokens `before`: the column of the last one on its line,
--- the original position of the last one with a source, the name of the last one with a name
+-- the source and original position of the last one with a source, the name of the last one with a name
 abbrev pub base : ℕ → ℕ → List RawToken → RawToken
 base names n before = record {
   dst_line = n;
@@ -61,7 +61,8 @@ base names n before = record {
 abbrev pub difference : ℕ → ℕ → ℤ
 difference a b = pos a -ℤ pos b
 
--- the numbers of a token's segment: the differences of its column, of its original position if it has a source, and of its name if it has one
+-- the numbers of a token's segment, each the difference to `against`: the generated column;
+-- if it has a source, the source and the original position; if it also has a name, the name
 abbrev pub numbers : ℕ → RawToken → RawToken → List ℤ
 numbers names against t =
     difference t.dst_col against.dst_col

@@ -34,8 +34,8 @@ pub(crate) fn put_one(buffer: &mut [u8; BUFFER_SIZE], at: usize, number: u32, ag
     put_any(buffer, at, number, against)
 }
 
-// The same, fast for one or two digits: both are stored, and the next write overwrites the second
-// if there is only one. So there is no branch to mispredict.
+// As `put_one`, but fast for one or two digits: it stores two bytes in both cases. After one digit,
+// the next write overwrites the second byte. So there is no branch to mispredict.
 #[inline(always)]
 pub(crate) fn put_two(buffer: &mut [u8; BUFFER_SIZE], at: usize, number: u32, against: u32) -> usize
     requires { at + 7 ≤ 1024 }
@@ -55,7 +55,7 @@ pub(crate) fn put_two(buffer: &mut [u8; BUFFER_SIZE], at: usize, number: u32, ag
     at + 1 + second as usize
 }
 
-// The same for up to three digits.
+// As `put_two`, for up to three digits.
 #[inline(always)]
 pub(crate) fn put_three(
     buffer: &mut [u8; BUFFER_SIZE],
@@ -101,7 +101,7 @@ fn raw_difference(number: u32, against: u32) -> u64
     2 * u64::from(number.abs_diff(against)) + u64::from(number < against)
 }
 
-// The same for any number of digits.
+// As `put_one`, for any number of digits.
 fn put_any(buffer: &mut [u8; BUFFER_SIZE], at: usize, number: u32, against: u32) -> usize
     requires { at + 7 ≤ 1024 }
     ensures text { Adds (difference number against ∷ []) (take at buffer.old)
@@ -121,7 +121,6 @@ fn put_any(buffer: &mut [u8; BUFFER_SIZE], at: usize, number: u32, against: u32)
     end + 1
 }
 
-// Appends the buffer's bytes to the text.
 pub(crate) fn flush(
     text: &mut String,
     buffer: &[u8; BUFFER_SIZE],

@@ -81,7 +81,7 @@ fn add_token(
 }
 
 // Adds the token of the first part of a line unless it is empty. Returns the sums after it, and the
-// line after its `,` if there is one.
+// rest of the line after its `,` if there is one.
 #[cold]
 #[inline(never)]
 fn add_any_part<'a>(
@@ -206,7 +206,8 @@ struct ReadLines {
     rises: bool,
 }
 
-// Adds a row to the table if the line had tokens, of which `first` is the index of the first.
+// Adds the row of a line to the table if the line has tokens. `first` is the index of its first
+// token.
 fn add_row(table: &mut LineIndex, tokens: &[RawToken], first: usize) -> Result<()>
     ensures row { OnOk result (AddsRow table.old table.new tokens.now first) }
     ensures memory { IfErr result (λ e. e ≡ OutOfMemory) }
@@ -283,7 +284,7 @@ fn token_list_of(mut read: ReadLines) -> Result<TokenList>
 /// Returns the first error from the left. For a line that is not empty the order is:
 /// `IncompatibleSourceMap` after line 4294967295, `InvalidBase64` in its range bits, then the error
 /// of its first invalid segment: of its digits, `BadSegmentSize`, `BadSourceReference`,
-/// `BadNameReference`. Otherwise it returns only `OutOfMemory`.
+/// `BadNameReference`. The only other error is `OutOfMemory`.
 pub fn parse_token_list(
     alloc: Global,
     mappings: &str,
@@ -304,7 +305,7 @@ pub fn parse_token_list(
     token_list_of(read)
 }
 
-/// The same tokens, without a line table.
+/// Returns the tokens of `parse_token_list` without their line table, or its errors.
 pub fn parse_mappings(
     alloc: Global,
     mappings: &str,
@@ -325,7 +326,8 @@ pub fn parse_mappings(
     Ok(list.into_vec())
 }
 
-/// A law: `mappings` and `rangeMappings` decode to exactly one list of tokens or one error.
+/// A law: for given counts of sources and names, `mappings` and `rangeMappings` decode to at most
+/// one list of tokens or one error.
 pub fn mappings_determine_one_answer()
     ensures { (mappings ranges : List ℕ) (counts : Counts) (a b : Result (List RawToken) Error)
         → MappingsAnswer mappings ranges counts a → MappingsAnswer mappings ranges counts b

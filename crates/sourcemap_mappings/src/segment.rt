@@ -66,8 +66,8 @@ fn add_number(read: &mut Numbers, number: i64)
     read.count = count.saturating_add(1);
 }
 
-// The line is decoded past the end of the segment, so a `,` within a number means that the segment
-// ends within it.
+// Numbers are decoded from the whole line. So a `,` within a number means that the segment ends
+// within this number.
 #[inline]
 fn error_in_part(error: Error) -> Error
     ensures { result ≡ error_in_part error }
@@ -78,7 +78,7 @@ fn error_in_part(error: Error) -> Error
     }
 }
 
-// If the segment ends here: the line after its `,`, or `None` at the end of the line.
+// If the segment ends here: the rest of the line after its `,`, or `None` at the end of the line.
 #[inline(always)]
 fn part_end(rest: &[u8]) -> Option<Option<&[u8]>>
     ensures { IfSome result (EndsPart rest.now) }
@@ -100,9 +100,9 @@ fn next_step(rest: &[u8]) -> Option<(u32, &[u8])>
     }
 }
 
-// The fast path: the numbers of the first segment if it is valid and has one, four or five, and the
-// line after it. Unrolled, because each of the five numbers tends to have one length, which helps
-// branch prediction.
+// The fast path: the numbers of the first segment, and the rest of the line after its `,`. `None`
+// unless the digits are valid and the segment has one, four or five numbers. Unrolled, because each
+// of the five numbers tends to have one length, which helps branch prediction.
 #[inline(always)]
 pub(crate) fn usual_part(line: &[u8]) -> Option<(Numbers, Option<&[u8]>)>
     ensures read { IfSome result (λ read. HasFirstPart line.now read.0 read.1) }
@@ -126,9 +126,9 @@ pub(crate) fn usual_part(line: &[u8]) -> Option<(Numbers, Option<&[u8]>)>
     Some((Numbers { count: 5, steps }, tail))
 }
 
-/// Decodes all numbers of the first segment of a line, and returns them with the line after its
-/// `,`, if there is one. An empty segment has no numbers. Returns the first error of the digits:
-/// `InvalidBase64`, `VlqOverflow` or `VlqLeftover`.
+/// Decodes all numbers of the first segment of a line, and returns them with the rest of the line
+/// after its `,`, if there is one. An empty segment has no numbers. Returns the first error of the
+/// digits: `InvalidBase64`, `VlqOverflow` or `VlqLeftover`.
 #[cold]
 #[inline(never)]
 pub fn any_part(line: &[u8]) -> Result<(Numbers, Option<&[u8]>)>

@@ -212,7 +212,7 @@ fn put_token(
     Ok(put_segment(buffer, start, against, token, names))
 }
 
-/// Encodes sorted tokens as `mappings`, for a map with this number of names. Returns only
+/// Encodes sorted tokens as `mappings`, for a map with this number of names. The only error is
 /// `OutOfMemory`.
 ///
 /// The lines from 0 to that of the last token are separated by `;`, the segments of a line by `,`.
@@ -222,9 +222,9 @@ fn put_token(
 /// 0, in its shortest digits; generated columns start anew on each line. A token equal to the one
 /// before it is not written. No tokens give the empty text.
 ///
-/// Range flags are in the text of `write_range_mappings`. With the same numbers of sources and
-/// names both texts decode to the same tokens without repeats, where a name id that is not below
-/// `names` is [`NO_ID`].
+/// Range flags are in the text of `write_range_mappings`. If all tokens are within the counts of
+/// sources and names, both texts decode with these counts to the same tokens without repeats. In
+/// the decoded tokens, a name id that is not below `names` is [`NO_ID`].
 pub fn write_mappings(alloc: Global, tokens: &[RawToken], names: u32) -> Result<String>
     requires { AreInOrder tokens.now }
     ensures text { IfOk result (λ s. IsWritten names tokens.now (string_bytes s)) }
@@ -260,7 +260,7 @@ pub fn write_mappings(alloc: Global, tokens: &[RawToken], names: u32) -> Result<
 }
 
 /// Encodes the range flags of sorted tokens as `rangeMappings`, line by line for the segments that
-/// `write_mappings` writes. `None` if no token is a range mapping. Returns only `OutOfMemory`.
+/// `write_mappings` writes. `None` if no token is a range mapping. The only error is `OutOfMemory`.
 pub fn write_range_mappings(alloc: Global, tokens: &[RawToken]) -> Result<Option<String>>
     requires { AreInOrder tokens.now }
     ensures text { IfOk result (λ o. IsRangeText tokens.now (option_map string_bytes o)) }
@@ -304,8 +304,8 @@ fn range_text(alloc: Global, tokens: &[RawToken]) -> Result<String>
     Ok(text)
 }
 
-/// A law: a list of tokens has exactly one `mappings` text, for a given count of names, and exactly
-/// one `rangeMappings` text.
+/// A law: a list of tokens determines its `mappings` text, for a given count of names. It also
+/// determines its `rangeMappings` text, or that it has none.
 pub fn written_texts_are_determined()
     ensures one_text { (names : ℕ) (tokens : List RawToken) (a b : List ℕ)
         → IsWritten names tokens a → IsWritten names tokens b → a ≡ b }

@@ -1,5 +1,5 @@
--- Results for bytes, JSON values and data URLs, from those for records; and what a call that reads
--- bytes may return.
+-- The JSON value and the record of bytes, or the error. Which results a JSON value, bytes and a data URL have, if it
+-- is known which results a record has. What a call that reads bytes may return.
 use Rattle.std.specs.Prelude.{◌≡◌, ◌⊎◌, ℕ, List, Option, Some, None, IfSome, MatchOption, Result, Ok, Err, IsErrAnd, IsUtf8}
 use Rattle.std.specs.IoError.{error_kind}
 use Rattle.std.specs.declared.io.Error.{Error as IoError}
@@ -21,7 +21,7 @@ use Rattle.sourcemap_records.specs.Jsontypes.{Tree, record_of}
 abbrev pub IsJson : List ℕ → Data → Type 0
 IsJson text d = IsUtf8 text × (read text ≡ Some d)
 
--- the JSON value of the bytes after the junk header, if there is one
+-- the JSON value of bytes, whose junk header is dropped if they have one
 abbrev pub HoldJson : List ℕ → Data → Type 0
 HoldJson bytes d = (text : List ℕ) × (after_header bytes ≡ Some text) × IsJson text d
 
@@ -29,7 +29,7 @@ HoldJson bytes d = (text : List ℕ) × (after_header bytes ≡ Some text) × Is
 abbrev pub IsHeaderError : Error → Type 0
 IsHeaderError e = (cause : IoError) × (e ≡ Io cause) × (error_kind cause ≡ InvalidData)
 
--- the error for bytes without one: the header is invalid, or the bytes after it are not JSON
+-- the error for bytes without a JSON value: the header is invalid, or the bytes after it are not JSON
 abbrev pub HoldNoJson : List ℕ → Error → Type 0
 HoldNoJson bytes e = MatchOption (after_header bytes) (IsHeaderError e)
     (λ text. ((d : Data) → ¬ IsJson text d) × (e ≡ BadJson Parse))
@@ -38,12 +38,13 @@ HoldNoJson bytes e = MatchOption (after_header bytes) (IsHeaderError e)
 abbrev pub HoldRecord : List ℕ → Tree → Type 0
 HoldRecord bytes t = (d : Data) × HoldJson bytes d × (record_of d ≡ Some t)
 
--- the error for bytes without one: they have no JSON value, or one that is not a record
+-- the error for bytes without a record: they have no JSON value, or their JSON value is not a record
 abbrev pub HoldNoRecord : List ℕ → Error → Type 0
 HoldNoRecord bytes e =
     ((d : Data) × HoldJson bytes d × (record_of d ≡ None) × (e ≡ BadJson Shape)) ⊎ HoldNoJson bytes e
 
--- `Decodes` says which results a record may have. The same of values, bytes and data URLs, each read whole first.
+-- `Decodes` says which results a record may have. The next definitions say the same of JSON values, of bytes and of
+-- data URLs. If these have no record, the only result is the error of reading them.
 
 -- a result for a JSON value
 abbrev pub ValueHasResult : {Y : Type 0} → (Tree → Result Y Error → Type 0) → Data → Result Y Error → Type 0
@@ -78,11 +79,11 @@ abbrev pub UnlessReadFails : Error → Type 0 → Type 0
 UnlessReadFails (Io cause) P = P ⊎ FromIo cause (Io cause)
 UnlessReadFails e P = UnlessMemory e P
 
--- the result of a call that reads, as `view` gives it, satisfies `Answers`
+-- `Answers` admits the result, mapped by `view`, unless a read failed or memory ran out
 abbrev pub IsAnswerRead : {X Y : Type 0} → (X → Y) → (Result Y Error → Type 0) → Result X Error → Type 0
 IsAnswerRead view Answers (Ok x) = Answers (Ok (view x))
 IsAnswerRead view Answers (Err e) = UnlessReadFails e (Answers (Err e))
 
--- `P` of a reader's bytes: of those that it specifies, or of some bytes if it specifies none
+-- `P` holds of the bytes of a reader: of the `known` ones, or of some bytes if the reader does not specify them
 abbrev pub Reading : Option (List ℕ) → (List ℕ → Type 0) → Type 0
 Reading known P = (bytes : List ℕ) × IfSome known (λ remaining. bytes ≡ remaining) × P bytes

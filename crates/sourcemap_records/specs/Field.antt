@@ -22,12 +22,12 @@ with x next = option_and_then next x
 abbrev pub KeepsOthers : List ℕ → Members → Members → Type 0
 KeepsOthers key before after = (other : List ℕ) → bytes_eq other key ≡ false → get_member other after ≡ get_member other before
 
--- the result of a reader, as `see` gives it, is the reading; the error is `BadJson(Shape)` where that is `None`, or out of memory
+-- the result, mapped by `see`, is `reading`, or `BadJson(Shape)` if `reading` is `None`; unless memory ran out
 abbrev pub GivesReading : {X Y : Type 0} → (X → Y) → Result X Error → Option Y → Type 0
 GivesReading see (Ok x) reading = reading ≡ Some (see x)
 GivesReading see (Err e) reading = UnlessMemory e ((e ≡ BadJson Shape) × (reading ≡ None))
 
--- the result, as `see` gives it, is this value, or out of memory
+-- the result, mapped by `see`, is `seen`, unless memory ran out
 abbrev pub Makes : {X Y : Type 0} → (X → Y) → Result X Error → Y → Type 0
 Makes see result seen = Gives see result (Ok seen)
 
@@ -89,7 +89,7 @@ written_or_null write None = null
 abbrev pub written_list : {X : Type 0} → (X → Data) → List X → Data
 written_list write xs = array (items_of (map write xs))
 
--- the members, after the value is put at the key, if there is one
+-- the members, after the value, if there is one, is put at the key
 abbrev pub put_if : List ℕ → Option Data → Members → Members
 put_if key (Some d) ms = put key d ms
 put_if key None ms = ms

@@ -1,5 +1,5 @@
--- The keys of a record in three groups, in the order in which they are read and written. The debug
--- id, which has two keys, is in none of them.
+-- The keys of a record in three groups, in the order in which they are read and written. The sections, and the debug
+-- id, which has two keys, are in none of these groups.
 use Rattle.std.specs.Prelude.{◌≡◌, ℕ, List, [], ◌∷◌, map, codes, Option, Some, IfSome, option_map, string_bytes, false}
 use Rattle.std.specs.List.{list_any, AllByRecursion}
 use Rattle.std.specs.Str.{bytes_eq}
@@ -137,7 +137,7 @@ file_key_names = codes "sourceRoot" ∷ codes "sources" ∷ codes "file" ∷ cod
 abbrev pub content_key_names : List (List ℕ)
 content_key_names = codes "mappings" ∷ codes "rangeMappings" ∷ codes "names" ∷ codes "sourcesContent" ∷ []
 
--- all members but these are as before
+-- all members but those with these names are as before
 abbrev pub KeepsBut : List (List ℕ) → Members → Members → Type 0
 KeepsBut names before after = (other : List ℕ) → list_any (bytes_eq other) names ≡ false → get_member other after ≡ get_member other before
 

@@ -1,4 +1,5 @@
-//! Records from bytes: reads a reader to its end, skips a junk header, reads the JSON and its record.
+//! Records from bytes: reads a reader to its end, skips a junk header, reads the JSON and its
+//! record.
 ghost use Rattle.std.specs.Prelude.{◌≡◌, IfSome, MatchResult};
 ghost use Rattle.serde_json.specs.View.{view};
 ghost use Rattle.sourcemap_errors.specs.Answer.{UnlessMemory};
@@ -24,9 +25,9 @@ pub fn read_all<R: Read + Drop>(alloc: Global, mut reader: R) -> Result<Vec<u8>>
     Ok(bytes)
 }
 
-/// Returns the JSON value of the bytes after the junk header, if there is one. An invalid header is
-/// `Io` of kind `InvalidData`, bytes after it that are not JSON are `BadJson(Parse)`. Any other error
-/// is `OutOfMemory`.
+/// Drops the junk header of the bytes, if they have one, and returns the JSON value of the rest. An
+/// invalid header is `Io` of kind `InvalidData`, and a rest that is not JSON is `BadJson(Parse)`.
+/// Any other error is `OutOfMemory`.
 pub fn read_json(alloc: Global, bytes: &[u8]) -> Result<Value>
     ensures { MatchResult result
         (λ value. HoldJson bytes.now (view value))
@@ -45,9 +46,10 @@ fn read_json_owned(alloc: Global, bytes: Vec<u8>) -> Result<Value>
     read_json(alloc, bytes.as_slice())
 }
 
-/// Returns the record of the JSON after the junk header, if there is one. An invalid header is `Io` of
-/// kind `InvalidData`, bytes after it that are not JSON are `BadJson(Parse)`, and JSON that is not a
-/// record is `BadJson(Shape)`. Any other error is `OutOfMemory`.
+/// Drops the junk header of the bytes, if they have one, and returns the record of the JSON in the
+/// rest. An invalid header is `Io` of kind `InvalidData`, a rest that is not JSON is
+/// `BadJson(Parse)`, and JSON that is not a record is `BadJson(Shape)`. Any other error is
+/// `OutOfMemory`.
 pub fn read_record(alloc: Global, bytes: &[u8]) -> Result<RawSourceMap>
     ensures { MatchResult result
         (λ raw. HoldRecord bytes.now (tree raw))

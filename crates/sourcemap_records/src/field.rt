@@ -279,7 +279,7 @@ pub(crate) fn read_required<F: Field>(
     }
 }
 
-// Inserts a field at its key, if there is one.
+// Inserts a field, if there is one, at its key.
 pub(crate) fn put_field<F: Field>(
     alloc: Global,
     members: &mut Map<String, Value>,
@@ -298,7 +298,7 @@ pub(crate) fn put_field<F: Field>(
     Ok(())
 }
 
-// Inserts an array of values at its key, if there is one. Its `Vec` is moved, not its items.
+// Inserts an array of values, if there is one, at its key. Its `Vec` is moved, not its items.
 pub(crate) fn put_values(
     alloc: Global,
     members: &mut Map<String, Value>,

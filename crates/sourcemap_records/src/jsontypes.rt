@@ -8,8 +8,8 @@ use sourcemap_errors::errors::{Error, JsonFault, Result};
 pub use sourcemap_headers::debug_id::DebugId;
 use std::alloc::Global;
 
-/// The generated position at which a section of an index map starts. Lines and columns count from 0,
-/// columns in UTF-16 code units.
+/// The generated position at which a section of an index map starts. Lines and columns count from
+/// 0, columns in UTF-16 code units.
 #[derive(Clone, Copy, Debug, PartialEq)]
 pub struct RawSectionOffset {
     /// The line.
@@ -23,12 +23,12 @@ pub struct RawSectionOffset {
 pub struct FacebookScopeMapping {
     /// The names of the functions.
     pub names: Vec<String>,
-    /// Where the functions start, in base64 VLQ: segments of differences in column, name index and
-    /// line, separated by commas, and groups of segments separated by semicolons.
+    /// Where the functions start, in base64 VLQ. A segment holds differences in column, name index
+    /// and line. Commas separate segments, and semicolons separate groups of segments.
     pub mappings: String,
 }
 
-/// For each source, in order, a list of scopes of which only the first entry is used, or `None`.
+/// For each source, in order, a list of scopes, or `None`. Only the first entry of a list is used.
 pub type FacebookSources = Option<Vec<Option<Vec<FacebookScopeMapping>>>>;
 
 /// A section of an index map, as in JSON.
@@ -49,8 +49,8 @@ pub struct RawSection {
 pub struct RawSourceMap {
     /// The version of the format. Any number is accepted here.
     pub version: Option<u32>,
-    /// The name of the generated file, if this is a JSON string. Any other value is kept and written
-    /// unchanged. A null that a caller puts here is read back as `None`.
+    /// The name of the generated file, if this is a JSON string. Any other value is kept and
+    /// written unchanged. A null that a caller puts here is read back as `None`.
     pub file: Option<Value>,
     /// The sources, without `source_root`, or `None` for a null.
     pub sources: Option<Vec<Option<String>>>,
@@ -150,10 +150,12 @@ impl RawSourceMap {
     ghost use Rattle.sourcemap_records.specs.Field.{due};
     ghost use Rattle.sourcemap_records.specs.Jsontypes.{tree, record_of, written, HasNoNullFile};
 
-    /// Returns the record of a JSON value. A null key counts as missing, unknown keys are ignored, and
-    /// `debugId` wins over `debug_id`. Returns `BadJson(Shape)` if the value is not an object, or if a
-    /// key has a value of another type than its field or a number outside `u32`. Any other error is
-    /// `OutOfMemory`.
+    /// Returns the record of a JSON value. A null key counts as missing, unknown keys are ignored,
+    /// and `debugId` wins over `debug_id`. Returns `BadJson(Shape)` if the value is not an object,
+    /// or if a key has a value of another type than its field, a number outside `u32` or an invalid
+    /// debug id. Some keys are required, and missing ones are the same error: `offset` of a
+    /// section, `line` and `column` of an offset, `names` and `mappings` of scopes. Any other error
+    /// is `OutOfMemory`.
     pub fn from_value(alloc: Global, value: &Value) -> Result<RawSourceMap>
         ensures { Gives tree result (due (record_of (view value.now))) }
     {
@@ -167,10 +169,10 @@ impl RawSourceMap {
         read_map(alloc, value)
     }
 
-    /// Returns the record as a JSON value, with its keys in byte order. A missing version or sources,
-    /// and a section's missing URL or map, are null; any other missing key is left out. The value reads
-    /// back as this record, except that a `file` that is a JSON null, of the record or of a section's
-    /// map, reads back as `None`. The error is `OutOfMemory`.
+    /// Returns the record as a JSON value, with its keys in byte order. A missing version or
+    /// sources, and a section's missing URL or map, are null; any other missing key is left out.
+    /// The value reads back as this record, except that a `file` that is a JSON null, of the record
+    /// or of a section's map, reads back as `None`. The error is `OutOfMemory`.
     pub fn to_value(&self, alloc: Global) -> Result<Value>
         ensures value { Gives view result (Ok (written (tree self.now))) }
         ensures reads_back { IfOk result (λ v. HasNoNullFile (tree self.now)

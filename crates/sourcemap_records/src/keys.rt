@@ -7,7 +7,7 @@ ghost use Rattle.sourcemap_records.specs.Jsontypes.{flat, section, sections_from
 use crate::jsontypes::{DebugId, FacebookSources, RawSection, RawSourceMap};
 use serde_json::Value;
 
-// Which files the map is of.
+// The version, the generated file, and the sources with their root.
 #[derive(Drop)]
 pub(crate) struct RawFileKeys {
     pub(crate) version: Option<u32>,

@@ -1,5 +1,5 @@
-// Records as JSON values. Each string is moved into its value. The writers of numbers also have a
-// clause that these are within `u32`, which reading back needs.
+// Records as JSON values. Each string is moved into its value. The clauses `in_range` say that
+// numbers are within `u32`. The proof that values read back needs this.
 ghost use Rattle.std.specs.Prelude.{◌≡◌, map, option_map, IfOk, IfErr, IfSome, OnOk};
 ghost use Rattle.std.specs.List.{AllByRecursion};
 ghost use Rattle.serde_json.specs.Data.{array};

@@ -27,27 +27,28 @@ pub record IsFirstMarked (text : List ℕ) (line : Line) : Type 0 where
   pub ends : IsCharBoundary text line.end
   pub starts : IsUtf8 (take line.end text) → IsCharBoundary (take line.end text) line.start
 
--- the lines up to here have no mark: if they are UTF-8, the reference is that of the lines after them
+-- the lines up to `end` have no mark: if they are UTF-8, the reference of the text is that of the lines after them
 pub record AreUnmarked (text : List ℕ) (end : ℕ) : Type 0 where
   pub within : end ≤ length text
   pub left : first_reference text ≡ if_text (take end text) (first_on (lines_after text end))
 
--- holds of the first line with a mark, if there is one
+-- the property holds of the first line with a mark, if there is such a line
 abbrev pub IfMarked : Lines → (Line → Type 0) → Type 0
 IfMarked (Marked line) Holds = Holds line
 IfMarked (Unmarked _) Holds = Unit {0}
 
--- holds of the end of lines without a mark, if there is none with one
+-- the property holds of the end of the lines, if none of them has a mark
 abbrev pub IfUnmarked : Lines → (ℕ → Type 0) → Type 0
 IfUnmarked (Marked _) Holds = Unit {0}
 IfUnmarked (Unmarked end) Holds = Holds end
 
--- the reference of the text is that of its rest; without a rest, the text is UTF-8 and has no reference
+-- the reference of the text is that of its rest, which is shorter; without a rest, the text is UTF-8 and has none
 abbrev pub LeavesOnly : List ℕ → Option (List ℕ) → Type 0
 LeavesOnly text (Some rest) = (first_reference text ≡ first_reference rest) × (length rest < length text)
 LeavesOnly text None = first_reference text ≡ Some None
 
--- for known bytes of a reader: the line that was read decides the reference, or else the bytes left do; without a line there is no reference
+-- if the bytes of the reader are known: their reference is that of the line that was read, or else that of the bytes
+-- left; if no line was read, there is no reference
 abbrev pub ReadsLine : Option (List ℕ) → Option (List ℕ) → Bool → List ℕ → Type 0
 ReadsLine known left false line = IfSome known (λ text. first_reference text ≡ Some None)
 ReadsLine known left true line = IfSome known (λ text.

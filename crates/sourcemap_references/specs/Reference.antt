@@ -1,4 +1,4 @@
--- The reference on a line of generated code, and the line of a text that counts.
+-- The reference on a line of generated code, and the reference of a whole text.
 use Rattle.std.specs.Prelude.{ℕ, List, [], ◌∷◌, Option, None, Some, codes, drop, nat_eq, ◌==◌, if◌then◌else◌}
 use Rattle.std.specs.List.{slice_split, starts_with}
 use Rattle.std.specs.Str.{is_utf8, trim}
@@ -12,7 +12,7 @@ pub data Reference : Type 0 where
 abbrev pub url_after_mark : List ℕ → List ℕ
 url_after_mark line = trim (drop 21 line)
 
--- the reference that a line starts with, if it does
+-- the reference on a line, if the line starts with a mark
 abbrev pub reference_on : List ℕ → Option Reference
 reference_on line =
     if starts_with nat_eq line (codes "//# sourceMappingURL=") then Some (usual (url_after_mark line))
@@ -23,12 +23,12 @@ reference_on line =
 abbrev pub line_reference : List ℕ → Option (Option Reference)
 line_reference line = if is_utf8 line then Some (reference_on line) else None
 
--- the result of a line, or of later lines if it is UTF-8 without a reference
+-- the result of a line; if the line is UTF-8 without a reference, the result of later lines
 abbrev pub or_later : Option (Option Reference) → Option (Option Reference) → Option (Option Reference)
 or_later (Some None) later = later
 or_later current later = current
 
--- the result of the first line that is not UTF-8 without a reference
+-- the result of the first line that has a reference or is not UTF-8; no reference if there is no such line
 abbrev pub first_on : List (List ℕ) → Option (Option Reference)
 first_on [] = Some None
 first_on (line ∷ lines) = or_later (line_reference line) (first_on lines)
@@ -37,6 +37,7 @@ first_on (line ∷ lines) = or_later (line_reference line) (first_on lines)
 abbrev pub text_lines : List ℕ → List (List ℕ)
 text_lines = slice_split (λ b. b == 10)
 
--- the reference on the first line that has one, if any; None if a line up to there is not UTF-8
+-- the reference on the first line that has one, if any; None if this line or a line before it is not UTF-8; if no line
+-- has a reference, None if any line is not UTF-8
 abbrev pub first_reference : List ℕ → Option (Option Reference)
 first_reference text = first_on (text_lines text)

@@ -10,12 +10,12 @@ use Rattle.sourcemap_references.specs.Reference.{Reference, usual, legacy, first
 use Rattle.sourcemap_references.specs.declared.detector.SourceMapRef.{SourceMapRef}
 use Rattle.sourcemap_references.specs.declared.detector.SourceMapRef.TheVariants.{Ref, LegacyRef}
 
--- its URL, with its mark
+-- the URL of a `SourceMapRef`, with its kind of mark
 abbrev pub reference : SourceMapRef → Reference
 reference (Ref url) = usual (string_bytes url)
 reference (LegacyRef url) = legacy (string_bytes url)
 
--- its URL
+-- the URL of a `SourceMapRef`
 abbrev pub url_of : SourceMapRef → List ℕ
 url_of (Ref url) = string_bytes url
 url_of (LegacyRef url) = string_bytes url
@@ -25,7 +25,8 @@ abbrev pub IsInvalidData : Error → Type 0
 IsInvalidData (Io cause) = error_kind cause ≡ InvalidData
 IsInvalidData _ = ⊥
 
--- the search finds what is due; if nothing is due, since a line is not UTF-8, its error is `InvalidData` or out of memory
+-- the search finds what is due, or is out of memory; if nothing is due, since a line is not UTF-8, the error may also
+-- be `InvalidData`
 abbrev pub Locates : Result (Option SourceMapRef) Error → Option (Option Reference) → Type 0
 Locates (Ok found) due = due ≡ Some (option_map reference found)
 Locates (Err e) due = UnlessMemory e ((due ≡ None) × IsInvalidData e)

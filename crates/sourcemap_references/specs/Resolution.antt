@@ -25,7 +25,7 @@ resolved base url = if is_data_url url then None else joined base url
 abbrev pub resolved_path : List ℕ → List ℕ → Option (List ℕ)
 resolved_path path url = if is_data_url url then None else path_from path false url
 
--- a URL of these texts may, with its escapes, exceed 4 GB
+-- a URL made of these texts may, with its escapes, exceed 4 GB
 abbrev pub IsLongJoin : List ℕ → List ℕ → Type 0
 IsLongJoin base url = IsLong (length base) ⊎ IsOkAnd (parse_url None base) (λ from. IsLong (length (serialize from) + length url))
 

@@ -60,8 +60,9 @@ impl SourceMapRef {
 
     /// Resolves the URL of the source map against the URL of the file that holds the reference.
     ///
-    /// Returns `None` if the reference is a `data:` URL, if either URL is rejected, or possibly if
-    /// they have 2^28 bytes or more. The only error is `OutOfMemory`.
+    /// Returns `None` if the reference is a `data:` URL, or if either URL is rejected. It may also
+    /// return `None` if both URLs together, `minified_url` with its escapes, have 2^28 bytes or
+    /// more. The only error is `OutOfMemory`.
     pub fn resolve(&self, minified_url: &str) -> Result<Option<String>>
         ensures { IsAnswer (option_map string_bytes)
             (UnlessLong (resolved minified_url.now (url_of self.now))
@@ -78,9 +79,10 @@ impl SourceMapRef {
 
     /// Resolves the path of the source map against the path of the file that holds the reference.
     ///
-    /// Returns `None` if the reference is a `data:` URL or leads to no file path, if
-    /// `minified_path` does not start with `/`, or possibly if they have 2^28 bytes or more. The
-    /// only error is `OutOfMemory`.
+    /// Returns `None` if the reference is a `data:` URL or leads to no file path, or if
+    /// `minified_path` does not start with `/`. It may also return `None` if the URL of the source
+    /// map and the `file` URL of `minified_path`, with its escapes, together have 2^28 bytes or
+    /// more. The only error is `OutOfMemory`.
     pub fn resolve_path(&self, minified_path: &str) -> Result<Option<String>>
         ensures { IsAnswer (option_map string_bytes)
             (UnlessLong (resolved_path minified_path.now (url_of self.now))
@@ -109,8 +111,8 @@ fn joined_text(base: &Url, reference: &str) -> Result<Option<String>>
     }
 }
 
-// The least number of bytes that are searched and then tested for UTF-8, while they are in the
-// first-level cache.
+// Lines are searched in blocks of at least this many bytes. Each block is then tested for UTF-8,
+// while it is still in the first-level cache.
 const BLOCK: usize = 1 << 14;
 
 /// Returns the reference in a text, as `locate_sourcemap_reference_slice` finds it in bytes. The
@@ -126,8 +128,9 @@ pub fn locate_in_text(alloc: Global, text: &str) -> Result<Option<SourceMapRef>>
 }
 
 /// Returns the reference on the first line that starts with `//# sourceMappingURL=` or the legacy
-/// `//@ sourceMappingURL=`: the rest of that line, trimmed. Lines end at newlines. The error is
-/// `Io` of kind `InvalidData` if a line up to there is not UTF-8, or `OutOfMemory`.
+/// `//@ sourceMappingURL=`: the rest of that line, trimmed. Lines end at newlines. This line and
+/// all lines before it must be UTF-8. If no line starts so, all lines must be UTF-8. The error is
+/// `Io` of kind `InvalidData` if they are not, or `OutOfMemory`.
 pub fn locate_sourcemap_reference_slice(alloc: Global, bytes: &[u8]) -> Result<Option<SourceMapRef>>
     ensures { Locates result (first_reference bytes.now) }
 {
@@ -154,7 +157,8 @@ fn reference_at(alloc: Global, bytes: &[u8], line: Line) -> Result<Option<Source
     }
 }
 
-// The lines after lines without a mark, `None` if those were the last.
+// The bytes after the first lines, which have no mark and end at `end`. `None` if no line is left.
+// The first lines must be UTF-8.
 fn rest_after(bytes: &[u8], end: usize) -> Result<Option<&[u8]>>
     requires { AreUnmarked bytes.now end }
     ensures { MatchResult result
@@ -180,8 +184,9 @@ fn lines_after_end(bytes: &[u8], end: usize) -> Option<&[u8]>
 }
 
 /// Returns the reference in a reader's bytes, as `locate_sourcemap_reference_slice` finds it in a
-/// slice. Reads to the end of that line, and buffers one line at a time. The error is `Io` if a
-/// read fails or a line is not UTF-8, `Io` of kind `Other` after 2^64 - 1 lines, or `OutOfMemory`.
+/// slice. Reads lines through a `BufReader`, up to the line with the reference, and buffers one
+/// line at a time. The error is `Io` if a read fails or a line is not UTF-8, `Io` of kind `Other`
+/// after 2^64 - 1 lines, or `OutOfMemory`.
 pub fn locate_sourcemap_reference<R: Read + Drop>(
     alloc: Global,
     reader: R,

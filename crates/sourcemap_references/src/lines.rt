@@ -43,7 +43,7 @@ pub fn first_lines(bytes: &[u8], least: usize) -> Lines
     }
 }
 
-// The end of the line that starts here: its newline or the end of the text.
+// The end of the line that starts at `start`: its newline, or the end of the text.
 fn line_end(bytes: &[u8], start: usize) -> usize
     requires { start ≤ length bytes.now }
     ensures { EndsAt bytes.now start result }

@@ -7,24 +7,26 @@ use Rattle.sourcemap_errors.specs.declared.errors.Error.TheVariants.{Io}
 use Rattle.sourcemap_tokens.specs.Items.{item_at}
 use Rattle.sourcemap_file_urls.specs.Places.{starts_at_root, path_from}
 
--- the folder whose files are read: the base path if it is absolute, else joined to the current directory if that is absolute
+-- the folder whose files are read: the base path if it is absolute, else the base path joined to the current directory.
+-- There is no folder if neither path is absolute
 abbrev pub folder_of : (current : List ℕ) (base : Option (List ℕ)) → Option (List ℕ)
 folder_of current base =
     let path = unwrap_or base [] in
     if starts_at_root path then Some path
     else (if starts_at_root current then Some (current ++ codes "/" ++ path) else None)
 
--- the path of a source's file: its text resolved against the URL of the folder, if that is a `file` URL without host
+-- the path of a source's file. The text of the source is resolved against the URL of the folder. There is no path if
+-- the result is no `file` URL without host
 abbrev pub file_of : (folder source : List ℕ) → Option (List ℕ)
 file_of folder source = path_from folder true source
 
--- the number of ids below n without an item before and with one after
+-- the number of ids below n that have no item in `before`, but one in `after`
 abbrev pub newly : {X : Type 0} → ℕ → (before after : List (Option X)) → ℕ
 newly zero before after = 0
 newly (suc n) before after =
     newly n before after + (if is_none (item_at before n) && is_some (item_at after n) then 1 else 0)
 
--- contents were loaded: none that existed changed, and each new one has a file, by the source's path below the folder
+-- contents were loaded: those that existed are unchanged, and each source with new contents has a file (`file_of`)
 pub record Fills (folder : List ℕ) (sources : List (List ℕ)) (before after : List (Option (List ℕ))) : Type 0 where
   pub many : length after ≡ length before
   pub kept : (id : ℕ) → IsSome (item_at before id) → item_at after id ≡ item_at before id

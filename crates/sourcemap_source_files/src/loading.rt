@@ -19,10 +19,10 @@ use url::Url;
 /// Reads the contents of each source that has none from its file, and returns how many were read.
 ///
 /// A source is resolved against the folder `base_path`, which is joined to `current_dir` if it is
-/// not absolute. Without a `base_path` the folder is `current_dir`. A source without such a file is
-/// skipped, and so is one whose file cannot be read or is not UTF-8. The error is `Io` of kind
-/// `InvalidInput` if neither path is absolute, and then nothing has changed; else `OutOfMemory`,
-/// and then what was read before stays.
+/// not absolute. Without a `base_path` the folder is `current_dir`. A source that does not resolve
+/// to the path of a file is skipped. So is a source whose file cannot be read or is not UTF-8. The
+/// error is `Io` of kind `InvalidInput` if neither path is absolute, and then `contents` is
+/// unchanged. Any other error is `OutOfMemory`, and then the contents that were read before stay.
 pub fn load_contents<F: Files>(
     rt: &F,
     alloc: Global,

@@ -1,13 +1,13 @@
--- Columns in UTF-16 units, their offsets in a line, and slices between two.
+-- Columns of a line in UTF-16 units: their offsets in bytes, and the slice between two columns.
 use Rattle.std.specs.Prelude.{◌≡◌, ℕ, ◌+◌, ◌-◌, cond, nat_lt, nat_le, List, [], ◌∷◌, length, take, drop, map, Option, None, Some, option_map}
 use Rattle.std.specs.List.{find}
 use Rattle.std.specs.Str.{IsCharBoundary, chars, encode_utf8_all}
 
--- the UTF-16 units of a character
+-- the number of UTF-16 units of a character
 abbrev pub units_of : ℕ → ℕ
 units_of character = cond (nat_lt character 0x1_0000) 1 2
 
--- the UTF-16 units of characters
+-- the number of UTF-16 units of characters
 abbrev pub width : List ℕ → ℕ
 width [] = 0
 width (character ∷ characters) = units_of character + width characters
@@ -17,7 +17,7 @@ abbrev pub prefixes : List ℕ → List (List ℕ)
 prefixes [] = [] ∷ []
 prefixes (character ∷ characters) = [] ∷ map (λ prefix. character ∷ prefix) (prefixes characters)
 
--- the shortest prefix that is at least so wide
+-- the shortest prefix with at least `col` UTF-16 units
 abbrev pub first_reaching : ℕ → List ℕ → Option (List ℕ)
 first_reaching col characters = find (λ prefix. nat_le col (width prefix)) (prefixes characters)
 
@@ -25,7 +25,7 @@ first_reaching col characters = find (λ prefix. nat_le col (width prefix)) (pre
 abbrev pub column_offset : List ℕ → ℕ → Option ℕ
 column_offset line col = option_map (λ prefix. length (encode_utf8_all prefix)) (first_reaching col (chars line))
 
--- the offset, if it reaches the column
+-- `offset`, if the units before it reach the column
 abbrev pub reached_offset : (col offset units : ℕ) → Option ℕ
 reached_offset col offset units = cond (nat_le col units) (Some offset) None
 

@@ -5,11 +5,12 @@ use Rattle.std.specs.Char.{is_ascii_alphabetic, is_ascii_digit, is_not_whitespac
 use Rattle.std.specs.Str.{bytes_eq, chars, encode_utf8_all, skip_leading_whitespace}
 use Rattle.unicode_ident.specs.Ident.{is_xid_start, is_xid_continue}
 
--- a character that can start an identifier: `$`, `_`, an ASCII letter, a non-ASCII start character
+-- a character that can start an identifier: `$`, `_`, an ASCII letter, or non-ASCII with XID_Start
 abbrev pub is_start : ℕ → Bool
 is_start c = (((c == 36) || (c == 95)) || is_ascii_alphabetic c) || (nat_le 128 c && is_xid_start c)
 
--- a character that can continue one: these, a digit, U+200C, U+200D, a non-ASCII continue character
+-- a character that can continue an identifier: one that can start it, an ASCII digit, U+200C, U+200D,
+-- or non-ASCII with XID_Continue
 abbrev pub is_part : ℕ → Bool
 is_part c = (((is_start c || is_ascii_digit c) || (c == 0x200C)) || (c == 0x200D)) || (nat_le 128 c && is_xid_continue c)
 
@@ -23,7 +24,7 @@ abbrev pub identifier_at_start : List ℕ → List ℕ
 identifier_at_start [] = []
 identifier_at_start (c ∷ cs) = cond (is_start c) (c ∷ take_while is_part cs) []
 
--- the whole is an identifier, as the empty text is
+-- all characters together are an identifier; the empty text counts as one
 abbrev pub is_identifier : List ℕ → Bool
 is_identifier [] = true
 is_identifier (c ∷ cs) = is_start c && list_all is_part cs
@@ -32,7 +33,7 @@ is_identifier (c ∷ cs) = is_start c && list_all is_part cs
 abbrev pub first_word : List ℕ → List ℕ
 first_word characters = take_while is_not_whitespace (skip_leading_whitespace characters)
 
--- a text, unless it is empty
+-- the UTF-8 text of characters, None if there are none
 abbrev pub unless_empty : List ℕ → Option (List ℕ)
 unless_empty [] = None
 unless_empty (c ∷ cs) = Some (encode_utf8_all (c ∷ cs))

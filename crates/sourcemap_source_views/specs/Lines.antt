@@ -11,7 +11,7 @@ pub record Line : Type 0 where
 abbrev pub ended_by : List ℕ → List Line → List Line
 ended_by terminator lines = record { body = []; terminator = terminator } ∷ lines
 
--- lines with one more byte in front of the first one's body, or of its terminator
+-- lines with this byte in front of the first body; `with_return`: with `\r` in front of the first terminator
 abbrev pub with_body : ℕ → List Line → List Line
 with_body byte [] = []
 with_body byte (line ∷ lines) = record { body = byte ∷ line.body; terminator = line.terminator } ∷ lines
@@ -24,7 +24,7 @@ with_return (line ∷ lines) = record { body = line.body; terminator = 13 ∷ li
 abbrev pub is_terminator : ℕ → Bool
 is_terminator byte = (byte == 10) || (byte == 13)
 
--- these two are `\r\n`, which is one terminator
+-- this byte and the start of the text after it are `\r\n`, which is one terminator
 abbrev pub is_crlf : ℕ → List ℕ → Bool
 is_crlf byte text = (byte == 13) && (slice_index text 0 == 10)
 
@@ -66,8 +66,8 @@ count_ends (byte ∷ text) = cond (is_terminator byte && not (is_crlf byte text)
 abbrev pub HasNoTerminator : Line → Type 0
 HasNoTerminator line = list_any is_terminator line.body ≡ false
 
--- a partial table: its lines and those of the text from `start` on are all lines of the text, and no line ends from there up to `offset`;
--- `start` may be after `offset`, between the bytes of `\r\n`
+-- a partial table: its lines, followed by the lines of the text from `start` on, are all lines of the text;
+-- no line ends from `start` up to `offset`; if `offset` is between the bytes of a `\r\n`, `start` is after both
 pub record IsPartialTable (text : List ℕ) (table : List (ℕ × ℕ)) (start offset : ℕ) : Type 0 where
   pub within : start ≤ length text
   pub left : table ++ ranges_from start (lines_of (drop start text)) ≡ line_ranges text

@@ -22,11 +22,11 @@ abbrev pub position_in : List ℕ → ℕ × ℕ → Option (List ℕ × ℕ)
 position_in source position =
     option_and_then (λ body. option_map (λ at. (body, at)) (column_offset body position.1)) (slice_get (line_bodies source) position.0)
 
--- the identifier at a position: the one at the start of the rest of its line
+-- the identifier at a position: that at the start of the first word in the rest of the line
 abbrev pub identifier_at : List ℕ → ℕ × ℕ → Option (List ℕ)
 identifier_at source position = option_and_then (λ found. token_at_start (drop found.1 found.0)) (position_in source position)
 
--- the identifier at a column of a line, by an offset that is that of the column if it reaches it
+-- the identifier at a column of a line, searched from `offset`; None if the units before `offset` do not reach it
 abbrev pub identifier_from : List ℕ → (col offset units : ℕ) → Option (List ℕ)
 identifier_from line col offset units = option_and_then (λ at. token_at_start (drop at line)) (reached_offset col offset units)
 
@@ -34,7 +34,7 @@ identifier_from line col offset units = option_and_then (λ at. token_at_start (
 abbrev pub IsWord : List ℕ → (offset word : ℕ) → Type 0
 IsWord line offset word = IsCharBoundary line word × (chars (drop word line) ≡ skip_leading_whitespace (chars (drop offset line)))
 
--- the end of the characters from an offset on that can continue an identifier
+-- the end of the longest run of characters from `word` on that can continue an identifier
 abbrev pub IsWordEnd : List ℕ → (word end : ℕ) → Type 0
 IsWordEnd line word end = IsCharBoundary line end × (end ≡ word + length (encode_utf8_all (take_while is_part (chars (drop word line)))))
 
@@ -43,14 +43,14 @@ abbrev pub walked : {S : Type 0} → (S → ℕ × ℕ) → List ℕ → List S 
 walked position_value source [] = []
 walked position_value source (token ∷ tokens) = (token, identifier_at source (position_value token)) ∷ walked position_value source tokens
 
--- the first of the tokens that has this identifier, if the one after it has `function`
+-- the first token that has this identifier and is followed in the list by a token with `function`
 abbrev pub function_token : {S : Type 0} → List ℕ → List (S × Option (List ℕ)) → Option S
 function_token name [] = None
 function_token name (item ∷ []) = None
 function_token name (item ∷ next ∷ items) =
     cond (is_text name item.1 && is_text (codes "function") next.1) (Some item.0) (function_token name (next ∷ items))
 
--- the name of that token among 128, if the given name is an identifier
+-- the name of the `function_token` among the first 128 tokens, if the given name is an identifier
 abbrev pub guessed_name : {S : Type 0} → (S → ℕ × ℕ) → (S → Option (List ℕ)) → List ℕ → List ℕ → List S → Option (List ℕ)
 guessed_name position_value name_of source name tokens =
     cond (is_identifier (chars name)) (option_and_then name_of (function_token name (take 128 (walked position_value source tokens)))) None

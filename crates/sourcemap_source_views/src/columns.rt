@@ -90,8 +90,8 @@ fn skip_blocks(line: &str, col: u64) -> LineOffset
     at
 }
 
-// The offset of the next block of about 1024 bytes, if the line has it and the column is not before
-// it.
+// The start of the next block, about 1024 bytes after `at`. `None` if the line ends before this
+// start, or the column is before it.
 fn next_block(line: &str, at: LineOffset, col: u64) -> Option<LineOffset>
     requires { IsOffset line.now at.offset at.units }
     ensures offset { IfSome result (λ next. IsOffset line.now next.offset next.units) }
@@ -107,7 +107,7 @@ fn next_block(line: &str, at: LineOffset, col: u64) -> Option<LineOffset>
     Some(LineOffset { offset: end, units })
 }
 
-// The first character boundary 1024 bytes after an offset, `None` if the line ends before.
+// The first character boundary at least 1024 bytes after an offset, `None` if the line ends before.
 fn block_end(line: &str, offset: usize) -> Option<usize>
     ensures boundary { IfSome result (λ end. IsCharBoundary line.now end) }
     ensures ahead { IfSome result (λ end. offset < end) }
@@ -138,7 +138,7 @@ fn units_in(text: &str) -> u64
 }
 
 /// Returns the part of a line from a column to the column `span` later, in UTF-16 units, with no
-/// surrogate pair split. Returns `None` if the line is too short for either.
+/// surrogate pair split. Returns `None` if the line is too short for either column.
 pub fn slice_at(line: &str, col: u32, span: u32) -> Option<&str>
     ensures { option_map (λ part. part.now) result ≡ slice_of line.now col span }
 {
@@ -149,8 +149,8 @@ pub fn slice_at(line: &str, col: u32, span: u32) -> Option<&str>
     Some(&rest[..length])
 }
 
-/// `reach_or_end` from an offset whose column is known. It does not walk from the start of the line
-/// if that column is not before `col`, or if the offset is the end.
+/// `reach_or_end`, where the column of the offset `from` is known. Walks from the start of the line
+/// only if `col` is after that column, and `from` is not the end of the line.
 pub fn reach_from(line: &str, from: LineOffset, col: u64) -> LineOffset
     requires { IsOffset line.now from.offset from.units }
     ensures value { reached_offset col result.offset result.units ≡ column_offset line.now col }
@@ -187,7 +187,6 @@ pub fn reach_back(line: &str, from: LineOffset, col: u64) -> LineOffset
     at
 }
 
-// Whether `count` bytes before the offset exist and are ASCII.
 fn is_ascii_before(line: &str, offset: usize, count: u64) -> bool
     requires { offset ≤ length line.now }
     ensures { OnTrue result

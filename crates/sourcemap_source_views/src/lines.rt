@@ -80,7 +80,8 @@ impl LineTable {
         Ok(start)
     }
 
-    // The same from `from` to the end of the text, byte by byte.
+    // Adds the lines that end at a terminator from `from` on, byte by byte. Returns the start of
+    // the line after them.
     fn push_rest(&mut self, bytes: &[u8], start: usize, from: usize) -> Result<usize>
         requires bounded { from ≤ length bytes.now }
         requires before { IsPartialTable bytes.now self.old start from }
@@ -165,7 +166,8 @@ pub fn utf16_offset(line: &str, col: u64) -> Option<usize>
     Some(reach(line, col)?.offset)
 }
 
-// The offset where the search continues: `from`, or in a long line its next terminator.
+// The offset where the search continues: `from`, or in a long line the next terminator, or the end
+// of the text if there is none.
 #[inline(always)]
 fn next_offset(bytes: &[u8], from: usize, is_long: bool) -> usize
     requires { from ≤ length bytes.now }
@@ -210,7 +212,7 @@ fn terminator_length(text: &[u8]) -> usize
 }
 
 /// A law: the lines of a text with their terminators, joined, are the text. There is one line more
-/// than terminators, and no line contains one.
+/// than terminators, and no line contains a terminator.
 pub fn lines_make_their_text(text: &str)
     ensures joined { joined (lines_of text.now) ≡ text.now }
     ensures counted { length (lines_of text.now) ≡ count_ends text.now + 1 }

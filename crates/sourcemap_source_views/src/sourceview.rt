@@ -76,9 +76,10 @@ impl SourceView {
         Some(&self.source()[start..end])
     }
 
-    /// Returns the part of a line from a column to the column `span` later. All are 0-based, in
-    /// UTF-16 units. Both ends are rounded up to a character boundary, so that no surrogate pair is
-    /// split. Returns `None` if there is no such line, or if it is too short.
+    /// Returns the part of a line from a column to the column `span` later. Line and column are
+    /// 0-based. Column and `span` are in UTF-16 units. Both ends are rounded up to a character
+    /// boundary, so that no surrogate pair is split. Returns `None` if there is no such line, or if
+    /// it is too short.
     pub fn get_line_slice(&self, line: u32, col: u32, span: u32) -> Option<&str>
         ensures { option_map (λ part. part.now) result ≡ view_slice self.now line col span }
     {
@@ -103,8 +104,9 @@ impl SourceView {
         self.lines.count()
     }
 
-    /// Returns the reference to a source map on the first line that starts with its mark, if there
-    /// is one. Here lines end only at `\n`. The only error is `OutOfMemory`.
+    /// Returns the reference to a source map, if there is one: on the first line that starts with
+    /// `//# sourceMappingURL=` or `//@ sourceMappingURL=`. Here lines end only at `\n`. The only
+    /// error is `OutOfMemory`.
     pub fn sourcemap_reference(&self) -> Result<Option<SourceMapRef>>
         ensures value { Locates result (first_reference self.now) }
         ensures memory { IsOkUnless result OutOfMemory }

@@ -30,7 +30,7 @@ pub trait WalkedToken: Copy + Drop {
     // The text of a name.
     ghost text_of: { Self.Name → List ℕ };
 
-    // The tokens before it in its map, the closest first.
+    // The tokens before this token in its map, the closest first.
     ghost before: { Self → List Seen };
 
     /// The generated line and column, both 0-based, the column in UTF-16 units.
@@ -78,8 +78,8 @@ impl<'view> Cursor<'view> {
         }
     }
 
-    // A cursor in the same line at another column. A column that is not after this one is searched
-    // from here, so that tokens in descending order read a line once.
+    // A cursor at another column of the same line. A column that is not after this cursor is
+    // searched back from it. So tokens in descending order read a line once.
     fn moved_to(&self, col: u32) -> Cursor<'view>
         ensures number { result.number ≡ self.now.number }
         ensures line { result.line.now ≡ self.now.line.now }
@@ -106,8 +106,8 @@ impl<'view> Cursor<'view> {
     }
 }
 
-// The first word from a cursor on, with the end of its first characters that can continue an
-// identifier.
+// The first word from a cursor on. `end` is the end of the run of characters at its start that can
+// continue an identifier.
 #[derive(Clone, Copy)]
 struct Word<'view> {
     cursor: Cursor<'view>,
@@ -116,7 +116,7 @@ struct Word<'view> {
 }
 
 impl<'view> Word<'view> {
-    // The word at a cursor, whose end is searched.
+    // The word at a cursor. Searches for `end`.
     fn new(cursor: Cursor<'view>) -> Word<'view>
         ensures { result.cursor ≡ cursor.entry }
     {
@@ -162,7 +162,7 @@ fn word_from(line: &str, offset: usize) -> usize
     offset + blank_length(&line[offset..])
 }
 
-// The same, where `word` is the result for the offset `known`.
+// `word_from`, where `word` is its result for the offset `known`.
 fn word_near(line: &str, offset: usize, known: usize, word: usize) -> usize
     requires offset { IsCharBoundary line.now offset }
     requires known { IsCharBoundary line.now known }
@@ -176,8 +176,8 @@ fn word_near(line: &str, offset: usize, known: usize, word: usize) -> usize
     }
 }
 
-// The same, where `word` is the result for the later offset `next`. White space is read only up to
-// `next`.
+// `word_from`, where `word` is its result for `next`, which is not before `offset`. White space is
+// read only up to `next`.
 fn word_before(line: &str, offset: usize, next: usize, word: usize) -> usize
     requires order { offset ≤ next }
     requires offset { IsCharBoundary line.now offset }
@@ -194,8 +194,8 @@ fn word_before(line: &str, offset: usize, next: usize, word: usize) -> usize
     }
 }
 
-// The end of the characters from `word` on that can continue an identifier, where `end` is that of
-// the characters from `next` on. They are read only up to `next`.
+// The end of the run of characters from `word` on that can continue an identifier. `end` is the end
+// of the run from `next` on. Characters are read only up to `next`.
 fn end_before(line: &str, word: usize, next: usize, end: usize) -> usize
     requires order { word ≤ next }
     requires word { IsCharBoundary line.now word }
@@ -212,8 +212,8 @@ fn end_before(line: &str, word: usize, next: usize, end: usize) -> usize
     }
 }
 
-// A cursor at a column of a line, `None` if there is no such line. In the line of the last token it
-// starts from that token's cursor.
+// A cursor at a column of a line, `None` if there is no such line. If the last token is on the same
+// line, the search starts from its cursor `last`.
 fn next_cursor<'view>(
     view: &'view SourceView,
     last: Option<Cursor<'view>>,
@@ -233,7 +233,8 @@ fn next_cursor<'view>(
     }
 }
 
-// The same with the end of the word.
+// The word at a column of a line, `None` if there is no such line. If the last token is on the same
+// line, the search starts from its word `last`.
 fn next_word<'view>(
     view: &'view SourceView,
     last: Option<Word<'view>>,
@@ -253,10 +254,11 @@ fn next_word<'view>(
     }
 }
 
-/// An iterator over a token of a map and all tokens before it, the closest first. With each token it
-/// returns the identifier at the token's generated position in a view: of the first word from there
-/// to the end of the line, its longest start that is an identifier. `None` if the view has no such
-/// position, or the word starts with no identifier.
+/// An iterator over a token of a map and all tokens before it, the closest first. With each token
+/// it returns the identifier at the token's generated position in a view. That is the longest
+/// identifier at the start of the first word from this position to the end of the line. It is
+/// `None` if the view has no such position, if there is no word, or if the word starts with no
+/// identifier.
 #[derive(Drop)]
 pub struct RevTokenIter<'view, T> {
     view: &'view SourceView,
@@ -294,7 +296,7 @@ fn identifier_of<'view>(word: Option<Word<'view>>, col: u32) -> Option<&'view st
     word?.identifier(col)
 }
 
-// Whether there is such a line, and this identifier is at the column.
+// Whether there is a cursor, and this identifier is at its column `col`.
 fn is_named(cursor: Option<Cursor<'_>>, col: u32, name: &str) -> bool
     requires { is_identifier (chars name.now) ≡ true }
     ensures { result ≡ is_text name.now (option_and_then
@@ -306,8 +308,9 @@ fn is_named(cursor: Option<Cursor<'_>>, col: u32, name: &str) -> bool
     }
 }
 
-// Of this token and those before it, 128 in all, the first with this identifier for which the next
-// one of the walk has `function`. It only compares identifiers, so it does not search their ends.
+// The first token with this identifier for which the next token of the walk has `function`. The
+// walk is over `token` and the tokens before it, 128 in all. It only compares identifiers, so it
+// does not search their ends.
 fn function_token<T: WalkedToken>(view: &SourceView, token: T, name: &str) -> Option<T>
     requires { is_identifier (chars name.now) ≡ true }
     ensures { option_map T.seen result ≡ function_token name.now
@@ -349,10 +352,11 @@ impl SourceView {
         }
     }
 
-    /// Guesses the original name of a function from its minified name. Of this token and those
-    /// before it, 128 in all, it takes the first that has the minified name at its position, if the
-    /// token before it in the map has `function`, and returns its name. Returns `None` if
-    /// `minified_name` is no identifier.
+    /// Guesses the original name of a function from its minified name. Walks back over this token
+    /// and the tokens before it, 128 in all. Stops at the first token that has the minified name at
+    /// its position and comes right after a token with `function`. Returns the name of that token.
+    /// Returns `None` if there is no such token, if it has no name, or if `minified_name` is no
+    /// identifier.
     pub fn get_original_function_name<T: WalkedToken>(
         &self,
         token: T,

@@ -16,9 +16,9 @@ pub fn unsupported_error<T>() -> io::Result<T>
 /// A file that is only read.
 #[derive(Drop)]
 pub struct FakeFile<'a> {
-    /// What reads return.
+    /// Returns the bytes and the errors of reads.
     pub reader: NarrowReader<'a>,
-    /// The size in its metadata. `None` has no metadata.
+    /// The size in the metadata of the file. With `None`, reading the metadata is an error.
     pub size: Option<u64>,
 }
 

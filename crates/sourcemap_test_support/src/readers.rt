@@ -2,7 +2,8 @@
 use std::io;
 use std::io::{ErrorKind, Read};
 
-/// Returns one byte a read, and fails with `kind` after `left` reads. `None` never fails.
+/// Returns one byte a read, and fails with `kind` after `left` reads. If `left` is `None`, no read
+/// fails.
 #[derive(Drop)]
 pub struct NarrowReader<'a> {
     /// The bytes not read yet.
@@ -30,8 +31,8 @@ impl Read for NarrowReader<'_> {
     }
 }
 
-/// Returns one byte a read and is interrupted before each. Fails with `kind` after `reads` reads that
-/// were not interrupted.
+/// Returns one byte a read and is interrupted before each. Fails with `kind` after `reads` reads
+/// that were not interrupted.
 #[derive(Drop)]
 pub struct HaltingReader<'a> {
     /// The bytes not read yet.

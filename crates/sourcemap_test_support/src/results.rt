@@ -1,5 +1,5 @@
-//! Results as texts, which a suite compares with its rows. Out of memory stays an error, so that a
-//! sweep of refused allocations sees it.
+//! Results as texts, which a suite compares with the rows of its tables. Out of memory stays an
+//! error, so that a run in which allocations are refused sees it.
 use sourcemap_errors::errors::{Error, Result};
 use std::alloc::Global;
 

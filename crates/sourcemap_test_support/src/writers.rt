@@ -2,8 +2,8 @@
 use std::io;
 use std::io::{ErrorKind, Write};
 
-/// Takes one byte a write, and fails after `left` bytes; a flush counts as a byte. `None` takes any
-/// number of bytes.
+/// Takes one byte a write, and fails after `left` bytes; a flush counts as a byte. If `left` is
+/// `None`, it takes any number of bytes.
 #[derive(Drop)]
 pub struct NarrowWriter {
     /// The bytes taken.
@@ -39,8 +39,8 @@ impl Write for NarrowWriter {
     }
 }
 
-/// Takes one byte a write, is interrupted before each, and takes nothing after `left` bytes. `None`
-/// takes any number of bytes.
+/// Takes one byte a write, is interrupted before each, and takes nothing after `left` bytes. If
+/// `left` is `None`, it takes any number of bytes.
 #[derive(Drop)]
 pub struct HaltingWriter {
     /// The bytes taken.

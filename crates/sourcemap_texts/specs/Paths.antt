@@ -36,7 +36,7 @@ common_parts [] qs = []
 common_parts (p ∷ ps) [] = []
 common_parts (p ∷ ps) (q ∷ qs) = cond (bytes_eq p q) (p ∷ common_parts ps qs) []
 
--- that of any number of lists
+-- the first parts that all lists have in common
 abbrev pub first_parts : List (List (List ℕ)) → List (List ℕ)
 first_parts [] = []
 first_parts (parts ∷ []) = parts

@@ -2,11 +2,11 @@
 use Rattle.std.specs.Prelude.{ℕ, List, [], ◌∷◌, ◌++◌, codes, nat_eq, drop, length, if◌then◌else◌}
 use Rattle.std.specs.List.{starts_with, ends_with}
 
--- a prefix that ends with a slash
+-- a prefix with a slash at its end, which is added if it is missing
 abbrev pub with_slash : List ℕ → List ℕ
 with_slash prefix = if ends_with nat_eq prefix (codes "/") then prefix else prefix ++ codes "/"
 
--- a text after the first prefix, with its slash, that it starts with; the whole text if it starts with none
+-- what follows the first prefix, with its slash, that a text starts with; the whole text if it starts with none
 abbrev pub without_prefix : List (List ℕ) → List ℕ → List ℕ
 without_prefix [] text = text
 without_prefix (prefix ∷ prefixes) text =

@@ -104,7 +104,7 @@ fn has_same_byte(a: &[u8], b: &[u8], at: usize) -> bool
     at < a.len() && at < b.len() && a[at] == b[at]
 }
 
-// Whether a part of the path ends before the index `at`, or the path itself.
+// Whether a part of the path, or the path itself, ends before the index `at`.
 fn ends_part(text: &[u8], at: usize) -> bool
     ensures { result ≡ (nat_le (length text.now) at || separates (slice_index text.now at)) }
 {

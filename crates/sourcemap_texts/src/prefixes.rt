@@ -35,9 +35,9 @@ fn after_first_prefix<'a, S: AsStr>(text: &'a str, prefixes: &[S]) -> Option<&'a
     None
 }
 
-/// Strips the first matching prefix from what is displayed for a text: from `current`, or from the
-/// text itself if that is `None`. Returns what to display from then on, where `None` is the text
-/// itself. A slash after the prefix is stripped too. The only error is out of memory.
+/// Strips the first matching prefix from `current`, or from `text` if `current` is `None`. A prefix
+/// without a slash at its end matches only with a slash after it, which is stripped too. Returns
+/// the text that is left, where `None` stands for `text` itself. The only error is out of memory.
 pub fn strip_text<S: AsStr>(
     alloc: Global,
     text: &str,

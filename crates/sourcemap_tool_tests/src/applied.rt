@@ -123,7 +123,7 @@ const REGULAR: &str = r#"{"sources":["a.js"],"mappings":"AAAA"}"#;
 
 const HERMES: &str = r#"{"sources":["a.js"],"mappings":"AAAA","x_facebook_sources":[]}"#;
 
-// At least one of two maps is not regular.
+// Two maps, at least one of which is not regular.
 static NOT_REGULAR: [(&str, &str); 5] = [
     (TWO, REGULAR),
     (REGULAR, TWO),
@@ -132,7 +132,8 @@ static NOT_REGULAR: [(&str, &str); 5] = [
     (REGULAR, HERMES),
 ];
 
-// The last column maps to the first, so the second token of the map would pass it.
+// The adjustment moves column 0 to the last column, so the second token of the map would pass the
+// last column.
 const PAST_THE_LAST_COLUMN: (&str, &str) = (
     r#"{"sources":["o.js"],"mappings":"AAAA,CAAC"}"#,
     r#"{"sources":["t.js"],"mappings":"+/////HAAA"}"#,

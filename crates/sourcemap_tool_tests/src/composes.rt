@@ -113,7 +113,7 @@ fn maps_are_composed(rt: HostRuntime) -> Result<(), Fail> {
     Ok(())
 }
 
-// The map and the one in the file.
+// `MAP` is the input, and `ADJUSTMENT` is the map in the file.
 const MAP: &str = r#"{"sources":["o.js"],"mappings":"AAAA,KAAK"}"#;
 
 const ADJUSTMENT: &str = r#"{"sources":["t.js"],"mappings":"EAAA"}"#;

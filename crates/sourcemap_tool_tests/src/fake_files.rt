@@ -1,4 +1,5 @@
-// A fake file system of one file, whose reads may fail. Records whether the file was opened.
+// A fake file system of one file, whose reads may fail. Records whether a call tried to open a
+// file.
 use sourcemap_test_support::files::{FakeFile, unsupported_error};
 use sourcemap_test_support::readers::NarrowReader;
 use std::alloc::Allocator;

@@ -27,7 +27,7 @@ fn halting(rt: &HostRuntime, left: Option<usize>) -> HaltingWriter {
     }
 }
 
-// A reader of the first `left` bytes of the map.
+// A reader of the map that fails after `left` bytes.
 fn slow(left: Option<usize>) -> NarrowReader<'static> {
     NarrowReader {
         rest: MAP.as_bytes(),
@@ -73,7 +73,8 @@ fn a_reader_that_fails_is_not_decoded(rt: HostRuntime) -> Result<(), Fail> {
 }
 
 // Whether a run prints `want` on a writer that accepts one byte at a time, and fails on each writer
-// that accepts fewer bytes; that writer then holds a prefix of `want`.
+// that accepts too few bytes. A flush counts as one byte. Such a writer then holds a prefix of
+// `want`.
 fn is_written(rt: &HostRuntime, words: &[String], want: &[u8]) -> Result<bool, Fail> {
     let mut output = narrow(rt, None);
     let status = run(rt, rt.alloc(), words, &mut slow(None), &mut output)?;
@@ -135,7 +136,8 @@ fn a_writer_that_takes_nothing_ends_the_run(rt: HostRuntime) -> Result<(), Fail>
     Ok(())
 }
 
-// Whether the report of an error is `want`, and on each writer that accepts fewer bytes a prefix.
+// Whether the report of an error is `want`. On each writer that accepts fewer bytes, the report
+// must fail after a prefix of `want`.
 fn is_reported_as(rt: &HostRuntime, error: &Error, want: &[u8]) -> Result<bool, Fail> {
     let mut output = narrow(rt, None);
     report_error(error, &mut output)?;
@@ -163,8 +165,8 @@ fn errors_are_reported_unless_the_reader_is_gone(rt: HostRuntime) -> Result<(), 
 
 const FULL: &[u8] = b"no storage space\n";
 
-// Whether the report of an error is `want` on a writer that is interrupted before each byte and takes
-// nothing after `left` bytes.
+// Whether the report of an error is `want` on a writer that is interrupted before each byte and
+// takes nothing after `left` bytes.
 fn is_reported_when_interrupted(
     rt: &HostRuntime,
     error: &Error,

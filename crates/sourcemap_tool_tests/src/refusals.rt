@@ -126,8 +126,8 @@ fn failing_reads_are_reported(rt: HostRuntime) -> Result<(), Fail> {
     Ok(())
 }
 
-// A label, words, the bytes of the file, after how many of them a read fails, the kind of the error,
-// whether already opening fails, and the status and output of the run.
+// A label, and the words of the run. For the file: its bytes, after how many of them a read fails,
+// the kind of the error, and whether opening fails already. Then the status and output of the run.
 type Row = (
     &'static str,
     &'static str,

@@ -36,7 +36,7 @@ impl Env for Start<'_> {
     }
 }
 
-// Whether `words` returns `want` for the arguments `given`, of which the first is the name.
+// Whether `words` returns `want` for the arguments `given`. The first is the program's name.
 fn are_words(rt: &HostRuntime, given: &[&[u8]], want: &[&str]) -> Result<bool, Fail> {
     let start = Start {
         alloc: rt.alloc(),

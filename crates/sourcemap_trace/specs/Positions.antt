@@ -1,5 +1,5 @@
--- Positions of a generated text as a list of them is written: one on each line, as `12:5`, the line and
--- the column, both counted from 0.
+-- Lists of generated positions, one position on each line. A position is written as `12:5`: the line, a colon
+-- and the column, both counted from 0.
 use Rattle.std.specs.Prelude.{ℕ, ◌==◌, ◌&&◌, nat_le, nat_lt, if◌then◌else◌, Bool, List, [], ◌∷◌, length, Option, Some, None, option_and_then, option_map}
 use Rattle.std.specs.Char.{is_ascii_digit}
 use Rattle.std.specs.List.{after_first, before_first, list_all, slice_split}
@@ -17,12 +17,12 @@ without_empty_last [] = []
 without_empty_last (part ∷ []) = if length part == 0 then [] else part ∷ []
 without_empty_last (part ∷ next ∷ parts) = part ∷ without_empty_last (next ∷ parts)
 
--- the lines of a text: what stands between newlines. Nothing but a newline ends one, and one at the end of
--- the text begins none
+-- the lines of a text. Only newlines separate lines, and after a newline at the end of the text there is no
+-- further line
 abbrev pub lines_of : List ℕ → List (List ℕ)
 lines_of text = without_empty_last (slice_split is_newline text)
 
--- whether a text is one or more ASCII digits, of a number below 2^32; zeros may stand before it
+-- whether a text is one or more ASCII digits of a number below 2^32; leading zeros are allowed
 abbrev pub is_number : List ℕ → Bool
 is_number text =
     nat_lt 0 (length text) && (list_all is_ascii_digit text && nat_le (digits_value 10 text) 4294967295)

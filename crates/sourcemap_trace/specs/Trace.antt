@@ -1,15 +1,16 @@
--- What a list of positions is answered: a line for each of its lines, in order.
+-- The answers to a list of positions: one line for each line of the list, in order.
 use Rattle.std.specs.Prelude.{ℕ, List, ◌++◌, codes, flat_map, Option, Some, None}
 use Rattle.sourcemap.specs.Token.{token_text}
 use Rattle.sourcemap.specs.Types.{Meaning}
 use Rattle.sourcemap_trace.specs.Positions.{lines_of, position_of}
 
--- the text of a meaning, or that there is none
+-- the text of a meaning; `none` if there is no meaning
 abbrev pub meaning_text : Option Meaning → List ℕ
 meaning_text (Some says) = token_text says
 meaning_text None = codes "none"
 
--- the answer to a position, given what each one means; a line that names none is no position
+-- the answer to the position that a line names, given the meaning of each position; `bad position` if the line
+-- names no position
 abbrev pub answer_at : (ℕ × ℕ → Option Meaning) → Option (ℕ × ℕ) → List ℕ
 answer_at meaning (Some position) = meaning_text (meaning position)
 answer_at meaning None = codes "bad position"

@@ -3,7 +3,6 @@ ghost use Rattle.std.specs.Prelude.{◌≡◌, ◌==◌, ◌<◌, IfSome, length
 ghost use Rattle.std.specs.List.{after_first, before_first};
 ghost use Rattle.sourcemap_trace.specs.Positions.{is_newline, number_of, position_of};
 
-// The lines after the first.
 fn without_first(lines: &[u8]) -> &[u8]
     ensures later { result.now ≡ after_first is_newline lines.now }
     ensures shorter { 0 < length lines.now → length result.now < length lines.now }
@@ -16,8 +15,9 @@ fn without_first(lines: &[u8]) -> &[u8]
     &[]
 }
 
-// The number before the first byte that is `mark`, and what stands after that byte. Without one all
-// bytes stand before it. Digits past those of a number of 32 bits are not looked at.
+// The number before the first byte `mark`, and the bytes after that byte. Without such a byte, all
+// bytes belong to the number. `None` if there is no number, or if it is above 4294967295. In the
+// latter case further digits are not read.
 fn number_before(bytes: &[u8], mark: u8) -> Option<(u32, &[u8])>
     ensures number { option_map (λ found. found.0) result
         ≡ number_of (before_first (λ byte. byte == mark) bytes.now) }
@@ -42,7 +42,8 @@ fn number_before(bytes: &[u8], mark: u8) -> Option<(u32, &[u8])>
     Some((value as u32, &bytes[(index + 1).min(bytes.len())..]))
 }
 
-// The position that the first line names, and the lines after it; none if it names none.
+// The position that the first line names, and the lines after this line. `None` if it names no
+// position.
 fn first_position(lines: &[u8]) -> Option<((u32, u32), &[u8])>
     ensures position { option_map (λ found. found.0) result
         ≡ position_of (before_first is_newline lines.now) }
@@ -54,7 +55,7 @@ fn first_position(lines: &[u8]) -> Option<((u32, u32), &[u8])>
     Some(((row, col), later))
 }
 
-// The position that the first line names, if it names one, and the lines after it.
+// The position that the first line names, if it names one, and the lines after this line.
 pub(crate) fn next_position(lines: &[u8]) -> (Option<(u32, u32)>, &[u8])
     ensures position { result.0 ≡ position_of (before_first is_newline lines.now) }
     ensures later { result.1.now ≡ after_first is_newline lines.now }

@@ -16,15 +16,19 @@ use sourcemap::laws::answers_are_determined;
 use sourcemap::{DecodedMap, Result};
 use std::alloc::Global;
 
-/// The answers to a list of positions, each with a newline. A line is what stands between newlines;
-/// a newline at the end begins none. A position is a line of ASCII digits, a colon and ASCII digits,
-/// the line and the column, both counted from 0 and at most 4294967295; zeros may stand before a
-/// number. It is answered by the text of the closest token, as by `DecodedMap::lookup_token`, or by
-/// `none`; any other line, one with a carriage return or an empty one too, by `bad position`.
-/// Returns `OutOfMemory` only.
+/// Returns the answers to a list of positions: one for each line of the list, in order, each
+/// followed by a newline. Newlines separate the lines of the list. After a newline at the end of
+/// the list there is no further line. The only error is `OutOfMemory`.
 ///
-/// So it is for a regular map, a Hermes map and an index whose sections are in order at every level,
-/// as in each decoded map. In an index in no order the answers are those of some tokens or `none`.
+/// A position is a line of ASCII digits, a colon and ASCII digits. The first number is the
+/// generated line, the second is the column. Both count from 0 and are at most 4294967295; leading
+/// zeros are allowed. The answer is the text of the closest token, which `DecodedMap::lookup_token`
+/// returns, or `none` if there is no such token. The answer to any other line is `bad position`.
+/// This includes an empty line, and a line with a carriage return.
+///
+/// This holds for a regular map, a Hermes map, and an index map whose sections are in order at
+/// every level. Each decoded map is among these. If the sections of an index map are not in order,
+/// the answer to a position is the text of some token, or `none`.
 pub fn trace_text(alloc: Global, map: &DecodedMap, positions: &[u8]) -> Result<String>
     ensures text { IsInOrder (map_tree map.now) → Gives string_bytes result
         (Ok (trace_of (meaning (map_tree map.now)) positions.now)) }
@@ -40,7 +44,7 @@ pub fn trace_text(alloc: Global, map: &DecodedMap, positions: &[u8]) -> Result<S
     Ok(text)
 }
 
-// Puts the answer to a position, or to a line that names none, and a newline at the end of a text.
+// Appends the answer to a position and a newline. `None` stands for a line that names no position.
 fn push_answer(text: &mut String, map: &DecodedMap, position: Option<(u32, u32)>) -> Result<()>
     ensures answer { IsInOrder (map_tree map.now) → OnOk result (string_bytes text.new
         ≡ string_bytes text.old
@@ -56,7 +60,7 @@ fn push_answer(text: &mut String, map: &DecodedMap, position: Option<(u32, u32)>
     }
 }
 
-// The same of a position alone.
+// Appends the answer to this position and a newline.
 fn push_token(text: &mut String, map: &DecodedMap, line: u32, col: u32) -> Result<()>
     ensures answer { IsInOrder (map_tree map.now) → OnOk result (string_bytes text.new
         ≡ string_bytes text.old
@@ -73,10 +77,11 @@ fn push_token(text: &mut String, map: &DecodedMap, line: u32, col: u32) -> Resul
     Ok(())
 }
 
-/// A law: maps that mean the same at every position answer each list of positions with the same
-/// text; so do a map and the one that is read back from its value. `DecodedMap::to_value` promises
-/// `ReadsBack` of a well-formed map, and `DecodedMap::from_value` that its value stands for the map
-/// that it returns.
+/// A law: two maps that mean the same at every position give the same answers to each list of
+/// positions. So do a map and the map that is read back from its JSON value. The premises of
+/// `read_back` are promises of other calls. `DecodedMap::to_value` promises `ReadsBack` for a
+/// well-formed map. `DecodedMap::from_value` promises that its value decodes to the map that it
+/// returns.
 pub fn maps_read_back_answer_alike()
     ensures alike { (s t : MapTree) (positions : List ℕ) → MeansTheSame s t
         → trace_of (meaning s) positions ≡ trace_of (meaning t) positions }
@@ -87,8 +92,9 @@ pub fn maps_read_back_answer_alike()
     answers_are_determined();
 }
 
-/// A law: the flat map of an orderly index answers each line as the index does, but those to which
-/// the index answers `none`. `SourceMapIndex::flatten` promises `AnswersLike` of such an index.
+/// A law: the flat map of an orderly index map answers each line as the index map does, except
+/// lines to which the index map answers `none`. `SourceMapIndex::flatten` promises `AnswersLike`
+/// for an orderly index map.
 pub fn flat_maps_answer_alike()
     ensures { (t : MapTree) (m : MapValue) (line : List ℕ) → AnswersLike t m
         → answer_to (meaning t) line ≢ codes "none"

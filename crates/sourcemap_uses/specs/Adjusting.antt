@@ -3,7 +3,7 @@ use Rattle.std.specs.Prelude.{option_map, string_bytes}
 use Rattle.sourcemap.specs.Types.{Meaning}
 use Rattle.sourcemap_uses.specs.declared.adjusting.OriginalPosition.{OriginalPosition}
 
--- the meaning of a token, of which this is the copy
+-- the meaning of the token that the position was copied from
 abbrev pub position_meaning : OriginalPosition → Meaning
 position_meaning position = record {
   source = option_map string_bytes position.source;

@@ -2,6 +2,6 @@
 use Rattle.std.specs.Prelude.{ℕ}
 use Rattle.sourcemap.specs.Types.{Meaning}
 
--- original line and column
+-- the original line and column of a meaning
 abbrev pub source_position : Meaning → ℕ × ℕ
 source_position says = (says.line, says.column)

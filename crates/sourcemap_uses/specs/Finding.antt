@@ -27,7 +27,7 @@ abbrev pub file_at : Option (List ℕ) → FoundValue
 file_at (Some path) = file path
 file_at None = nowhere
 
--- the file that a URL resolves to, relative to the path of its text; long ones may resolve to no file
+-- the file that a URL resolves to, relative to the path of its text; a long URL or path may resolve to no file
 abbrev pub FileOfUrl : List ℕ → List ℕ → Result FoundValue Error → Type 0
 FileOfUrl url path answer =
     Then (UnlessLong (resolved_path path url) (IsLongJoin (url_text path false) url)) (λ found a. a ≡ Ok (file_at found)) answer
@@ -41,8 +41,8 @@ abbrev pub url_in : Reference → List ℕ
 url_in (usual url) = url
 url_in (legacy url) = url
 
--- where the map of a text at this path is, by the text's reference, if it has one; an error if it is unknown
--- because a line is not UTF-8
+-- where the map of a text at this path is, by the text's reference, if it has one; an error if a line that is not UTF-8
+-- comes before any line with a reference
 abbrev pub MapByReference : Option (Option Reference) → List ℕ → Result FoundValue Error → Type 0
 MapByReference None path answer = IsErrAnd answer IsInvalidData
 MapByReference (Some None) path answer = answer ≡ Ok nowhere

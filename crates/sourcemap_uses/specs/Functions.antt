@@ -6,10 +6,10 @@ use Rattle.sourcemap.specs.HermesRewrite.{IsInOrderOf}
 use Rattle.sourcemap.specs.Reading.{BytesHaveResult}
 use Rattle.sourcemap.specs.Types.{lookup}
 
--- the name that a Hermes map returns for an offset, if the functions of its source are sorted
+-- the name that a Hermes map returns for a bytecode offset, if the functions of the source at the offset are in order
 abbrev pub IsNameIn : HermesValue → ℕ → Option (List ℕ) → Type 0
 IsNameIn h offset name = IsInOrderOf h (lookup h.map (0, offset)) → name ≡ function_name h offset
 
--- the same for the Hermes map in these bytes
+-- the name that the Hermes map in these bytes returns for a bytecode offset, under the same premise
 abbrev pub IsNameAt : (bytes : List ℕ) → ℕ → Option (List ℕ) → Type 0
 IsNameAt bytes offset name = (h : HermesValue) × BytesHaveResult RecordDecodesAsHermes bytes (Ok h) × IsNameIn h offset name

@@ -11,13 +11,13 @@ no_details = record { with_names = false; with_contents = false; prefixes = [] }
 abbrev pub without_name : Meaning → Meaning
 without_name says = record says { name = None }
 
--- the new map has the meaning of the old one without names, and no names and contents
+-- the new map means what the old one means, less the names; it has no names and no contents
 pub record IsBare (old new : MapValue) : Type 0 where
   pub meaning : (p : ℕ × ℕ) → meaning new p ≡ option_map without_name (meaning old p)
   pub names : new.names ≡ []
   pub contents : (id : ℕ) → id < length new.sources → contents_of new id ≡ None
 
--- the same for encoded maps
+-- both byte lists decode to regular maps, and `IsBare` holds of these maps
 abbrev pub Publishes : (old new : List ℕ) → Type 0
 Publishes old new =
     (m n : MapValue) × BytesHaveResult RegularDecodes old (Ok m) × BytesHaveResult RegularDecodes new (Ok n) × IsBare m n

@@ -17,7 +17,8 @@ abbrev pub printed : Option Meaning → List ℕ
 printed None = []
 printed (Some says) = token_text says
 
--- this is the flattened map of the index, and this module, with this first line, is the first one that is not skipped
+-- `flat` is the flattened map of the index, and `found` is the first module that is not skipped; `first` is its first
+-- line
 pub record IsFirstModule (i : IndexValue) (modules : List (Result ModuleValue Error)) (flat : MapValue) (found : ModuleValue) (first : ℕ) : Type 0 where
   pub flat_is : flat_of (index_tree i) ≡ Ok flat
   pub offsets : List (Option ℕ)

@@ -25,14 +25,18 @@ pub struct OriginalPosition {
     pub is_range: bool,
 }
 
-/// Returns the original position of a position in the output of a later step, or `None` if no token
-/// is at or before it: the result of the adjusted map. `adjustment` maps that output to the generated
-/// text of `map`. Returns the errors of `adjust_mappings`.
+/// Looks up a position in the output of a later build step. `adjustment` maps that output to the
+/// generated text of `map`. Adjusts `map` by `adjustment`, and returns the original position that
+/// the adjusted map gives. `None` if the adjusted map has no token at or before the position.
+/// Returns the errors of `adjust_mappings`.
 ///
-/// Where a stretch of `adjustment` moves a position of `map` to this one, the result is what `map`
-/// returned for that position, if the map is well-formed, no two of its tokens have one generated
-/// position, the token closest to the position is on its line, and no other stretch gives a token
-/// from the moved start of this stretch up to the moved position.
+/// If a stretch of `adjustment` moves an old position to this position, the result is what `map`
+/// returned for the old position. This holds under four premises:
+///
+/// - `map` is well-formed.
+/// - No two tokens of `map` have the same generated position.
+/// - The token of `map` that is closest to the old position is on the line of the old position.
+/// - No other stretch gives a token from the moved start of the stretch up to the moved position.
 pub fn lookup_adjusted(
     alloc: Global,
     mut map: SourceMap,

@@ -14,7 +14,8 @@ pub enum Advice {
     LookAtInput,
     /// Fix the tool that wrote the map: a key, a number of the mappings or a reference is wrong.
     MendWriter,
-    /// Use another call: the map is of another kind, or the text is not a data URL of a map.
+    /// Use another call: the map is of another kind or cannot be flattened, or the text is not a
+    /// data URL of a map.
     UseOtherCall,
     /// Look at the bundle: it is not a RAM bundle, or incomplete.
     LookAtBundle,

@@ -23,7 +23,8 @@ fn are_same_texts(a: Option<&str>, b: Option<&str>) -> bool
     }
 }
 
-// Whether two tokens map their positions to the same original position and name.
+// Whether two tokens have the same source, original position and name, and both or neither are
+// range tokens.
 fn have_same_meaning(before: &Token<'_>, after: &Token<'_>) -> bool
     ensures { Decides result (meaning_of_token before.now ≡ meaning_of_token after.now) }
 {

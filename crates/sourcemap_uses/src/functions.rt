@@ -15,8 +15,8 @@ use std::alloc::Global;
 use std::rt::Files;
 
 /// Returns the name of the function that contains a bytecode offset, by the Hermes map in these
-/// bytes. Requires sorted functions in its source. Returns the errors of
-/// `SourceMapHermes::from_slice`.
+/// bytes. If the functions of the source at the offset are not in order, the name is unspecified.
+/// Returns the errors of `SourceMapHermes::from_slice`.
 pub fn function_at(alloc: Global, bytes: &[u8], offset: u32) -> Result<Option<String>>
     ensures name { IfOk result
         (λ name. IsNameAt bytes.now offset (option_map string_bytes name)) }

@@ -10,12 +10,14 @@ use sourcemap::ram_bundle::{RamBundle, split_ram_bundle};
 use sourcemap::{Result, SourceMap, SourceMapIndex};
 use std::alloc::Global;
 
-/// Returns the original position of a position in the first module of a bundle, by the module's map,
-/// as a token prints it; an empty text if there is no token or no module. Returns the errors of
-/// `split_ram_bundle`, then that of the module.
+/// Looks up a position in the first module of a bundle, by the map of the module. Lines count from
+/// the first line of the module. Returns the original position as a token prints it, or an empty
+/// text if there is no token or no module. Returns the errors of `split_ram_bundle`, then the error
+/// of the module.
 ///
-/// If the closest token in the flattened map is on one of the module's lines, the result is that of
-/// the flattened map of the whole bundle.
+/// The result is that of the flattened map of the whole bundle under two premises. The position is
+/// on a line of the module. In the flattened map, the token closest to the position is on a line of
+/// the module too.
 pub fn trace_first_module<'a>(
     alloc: Global,
     bundle: &'a RamBundle<'a>,

@@ -29,7 +29,7 @@ pub fn decode_rmi(alloc: Global, text: &str) -> Result<Vec<bool>>
 }
 
 /// Encodes bits as the shortest text, which ends with the digit of the last true bit and is empty
-/// if no bit is true. Returns only `OutOfMemory`.
+/// if no bit is true. The only error is `OutOfMemory`.
 pub fn encode_rmi(alloc: Global, bits: &[bool]) -> Result<String>
     ensures written { IfOk result (λ text. IsBitText bits.now (string_bytes text)) }
     ensures memory { IfErr result (λ e. e ≡ OutOfMemory) }
@@ -68,7 +68,8 @@ pub fn has_bit(text: &[u8], index: usize) -> bool
     (value >> (index % 6)) % 2 == 1
 }
 
-/// Appends the shortest text of `bits`. Returns only `OutOfMemory`, and then `text` is unchanged.
+/// Appends the shortest text of `bits`. The only error is `OutOfMemory`, and then `text` is
+/// unchanged.
 pub fn push_bits(text: &mut String, bits: &[bool]) -> Result<()>
     ensures written { OnOk result ((part : List ℕ) × IsBitText bits.now part
         × (string_bytes text.new ≡ string_bytes text.old ++ part)) }
@@ -133,8 +134,8 @@ fn bit_from(bits: &[bool], index: usize) -> u8
     u8::from(bits.get(index).copied().unwrap_or(false))
 }
 
-/// A law: a text decodes to exactly one list of bits or one error, and bits have exactly one
-/// shortest text.
+/// A law: a text has at most one answer, a list of bits or an error. Bits have at most one shortest
+/// text.
 pub fn bits_are_determined()
     ensures one_answer { (text : List ℕ) (a b : Result (List Bool) Error) → BitAnswers text a
         → BitAnswers text b → a ≡ b }

@@ -202,8 +202,8 @@ pub fn generate_vlq_segment(alloc: Global, numbers: &[i64]) -> Result<String>
     Ok(text)
 }
 
-/// A law: a segment decodes to exactly one list of numbers or one error. Numbers have exactly one
-/// shortest text, and it decodes to the same numbers unless there are none.
+/// A law: a segment has at most one answer, a list of numbers or an error. Numbers have at most one
+/// shortest text. It decodes to the same numbers, unless there are none.
 pub fn segments_are_determined()
     ensures one_answer { (text : List ℕ) (a b : Result (List ℤ) Error) → SegmentAnswers text a
         → SegmentAnswers text b → a ≡ b }

@@ -1,4 +1,4 @@
-// A `Box` as pointer and allocator, with fields that the module above can read.
+// A `Box` as pointer and allocator, with fields that the parent module can read.
 ghost use Rattle.std.specs.Prelude.{◌≡◌};
 ghost use Rattle.std.specs.Box.Ownership.{box_owns};
 
