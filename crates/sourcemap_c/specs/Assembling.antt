@@ -17,15 +17,15 @@ abbrev pub list_in : Option Held → Option (List MapSection)
 list_in (Some (Sections sections)) = Some (map section_value sections.items)
 list_in _ = None
 
--- the same sections, or for other kinds equality
+-- the new value has the sections of the old one; an old value without sections is unchanged
 abbrev pub AreAsBefore : (old new : Option Held) → Type 0
 AreAsBefore old new = (list_in new ≡ list_in old) × (list_in old ≡ None → new ≡ old)
 
--- an argument with a flag that says whether it is given
+-- an optional argument: `x` if the flag `given` is set
 abbrev pub if_given : {X : Type 0} → (given : Bool) → X → Option X
 if_given given x = cond given (Some x) None
 
--- the map of a new section; `None` if it is to have one, and the handle has none
+-- the map of a new section: `Some None` for no map, `None` if a map is asked for and the handle holds none
 abbrev pub map_due : (given : Bool) → Option MapTree → Option (Option MapTree)
 map_due given tree = cond given (option_map Some tree) (Some None)
 
@@ -33,7 +33,7 @@ map_due given tree = cond given (option_map Some tree) (Some None)
 abbrev pub section_due : (start : ℕ × ℕ) → (url : Option (List ℕ)) → (given : Bool) → Option MapTree → Option MapSection
 section_due start url given tree = option_map (section_made start url) (map_due given tree)
 
--- the sections with one more, if there are sections and there is one more
+-- the sections with the new one at the end; `None` if the list or the new section is missing
 abbrev pub with_section : Option (List MapSection) → Option MapSection → Option (List MapSection)
 with_section sections section = option_and_then (λ s. option_map (λ ss. ss ++ s ∷ []) sections) section
 
@@ -41,16 +41,16 @@ with_section sections section = option_and_then (λ s. option_map (λ ss. ss ++ 
 abbrev pub line_of : ℕ → Option ℕ
 line_of offset = if offset == 4294967295 then None else Some offset
 
--- the index of these sections
+-- the index map with these sections
 abbrev pub index_of : (file : Option (List ℕ)) → (offsets : Option (List (Option ℕ))) → (paths : Option (List (List ℕ))) → List MapSection → MapTree
 index_of file offsets paths ss = index_tree (index_made file ss offsets paths)
 
--- a given path is not UTF-8
+-- paths are given, and the failure is that one is not UTF-8
 abbrev pub IsNoPathIf : (given : Bool) → (paths : List (List ℕ)) → Failure → Type 0
 IsNoPathIf true paths (Library e) = HasNoText paths e
 IsNoPathIf _ paths _ = ⊥
 
--- the same, or one of these failures
+-- a given path is not UTF-8, or the failure is one that `Due` allows
 abbrev pub OrNoPath : (given : Bool) → (paths : List (List ℕ)) → (Failure → Type 0) → Failure → Type 0
 OrNoPath given paths Due failure = IsNoPathIf given paths failure ⊎ Due failure
 

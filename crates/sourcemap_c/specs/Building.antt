@@ -19,7 +19,7 @@ use Rattle.sourcemap_c.specs.Kinds.{builder_in}
 use Rattle.sourcemap_c.specs.declared.building.Step.{Step}
 use Rattle.sourcemap_c.specs.declared.building.Step.TheVariants.{Root, Id, Source, Prefixes, Contents, Ignored}
 
--- the result of a change of a builder
+-- the result of changing a source: the builder `new`, or `Absent` if no source has this id
 abbrev pub OnSource : ℕ → BuilderValue → BuilderValue → Result BuilderValue Failure → Type 0
 OnSource id old new (Ok due) = (id < length old.sources) × (due ≡ new)
 OnSource id old new (Err failure) = (length old.sources ≤ id) × (failure ≡ Absent)
@@ -33,7 +33,7 @@ HasId id old due = due ≡ Ok (record old { debug_id = id })
 abbrev pub HasSource : ℕ → List ℕ → BuilderValue → Result BuilderValue Failure → Type 0
 HasSource id source old = OnSource id old (record old { sources = slice_set old.sources id source })
 
--- each source after the first prefix that it starts with
+-- from each source the first of the prefixes, completed by `/`, that it starts with is removed
 abbrev pub IsStripped : List (List ℕ) → BuilderValue → Result BuilderValue Failure → Type 0
 IsStripped prefixes old due = due ≡ Ok (record old { sources = map (without_prefix prefixes) old.sources })
 
@@ -60,7 +60,7 @@ abbrev pub FailsStep : (BuilderValue → Result BuilderValue Failure → Type 0)
 FailsStep Becomes (Some b) failure = Becomes b (Err failure)
 FailsStep Becomes None failure = failure ≡ WrongKind
 
--- the id of an added text, and the builder with it
+-- `id` is the id of the added text, and the handle has the builder with this text
 abbrev pub Adds : (BuilderValue → List (List ℕ)) → (BuilderValue → List ℕ → BuilderValue) → List ℕ → (id : ℕ) → (old new : Option Held) → Type 0
 Adds texts added text id old new =
     IsSomeAnd (builder_in old) (λ b. (id_for (texts b) text ≡ Ok id) × (builder_in new ≡ Some (added b text)))
@@ -75,13 +75,13 @@ AddsNot texts text _ _ = ⊥
 abbrev pub with_tokens : BuilderValue → List MapToken → ℕ → BuilderValue
 with_tokens b tokens n = record b { tokens = b.tokens ++ map raw_token (take n tokens) }
 
--- the outcome of adding tokens; the only error for a token is out of memory
+-- the outcome of adding tokens: all `count`, fewer if memory ran out, or none and `WrongKind` without a builder
 abbrev pub AreAdded : Option BuilderValue → (count added : ℕ) → Result (Unit {0}) Failure → Type 0
 AreAdded (Some _) count added outcome =
     MatchResult outcome (λ _. added ≡ count) (λ failure. (failure ≡ Library OutOfMemory) × (added < count))
 AreAdded None count added outcome = (added ≡ 0) × (outcome ≡ Err WrongKind)
 
--- the report of that outcome
+-- the error report of adding tokens: unchanged if all were added, else out of memory; `WrongKind` without a builder
 abbrev pub AddsAll : Option BuilderValue → (count added : ℕ) → (old new : ErrorReport) → Type 0
 AddsAll (Some _) count added old new =
     ((added ≡ count) × (new ≡ old)) ⊎ ((added < count) × ((code : ℕ) × Reports (Library OutOfMemory) code old new))

@@ -48,7 +48,7 @@ abbrev pub items_in : Option Held → Option (List (Result ItemValue Error))
 items_in (Some (Split items)) = Some (map item_value items.items)
 items_in _ = None
 
--- the item for a value of the iterator
+-- the item that was made is the due one; the only error of making it is out of memory
 abbrev pub Makes : Result (Result SplitModule Error) Error → (Result ModuleParts Error → Type 0) → Type 0
 Makes made Due = MatchResult made (λ item. (due : Result ModuleParts Error) → Due due → item_value item ≡ due_value due) (λ e. e ≡ OutOfMemory)
 
@@ -72,7 +72,7 @@ IsUnsplit bundle tree PastLimit = ⊥
 abbrev pub item_of : Option (List (Result ItemValue Error)) → ℕ → Option (Option (Result ItemValue Error))
 item_of items id = option_map (λ list. slice_get list id) items
 
--- the errors of an item: no such item, or the error of its module
+-- the errors of an item: `InvalidRamBundleEntry` for any error of its module, no such item, or no split bundle
 abbrev pub IsNoItem : Option (Option (Result ItemValue Error)) → Failure → Type 0
 IsNoItem item (Library e) = (e ≡ InvalidRamBundleEntry) × (because : Error) × (item ≡ Some (Some (Err because)))
 IsNoItem item Absent = item ≡ Some None

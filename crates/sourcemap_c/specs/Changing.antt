@@ -32,7 +32,7 @@ abbrev pub OnLeaf : (MapValue → MapValue) → MapTree → Result MapTree Failu
 OnLeaf change (leaf l) due = due ≡ Ok (leaf_of l (change (held l)))
 OnLeaf change (index _ _) due = due ≡ Err WrongKind
 
--- the same for a source that must exist
+-- a change to one source of a leaf; `Absent` if the leaf has no source of this id
 abbrev pub OnSource : ℕ → (MapValue → MapValue) → MapTree → Result MapTree Failure → Type 0
 OnSource id change (leaf l) (Ok new) = (id < length (held l).sources) × (new ≡ leaf_of l (change (held l)))
 OnSource id change (leaf l) (Err e) = (length (held l).sources ≤ id) × (e ≡ Absent)
@@ -73,12 +73,12 @@ abbrev pub as_regular : Result MapValue Error → Result MapTree Failure
 as_regular (Ok m) = Ok (leaf (regular m))
 as_regular (Err e) = Err (Library e)
 
--- a regular map composed with another one
+-- the regular map adjusted by `adjustment`; maps of other kinds give `WrongKind`
 abbrev pub IsAdjusted : MapValue → MapTree → Result MapTree Failure → Type 0
 IsAdjusted adjustment (leaf (regular m)) due = due ≡ as_regular (adjusted m adjustment)
 IsAdjusted adjustment _ due = due ≡ Err WrongKind
 
--- the same with a map of any kind
+-- `IsAdjusted` by the map of a handle: an adjustment that is not a regular map gives `WrongKind`
 abbrev pub IsAdjustedBy : Option MapTree → MapTree → Result MapTree Failure → Type 0
 IsAdjustedBy (Some (leaf (regular adjustment))) t due = IsAdjusted adjustment t due
 IsAdjustedBy _ t due = due ≡ Err WrongKind

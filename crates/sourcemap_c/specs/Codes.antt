@@ -13,40 +13,40 @@ abbrev pub UnlessMemory : Failure → Type 0 → Type 0
 UnlessMemory (Library OutOfMemory) P = Unit {0}
 UnlessMemory _ P = P
 
--- The result of a call: success, or a failure that is due, with nothing changed.
+-- The result of a call: success, and `Done` holds; or a failure that is due or out of memory, and `Kept` holds.
 abbrev pub Does : {T : Type 0} → Result T Failure → (Done : Type 0) → (Due : Failure → Type 0) → (Kept : Type 0) → Type 0
 Does result Done Due Kept = MatchResult result (λ _. Done) (λ failure. UnlessMemory failure (Due failure) × Kept)
 
--- the code and the report of such a call
+-- the code and the error report of a call whose result is as `Does` says
 pub record Answers (code : ℕ) (old new : ErrorReport) (Done : Type 0) (Due : Failure → Type 0) (Kept : Type 0) : Type 0 where
   pub done : code ≡ 0 → Done
   pub silent : code ≡ 0 → new ≡ old
   pub failed : code ≢ 0 → (failure : Failure) × Reports failure code old new × UnlessMemory failure (Due failure)
   pub kept : code ≢ 0 → Kept
 
--- Which failures are due: only errors of the library, ..
+-- the failures that are due are errors of the library
 abbrev pub OfLibrary : (Error → Type 0) → Failure → Type 0
 OfLibrary Due (Library e) = Due e
 OfLibrary Due _ = ⊥
 
--- .. these or a wrong kind, ..
+-- the failures that are due are errors of the library, or a wrong kind
 abbrev pub OfLibraryOrKind : (Error → Type 0) → (wrong : Type 0) → Failure → Type 0
 OfLibraryOrKind Due wrong (Library e) = Due e
 OfLibraryOrKind Due wrong WrongKind = wrong
 OfLibraryOrKind Due wrong _ = ⊥
 
--- .. or none
+-- the failures that are due are errors of the library, a wrong kind, or `Absent`
 abbrev pub OfLibraryKindOrAbsent : (Error → Type 0) → (wrong absent : Type 0) → Failure → Type 0
 OfLibraryKindOrAbsent Due wrong absent (Library e) = Due e
 OfLibraryKindOrAbsent Due wrong absent WrongKind = wrong
 OfLibraryKindOrAbsent Due wrong absent Absent = absent
 OfLibraryKindOrAbsent Due wrong absent PastLimit = ⊥
 
--- no error but out of memory
+-- no error is due, so a call can only run out of memory
 abbrev pub NoError : Error → Type 0
 NoError e = ⊥
 
--- bytes that are not UTF-8
+-- the error `Utf8`, for bytes that are not UTF-8
 abbrev pub IsNoText : List ℕ → Error → Type 0
 IsNoText bytes (Utf8 _) = ¬ IsUtf8 bytes
 IsNoText bytes _ = ⊥
@@ -62,15 +62,15 @@ ReturnsValue None code old new = (code ≡ 33) × (new ≡ old)
 ReturnsValue (Some None) code old new = (code ≡ 32) × (new ≡ old)
 ReturnsValue (Some (Some x)) code old new = (code ≡ 0) × (new ≡ x)
 
--- the code for a handle of the right kind; with `SM_ABSENT` nothing was written
+-- the code for a handle of the right kind: `SM_OK`, or `SM_ABSENT` with nothing written
 abbrev pub IsAbsentUnlessOk : {X : Type 0} → (code : ℕ) → (old new : X) → Type 0
 IsAbsentUnlessOk code old new = code ≢ 0 → (code ≡ 32) × (new ≡ old)
 
--- bytes that must be UTF-8 are not
+-- a text is present, and the failure is that its bytes are not UTF-8
 abbrev pub IsNoTextIf : (present : Bool) → List ℕ → Failure → Type 0
 IsNoTextIf true bytes (Library e) = IsNoText bytes e
 IsNoTextIf _ bytes _ = ⊥
 
--- the same, or one of these failures
+-- a present text is not UTF-8, or the failure is one that `Due` allows
 abbrev pub OrNoText : (present : Bool) → List ℕ → (Failure → Type 0) → Failure → Type 0
 OrNoText present bytes Due failure = IsNoTextIf present bytes failure ⊎ Due failure

@@ -20,7 +20,7 @@ IsTrace (Some t) positions held = (text : List ℕ) × (held ≡ Some text) × (
 abbrev pub Refuses : (due code : ℕ) → (old new : List ℕ) → Type 0
 Refuses due code old new = (code ≡ due) × (new ≡ old)
 
--- the name of a function, guessed from a text and a minified name, which must be UTF-8
+-- the name of a function, guessed from a text and a minified name; `SM_UTF8` if the minified name is not UTF-8
 abbrev pub Guesses : MapTree → (source minified : List ℕ) → ℕ × ℕ → ℕ → (old new : List ℕ) → Type 0
 Guesses t source minified p code old new = (¬ IsUtf8 minified → Refuses 2 code old new)
     × (IsUtf8 minified → IsAbsentUnlessOk code old new)

@@ -4,12 +4,12 @@ use Rattle.sourcemap_map_regular.specs.Map.{MapValue, source_of, name_of, conten
 use Rattle.sourcemap_index_model.specs.MapTree.{MapTree, leaf, index, held, section_list}
 use Rattle.sourcemap_c_handles.specs.declared.layout.Counts.{Counts}
 
--- the regular map, also of a Hermes map
+-- the map itself if it is regular, the regular map of a Hermes map, `None` for an index map
 abbrev pub leaf_in : MapTree → Option MapValue
 leaf_in (leaf l) = Some (held l)
 leaf_in (index _ _) = None
 
--- 4294967295 also for more
+-- a count for C, where 4294967295 also means more
 abbrev pub counted : ℕ → ℕ
 counted n = min n 4294967295
 
@@ -45,7 +45,7 @@ name_in id t = option_and_then (λ m. name_of m id) (leaf_in t)
 abbrev pub contents_in : ℕ → MapTree → Option (List ℕ)
 contents_in id t = option_and_then (λ m. contents_of m id) (leaf_in t)
 
--- the first n items of the array are those from index `first`
+-- the first n items of the array are `view` of the list's items from index `first` on
 abbrev pub AreFrom : {X Y : Type 0} → (X → Y) → (first : ℕ) → List X → List Y → ℕ → Type 0
 AreFrom view first items written n =
     (i : ℕ) → i < n → slice_get written i ≡ option_map view (slice_get items (first + i))

@@ -17,7 +17,7 @@ abbrev pub tree_in : Option Held → Option MapTree
 tree_in (Some (Map map)) = Some (map_tree (arc_value map))
 tree_in _ = None
 
--- the same of a borrowed map
+-- a borrowed map as a tree, if there is one
 abbrev pub tree_of : Option (Bor DecodedMap) → Option MapTree
 tree_of map = option_map (λ m. map_tree m.now) map
 
@@ -37,7 +37,7 @@ bytes_in _ = None
 abbrev pub IsSameMap : (old new : Arc DecodedMap Global) → Type 0
 IsSameMap old new = (new ≡ arc_with_value old (arc_value new)) × (map_tree (arc_value new) ≡ map_tree (arc_value old))
 
--- the same value: the same `Arc` of a map, or for other kinds equality
+-- the value is unchanged: a map is in the same `Arc` and has the same value, other values are equal
 abbrev pub IsAsBefore : (old new : Option Held) → Type 0
 IsAsBefore (Some (Map old)) (Some (Map new)) = IsSameMap old new
 IsAsBefore old new = new ≡ old

@@ -21,7 +21,8 @@ path_in id _ = None
 abbrev pub or_none : Option ℕ → ℕ
 or_none line = unwrap_or line 4294967295
 
--- Lines from `first` were written, as many as exist and fit, and their number; or nothing was written.
+-- With `SM_OK` the first lines of modules are written, from module `first` on, as many as exist and fit. So is their
+-- count. With another code nothing is written.
 pub record WritesLines (due : Option (Option (List (Option ℕ)))) (first code : ℕ) (old new : List ℕ) (before after : ℕ) : Type 0 where
   pub count : ReturnsValue (option_map (option_map (λ lines. min (length old) (length lines - first))) due) code before after
   pub lines : code ≡ 0 → IfSome due (λ found. IfSome found (λ lines. AreFrom or_none first lines new after))

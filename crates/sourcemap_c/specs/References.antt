@@ -40,25 +40,25 @@ OfTexts url base Due due = IsUtf8 url × IsUtf8 base × Due due
 abbrev pub LeadsTo : (url base : List ℕ) → (Result (Option (List ℕ)) Error → Type 0) → Option Held → Type 0
 LeadsTo url base Due held = (text : List ℕ) × (bytes_in held ≡ Some text) × OfTexts url base Due (Ok (Some text))
 
--- it cannot be resolved, or an argument is not UTF-8
+-- the reference cannot be resolved, or an argument is not UTF-8
 abbrev pub LeadsNowhere : (url base : List ℕ) → (Result (Option (List ℕ)) Error → Type 0) → Failure → Type 0
 LeadsNowhere url base Due (Library e) = (IsNoText url e ⊎ IsNoText base e) ⊎ OfTexts url base Due (Err e)
 LeadsNowhere url base Due Absent = OfTexts url base Due (Ok None)
 LeadsNowhere url base Due WrongKind = ⊥
 LeadsNowhere url base Due PastLimit = ⊥
 
--- the handle has the result
+-- the handle has the resolved text; without one, or with an error, the call fails and the handle is unchanged
 abbrev pub Puts : Result (Option (String Global)) Error → Result (Unit {0}) Failure → (old new : Option Held) → Type 0
 Puts (Ok (Some text)) result old new = Does result (bytes_in new ≡ Some (string_bytes text)) (OfLibrary NoError) (new ≡ old)
 Puts (Ok None) result old new = (result ≡ Err Absent) × (new ≡ old)
 Puts (Err e) result old new = (result ≡ Err (Library e)) × (new ≡ old)
 
--- a reference with this URL, if that is text
+-- the result is a reference with this URL, or an error if the URL is not UTF-8
 abbrev pub Refers : Result SourceMapRef Error → List ℕ → Type 0
 Refers (Ok found) url = (url_of found ≡ url) × IsUtf8 url
 Refers (Err e) url = LibraryUnless e (IsNoText url e)
 
--- a reference resolved against the URL of its text, and against the path
+-- `Resolves`: a reference resolved against the URL of its text; `ResolvesPath`: against the path of its text
 abbrev pub Resolves : (base url : List ℕ) → Result (Option (List ℕ)) Error → Type 0
 Resolves base url = UnlessLong (resolved base url) (IsLongJoin base url)
 

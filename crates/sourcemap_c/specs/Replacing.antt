@@ -9,10 +9,10 @@ use Rattle.sourcemap_c.specs.Codes.{IsNoText, OfLibrary}
 abbrev pub removal : (with_names with_contents : Bool) → List (List ℕ) → Removal
 removal with_names with_contents prefixes = record { with_names = with_names; with_contents = with_contents; prefixes = prefixes }
 
--- one of these is not UTF-8
+-- the error is that one of the texts is not UTF-8
 abbrev pub HasNoText : List (List ℕ) → Error → Type 0
 HasNoText texts e = (bytes : List ℕ) × Contains texts bytes × IsNoText bytes e
 
--- a prefix is not UTF-8, or one of these failures
+-- a prefix is not UTF-8, or the failure is one that `Due` allows
 abbrev pub OrNoPrefix : List (List ℕ) → (Failure → Type 0) → Failure → Type 0
 OrNoPrefix prefixes Due failure = OfLibrary (HasNoText prefixes) failure ⊎ Due failure

@@ -25,7 +25,7 @@ abbrev pub HoldsMapAt : ℕ → Option (List MapSection) → Option MapTree → 
 HoldsMapAt id (Some ss) held = (map_at id ss ≢ None) × (held ≡ map_at id ss)
 HoldsMapAt id None held = ⊥
 
--- no such section, or no index
+-- no such section, a section without a map, or no index map
 abbrev pub LacksMapAt : ℕ → Option (List MapSection) → Failure → Type 0
 LacksMapAt id (Some ss) failure = (failure ≡ Absent) × (map_at id ss ≡ None)
 LacksMapAt id None failure = failure ≡ WrongKind

@@ -9,7 +9,7 @@ use Rattle.sourcemap_c.specs.Codes.{IsNoText}
 abbrev pub fitting : (numbers array : List ℤ) → ℕ
 fitting numbers array = min (length numbers) (length array)
 
--- the array with these numbers over its first ones, as many as fit
+-- the array with its first items replaced by the numbers, as many as fit
 abbrev pub overwritten : (numbers array : List ℤ) → List ℤ
 overwritten numbers array = take (fitting numbers array) numbers ++ drop (fitting numbers array) array
 
@@ -18,7 +18,7 @@ abbrev pub ParsingAnswers : List ℕ → Result (List ℤ) Error → Type 0
 ParsingAnswers bytes (Ok numbers) = IsUtf8 bytes × SegmentAnswers bytes (Ok numbers)
 ParsingAnswers bytes (Err e) = IsNoText bytes e ⊎ (IsUtf8 bytes × SegmentAnswers bytes (Err e))
 
--- the numbers of a segment were written, as many as fit, and how many it has
+-- the numbers of a segment are written, as many as fit; `count` is how many numbers the segment has
 pub record WritesNumbers (segment : List ℕ) (old new : List ℤ) (count : ℕ) : Type 0 where
   pub numbers : List ℤ
   pub parsed : ParsingAnswers segment (Ok numbers)

@@ -215,9 +215,9 @@ fn push(sections: &mut Vec<SourceMapSection>, section: SourceMapSection) -> Resu
     Ok(())
 }
 
-/// Fills `map` with the index of these sections. The handle of the sections is then empty, and may be
-/// empty if memory runs out. A handle that holds no sections stays as it is. A line `SM_NONE` is a
-/// number without a module.
+/// Fills `map` with the index map of these sections. After success `sections` is empty. After
+/// `OutOfMemory` it may be empty too. After other errors, and if it holds no sections, it is
+/// unchanged. An offset of `SM_NONE` stands for a number without a module.
 #[unsafe(no_mangle)]
 pub extern "C" fn sm_sections_finish(
     alloc: Global,
@@ -421,7 +421,6 @@ fn put_index(
     put_map(alloc, map, DecodedMap::Index(index))
 }
 
-// Takes the sections out of their handle. A handle of another kind is unchanged.
 fn take_sections(alloc: Global, handle: &mut Handle) -> Option<Vec<SourceMapSection>>
     ensures value { option_map (λ ss. list_map section_value ss.items) result
         ≡ list_in (held_in handle.old) }

@@ -251,7 +251,7 @@ fn add_name_to(held: &mut Held, text: &str, id: &mut u32) -> Outcome<()>
     }
 }
 
-/// Borrows the source with this id, without the root.
+/// Borrows the source with this id, before it is resolved against `sourceRoot`.
 #[unsafe(no_mangle)]
 pub extern "C" fn sm_builder_source<'a>(
     builder: &'a mut Handle,
@@ -276,7 +276,8 @@ fn put_source<'a>(held: Option<&'a Held>, id: u32, text: &mut &'a [u8]) -> u32
     }
 }
 
-/// Sets a source, without the root. The text that was added keeps its id.
+/// Sets the text of a source, before it is resolved against `sourceRoot`. The text that was added
+/// still has this id when it is added again.
 #[unsafe(no_mangle)]
 pub extern "C" fn sm_builder_set_source(
     alloc: Global,
@@ -305,8 +306,8 @@ fn set_source(alloc: Global, builder: &mut Handle, id: u32, source: &[u8]) -> Ou
     }
 }
 
-/// Cuts from each source the first of these prefixes that it starts with. The text that was added
-/// keeps its id.
+/// Removes from each source the first of these prefixes, completed by `/`, that it starts with. The
+/// texts that were added still have their ids when they are added again.
 #[unsafe(no_mangle)]
 pub extern "C" fn sm_builder_strip_prefixes(
     alloc: Global,
@@ -476,7 +477,8 @@ fn ignore(builder: &mut SourceMapBuilder, id: u32) -> Outcome<()>
     Ok(())
 }
 
-/// Adds tokens and returns how many were added, which is all of them unless memory runs out.
+/// Adds tokens and returns how many were added: all of them, fewer if memory runs out, or 0 if the
+/// handle holds no builder.
 #[unsafe(no_mangle)]
 pub extern "C" fn sm_builder_add_tokens(
     alloc: Global,
@@ -567,8 +569,8 @@ fn add_token(builder: &mut SourceMapBuilder, token: MapToken) -> Result<()>
     Ok(())
 }
 
-/// Fills `map` with the finished map. The handle of the builder is empty afterwards, also after an
-/// error.
+/// Fills `map` with the regular map that was built. A handle with a builder is empty afterwards,
+/// also after an error. A handle without a builder is unchanged.
 #[unsafe(no_mangle)]
 pub extern "C" fn sm_builder_finish(
     alloc: Global,
@@ -606,7 +608,6 @@ fn finish_builder(alloc: Global, builder: &mut Handle, map: &mut Handle) -> Outc
     }
 }
 
-// Takes the builder out of its handle. A handle of another kind is unchanged.
 fn take_builder(alloc: Global, handle: &mut Handle) -> Option<SourceMapBuilder>
     ensures value { result ≡ builder_in (held_in handle.old) }
     ensures emptied { IfSome (builder_in (held_in handle.old)) (λ _. held_in handle.new ≡ None) }

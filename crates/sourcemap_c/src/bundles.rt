@@ -33,7 +33,7 @@ fn bundle_in<'a>(handle: &'a mut Handle) -> Option<&'a RamBundle<'static>>
     }
 }
 
-/// Copies the bytes and fills the handle with the bundle that they are.
+/// Copies the bytes of an indexed RAM bundle, and fills the handle with the bundle.
 #[unsafe(no_mangle)]
 pub extern "C" fn sm_bundle_open(
     alloc: Global,
@@ -340,8 +340,8 @@ fn items_of(
     Ok(items)
 }
 
-// Moves the map of a module to an `Arc`, so that handles can share it. The error of a module is kept
-// in its item, but `OutOfMemory` is returned.
+// Moves the map of a module to an `Arc`, so that handles can share it. The error of a module is
+// kept in its item, but `OutOfMemory` is returned.
 fn item_with(
     alloc: Global,
     parts: Result<(String, SourceView, SourceMap)>,
@@ -384,7 +384,7 @@ pub extern "C" fn sm_split_count(split: &mut Handle, items: &mut usize) -> u32
     }
 }
 
-// The item at this index, or the error that is kept in it.
+// The item at this index. Whatever error an item holds, `InvalidRamBundleEntry` is returned.
 fn item_at(items: &[Result<SplitModule>], item: usize) -> Outcome<&SplitModule>
     ensures { MatchResult result
         (λ found. item_of (Some (map item_value items.now)) item ≡ Some (Some (Ok (module_value found.now))))

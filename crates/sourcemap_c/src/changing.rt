@@ -77,7 +77,8 @@ fn change_held(alloc: Global, held: &mut Held, change: &Change<'_>) -> Outcome<(
     }
 }
 
-// The map is shared: changes a copy, which replaces the shared map in this handle.
+// Changes the map directly if no other handle shares it. Otherwise changes a copy, which replaces
+// the shared map in this handle.
 fn change_shared(alloc: Global, map: &mut Arc<DecodedMap>, change: &Change<'_>) -> Outcome<()>
     ensures { Does result
         (ChangesTo change.now (map_tree (arc_value map.old)) (Ok (map_tree (arc_value map.new))))

@@ -98,7 +98,7 @@ fn file_of(map: &DecodedMap) -> Option<&str>
     }
 }
 
-/// The regular map, also of a Hermes map; `None` for an index.
+/// The map itself if it is regular, the regular map of a Hermes map, `None` for an index map.
 pub(crate) fn leaf_in(map: &DecodedMap) -> Option<&SourceMap>
     ensures { option_copied result ≡ leaf_in (map_tree map.now) }
 {
@@ -234,7 +234,8 @@ fn contents_in(map: &DecodedMap, id: u32) -> Option<&str>
     leaf_in(map)?.get_source_contents(id)
 }
 
-/// Writes the ids of the ignore list, from index `first`, and returns how many were written.
+/// Writes the ids of the ignore list from index `first` on, as many as fit, and returns how many.
+/// Returns 0 for an index map, and if the handle holds no map.
 #[unsafe(no_mangle)]
 pub extern "C" fn sm_ignore_list(map: &mut Handle, first: u32, ids: &mut [u32]) -> usize
     ensures count { result ≡ unwrap_or (option_map (λ t. unwrap_or (option_map
@@ -264,7 +265,8 @@ fn put_ids(map: &DecodedMap, first: usize, ids: &mut [u32]) -> usize
     }
 }
 
-/// Writes the tokens from index `first`, and returns how many were written.
+/// Writes the tokens from index `first` on, as many as fit, and returns how many. Returns 0 for an
+/// index map, and if the handle holds no map.
 #[unsafe(no_mangle)]
 pub extern "C" fn sm_tokens(map: &mut Handle, first: u32, tokens: &mut [MapToken]) -> usize
     ensures count { result ≡ unwrap_or (option_map (λ t. unwrap_or (option_map

@@ -6,7 +6,7 @@ ghost use Rattle.sourcemap_c.specs.IgnoreLists.{AreIdsFrom};
 use sourcemap::SourceMap;
 use sourcemap_map_regular::iterators::IgnoreListIter;
 
-/// Writes the ids of the ignore list, from index `first`, and returns how many were written.
+/// Writes the ids of the ignore list from index `first` on, as many as fit. Returns how many.
 pub(crate) fn put_ignored(map: &SourceMap, first: usize, ids: &mut [u32]) -> usize
     ensures count { result ≡ min (length ids.old) (length map.now.ignored - first) }
     ensures each { AreIdsFrom first map.now.ignored ids.new result }
@@ -17,7 +17,6 @@ pub(crate) fn put_ignored(map: &SourceMap, first: usize, ids: &mut [u32]) -> usi
     write_ids(&mut left, ids)
 }
 
-// Skips `count` ids.
 fn skip_ids(left: &mut IgnoreListIter<'_>, count: usize)
     ensures { ids_left left.new ≡ drop count (ids_left left.old) }
 {

@@ -20,7 +20,8 @@ use std::alloc::Global;
 // `SM_NONE` of the header.
 pub(crate) const NONE: u32 = u32::MAX;
 
-/// Writes the first lines of modules, from module `first`, and how many were written.
+/// Writes the line at which each module begins, from module `first` on, as many as fit. Writes to
+/// `written` how many.
 #[unsafe(no_mangle)]
 pub extern "C" fn sm_module_offsets(
     map: &mut Handle,

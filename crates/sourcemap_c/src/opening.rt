@@ -30,7 +30,7 @@ pub extern "C" fn sm_interface() -> u32
     INTERFACE
 }
 
-/// The kind of the handle.
+/// Returns what the handle holds, as a number `SM_KIND_..` of the header.
 #[unsafe(no_mangle)]
 pub extern "C" fn sm_kind(handle: &mut Handle) -> u32
     ensures kind { result ≡ number_of (kind_of (held_in handle.old)) }

@@ -13,8 +13,8 @@ use sourcemap_c_handles::Handle;
 use sourcemap_c_handles::errors::{ErrorReport, Failure, Outcome, finish};
 use std::alloc::Global;
 
-/// Finds the reference in a text, fills the handle with its URL, and writes whether its mark is the
-/// legacy one.
+/// Finds the reference in a text, and fills `url` with its URL. Writes to `is_legacy` whether the
+/// reference begins with `//@`.
 #[unsafe(no_mangle)]
 pub extern "C" fn sm_locate_reference(
     alloc: Global,
@@ -75,7 +75,8 @@ fn reference_to(alloc: Global, url: &[u8]) -> Result<SourceMapRef>
     Ok(SourceMapRef::Ref(String::from_str(alloc, url)?))
 }
 
-/// Fills the handle with the URL of the map, resolved against the URL of the text.
+/// Fills `to` with the URL of the map: the reference `url` is resolved against `base`, the URL of
+/// the generated text.
 #[unsafe(no_mangle)]
 pub extern "C" fn sm_resolve(
     alloc: Global,
@@ -107,7 +108,8 @@ fn resolve(alloc: Global, url: &[u8], base: &[u8], to: &mut Handle) -> Outcome<(
     }
 }
 
-/// Fills the handle with the path of the map, resolved against the path of the text.
+/// Fills `to` with the path of the map: the reference `url` is resolved against `base`, the path of
+/// the generated text.
 #[unsafe(no_mangle)]
 pub extern "C" fn sm_resolve_path(
     alloc: Global,

@@ -72,7 +72,7 @@ fn flat(map: &DecodedMap) -> Outcome<DecodedMap>
     }
 }
 
-/// Composes a regular map with another one.
+/// Adjusts the regular map in `map` by the regular map in `adjustment`.
 #[unsafe(no_mangle)]
 pub extern "C" fn sm_compose(
     alloc: Global,

@@ -15,7 +15,8 @@ use sourcemap_c_handles::Handle;
 use sourcemap_c_handles::errors::{ErrorReport, Outcome, finish};
 use std::alloc::Global;
 
-/// Writes the first numbers of a segment, as many as fit, and how many the segment has.
+/// Writes the numbers of a segment to `numbers`, as many as fit. Writes to `count` how many numbers
+/// the segment has.
 #[unsafe(no_mangle)]
 pub extern "C" fn sm_parse_segment(
     alloc: Global,
@@ -50,7 +51,6 @@ fn parse_bytes(alloc: Global, segment: &[u8]) -> Result<Vec<i64>>
     parse_vlq_segment(alloc, text_in(segment)?)
 }
 
-// Writes the numbers over the first ones of the array, as many as fit.
 fn overwrite(numbers: &mut [i64], parsed: &[i64])
     ensures { numbers.new ≡ overwritten parsed.now numbers.old }
 {

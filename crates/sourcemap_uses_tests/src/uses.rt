@@ -390,8 +390,8 @@ static KEPT: [(&str, u32, u32, bool); 9] = [
     (MIXED, 0, 9, false),
     (ONE_SOURCE, 0, 9, false),
     (ONE_NAMED, 0, 9, false),
-    // the index map has no token at 0:9, nor at 3:7, where the flattened map returns a token of the
-    // first section; at 4:0 both maps return the token of b.js
+    // true at 0:9 and 3:7, since the index map has no token for them; at 3:7 the flattened map has
+    // one, of the first section. At 4:0 both maps return the token of b.js.
     (LATE, 0, 9, true),
     (LATE, 3, 7, true),
     (LATE, 4, 0, true),
