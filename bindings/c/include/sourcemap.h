@@ -24,9 +24,9 @@
 **
 ** A text that a call writes to an sm_text is not copied. It points into the
 ** handle that it was read from (for sm_function_name(), into its
-** map), and is valid until a call changes, fills or closes that handle. Calls
-** whose comment says "changes" change their first handle; all others leave it as
-** it is.
+** map), and is valid until a call changes, fills or closes that handle. A call
+** whose comment says "changes" changes its first handle, and one whose comment
+** says "fills" fills the handle that it names. All other handles stay as they are.
 **
 ** WHAT THE CALLER OWES
 **
@@ -138,7 +138,8 @@ typedef struct sm_text {
 
 /* Why a call failed. `text` holds the printed text and a zero byte after it; of
 ** a longer text its first SM_ERROR_TEXT - 1 bytes, which may end within a
-** character. `text_length` is the length of the whole text. Numbers that the code does not use are 0. */
+** character. `text_length` is the length of the whole text. Numbers that the code
+** does not use are 0. */
 #define SM_ERROR_TEXT 256
 
 typedef struct sm_error {
@@ -244,15 +245,27 @@ sm_code sm_share(sm_map *map, sm_map *other, sm_error *error);
 ** but SM_OUT_OF_MEMORY. */
 sm_code sm_is_source_map(const uint8_t *bytes, size_t length, bool *answer, sm_error *error);
 
+/* Writes to `answer` whether both maps are of one kind and equal in all that they
+** hold: also in how sources are written, in the order of all lists, and in how long
+** the list of contents is, although maps that differ in that alone are written alike.
+** SM_WRONG_KIND if one of the handles holds no map; then `answer` is as it was.
+** Allocates nothing. The two handles are not the same; a map equals itself. */
+sm_code sm_equal(sm_map *map, sm_map *other, bool *answer);
+
+/* Fills `regular` with a copy of the regular map in a Hermes map, without the
+** functions of its sources. Returns SM_OK, or SM_WRONG_KIND if `map` holds no Hermes
+** map. */
+sm_code sm_hermes_map(sm_map *map, sm_map *regular, sm_error *error);
+
 /*
 ** WHAT A MAP SAYS
 **
 ** The calls of this section that return a code return SM_OK and write their answer,
 ** or return another code and write nothing: SM_ABSENT if the map has no such item,
-** SM_WRONG_KIND if the handle holds no map. They allocate nothing. An index map has
-** a file, a debug id of its own, and sections. It has no root, sources, names,
-** contents or tokens: those are in the maps of its sections (sm_section()), and in
-** the map that sm_flatten() makes.
+** SM_WRONG_KIND if the handle holds no map. They allocate nothing, but for
+** sm_token_text(). An index map has a file, a debug id of its own, and sections. It
+** has no root, sources, names, contents or tokens: those are in the maps of its
+** sections (sm_section()), and in the map that sm_flatten() makes.
 */
 
 /* Writes how many items the map has. SM_WRONG_KIND if the handle holds no map;
@@ -283,7 +296,8 @@ sm_code sm_source(sm_map *map, uint32_t id, sm_text *text);
 sm_code sm_name(sm_map *map, uint32_t id, sm_text *text);
 
 /* The contents of the source of this id. The text is borrowed from `map`. SM_ABSENT
-** if there is no source of that id, or it has no contents, as in every index map;
+** if the map has no contents of that id, as every index map; a map may have contents
+** past its last source;
 ** SM_WRONG_KIND if the handle holds no map. */
 sm_code sm_contents(sm_map *map, uint32_t id, sm_text *text);
 
@@ -296,6 +310,14 @@ size_t sm_ignore_list(sm_map *map, uint32_t first, uint32_t *ids, size_t length)
 ** are and fit. Returns how many it wrote: 0 of an index map, and of a handle without
 ** a map. The rest of `tokens` is as it was. */
 size_t sm_tokens(sm_map *map, uint32_t first, sm_token *tokens, size_t length);
+
+/* Fills `text` with the text of a token, by its number among the tokens of a map:
+** SOURCE:LINE:COLUMN of its original position, and ` name=NAME` if it has a name.
+** SOURCE is resolved against `sourceRoot`, and `<unknown>` if the token has none. An
+** id that names nothing counts as none. Allocates the text, and may return
+** SM_OUT_OF_MEMORY. Returns SM_OK; SM_ABSENT if there is no such token; SM_WRONG_KIND
+** of an index map, and if the handle holds no map. sm_bytes_text() reads the text. */
+sm_code sm_token_text(sm_map *map, uint32_t index, sm_bytes *text, sm_error *error);
 
 /* Of the index map of a RAM bundle: writes the line at which each module begins,
 ** from module `first` on, as many as there are and fit, SM_NONE for a number
@@ -314,9 +336,9 @@ sm_code sm_module_path(sm_map *map, uint32_t id, sm_text *text);
 ** The closest token to a position is the first one at the position, or else the
 ** last one before it, whichever line it is on. In a map without sections, a
 ** caller who wants a token of the same line compares `token.line`. In an index
-** map the section that begins last at the position or before it answers, of
-** several at the very position the first; a section without a map answers
-** nothing.
+** map the section that begins last at the position or before it answers: of
+** several at the very position the first, of several before it the last. A section
+** without a map answers nothing.
 */
 
 /* Writes the closest token. Returns SM_OK; SM_ABSENT if there is none; SM_WRONG_KIND
@@ -328,6 +350,16 @@ sm_code sm_lookup(sm_map *map, uint32_t line, uint32_t column, sm_found *found);
 ** many it answered: 0 if the handle holds no map. `found[i].found` says whether
 ** `positions[i]` has a token. The rest of `found` is as it was. Allocates nothing. */
 size_t sm_lookup_many(sm_map *map, const sm_position *positions, size_t count, sm_found *found, size_t length);
+
+/* Writes the closest token, as sm_lookup() does, and to `until` the generated
+** position of the token after it, or line and column 4294967295 if no token follows.
+** The same token is closest to each position from the one looked up that is before
+** `until`. If several tokens stand at the position looked up, `until` is that position,
+** and the span is empty. So a caller who looks up positions in order may keep the
+** token. Only the `original_column` of a range token differs from position to position.
+** SM_ABSENT if there is no token; SM_WRONG_KIND of an index map, and if the handle
+** holds no map. Then `found` and `until` are as they were. Allocates nothing. */
+sm_code sm_lookup_span(sm_map *map, uint32_t line, uint32_t column, sm_found *found, sm_position *until);
 
 /* Writes the number of the closest token among the tokens of a map, as sm_tokens()
 ** counts them: SM_NONE also if it is greater. SM_ABSENT if there is no token;
@@ -344,6 +376,13 @@ sm_code sm_lookup_source(sm_map *map, uint32_t line, uint32_t column, sm_text *t
 ** `map`. SM_ABSENT if there is no token, or it has no name; SM_WRONG_KIND if the
 ** handle holds no map. Then `text` is as it was. */
 sm_code sm_lookup_name(sm_map *map, uint32_t line, uint32_t column, sm_text *text);
+
+/* Fills `text` with the text of the closest token, of a map of any kind, as
+** sm_token_text() prints one. The column of a range token on the line looked up
+** counts on to the position, up to 4294967295. Returns SM_OK; SM_ABSENT if there is
+** no token; SM_WRONG_KIND if the handle holds no map. sm_bytes_text() reads the
+** text. */
+sm_code sm_lookup_text(sm_map *map, uint32_t line, uint32_t column, sm_bytes *text, sm_error *error);
 
 /* Fills `text` with the answers to a list of positions, LINE:COLUMN on each
 ** line, both counted from 0: for each a line SOURCE:LINE:COLUMN, with
@@ -655,6 +694,19 @@ sm_code sm_parse_segment(const uint8_t *segment, size_t length, int64_t *numbers
 ** no numbers it is the empty text. Returns SM_OK, or SM_VLQ_OVERFLOW if the magnitude
 ** of a number is 2^62 or more. sm_bytes_text() reads the segment. */
 sm_code sm_write_segment(const int64_t *numbers, size_t count, sm_bytes *text, sm_error *error);
+
+/*
+** DEBUG IDS
+*/
+
+/* Fills `text` with the text of a debug id: 32 hexadecimal digits in lower case, with
+** four hyphens. No error but SM_OUT_OF_MEMORY. sm_bytes_text() reads the text. */
+sm_code sm_debug_id_text(const sm_debug_id *id, sm_bytes *text, sm_error *error);
+
+/* Writes the debug id that a text stands for: 32 hexadecimal digits of either case, or
+** these with a hyphen after digits 8, 12, 16 and 20. Returns SM_OK, or SM_ABSENT of any
+** other text; then `id` is as it was. Allocates nothing. */
+sm_code sm_parse_debug_id(const uint8_t *text, size_t length, sm_debug_id *id);
 
 /*
 ** RAM BUNDLES

@@ -15,6 +15,14 @@
 /* That a call failed with this code and printed text. */
 #define CHECK_ERROR(got, error, code, text) check_error((got), (error), (code), (text), #got, __FILE__, __LINE__)
 #define CHECK_TOKEN(got, l, c, ol, oc, s, n, r) check_token((got), token_of((l), (c), (ol), (oc), (s), (n), (r)), #got, __FILE__, __LINE__)
+/* The closest token of a position is this one. */
+#define CHECK_FOUND(map, l, c, tl, tc, ol, oc, s, n, r)                     \
+    do {                                                                    \
+        sm_found found_ = { { 0 }, false };                                 \
+        CHECK_NUMBER(sm_lookup((map), (l), (c), &found_), SM_OK);           \
+        CHECK(found_.found);                                                \
+        CHECK_TOKEN(found_.token, (tl), (tc), (ol), (oc), (s), (n), (r));   \
+    } while (0)
 
 void check(bool condition, const char *what, const char *file, int line);
 void check_number(uint64_t got, uint64_t wanted, const char *what, const char *file, int line);

@@ -43,6 +43,7 @@ static sm_code count_code(size_t count)
     }
 
 FILLING(share, other, sm_share(handle, &other, &error))
+FILLING(hermes_map, regular, sm_hermes_map(handle, &regular, &error))
 WRITING(count, sm_counts, counts, sm_count(handle, &counts))
 ASKING(file, sm_file(handle, &text))
 ASKING(source_root, sm_source_root(handle, &text))
@@ -50,9 +51,11 @@ WRITING(get_debug_id, sm_debug_id, id, (id.bytes[0] = 0, sm_get_debug_id(handle,
 ASKING(source, sm_source(handle, 0, &text))
 ASKING(name_of, sm_name(handle, 0, &text))
 ASKING(contents, sm_contents(handle, 0, &text))
+FILLING(token_text, bytes, sm_token_text(handle, 0, &bytes, &error))
 WRITING(lookup_index, uint32_t, index, sm_lookup_index(handle, 0, 0, &index))
 ASKING(lookup_source, sm_lookup_source(handle, 0, 0, &text))
 ASKING(lookup_name, sm_lookup_name(handle, 0, 0, &text))
+FILLING(lookup_text, bytes, sm_lookup_text(handle, 0, 0, &bytes, &error))
 ASKING(hermes_function_name, sm_hermes_function_name(handle, 0, &text))
 FILLING(trace, answers, sm_trace(handle, BYTES("0:0\n"), &answers, &error))
 ASKING(rewrite, sm_rewrite(handle, true, true, &text, 0, &error))
@@ -126,7 +129,14 @@ static sm_code lookup_many(sm_handle *handle)
     return count_code(sm_lookup_many(handle, POSITIONS, 1, found, 1));
 }
 
-/* The handle as the map, as the adjustment, as the bundle, as the index map, as the view and as the section's map of a
+static sm_code lookup_span(sm_handle *handle)
+{
+    sm_found found = { { 0 }, false };
+    sm_position until = { 0, 0 };
+    return sm_lookup_span(handle, 0, 0, &found, &until);
+}
+
+/* The handle as the map, the other map, the adjustment, the bundle, the index map, the view and the section's map of a
 ** call. */
 static sm_code call_with(sm_handle *handle, uint32_t kind, sm_code (*call)(sm_handle *handle, sm_handle *other))
 {
@@ -136,6 +146,17 @@ static sm_code call_with(sm_handle *handle, uint32_t kind, sm_code (*call)(sm_ha
     code = call(handle, &other);
     sm_close(&other);
     return code;
+}
+
+static sm_code equal_both(sm_handle *map, sm_handle *other)
+{
+    bool answer = false;
+    return sm_equal(map, other, &answer);
+}
+
+static sm_code equal_reversed(sm_handle *other, sm_handle *map)
+{
+    return equal_both(map, other);
 }
 
 static sm_code compose_both(sm_handle *map, sm_handle *adjustment)
@@ -187,6 +208,8 @@ static sm_code sections_add_map(sm_handle *map)
     return code;
 }
 
+ASKING(equal, call_with(handle, SM_KIND_REGULAR, equal_both))
+ASKING(equal_other, call_with(handle, SM_KIND_REGULAR, equal_reversed))
 ASKING(compose, call_with(handle, SM_KIND_REGULAR, compose_both))
 ASKING(compose_adjustment, call_with(handle, SM_KIND_REGULAR, compose_reversed))
 ASKING(bundle_split, call_with(handle, SM_KIND_INDEX, split_both))
@@ -210,6 +233,9 @@ static sm_code split_item(sm_handle *handle)
 
 const struct export_row EXPORTS[] = {
     { "sm_share", share, MAPS, false },
+    { "sm_equal", equal, MAPS, false },
+    { "sm_equal, its other map", equal_other, MAPS, false },
+    { "sm_hermes_map", hermes_map, KIND(SM_KIND_HERMES), false },
     { "sm_count", count, MAPS, false },
     { "sm_file", file, MAPS, false },
     { "sm_source_root", source_root, MAPS, false },
@@ -219,11 +245,14 @@ const struct export_row EXPORTS[] = {
     { "sm_contents", contents, MAPS, false },
     { "sm_ignore_list", ignore_list, LISTS, false },
     { "sm_tokens", tokens, LISTS, false },
+    { "sm_token_text", token_text, LISTS, false },
     { "sm_lookup", lookup, MAPS, false },
     { "sm_lookup_many", lookup_many, MAPS, false },
+    { "sm_lookup_span", lookup_span, LISTS, false },
     { "sm_lookup_index", lookup_index, LISTS, false },
     { "sm_lookup_source", lookup_source, MAPS, false },
     { "sm_lookup_name", lookup_name, MAPS, false },
+    { "sm_lookup_text", lookup_text, MAPS, false },
     { "sm_trace", trace, MAPS, false },
     { "sm_function_name", function_name, MAPS, false },
     { "sm_function_name, its view", function_name_view, KIND(SM_KIND_VIEW), false },

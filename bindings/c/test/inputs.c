@@ -8,6 +8,11 @@ void open_map(sm_map *map, const uint8_t *bytes, size_t length)
     CHECK_NUMBER(sm_open(map, bytes, length, &error), SM_OK);
 }
 
+void open_text(sm_map *map, const char *json)
+{
+    open_map(map, (const uint8_t *)json, strlen(json));
+}
+
 sm_text text_of(const char *literal)
 {
     sm_text text;

@@ -42,6 +42,12 @@
     "{\"mappings\":\"AAAA,KACK\",\"names\":[],\"sources\":[\"a.js\"],\"version\":3," \
     "\"x_facebook_sources\":[[{\"mappings\":\"AAA,KCC\",\"names\":[\"<global>\",\"foo\"]}]]}"
 
+/* The regular map in it. */
+#define HERMES_MAP_REGULAR "{\"mappings\":\"AAAA,KACK\",\"names\":[],\"sources\":[\"a.js\"],\"version\":3}"
+
+/* Tokens at 0:1 from 0:0, at 0:2 from 1:0 and from 2:0, at 0:4 from 3:0, and at 1:2 from 4:0. */
+#define DOUBLED_MAP "{\"version\":3,\"sources\":[\"a.js\"],\"mappings\":\"CAAA,CACA,AACA,EACA;EACA\"}"
+
 /* The index map of BUNDLE: module 0 begins on line 5. */
 #define BUNDLE_MAP \
     "{\"sections\":[{\"map\":{\"mappings\":\";;;;;AAAA,EAAE;AAAA\",\"names\":[],\"sources\":[\"a.js\"],\"version\":3}," \
@@ -63,10 +69,18 @@
     "{\"sections\":[{\"offset\":{\"line\":0,\"column\":0},\"map\":{\"sources\":[\"a.js\"],\"mappings\":\"AAAA\"}}]," \
     "\"x_facebook_offsets\":[0,1,2]}"
 
+/* The bytes 01 23 .. ef, twice. */
+#define DEBUG_ID "01234567-89ab-cdef-0123-456789abcdef"
+#define DEBUG_ID_BYTES \
+    { 0x01, 0x23, 0x45, 0x67, 0x89, 0xab, 0xcd, 0xef, 0x01, 0x23, 0x45, 0x67, 0x89, 0xab, 0xcd, 0xef }
+
 #define OPEN(handle, map) open_map((handle), BYTES(map))
 
 /* Fills `map`, and checks that it is filled. */
 void open_map(sm_map *map, const uint8_t *bytes, size_t length);
+
+/* The same of a text that ends with a zero byte. */
+void open_text(sm_map *map, const char *json);
 
 /* A literal as a text. */
 sm_text text_of(const char *literal);

@@ -22,13 +22,16 @@ int main(int count, char **words)
         return report();
     }
     test_opening();
+    test_equality();
     test_reading();
     test_lookups();
+    test_spans();
     test_changes();
     test_building();
     test_assembling();
     test_texts();
     test_segments();
+    test_debug_id_texts();
     test_bundles();
     test_wrong_kinds();
     test_threads(false);

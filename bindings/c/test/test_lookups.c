@@ -1,15 +1,6 @@
-/* Lookups, one and many; traces; names of functions. */
+/* Lookups, one and many; texts of tokens; traces; names of functions. */
 #include "inputs.h"
 #include "tests.h"
-
-/* The closest token of a position is this one. */
-#define CHECK_FOUND(map, l, c, tl, tc, ol, oc, s, n, r)                     \
-    do {                                                                    \
-        sm_found found_ = { { 0 }, false };                                 \
-        CHECK_NUMBER(sm_lookup((map), (l), (c), &found_), SM_OK);           \
-        CHECK(found_.found);                                                \
-        CHECK_TOKEN(found_.token, (tl), (tc), (ol), (oc), (s), (n), (r));   \
-    } while (0)
 
 static void test_regular(void)
 {
@@ -110,8 +101,7 @@ static void test_indexes_of_position(void)
     sm_map map = SM_EMPTY;
     sm_error error = { 0 };
     check_no_index(&map, 0, 0, SM_WRONG_KIND);
-    /* tokens at 0:1, twice at 0:2, at 0:4 and at 1:2 */
-    OPEN(&map, "{\"version\":3,\"sources\":[\"a.js\"],\"mappings\":\"CAAA,CACA,AACA,EACA;EACA\"}");
+    OPEN(&map, DOUBLED_MAP);
     check_no_index(&map, 0, 0, SM_ABSENT);
     check_index(&map, 0, 1, 0);
     check_index(&map, 0, 2, 1);
@@ -148,6 +138,74 @@ static void test_texts_of_position(void)
     CHECK_TEXT(text, "b.js");
     CHECK_NUMBER(sm_lookup_source(&map, 10, 3, &text), SM_OK);
     CHECK_TEXT(text, "a.js");
+    sm_close(&map);
+}
+
+/* The text of the closest token is this one. */
+static void check_text_at(sm_map *map, uint32_t line, uint32_t column, const char *wanted)
+{
+    sm_bytes text = SM_EMPTY;
+    sm_error error = { 0 };
+    CHECK_NUMBER(sm_lookup_text(map, line, column, &text, &error), SM_OK);
+    CHECK_NUMBER(error.code, SM_OK);
+    CHECK_HOLDS(&text, wanted);
+    sm_close(&text);
+}
+
+static void check_no_text_at(sm_map *map, uint32_t line, uint32_t column, sm_code code, const char *why)
+{
+    sm_handle text = SM_EMPTY;
+    sm_error error = { 0 };
+    CHECK_ERROR(sm_lookup_text(map, line, column, &text, &error), &error, code, why);
+    CHECK_NUMBER(sm_kind(&text), SM_KIND_EMPTY);
+    CHECK_NUMBER(sm_view_open(&text, BYTES("before"), &error), SM_OK);
+    CHECK_ERROR(sm_lookup_text(map, line, column, &text, &error), &error, code, why);
+    CHECK_HOLDS(&text, "before");
+    sm_close(&text);
+}
+
+static void test_printed(void)
+{
+    sm_map map = SM_EMPTY;
+    sm_error error = { 0 };
+    OPEN(&map, README_MAP);
+    check_text_at(&map, 0, 0, "coolstuff.js:0:0");
+    check_text_at(&map, 0, 5, "coolstuff.js:0:4 name=x");
+    check_text_at(&map, 1, 0, "coolstuff.js:2:8");
+    CHECK_NUMBER(sm_remove_names(&map, &error), SM_OK);
+    check_text_at(&map, 0, 5, "coolstuff.js:0:4");
+    OPEN(&map, FULL_MAP);
+    check_text_at(&map, 0, 3, "root/a.js:0:0");
+    /* a range token, on its own line and on another one */
+    check_text_at(&map, 0, 4, "/b.js:1:2 name=n");
+    check_text_at(&map, 0, 6, "/b.js:1:4 name=n");
+    check_text_at(&map, 0, SM_NONE, "/b.js:1:4294967293 name=n");
+    check_text_at(&map, 1, 1, "/b.js:1:2 name=n");
+    check_text_at(&map, 1, 2, "<unknown>:4294967295:4294967295");
+    /* the first token at the position, and the last one after it */
+    OPEN(&map, DOUBLED_MAP);
+    check_text_at(&map, 0, 2, "a.js:1:0");
+    check_text_at(&map, 0, 3, "a.js:2:0");
+    OPEN(&map, HERMES_MAP);
+    check_text_at(&map, 0, 7, "a.js:1:5");
+    OPEN(&map, INDEX_MAP);
+    check_text_at(&map, 10, 4, "b.js:0:0");
+    check_text_at(&map, 10, 3, "a.js:0:0");
+    sm_close(&map);
+}
+
+static void test_not_printed(void)
+{
+    sm_map map = SM_EMPTY;
+    sm_error error = { 0 };
+    check_no_text_at(&map, 0, 0, SM_WRONG_KIND, "the handle holds nothing that has this call");
+    CHECK_NUMBER(sm_view_open(&map, BYTES("a"), &error), SM_OK);
+    check_no_text_at(&map, 0, 0, SM_WRONG_KIND, "the handle holds nothing that has this call");
+    OPEN(&map, DOUBLED_MAP);
+    check_no_text_at(&map, 0, 0, SM_ABSENT, "there is none");
+    OPEN(&map, LINKED_MAP);
+    check_no_text_at(&map, 0, 2, SM_ABSENT, "there is none");
+    check_no_text_at(&map, 0, 3, SM_ABSENT, "there is none");
     sm_close(&map);
 }
 
@@ -210,6 +268,8 @@ void test_lookups(void)
     test_many();
     test_indexes_of_position();
     test_texts_of_position();
+    test_printed();
+    test_not_printed();
     test_trace();
     test_function_names();
 }

@@ -1,4 +1,4 @@
-/* Counts, texts by id, the ignore list, tokens, and sections. */
+/* Counts, texts by id, the ignore list, tokens and their texts, and sections. */
 #include "inputs.h"
 #include "tests.h"
 
@@ -80,10 +80,10 @@ static void test_file_and_root(void)
 static void test_debug_ids(void)
 {
     sm_map map = SM_EMPTY;
-    sm_debug_id id = { { 0 } };
-    OPEN(&map, "{\"mappings\":\"\",\"debugId\":\"01234567-89ab-cdef-0123-456789abcdef\"}");
+    sm_debug_id id = { { 0 } }, wanted = { DEBUG_ID_BYTES };
+    OPEN(&map, "{\"mappings\":\"\",\"debugId\":\"" DEBUG_ID "\"}");
     CHECK_NUMBER(sm_get_debug_id(&map, &id), SM_OK);
-    CHECK(memcmp(id.bytes, "\x01\x23\x45\x67\x89\xab\xcd\xef\x01\x23\x45\x67\x89\xab\xcd\xef", 16) == 0);
+    CHECK(memcmp(id.bytes, wanted.bytes, sizeof id.bytes) == 0);
     /* of both keys debugId counts */
     OPEN(&map, "{\"mappings\":\"\",\"debug_id\":\"11111111111111111111111111111111\","
                "\"debugId\":\"00000000000000000000000000000000\"}");
@@ -134,6 +134,76 @@ static void test_tokens(void)
     OPEN(&map, INDEX_MAP);
     CHECK_NUMBER(sm_tokens(&map, 0, tokens, 10), 0);
     sm_close(&map);
+}
+
+static void check_printed(sm_map *map, const char *const *wanted, uint32_t count)
+{
+    uint32_t index;
+    for (index = 0; index < count; index++) {
+        sm_bytes text = SM_EMPTY;
+        sm_error error = { 0 };
+        CHECK_NUMBER(sm_token_text(map, index, &text, &error), SM_OK);
+        CHECK_NUMBER(error.code, SM_OK);
+        CHECK_NUMBER(sm_kind(&text), SM_KIND_BYTES);
+        CHECK_HOLDS(&text, wanted[index]);
+        sm_close(&text);
+    }
+}
+
+static void test_printed_tokens(void)
+{
+    /* the second one is a range token */
+    static const char *const FULL[] = { "root/a.js:0:0", "/b.js:1:2 name=n", "<unknown>:4294967295:4294967295" };
+    static const char *const NAMELESS[] = { "root/a.js:0:0", "/b.js:1:2", "<unknown>:4294967295:4294967295" };
+    static const char *const DOUBLED[] = { "a.js:0:0", "a.js:1:0", "a.js:2:0", "a.js:3:0", "a.js:4:0" };
+    static const char *const HERMES[] = { "a.js:0:0", "a.js:1:5" };
+    sm_map map = SM_EMPTY;
+    sm_error error = { 0 };
+    OPEN(&map, FULL_MAP);
+    check_printed(&map, FULL, 3);
+    CHECK_NUMBER(sm_remove_names(&map, &error), SM_OK);
+    check_printed(&map, NAMELESS, 3);
+    OPEN(&map, DOUBLED_MAP);
+    check_printed(&map, DOUBLED, 5);
+    OPEN(&map, HERMES_MAP);
+    check_printed(&map, HERMES, 2);
+    sm_close(&map);
+}
+
+/* Ids of a map that was built may name nothing. */
+static void test_printed_ids(void)
+{
+    static const char *const WANTED[] = { "<unknown>:1:2" };
+    sm_builder builder = SM_EMPTY;
+    sm_map map = SM_EMPTY;
+    sm_error error = { 0 };
+    sm_token token = token_of(0, 0, 1, 2, 5, 6, true);
+    CHECK_NUMBER(sm_builder_new(&builder, false, BYTES(""), &error), SM_OK);
+    CHECK_NUMBER(sm_builder_add_tokens(&builder, &token, 1, &error), 1);
+    CHECK_NUMBER(sm_builder_finish(&builder, &map, &error), SM_OK);
+    check_printed(&map, WANTED, 1);
+    sm_close(&map);
+}
+
+static void test_no_printed_token(void)
+{
+    sm_map map = SM_EMPTY;
+    sm_handle text = SM_EMPTY;
+    sm_error error = { 0 };
+    CHECK_ERROR(sm_token_text(&map, 0, &text, &error), &error, SM_WRONG_KIND,
+                "the handle holds nothing that has this call");
+    OPEN(&map, FULL_MAP);
+    CHECK_ERROR(sm_token_text(&map, 3, &text, &error), &error, SM_ABSENT, "there is none");
+    CHECK_NUMBER(sm_kind(&text), SM_KIND_EMPTY);
+    OPEN(&text, README_MAP);
+    CHECK_ERROR(sm_token_text(&map, SM_NONE, &text, &error), &error, SM_ABSENT, "there is none");
+    OPEN(&map, INDEX_MAP);
+    CHECK_ERROR(sm_token_text(&map, 0, &text, &error), &error, SM_WRONG_KIND,
+                "the handle holds nothing that has this call");
+    CHECK_HOLDS(&text, README_MAP);
+    CHECK_HOLDS(&map, INDEX_MAP);
+    sm_close(&map);
+    sm_close(&text);
 }
 
 static void test_sections(void)
@@ -206,6 +276,9 @@ void test_reading(void)
     test_debug_ids();
     test_ignore_list();
     test_tokens();
+    test_printed_tokens();
+    test_printed_ids();
+    test_no_printed_token();
     test_sections();
     test_modules();
 }

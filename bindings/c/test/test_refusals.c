@@ -52,6 +52,7 @@ static uint64_t with_answer(uint64_t sum, sm_code code, sm_handle *handle)
 
 static const int64_t NUMBERS[5] = { 3, 0, 0, 4, 0 };
 static const int64_t TOO_LARGE[2] = { 1, INT64_MIN };
+static const sm_debug_id ID = { DEBUG_ID_BYTES };
 
 /* The exports that no row of EXPORTS calls, since they take no full handle. fill() calls those that fill one. */
 static uint64_t with_free_exports(uint64_t sum)
@@ -60,6 +61,7 @@ static uint64_t with_free_exports(uint64_t sum)
     sm_error error = { 0 };
     bool is_map = false;
     int64_t numbers[5] = { 0 };
+    sm_debug_id id = { { 0 } };
     size_t count = 0, at;
     sum = with_value(sum, sm_interface());
     sum = with_value(sum, sm_is_source_map(BYTES(FULL_MAP), &is_map, &error));
@@ -74,6 +76,10 @@ static uint64_t with_free_exports(uint64_t sum)
     for (at = 0; at < 5; at++)
         sum = with_value(sum, (uint64_t)numbers[at]);
     sum = with_answer(sum, sm_write_segment(NUMBERS, 5, &out, &error), &out);
+    sum = with_answer(sum, sm_debug_id_text(&ID, &out, &error), &out);
+    sum = with_value(sum, sm_parse_debug_id(BYTES(DEBUG_ID), &id));
+    for (at = 0; at < sizeof id.bytes; at++)
+        sum = with_value(sum, id.bytes[at]);
     sm_close(&out);
     return with_value(sum, sm_kind(&out));
 }
@@ -213,7 +219,8 @@ static void prepare_odd_split(struct handles *h)
     }
 
 static const sm_text PREFIX = { (const uint8_t *)"root", 4 };
-static const sm_debug_id ID = { { 0, 0, 0, 0, 0, 0, 0, 0, 0, 0, 0, 0, 0, 0, 0, 42 } };
+/* That of FULL_MAP. */
+static const sm_debug_id SMALL_ID = { { 0, 0, 0, 0, 0, 0, 0, 0, 0, 0, 0, 0, 0, 0, 0, 42 } };
 
 CALL(open_full, sm_open(&h->out, BYTES(FULL_MAP), error))
 CALL(open_index, sm_open(&h->out, BYTES(INDEX_MAP), error))
@@ -222,6 +229,11 @@ CALL(open_bad, sm_open(&h->out, BYTES("{\"sources\":[\"a\",\"b\"],\"mappings\":\
 CALL(open_url, sm_open_url(&h->out, BYTES(DATA_URL), error))
 CALL(open_bad_url, sm_open_url(&h->out, BYTES(BAD_DATA_URL), error))
 CALL(share_map, sm_share(&h->subject, &h->out, error))
+CALL(hermes_map, sm_hermes_map(&h->subject, &h->out, error))
+CALL(token_text, sm_token_text(&h->subject, 1, &h->out, error))
+CALL(missing_token_text, sm_token_text(&h->subject, 3, &h->out, error))
+CALL(lookup_text, sm_lookup_text(&h->subject, 0, 6, &h->out, error))
+CALL(missing_lookup_text, sm_lookup_text(&h->subject, 0, 0, &h->out, error))
 CALL(trace, sm_trace(&h->subject, BYTES("0:0\n0:4\n9:9\nx\n"), &h->out, error))
 CALL(rewrite, sm_rewrite(&h->subject, true, true, &PREFIX, 1, error))
 CALL(flatten, sm_flatten(&h->subject, error))
@@ -229,7 +241,7 @@ CALL(compose, sm_compose(&h->subject, &h->other, error))
 CALL(shift, sm_shift(&h->subject, 2, error))
 CALL(set_file, sm_set_file(&h->subject, true, BYTES("f"), error))
 CALL(set_source_root, sm_set_source_root(&h->subject, true, BYTES("r"), error))
-CALL(set_debug_id, sm_set_debug_id(&h->subject, true, &ID, error))
+CALL(set_debug_id, sm_set_debug_id(&h->subject, true, &SMALL_ID, error))
 CALL(set_source, sm_set_source(&h->subject, 0, BYTES("c.js"), error))
 CALL(set_contents, sm_set_contents(&h->subject, 1, true, BYTES("let b;"), error))
 CALL(ignore_source, sm_ignore_source(&h->subject, 0, error))
@@ -244,6 +256,7 @@ CALL(resolve, sm_resolve(BYTES(REFERENCE), BYTES(BASE_URL), &h->out, error))
 CALL(resolve_path, sm_resolve_path(BYTES(PATH_REFERENCE), BYTES(BASE_PATH), &h->out, error))
 CALL(relative_path, sm_relative_path(BYTES(BASE_FILE), BYTES(TARGET_FILE), &h->out, error))
 CALL(write_segment, sm_write_segment(NUMBERS, 5, &h->out, error))
+CALL(debug_id_text, sm_debug_id_text(&ID, &h->out, error))
 CALL(write_too_large, sm_write_segment(TOO_LARGE, 2, &h->out, error))
 CALL(bundle_open, sm_bundle_open(&h->out, BYTES(BUNDLE), error))
 CALL(bundle_split, sm_bundle_split(&h->subject, &h->other, &h->out, error))
@@ -342,6 +355,15 @@ static const struct refusal_row ROWS[] = {
       "{\"mappings\":\"A\",\"names\":[],\"sources\":[],\"version\":3}" },
     { "open a bad URL", prepare_none, open_bad_url, SM_INVALID_DATA_URL, NULL, NULL },
     { "share", prepare_full, share_map, SM_OK, NULL, FULL_MAP },
+    { "copy the map in a Hermes map", prepare_hermes, hermes_map, SM_OK, NULL, HERMES_MAP_REGULAR },
+    { "copy the map in a shared Hermes map", prepare_shared_hermes, hermes_map, SM_OK, NULL, HERMES_MAP_REGULAR },
+    { "copy the map in a regular map", prepare_full, hermes_map, SM_WRONG_KIND, NULL, NULL },
+    { "print a token", prepare_full, token_text, SM_OK, NULL, "/b.js:1:2 name=n" },
+    { "print a missing token", prepare_full, missing_token_text, SM_ABSENT, NULL, NULL },
+    { "print a token of an index map", prepare_index, token_text, SM_WRONG_KIND, NULL, NULL },
+    { "print the closest token", prepare_full, lookup_text, SM_OK, NULL, "/b.js:1:4 name=n" },
+    { "print the closest token of an index map", prepare_index, lookup_text, SM_OK, NULL, "a.js:0:0" },
+    { "print no closest token", prepare_linked, missing_lookup_text, SM_ABSENT, NULL, NULL },
     { "detect", prepare_none, detect, SM_OK, NULL, NULL },
     { "trace", prepare_full, trace, SM_OK, NULL,
       "root/a.js:0:0\n/b.js:1:2 name=n\n<unknown>:4294967295:4294967295\nbad position\n" },
@@ -378,6 +400,7 @@ static const struct refusal_row ROWS[] = {
     { "parse a segment", prepare_none, parse_segment, SM_OK, NULL, NULL },
     { "parse a bad segment", prepare_none, parse_bad_segment, SM_INVALID_BASE64, NULL, NULL },
     { "write a segment", prepare_none, write_segment, SM_OK, NULL, SEGMENT },
+    { "print a debug id", prepare_none, debug_id_text, SM_OK, NULL, DEBUG_ID },
     { "write a number that is too large", prepare_none, write_too_large, SM_VLQ_OVERFLOW, NULL, NULL },
     { "open a bundle", prepare_none, bundle_open, SM_OK, NULL, "a bundle of 1" },
     { "split a bundle", prepare_bundle, bundle_split, SM_OK, NULL, "a split of 1" },
@@ -509,7 +532,7 @@ static void build(sm_map *map, unsigned long *failures, uint64_t answers)
     tokens[2] = token_of(0, 0, 0, 0, 0, SM_NONE, false);
     REPEAT(sm_builder_new(&builder, true, BYTES("out.js"), &error));
     REPEAT(sm_builder_set_source_root(&builder, true, BYTES("root"), &error));
-    REPEAT(sm_builder_set_debug_id(&builder, true, &ID, &error));
+    REPEAT(sm_builder_set_debug_id(&builder, true, &SMALL_ID, &error));
     REPEAT(sm_builder_add_source(&builder, BYTES("root/root/a.js"), &id, &error));
     CHECK_NUMBER(id, 0);
     REPEAT(sm_builder_add_source(&builder, BYTES("c.js"), &id, &error));
@@ -651,12 +674,13 @@ static void test_many_parts_refused(unsigned long most, uint64_t answers)
 /* What takes no memory succeeds where there is none. */
 static void test_without_memory(void)
 {
-    static const char *const FREE[] = { "sm_count", "sm_file", "sm_source_root", "sm_get_debug_id", "sm_source", "sm_name",
-                                        "sm_contents", "sm_ignore_list", "sm_tokens", "sm_lookup", "sm_lookup_many",
-                                        "sm_lookup_index", "sm_lookup_source", "sm_lookup_name", "sm_hermes_function_name", "sm_bytes_text",
-                                        "sm_section_start_of", "sm_section_url", "sm_module_offsets", "sm_module_path",
-                                        "sm_builder_source", "sm_view_text", "sm_view_count",
-                                        "sm_view_line", "sm_view_slice", "sm_bundle_count", "sm_split_count" };
+    static const char *const FREE[] = {
+        "sm_count", "sm_file", "sm_source_root", "sm_get_debug_id", "sm_source", "sm_name", "sm_contents",
+        "sm_ignore_list", "sm_tokens", "sm_lookup", "sm_lookup_many", "sm_lookup_span", "sm_lookup_index",
+        "sm_lookup_source", "sm_lookup_name", "sm_hermes_function_name", "sm_bytes_text", "sm_section_start_of",
+        "sm_section_url", "sm_module_offsets", "sm_module_path", "sm_builder_source", "sm_view_text",
+        "sm_view_count", "sm_view_line", "sm_view_slice", "sm_bundle_count", "sm_split_count"
+    };
     size_t row, name;
     uint32_t kind;
     for (row = 0; row < EXPORTS_COUNT; row++) {
@@ -677,6 +701,29 @@ static void test_without_memory(void)
     }
 }
 
+/* The same of calls that take a second map, or no handle. */
+static void test_pairs_without_memory(void)
+{
+    static const char *const TEXTS[] = { FULL_MAP, INDEX_MAP, HERMES_MAP };
+    size_t row;
+    for (row = 0; row < sizeof TEXTS / sizeof TEXTS[0]; row++) {
+        sm_map map = SM_EMPTY, other = SM_EMPTY;
+        sm_debug_id id = { { 0 } };
+        bool are_equal = false;
+        sm_code equal, parsed;
+        open_text(&map, TEXTS[row]);
+        open_text(&other, TEXTS[row]);
+        refuse(1, true);
+        equal = sm_equal(&map, &other, &are_equal);
+        parsed = sm_parse_debug_id(BYTES(DEBUG_ID), &id);
+        CHECK_NUMBER(refuse_none(), 0);
+        CHECK(equal == SM_OK && are_equal);
+        CHECK(parsed == SM_OK && memcmp(id.bytes, ID.bytes, sizeof id.bytes) == 0);
+        sm_close(&map);
+        sm_close(&other);
+    }
+}
+
 void test_refusals(unsigned long most)
 {
     uint64_t answers = answers_of_all();
@@ -688,4 +735,5 @@ void test_refusals(unsigned long most)
     test_assembling_refused(most, answers);
     test_many_parts_refused(most, answers);
     test_without_memory();
+    test_pairs_without_memory();
 }

@@ -5,13 +5,16 @@
 #include <stdbool.h>
 
 void test_opening(void);
+void test_equality(void);
 void test_reading(void);
 void test_lookups(void);
+void test_spans(void);
 void test_changes(void);
 void test_building(void);
 void test_assembling(void);
 void test_texts(void);
 void test_segments(void);
+void test_debug_id_texts(void);
 void test_bundles(void);
 void test_wrong_kinds(void);
 /* With `keeps_map` the first handle is closed after all threads, so none of them ever is the only one on the map: a

@@ -17,8 +17,8 @@ def read_map(path: str) -> Map:
 
 def lookup(arguments: argparse.Namespace) -> int:
     with read_map(arguments.map) as map:
-        token = map.lookup(arguments.line, arguments.column)
-    print('none' if token is None else token)
+        text = map.lookup_text(arguments.line, arguments.column)
+    print('none' if text is None else text)
     return 0
 
 

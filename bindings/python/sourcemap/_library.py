@@ -102,6 +102,8 @@ open_bytes = _call(_long, 'sm_open', CODE, P, P, c_size_t, P)
 open_url = _call(_long, 'sm_open_url', CODE, P, P, c_size_t, P)
 share = _call(_short, 'sm_share', CODE, P, P, P)
 is_source_map = _call(_long, 'sm_is_source_map', CODE, P, c_size_t, P, P)
+equal = _call(_long, 'sm_equal', CODE, P, P, P)
+hermes_map = _call(_long, 'sm_hermes_map', CODE, P, P, P)
 
 count = _call(_short, 'sm_count', CODE, P, P)
 file = _call(_short, 'sm_file', CODE, P, P)
@@ -112,6 +114,7 @@ name = _call(_short, 'sm_name', CODE, P, c_uint32, P)
 contents = _call(_short, 'sm_contents', CODE, P, c_uint32, P)
 ignore_list = _call(_short, 'sm_ignore_list', c_size_t, P, c_uint32, P, c_size_t)
 tokens = _call(_short, 'sm_tokens', c_size_t, P, c_uint32, P, c_size_t)
+token_text = _call(_short, 'sm_token_text', CODE, P, c_uint32, P, P)
 module_offsets = _call(_short, 'sm_module_offsets', CODE, P, c_uint32, P, c_size_t, P)
 module_path = _call(_short, 'sm_module_path', CODE, P, c_uint32, P)
 
@@ -119,9 +122,11 @@ module_path = _call(_short, 'sm_module_path', CODE, P, c_uint32, P)
 lookup_one = _short['sm_lookup_many']
 lookup_one.restype = c_size_t
 lookup_many = _call(_long, 'sm_lookup_many', c_size_t, P, P, c_size_t, P, c_size_t)
+lookup_span = _call(_short, 'sm_lookup_span', CODE, P, c_uint32, c_uint32, P, P)
 lookup_index = _call(_short, 'sm_lookup_index', CODE, P, c_uint32, c_uint32, P)
 lookup_source = _call(_short, 'sm_lookup_source', CODE, P, c_uint32, c_uint32, P)
 lookup_name = _call(_short, 'sm_lookup_name', CODE, P, c_uint32, c_uint32, P)
+lookup_text = _call(_short, 'sm_lookup_text', CODE, P, c_uint32, c_uint32, P, P)
 trace = _call(_long, 'sm_trace', CODE, P, P, c_size_t, P, P)
 function_name = _call(_short, 'sm_function_name', CODE, P, c_uint32, c_uint32, P, c_size_t, P, P)
 hermes_function_name = _call(_short, 'sm_hermes_function_name', CODE, P, c_uint32, P)
@@ -176,6 +181,9 @@ relative_path = _call(_short, 'sm_relative_path', CODE, P, c_size_t, P, c_size_t
 
 parse_segment = _call(_short, 'sm_parse_segment', CODE, P, c_size_t, P, c_size_t, P, P)
 write_segment = _call(_short, 'sm_write_segment', CODE, P, c_size_t, P, P)
+
+debug_id_text = _call(_short, 'sm_debug_id_text', CODE, P, P, P)
+parse_debug_id = _call(_short, 'sm_parse_debug_id', CODE, P, c_size_t, P)
 
 bundle_open = _call(_long, 'sm_bundle_open', CODE, P, P, c_size_t, P)
 bundle_count = _call(_short, 'sm_bundle_count', CODE, P, P)

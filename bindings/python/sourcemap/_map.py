@@ -4,7 +4,7 @@ from __future__ import annotations
 import os
 import struct
 import uuid
-from ctypes import byref, c_char, c_size_t, c_uint32
+from ctypes import byref, c_bool, c_char, c_size_t, c_uint32
 from itertools import starmap
 from typing import Any, Dict, Iterable, Iterator, List, Literal, Optional, Sequence, Tuple, Type, TypeVar, Union
 
@@ -155,6 +155,26 @@ class Map(HandleOwner):
 
     def __copy__(self: AnyMap) -> AnyMap:
         return self.share()
+
+    def equals(self, other: Map) -> bool:
+        """Whether both maps are of one kind and equal in all that they hold: also in how sources are written, and in
+        the order of all lists. A map equals itself.
+
+        >>> import sourcemap
+        >>> map = sourcemap.Map.load('bundle.js.map')
+        >>> other = map.share()
+        >>> map.equals(other)
+        True
+        >>> other.remove_names()
+        >>> map.equals(other)
+        False
+        """
+        if self is other:
+            return True
+        answer = c_bool()
+        with other.share() as shared:
+            self._read(library.equal, shared._at, byref(answer))
+        return answer.value
 
     # What the map says
 
@@ -371,6 +391,23 @@ class Map(HandleOwner):
             if self._kind == 'index':
                 return self._section_token(line, column, *_unpack_found(self._found))
             return self._token(*_unpack_found(self._found))
+
+    def lookup_text(self, line: int, column: int) -> Optional[str]:
+        """The text of the closest token to a generated position, as the library prints it: SOURCE:LINE:COLUMN, with
+        ` name=NAME` if there is a name. None if there is no token.
+
+        >>> import sourcemap
+        >>> map = sourcemap.Map.load('bundle.js.map')
+        >>> map.lookup_text(0, 5)
+        'coolstuff.js:0:4 name=x'
+        """
+        line, column = uint32('line', line), uint32('column', column)
+        with MadeText() as text:
+            try:
+                self._run(library.lookup_text, line, column, text._at)
+            except errors.Absent:
+                return None
+            return text.read().decode()
 
     def lookup_many(self, positions: Positions) -> Answers:
         """The answers of `lookup` to many positions at once: a sequence in the same order.

@@ -24,6 +24,7 @@ class IndexMap(unittest.TestCase):
             token = self.map.lookup(*position)
             with self.subTest(position):
                 self.assertEqual(token if token is None else str(token), text)
+                self.assertEqual(self.map.lookup_text(*position), text)
                 self.assertEqual(list(self.map.lookup_many([position])), [token])
 
     def test_token(self):

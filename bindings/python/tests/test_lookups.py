@@ -42,6 +42,8 @@ class OnePosition(unittest.TestCase):
         for wrong in (-1, 0), (0, -1), (NONE + 1, 0), (0, NONE + 1), (0, 2**64), (-2**64, 0):
             with self.assertRaisesRegex(ValueError, 'must be from 0 to 4294967295, not -?[0-9]'):
                 map.lookup(*wrong)
+            with self.assertRaisesRegex(ValueError, 'must be from 0 to 4294967295, not -?[0-9]'):
+                map.lookup_text(*wrong)
             with self.assertRaises(ValueError):
                 map.lookup_many([wrong])
             with self.assertRaises(ValueError):
@@ -50,6 +52,8 @@ class OnePosition(unittest.TestCase):
             with self.assertRaises(TypeError):
                 map.lookup(*wrong)
             with self.assertRaises(TypeError):
+                map.lookup_text(*wrong)
+            with self.assertRaises(TypeError):
                 map.lookup_many([wrong])
 
     def test_numbers_of_other_types(self):
@@ -57,7 +61,27 @@ class OnePosition(unittest.TestCase):
             def __index__(self):
                 return 5
 
-        self.assertEqual(str(Map.loads(README).lookup(False, Five())), 'coolstuff.js:0:4 name=x')
+        map = Map.loads(README)
+        self.assertEqual(str(map.lookup(False, Five())), 'coolstuff.js:0:4 name=x')
+        self.assertEqual(map.lookup_text(False, Five()), 'coolstuff.js:0:4 name=x')
+
+    def test_text(self):
+        map = Map.loads(README)
+        for position, text in [((0, 5), 'coolstuff.js:0:4 name=x'), ((0, 0), 'coolstuff.js:0:0'),
+                               ((1, 0), 'coolstuff.js:2:8'), ((NONE, NONE), 'coolstuff.js:2:8')]:
+            self.assertEqual((map.lookup_text(*position), str(map.lookup(*position))), (text, text))
+        map.remove_names()
+        self.assertEqual(map.lookup_text(0, 5), 'coolstuff.js:0:4')
+
+    def test_texts_of_all_kinds_of_tokens(self):
+        map = Map.loads(regular('CAAAA,AACA,EACA;E', ['é.js'], names=['n👌'], rangeMappings='E', sourceRoot='/src'))
+        for position, text in [((0, 0), None), ((0, 1), '/src/é.js:0:0 name=n👌'), ((0, 2), '/src/é.js:1:0'),
+                               ((0, 3), '/src/é.js:2:0'), ((0, 9), '/src/é.js:2:6'), ((1, 1), '/src/é.js:2:0'),
+                               ((0, NONE), '/src/é.js:2:4294967292'), ((1, 2), '<unknown>:4294967295:4294967295')]:
+            token = map.lookup(*position)
+            with self.subTest(position):
+                self.assertEqual(map.lookup_text(*position), text)
+                self.assertEqual(token if token is None else str(token), text)
 
     def test_trace(self):
         map = Map.loads(regular(';EAAAA', names=['n']))
@@ -203,8 +227,10 @@ class LargeMap(unittest.TestCase):
         self.assertEqual(list(answers), expected)
         self.assertEqual(answers.lines.tolist(), [token.line if token else 0 for token in expected])
 
-    def test_trace(self):
+    def test_texts(self):
         expected = [self.expected(position) for position in self.positions[:300]]
+        for position, token in zip(self.positions, expected):
+            self.assertEqual(self.map.lookup_text(*position), None if token is None else str(token))
         answers = self.map.trace(''.join(f'{line}:{column}\n' for line, column in self.positions[:300]))
         self.assertEqual(answers, ''.join(f'{"none" if token is None else token}\n' for token in expected))
 

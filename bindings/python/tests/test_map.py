@@ -210,6 +210,62 @@ class Shared(unittest.TestCase):
         self.assertEqual(str(other.lookup(0, 5)), 'coolstuff.js:0:4 name=x')
 
 
+class Compared(unittest.TestCase):
+    def check(self, map, other, expected):
+        self.assertIs(map.equals(other), expected)
+        self.assertIs(other.equals(map), expected)
+
+    def test_equal(self):
+        for record in README, FULL, HERMES, TWO_SECTIONS:
+            map = Map.loads(record)
+            for other in map, map.share(), copy.deepcopy(map), Map.loads(record), Map.loads(map.dumps()), \
+                    Map.loads(")]}'\n" + record):
+                self.check(map, other, True)
+
+    def test_kinds(self):
+        maps = [Map.loads(record) for record in (README, HERMES, TWO_SECTIONS)]
+        for number, map in enumerate(maps):
+            for other_number, other in enumerate(maps):
+                self.check(map, other, number == other_number)
+
+    def test_changed(self):
+        for change in [lambda map: map.set_source(0, 'c.js'), lambda map: map.set_contents(1, 'let y'),
+                       lambda map: map.ignore_source(0), Map.remove_names, Map.rewrite,
+                       lambda map: setattr(map, 'file', None), lambda map: setattr(map, 'source_root', '/other'),
+                       lambda map: setattr(map, 'debug_id', None)]:
+            map = Map.loads(FULL)
+            other = map.share()
+            change(other)
+            self.check(map, other, False)
+            self.check(map, Map.loads(FULL), True)
+
+    def test_undone(self):
+        map, other = Map.loads(TWO_SECTIONS), Map.loads(TWO_SECTIONS)
+        other.file = 'out.js'
+        self.check(map, other, False)
+        other.file = None
+        self.check(map, other, True)
+        other.shift(1)
+        self.check(map, other, False)
+
+    def test_what_prints_alike(self):
+        rows = [(regular('AAAA', ['/src/a.js']), regular('AAAA', ['a.js'], sourceRoot='/src')),
+                (regular('AAAAA,CCAAC', ['a', 'b'], names=['x', 'y']),
+                 regular('ACAAC,CDAAD', ['b', 'a'], names=['y', 'x']))]
+        for one, other in rows:
+            one, other = Map.loads(one), Map.loads(other)
+            self.assertEqual([str(token) for token in one], [str(token) for token in other])
+            self.check(one, other, False)
+
+    def test_others_stay(self):
+        map, other = Map.loads(README), Map.loads(README)
+        map.equals(other)
+        other.close()
+        self.assertEqual(str(map.lookup(0, 5)), 'coolstuff.js:0:4 name=x')
+        with self.assertRaisesRegex(ValueError, 'this Map is closed'):
+            map.equals(other)
+
+
 class Written(unittest.TestCase):
     def test_files(self):
         map = Map.loads(FULL)

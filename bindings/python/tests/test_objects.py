@@ -28,7 +28,9 @@ CALLS = {
           lambda map: len(map.sources), lambda map: list(map.names), lambda map: map.contents[0],
           lambda map: map.ignore_list, lambda map: map.sections, lambda map: map.module_offsets,
           lambda map: map.module_paths, len, list, Map.tokens, Map.share, copy.copy,
-          lambda map: map.lookup(0, 0), lambda map: map.lookup_many([(0, 0)]), lambda map: map.lookup_many([]),
+          lambda map: map.equals(Map.loads(README)), lambda map: Map.loads(README).equals(map),
+          lambda map: map.lookup(0, 0), lambda map: map.lookup_text(0, 0), lambda map: map.lookup_many([(0, 0)]),
+          lambda map: map.lookup_many([]),
           lambda map: map.trace('0:0'), lambda map: map.function_name(0, 0),
           lambda map: map.hermes_function_name(0), Map.rewrite, Map.flatten, lambda map: map.shift(1),
           lambda map: map.compose(Map.loads(README)), lambda map: Map.loads(README).compose(map), set_file,
@@ -189,6 +191,7 @@ class Threads(unittest.TestCase):
             first, second = maps[number % 2], maps[1 - number % 2]
             for _ in range(500):
                 first.compose(second)
+                first.equals(second)
                 first.function_name(0, 0, 'a', view)
             return len(first)
 

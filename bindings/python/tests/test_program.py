@@ -8,7 +8,7 @@ from pathlib import Path
 
 from sourcemap import _library
 
-from .maps import EXAMPLES, TWO_SECTIONS, regular
+from .maps import EXAMPLES, TWO_SECTIONS, index, regular, section
 
 FOLDER = Path(__file__).resolve().parents[1]
 MAP = str(EXAMPLES / 'readme.map')
@@ -27,7 +27,12 @@ class Program(unittest.TestCase):
         for words, printed in [(('0', '5'), 'coolstuff.js:0:4 name=x\n'), (('1', '0'), 'coolstuff.js:2:8\n')]:
             self.assertEqual(run('lookup', MAP, *words), (printed, 0, ''))
         self.assertEqual(run('lookup', '-', '0', '0', data=regular(';AAAA')), ('none\n', 0, ''))
+        self.assertEqual(run('lookup', '-', '0', '0', data=regular('')), ('none\n', 0, ''))
         self.assertEqual(run('lookup', '-', '10', '9', data=TWO_SECTIONS), ('b.js:0:0\n', 0, ''))
+        self.assertEqual(run('lookup', '-', '0', '9', data=index(section(1, 0, regular('AAAA')))), ('none\n', 0, ''))
+        self.assertEqual(run('lookup', '-', '0', '5', data=regular('AAAO', rangeMappings='B')), ('a.js:0:12\n', 0, ''))
+        self.assertEqual(run('lookup', '-', '0', '5', data=regular('A')),
+                         ('<unknown>:4294967295:4294967295\n', 0, ''))
 
     def test_tokens(self):
         self.assertEqual(run('tokens', '-', data=regular('AAAAA;AACA,E', names=['n'], rangeMappings=';B')),

@@ -4,6 +4,9 @@ use std::error;
 use std::fmt;
 use std::str::FromStr;
 
+use crate::handle;
+use crate::utils::must;
+
 /// The id of a generated text and its map, a UUID without an appendix.
 ///
 /// It prints hyphenated in lower case, and is parsed with or without hyphens.
@@ -16,9 +19,6 @@ pub struct DebugId {
 /// A text is no debug id.
 #[derive(Clone, Copy, Debug, PartialEq, Eq)]
 pub struct ParseDebugIdError;
-
-/// How many hexadecimal digits the parts of a hyphenated id have.
-const PARTS: [usize; 5] = [8, 4, 4, 4, 12];
 
 impl DebugId {
     /// Returns the id of zeros.
@@ -42,39 +42,17 @@ impl DebugId {
     }
 }
 
-/// Returns the digits of an id, if the text has its hyphens right or none.
-fn digits(text: &str) -> Option<String> {
-    if !text.contains('-') {
-        return Some(text.to_owned());
-    }
-    let parts: Vec<&str> = text.split('-').collect();
-    let is_hyphenated = parts.iter().map(|part| part.len()).eq(PARTS);
-    is_hyphenated.then(|| parts.concat())
-}
-
 impl FromStr for DebugId {
     type Err = ParseDebugIdError;
 
     fn from_str(text: &str) -> Result<DebugId, ParseDebugIdError> {
-        let digits = digits(text).ok_or(ParseDebugIdError)?;
-        if digits.len() != 32 || !digits.bytes().all(|digit| digit.is_ascii_hexdigit()) {
-            return Err(ParseDebugIdError);
-        }
-        let number = u128::from_str_radix(&digits, 16).map_err(|_| ParseDebugIdError)?;
-        Ok(DebugId::from_bytes(number.to_be_bytes()))
+        handle::parse_debug_id(text).ok_or(ParseDebugIdError)
     }
 }
 
 impl fmt::Display for DebugId {
     fn fmt(&self, f: &mut fmt::Formatter<'_>) -> fmt::Result {
-        let digits = format!("{:032x}", u128::from_be_bytes(self.bytes));
-        let mut rest = digits.as_str();
-        for (number, length) in PARTS.into_iter().enumerate() {
-            let (part, after) = rest.split_at(length);
-            write!(f, "{}{part}", if number > 0 { "-" } else { "" })?;
-            rest = after;
-        }
-        Ok(())
+        f.write_str(&must(handle::debug_id_text(self)))
     }
 }
 

@@ -88,12 +88,10 @@ impl DerefMut for SourceMapHermes {
     }
 }
 
-/// Hermes maps are equal if their getters answer alike and they are written
-/// alike, since only the text has all scopes.
+/// Hermes maps are equal if they hold the same, scopes included.
 impl PartialEq for SourceMapHermes {
     fn eq(&self, other: &SourceMapHermes) -> bool {
-        let text = |map: &SourceMapHermes| map.handle().written(str::to_owned).ok();
-        self.sm == other.sm && text(self) == text(other)
+        self.handle() == other.handle()
     }
 }
 

@@ -7,3 +7,4 @@ pub mod SettersLemmas
 pub mod Steps
 pub mod Lending
 pub mod AssemblingLemmas
+pub mod LookupLemmas

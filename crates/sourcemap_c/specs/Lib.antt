@@ -15,3 +15,6 @@ pub mod IgnoreLists
 pub mod Offsets
 pub mod Assembling
 pub mod Segments
+pub mod Equality
+pub mod Hermes
+pub mod TokenTexts

@@ -1,5 +1,8 @@
 -- Lookups of generated positions.
-use Rattle.std.specs.Prelude.{◌≡◌, ◌<◌, ℕ, List, Option, Some, None, option_map, option_and_then, slice_get}
+use Rattle.std.specs.Prelude.{◌≡◌, ◌+◌, ◌<◌, ℕ, List, true, false, Option, Some, None, option_map, option_and_then, slice_get, unwrap_or}
+use Rattle.std.specs.Ordering.{is_lt}
+use Rattle.sourcemap_tokens.specs.Tokens.{closest_token, position_cmp}
+use Rattle.sourcemap_tokens.specs.declared.tokens.RawToken.{RawToken}
 use Rattle.sourcemap_map_regular.specs.Map.{MapValue, lookup as lookup_regular}
 use Rattle.sourcemap_index_model.specs.MapTree.{MapTree}
 use Rattle.sourcemap_index_model.specs.Meaning.{lookup, meaning}
@@ -23,17 +26,32 @@ found_at t p = option_map (λ token. found_in (Some token)) (lookup t p)
 abbrev pub index_at : MapValue → ℕ × ℕ → Option ℕ
 index_at m p = option_map (λ token. counted token.index) (lookup_regular m p)
 
+-- the generated position of the token after the one at this index; line and column 4294967295 if that is the last
+abbrev pub start_after : List RawToken → ℕ → Position
+start_after tokens index = unwrap_or
+    (option_map (λ token. record { line = token.dst_line; column = token.dst_col }) (slice_get tokens (index + 1)))
+    (record { line = 4294967295; column = 4294967295 })
+
+-- the closest token of a regular map, and the generated position of the token after it
+abbrev pub span_at : MapValue → ℕ × ℕ → Option (Found × Position)
+span_at m p = option_map (λ token. (found_in (Some token), start_after m.tokens token.index)) (lookup_regular m p)
+
+-- the token closest to p is closest to each position from p on that is before `until`
+abbrev pub StaysClosest : List RawToken → ℕ × ℕ → (until : Position) → Type 0
+StaysClosest tokens p until = (q : ℕ × ℕ) → is_lt (position_cmp q p) ≡ false → is_lt (position_cmp q (until.line, until.column)) ≡ true
+    → closest_token tokens q ≡ closest_token tokens p
+
 abbrev pub source_at : MapTree → ℕ × ℕ → Option (List ℕ)
 source_at t p = option_and_then (λ says. says.source) (meaning t p)
 
 abbrev pub name_at : MapTree → ℕ × ℕ → Option (List ℕ)
 name_at t p = option_and_then (λ says. says.name) (meaning t p)
 
--- one result of many, which may be that there is no token
+-- the answer to one position of many; without a token its `found` is false
 abbrev pub answer_at : MapTree → Position → Found
 answer_at t p = found_in (lookup t (p.line, p.column))
 
--- the first n positions were looked up
+-- the first n answers are those to the first n positions
 abbrev pub AreAnswered : MapTree → List Position → List Found → ℕ → Type 0
 AreAnswered t positions found n =
     (i : ℕ) → i < n → slice_get found i ≡ option_map (answer_at t) (slice_get positions i)

@@ -1,5 +1,5 @@
 //! Lookups of generated positions.
-ghost use Rattle.std.specs.Prelude.{◌≡◌, ◌<◌, ◌≤◌, ℕ, IfSome, None, Some, length, min, option_and_then, option_map, slice_get, unwrap_or};
+ghost use Rattle.std.specs.Prelude.{◌≡◌, ◌+◌, ◌<◌, ◌≤◌, ◌^◌, ℕ, IfSome, None, Some, length, min, option_and_then, option_map, slice_get, unwrap_or};
 ghost use Rattle.std.specs.Borrow.{sem};
 ghost use Rattle.std.specs.Option.{option_copied};
 ghost use Rattle.sourcemap_c_handles.specs.Handles.{EndsAsBefore, held_in};
@@ -11,17 +11,16 @@ ghost use Rattle.sourcemap_index_model.specs.WellFormed.{IsInOrder};
 ghost use Rattle.sourcemap_c.specs.Codes.{IsAbsentUnlessOk, ReturnsValue};
 ghost use Rattle.sourcemap_c.specs.Getters.{leaf_in};
 ghost use Rattle.sourcemap_c.specs.Kinds.{tree_in, tree_of};
-ghost use Rattle.sourcemap_c.specs.Lookup.{AreAnswered, ReturnsLookup, answer_at, found_at, index_at, name_at, source_at};
+ghost use Rattle.sourcemap_c.specs.Lookup.{AreAnswered, ReturnsLookup, StaysClosest, answer_at, found_at, index_at, name_at, source_at, span_at, start_after};
 
 use crate::codes::{ABSENT, OK, WRONG_KIND, put_text};
 use crate::getters::leaf_in;
 use crate::kinds::map_in;
-use sourcemap::{DecodedMap, Token};
+use sourcemap::{DecodedMap, RawToken, SourceMap, Token};
 use sourcemap_c_handles::Handle;
 use sourcemap_c_handles::layout::{Found, Position};
-use sourcemap_tokens::tokens::closest_token;
 
-/// Writes the closest token to a generated position.
+/// Looks up a generated position, and writes its closest token to `found`.
 #[unsafe(no_mangle)]
 pub extern "C" fn sm_lookup(map: &mut Handle, line: u32, column: u32, found: &mut Found) -> u32
     ensures answer { ReturnsLookup (λ t. found_at t (line, column)) (tree_in (held_in map.old))
@@ -39,7 +38,7 @@ fn look_up(map: &DecodedMap, line: u32, column: u32, found: &mut Found) -> u32
         → ReturnsValue (Some (found_at (map_tree map.now) (line, column))) result found.old found.new }
     ensures unwritten { IsAbsentUnlessOk result found.old found.new }
 {
-    // each kind apart, since a token that comes from several branches is copied once more
+    // one call for each kind: a token that comes from several branches is copied once more
     match map {
         DecodedMap::Regular(map) => put_found(map.lookup_token(line, column), found),
         DecodedMap::Hermes(map) => put_found(map.lookup_token(line, column), found),
@@ -62,7 +61,8 @@ fn put_found(token: Option<Token<'_>>, found: &mut Found) -> u32
     }
 }
 
-/// Looks up each generated position, as many as both arrays have items, and returns how many.
+/// Looks up generated positions, as many as both arrays have items, and returns how many. Returns
+/// 0 if the handle holds no map.
 #[unsafe(no_mangle)]
 pub extern "C" fn sm_lookup_many(
     map: &mut Handle,
@@ -124,12 +124,86 @@ fn put_index(map: &DecodedMap, line: u32, column: u32, index: &mut u32) -> u32
     let Some(map) = leaf_in(map) else {
         return WRONG_KIND;
     };
-    match closest_token(map.lists().tokens, line, column) {
-        Some((found, _)) => {
-            *index = u32::try_from(found).unwrap_or(u32::MAX);
+    match map.lookup_token(line, column) {
+        Some(token) => {
+            *index = u32::try_from(token.get_index()).unwrap_or(u32::MAX);
             OK
         }
         None => ABSENT,
+    }
+}
+
+/// Writes the closest token in a map without sections, and to `until` the generated position of the
+/// token after it. Without a next token, that position is line and column 4294967295. The same
+/// token is closest to each position from the one that was looked up that is before `until`.
+#[unsafe(no_mangle)]
+pub extern "C" fn sm_lookup_span(
+    map: &mut Handle,
+    line: u32,
+    column: u32,
+    found: &mut Found,
+    until: &mut Position,
+) -> u32
+    ensures answer { ReturnsValue (option_map (λ m. span_at m (line, column))
+        (option_and_then leaf_in (tree_in (held_in map.old))))
+        result (found.old, until.old) (found.new, until.new) }
+    ensures stays { result ≡ 0 → IfSome (option_and_then leaf_in (tree_in (held_in map.old)))
+        (λ m. StaysClosest m.tokens (line, column) until.new) }
+    ensures kept { held_in map.new ≡ held_in map.old }
+{
+    match map_in(map) {
+        Some(map) => put_span_in(map, line, column, found, until),
+        None => WRONG_KIND,
+    }
+}
+
+fn put_span_in(
+    map: &DecodedMap,
+    line: u32,
+    column: u32,
+    found: &mut Found,
+    until: &mut Position,
+) -> u32
+    ensures answer { ReturnsValue (option_map (λ m. span_at m (line, column))
+        (leaf_in (map_tree map.now))) result (found.old, until.old) (found.new, until.new) }
+    ensures stays { result ≡ 0 → IfSome (leaf_in (map_tree map.now))
+        (λ m. StaysClosest m.tokens (line, column) until.new) }
+{
+    match leaf_in(map) {
+        Some(map) => put_span(map, line, column, found, until),
+        None => WRONG_KIND,
+    }
+}
+
+fn put_span(map: &SourceMap, line: u32, column: u32, found: &mut Found, until: &mut Position) -> u32
+    ensures answer { ReturnsValue (Some (span_at map.now (line, column)))
+        result (found.old, until.old) (found.new, until.new) }
+    ensures stays { result ≡ 0 → StaysClosest map.now.tokens (line, column) until.new }
+{
+    let tokens = map.lists().tokens;
+    match map.lookup_token(line, column) {
+        Some(token) => {
+            *found = Found::of(Some(&token));
+            *until = start_after(tokens, token.get_index());
+            OK
+        }
+        None => ABSENT,
+    }
+}
+
+fn start_after(tokens: &[RawToken], index: usize) -> Position
+    requires { index + 1 < 2 ^ 64 }
+    ensures { result ≡ start_after tokens.now index }
+{
+    match tokens.get(index + 1) {
+        Some(token) => Position {
+            line: token.dst_line,
+            column: token.dst_col,
+        },
+        None => Position {
+            line: u32::MAX,
+            column: u32::MAX,
+        },
     }
 }
 

@@ -112,6 +112,7 @@ impl Error {
 
 /// `sm_position`.
 #[repr(C)]
+#[derive(Default)]
 pub struct Position {
     pub line: u32,
     pub column: u32,
@@ -161,6 +162,8 @@ extern "C" {
     pub fn sm_open_url(map: *mut Handle, url: *const u8, length: usize, error: *mut Error) -> Code;
     pub fn sm_share(map: *mut Handle, other: *mut Handle, error: *mut Error) -> Code;
     pub fn sm_is_source_map(bytes: *const u8, length: usize, answer: *mut bool, error: *mut Error) -> Code;
+    pub fn sm_equal(map: *mut Handle, other: *mut Handle, answer: *mut bool) -> Code;
+    pub fn sm_hermes_map(map: *mut Handle, regular: *mut Handle, error: *mut Error) -> Code;
 
     pub fn sm_count(map: *mut Handle, counts: *mut Counts) -> Code;
     pub fn sm_file(map: *mut Handle, text: *mut Text) -> Code;
@@ -171,14 +174,17 @@ extern "C" {
     pub fn sm_contents(map: *mut Handle, id: u32, text: *mut Text) -> Code;
     pub fn sm_ignore_list(map: *mut Handle, first: u32, ids: *mut u32, length: usize) -> usize;
     pub fn sm_tokens(map: *mut Handle, first: u32, tokens: *mut RawToken, length: usize) -> usize;
+    pub fn sm_token_text(map: *mut Handle, index: u32, text: *mut Handle, error: *mut Error) -> Code;
     pub fn sm_module_offsets(map: *mut Handle, first: u32, offsets: *mut u32, length: usize, written: *mut usize) -> Code;
     pub fn sm_module_path(map: *mut Handle, id: u32, text: *mut Text) -> Code;
 
     pub fn sm_lookup(map: *mut Handle, line: u32, column: u32, found: *mut Found) -> Code;
     pub fn sm_lookup_many(map: *mut Handle, positions: *const Position, count: usize, found: *mut Found, length: usize) -> usize;
+    pub fn sm_lookup_span(map: *mut Handle, line: u32, column: u32, found: *mut Found, until: *mut Position) -> Code;
     pub fn sm_lookup_index(map: *mut Handle, line: u32, column: u32, index: *mut u32) -> Code;
     pub fn sm_lookup_source(map: *mut Handle, line: u32, column: u32, text: *mut Text) -> Code;
     pub fn sm_lookup_name(map: *mut Handle, line: u32, column: u32, text: *mut Text) -> Code;
+    pub fn sm_lookup_text(map: *mut Handle, line: u32, column: u32, text: *mut Handle, error: *mut Error) -> Code;
     pub fn sm_trace(map: *mut Handle, positions: *const u8, length: usize, text: *mut Handle, error: *mut Error) -> Code;
     pub fn sm_function_name(map: *mut Handle, line: u32, column: u32, minified: *const u8, length: usize, view: *mut Handle, text: *mut Text) -> Code;
     pub fn sm_hermes_function_name(map: *mut Handle, offset: u32, text: *mut Text) -> Code;
@@ -231,6 +237,9 @@ extern "C" {
 
     pub fn sm_parse_segment(segment: *const u8, length: usize, numbers: *mut i64, capacity: usize, count: *mut usize, error: *mut Error) -> Code;
     pub fn sm_write_segment(numbers: *const i64, count: usize, text: *mut Handle, error: *mut Error) -> Code;
+
+    pub fn sm_debug_id_text(id: *const DebugId, text: *mut Handle, error: *mut Error) -> Code;
+    pub fn sm_parse_debug_id(text: *const u8, length: usize, id: *mut DebugId) -> Code;
 
     pub fn sm_bundle_open(bundle: *mut Handle, bytes: *const u8, length: usize, error: *mut Error) -> Code;
     pub fn sm_bundle_count(bundle: *mut Handle, modules: *mut usize) -> Code;

@@ -1,5 +1,7 @@
 //! Maps: open, share, read, look up, write.
 
+use std::ptr;
+
 use super::{check, Handle, ViewHandle};
 use crate::debug_id::DebugId;
 use crate::errors::Result;
@@ -45,6 +47,13 @@ impl MapHandle {
     pub fn share(&self) -> Result<MapHandle> {
         // SAFETY: both are handles, and not the same.
         Handle::filled(|other, error| unsafe { ffi::sm_share(self.0.at(), other, error) })
+            .map(MapHandle)
+    }
+
+    /// A copy of the regular map in a Hermes map.
+    pub fn hermes_map(&self) -> Result<MapHandle> {
+        // SAFETY: both are handles, and not the same.
+        Handle::filled(|regular, error| unsafe { ffi::sm_hermes_map(self.0.at(), regular, error) })
             .map(MapHandle)
     }
 
@@ -110,6 +119,14 @@ impl MapHandle {
         unsafe { ffi::sm_tokens(self.0.at(), first, tokens.as_mut_ptr(), tokens.len()) }
     }
 
+    /// The text of the token of this index, in a map that is no index map.
+    pub fn token_text(&self, index: u32) -> Result<Option<String>> {
+        // SAFETY: both are handles, and not the same.
+        Handle::made_if_any(|text, error| unsafe {
+            ffi::sm_token_text(self.0.at(), index, text, error)
+        })
+    }
+
     /// The lines of the modules of a RAM bundle, if an index map has them.
     pub fn module_offsets(&self) -> Option<Vec<Option<u32>>> {
         let mut offsets = Vec::new();
@@ -150,6 +167,28 @@ impl MapHandle {
         // SAFETY: it is a handle, and the answer begins as zeros.
         let code = unsafe { ffi::sm_lookup(self.0.at(), line, column, &mut found) };
         (code == ffi::SM_OK).then_some(found.token)
+    }
+
+    /// The closest token, as [`MapHandle::lookup`] returns it, in a map that is no
+    /// index map, and the position of the token after it. Up to that position, from
+    /// the one that was looked up on, the same token is the closest.
+    #[inline]
+    pub fn lookup_span(&self, line: u32, column: u32) -> Option<(RawToken, (u32, u32))> {
+        let mut found = ffi::Found::NONE;
+        let mut until = ffi::Position::default();
+        // SAFETY: it is a handle, and both answers begin as zeros.
+        let code =
+            unsafe { ffi::sm_lookup_span(self.0.at(), line, column, &mut found, &mut until) };
+        (code == ffi::SM_OK).then_some((found.token, (until.line, until.column)))
+    }
+
+    /// The text of the closest token, with the original column of the position
+    /// looked up.
+    pub fn lookup_text(&self, line: u32, column: u32) -> Result<Option<String>> {
+        // SAFETY: both are handles, and not the same.
+        Handle::made_if_any(|text, error| unsafe {
+            ffi::sm_lookup_text(self.0.at(), line, column, text, error)
+        })
     }
 
     /// The index of the closest token, in a map that is no index map.
@@ -195,9 +234,7 @@ impl MapHandle {
 
     pub fn data_url(&self) -> Result<String> {
         // SAFETY: both are handles, and not the same.
-        let text =
-            Handle::filled(|text, error| unsafe { ffi::sm_write_url(self.0.at(), text, error) })?;
-        Ok(text.made_text().to_owned())
+        Handle::made(|text, error| unsafe { ffi::sm_write_url(self.0.at(), text, error) })
     }
 
     /// A section of an index map, with a copy of its map.
@@ -218,6 +255,20 @@ impl MapHandle {
             url: unsafe { self.0.text(|map, text| ffi::sm_section_url(map, id, text)) },
             map: map.map(MapHandle),
         }))
+    }
+}
+
+/// Maps are equal if they are of one kind and hold the same.
+impl PartialEq for MapHandle {
+    fn eq(&self, other: &MapHandle) -> bool {
+        if ptr::eq(self, other) {
+            return true;
+        }
+        let mut answer = false;
+        // SAFETY: both are handles, and not the same. Both hold maps, so the call
+        // writes the answer.
+        unsafe { ffi::sm_equal(self.0.at(), other.0.at(), &mut answer) };
+        answer
     }
 }
 

@@ -8,6 +8,7 @@
 mod build;
 mod bundle;
 mod change;
+mod debug_id;
 mod map;
 mod reference;
 mod sections;
@@ -21,6 +22,7 @@ use std::sync::Once;
 
 pub(crate) use self::build::BuilderHandle;
 pub(crate) use self::bundle::{BundleHandle, SplitHandle};
+pub(crate) use self::debug_id::{debug_id_text, parse_debug_id};
 pub(crate) use self::map::{is_source_map, Kind, MapHandle};
 pub(crate) use self::reference::{
     locate_reference, relative_path, resolve, resolve_path, Reference,
@@ -66,6 +68,18 @@ impl Handle {
         let handle = Handle::empty();
         let is_there = check_if_any(|error| fill(handle.at(), error))?;
         Ok(is_there.then_some(handle))
+    }
+
+    /// The text that a call makes.
+    fn made(fill: impl FnOnce(*mut ffi::Handle, *mut ffi::Error) -> ffi::Code) -> Result<String> {
+        Ok(Handle::filled(fill)?.made_text().to_owned())
+    }
+
+    /// The text that a call makes, or none if there is nothing to make it of.
+    fn made_if_any(
+        fill: impl FnOnce(*mut ffi::Handle, *mut ffi::Error) -> ffi::Code,
+    ) -> Result<Option<String>> {
+        Ok(Handle::filled_if_any(fill)?.map(|text| text.made_text().to_owned()))
     }
 
     /// The bytes that a call points to in this handle.

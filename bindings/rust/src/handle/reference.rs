@@ -37,10 +37,9 @@ fn made_of(call: MakeText, first: &str, second: &str) -> Result<Option<String>> 
     let second = second.to_owned();
     let (at, length) = (second.as_ptr(), second.len());
     // SAFETY: the texts are where they say.
-    let result = Handle::filled_if_any(|result, error| unsafe {
+    Handle::made_if_any(|result, error| unsafe {
         call(first.as_ptr(), first.len(), at, length, result, error)
-    })?;
-    Ok(result.map(|text| text.made_text().to_owned()))
+    })
 }
 
 /// The URL that a reference leads to from the URL of its text.

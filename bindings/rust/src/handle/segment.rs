@@ -27,8 +27,7 @@ pub(crate) fn parse_segment(segment: &str) -> Result<Vec<i64>> {
 
 pub(crate) fn write_segment(numbers: &[i64]) -> Result<String> {
     // SAFETY: the numbers are where they say.
-    let segment = Handle::filled(|text, error| unsafe {
+    Handle::made(|text, error| unsafe {
         ffi::sm_write_segment(numbers.as_ptr(), numbers.len(), text, error)
-    })?;
-    Ok(segment.made_text().to_owned())
+    })
 }

@@ -11,7 +11,7 @@ use crate::sourceview::SourceView;
 use crate::types::{SourceMap, SourceMapIndex, Token};
 
 /// A map of any kind.
-#[derive(Debug, Clone, PartialEq)]
+#[derive(Debug, Clone)]
 pub enum DecodedMap {
     /// A regular map.
     Regular(SourceMap),
@@ -102,5 +102,12 @@ impl DecodedMap {
             DecodedMap::Index(smi) => smi.set_debug_id(debug_id),
             DecodedMap::Hermes(smh) => smh.set_debug_id(debug_id),
         }
+    }
+}
+
+/// Maps are equal if they are of one kind and hold the same.
+impl PartialEq for DecodedMap {
+    fn eq(&self, other: &DecodedMap) -> bool {
+        self.handle() == other.handle()
     }
 }

@@ -374,14 +374,11 @@ impl Clone for SourceMapIndex {
     }
 }
 
-/// Index maps are equal if all their getters answer alike.
+/// Index maps are equal if they hold the same, the maps of their sections
+/// included.
 impl PartialEq for SourceMapIndex {
     fn eq(&self, other: &SourceMapIndex) -> bool {
-        self.get_file() == other.get_file()
-            && self.debug_id() == other.debug_id()
-            && self.x_facebook_offsets() == other.x_facebook_offsets()
-            && self.x_metro_module_paths() == other.x_metro_module_paths()
-            && self.section_list() == other.section_list()
+        self.handle() == other.handle()
     }
 }
 

@@ -1,6 +1,6 @@
 //! Regular maps.
 
-use std::cell::OnceCell;
+use std::cell::{Cell, OnceCell};
 use std::fmt;
 use std::io::{Read, Write};
 use std::sync::Arc;
@@ -26,8 +26,40 @@ pub struct SourceMap {
     handle: MapHandle,
     ignored: OnceCell<Box<[u32]>>,
     views: OnceCell<Box<[OnceCell<SourceView>]>>,
+    kept: Cell<Kept>,
     /// Of the map in a Hermes map: the same without scopes, where a call needs it.
-    without_scopes: OnceCell<Box<SourceMap>>,
+    without_scopes: OnceCell<MapHandle>,
+}
+
+/// The last answer to a lookup, and the positions that have the same answer: from
+/// the one that was looked up, up to another, which is not one of them.
+#[derive(Clone, Copy)]
+struct Kept {
+    from: u64,
+    until: u64,
+    token: RawToken,
+}
+
+impl Kept {
+    /// No position has this answer.
+    const NONE: Kept = Kept {
+        from: 0,
+        until: 0,
+        token: RawToken::ZERO,
+    };
+
+    /// A position as a number, which is greater for a later one.
+    #[inline]
+    fn number((line, column): (u32, u32)) -> u64 {
+        u64::from(line) << 32 | u64::from(column)
+    }
+
+    #[inline]
+    fn is_of(&self, position: (u32, u32)) -> bool {
+        // One comparison, since which of two positions is the later one can't be
+        // predicted where they come in no order.
+        Kept::number(position).wrapping_sub(self.from) < self.until.wrapping_sub(self.from)
+    }
 }
 
 impl SourceMap {
@@ -36,6 +68,7 @@ impl SourceMap {
             handle,
             ignored: OnceCell::new(),
             views: OnceCell::new(),
+            kept: Cell::new(Kept::NONE),
             without_scopes: OnceCell::new(),
         }
     }
@@ -44,6 +77,7 @@ impl SourceMap {
     fn handle_mut(&mut self) -> &mut MapHandle {
         self.ignored.take();
         self.views.take();
+        self.kept.set(Kept::NONE);
         self.without_scopes.take();
         &mut self.handle
     }
@@ -52,35 +86,10 @@ impl SourceMap {
     pub(crate) fn regular_handle(&self) -> &MapHandle {
         match self.handle.kind() {
             Kind::Regular => &self.handle,
-            _ => {
-                &self
-                    .without_scopes
-                    .get_or_init(|| Box::new(self.copied()))
-                    .handle
-            }
+            _ => self
+                .without_scopes
+                .get_or_init(|| must(self.handle.hermes_map())),
         }
-    }
-
-    /// A copy of all parts but the scopes of a Hermes map.
-    fn copied(&self) -> SourceMap {
-        // Without the root, sources are as they were added.
-        let mut rootless = must(self.handle.share());
-        must(rootless.set_source_root(None));
-        let rootless = SourceMap::of_handle(rootless);
-        let tokens: Vec<RawToken> = raw_tokens(self).collect();
-        let names: Vec<Arc<str>> = self.names().map(Arc::from).collect();
-        let sources: Vec<Arc<str>> = rootless.sources().map(Arc::from).collect();
-        let contents = self
-            .source_contents()
-            .map(|contents| contents.map(Arc::from))
-            .collect();
-        let file = self.get_file().map(Arc::from);
-        let mut builder = SourceMapBuilder::of_parts(file, &tokens, &names, &sources, contents);
-        builder.set_source_root(self.get_source_root());
-        builder.set_debug_id(self.get_debug_id());
-        self.ignore_list()
-            .for_each(|&id| builder.add_to_ignore_list(id));
-        builder.into_sourcemap()
     }
 
     pub(crate) fn handle(&self) -> &MapHandle {
@@ -196,7 +205,8 @@ impl SourceMap {
     }
 
     /// Returns the closest token to a generated position: the first one at the
-    /// position, else the last one before it, on whichever line.
+    /// position, else the last one before it, on whichever line. The map keeps the
+    /// last answer, which makes lookups of positions in rising order quick.
     ///
     /// ```
     /// # let json = br#"{"version":3,"sources":["a.js"],"names":[],"mappings":"AAAA,GAAG"}"#;
@@ -207,8 +217,26 @@ impl SourceMap {
     /// ```
     #[inline]
     pub fn lookup_token(&self, line: u32, col: u32) -> Option<Token<'_>> {
-        let answer = self.handle.lookup(line, col)?;
-        Some(Token::answered(self, answer, (line, col)))
+        let position = (line, col);
+        let kept = self.kept.get();
+        if kept.is_of(position) {
+            return Some(Token::answered(self, kept.token, position));
+        }
+        self.look_up(position)
+    }
+
+    /// Asks the library for the closest token, and keeps the answer.
+    fn look_up(&self, position: (u32, u32)) -> Option<Token<'_>> {
+        let (token, until) = self.handle.lookup_span(position.0, position.1)?;
+        // The column of a range token is that of one position alone.
+        if !token.is_range {
+            self.kept.set(Kept {
+                from: Kept::number(position),
+                until: Kept::number(until),
+                token,
+            });
+        }
+        Some(Token::answered(self, token, position))
     }
 
     /// Returns the original name of the function at a generated position, by its
@@ -357,6 +385,25 @@ impl SourceMap {
         (self.read_tokens(index, &mut token) == 1).then(|| token[0])
     }
 
+    /// The text of a token of this map that answers a position.
+    pub(crate) fn token_text(&self, token: RawToken, (line, column): (u32, u32)) -> String {
+        let text = if self.handle.lookup(line, column) == Some(token) {
+            must(self.handle.lookup_text(line, column))
+        } else {
+            self.later_index(token)
+                .and_then(|index| must(self.handle.token_text(index)))
+        };
+        text.expect("the token is in its map")
+    }
+
+    /// The index of a token that is not the first one at its generated position.
+    fn later_index(&self, token: RawToken) -> Option<u32> {
+        let first = self.handle.lookup_index(token.dst_line, token.dst_col)?;
+        (first..=u32::MAX)
+            .map_while(|index| Some((index, self.raw_token(index)?)))
+            .find_map(|(index, other)| (other == token).then_some(index))
+    }
+
     /// The closest token to a position as it is in the list.
     pub(crate) fn closest(&self, (line, column): (u32, u32)) -> Option<RawToken> {
         self.raw_token(self.handle.lookup_index(line, column)?)
@@ -369,24 +416,12 @@ impl Clone for SourceMap {
     }
 }
 
-/// Maps are equal if all their getters answer alike.
+/// Maps are equal if they hold the same: also in how sources are written, and in
+/// the order of all lists.
 impl PartialEq for SourceMap {
     fn eq(&self, other: &SourceMap) -> bool {
-        self.get_token_count() == other.get_token_count()
-            && self.get_file() == other.get_file()
-            && self.get_source_root() == other.get_source_root()
-            && self.get_debug_id() == other.get_debug_id()
-            && self.ignore_list().eq(other.ignore_list())
-            && self.sources().eq(other.sources())
-            && self.names().eq(other.names())
-            && self.source_contents().eq(other.source_contents())
-            && raw_tokens(self).eq(raw_tokens(other))
+        self.regular_handle() == other.regular_handle()
     }
-}
-
-/// The tokens of a map, by their numbers.
-fn raw_tokens(sm: &SourceMap) -> impl Iterator<Item = RawToken> + '_ {
-    sm.tokens().map(|token| token.get_raw_token())
 }
 
 impl fmt::Debug for SourceMap {

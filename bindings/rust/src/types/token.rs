@@ -226,11 +226,7 @@ impl Ord for Token<'_> {
 
 impl fmt::Display for Token<'_> {
     fn fmt(&self, f: &mut fmt::Formatter<'_>) -> fmt::Result {
-        let source = self.get_source().unwrap_or("<unknown>");
-        write!(f, "{source}:{}:{}", self.get_src_line(), self.get_src_col())?;
-        if let Some(name) = self.get_name() {
-            write!(f, " name={name}")?;
-        }
+        f.write_str(&self.sm.token_text(self.answer, self.looked_up()))?;
         if f.alternate() {
             let range = if self.is_range() { " (range)" } else { "" };
             write!(

@@ -224,4 +224,5 @@ fn ids_that_a_map_does_not_have_name_nothing() {
         (odd, None, None)
     );
     assert!(token.has_source() && !token.has_name());
+    assert_eq!(token.to_string(), "<unknown>:1:2");
 }

@@ -28,8 +28,28 @@ fn texts_of_ids() {
         HashSet::from([id(PLAIN), id(HYPHENATED), DebugId::nil()]).len(),
         2
     );
+    let mixed = "01234567-89AB-cdef-0123-456789ABCDEF";
+    assert_eq!(
+        (id(mixed), id(mixed).to_string()),
+        (id(PLAIN), HYPHENATED.into())
+    );
+    assert_eq!(
+        DebugId::nil().to_string(),
+        "00000000-0000-0000-0000-000000000000"
+    );
+    assert_eq!(
+        DebugId::from_bytes([0xff; 16]).to_string(),
+        "ffffffff-ffff-ffff-ffff-ffffffffffff"
+    );
+    assert_eq!(format!("{:?}", id(PLAIN)), format!("DebugId({HYPHENATED})"));
     let refused = [
         "",
+        "{01234567-89ab-cdef-0123-456789abcdef}",
+        "{0123456789abcdef0123456789abcdef}",
+        "urn:uuid:01234567-89ab-cdef-0123-456789abcdef",
+        "0123456789abcdef0123456789abcdef0123",
+        "0123456789abcdef0123456789abcdé",
+        "01234567-89ab-cdef-0123-456789abcd-f",
         "0123456789abcdef0123456789abcde",
         "0123456789abcdef0123456789abcdefa",
         "0123456-789ab-cdef-0123-456789abcdef",

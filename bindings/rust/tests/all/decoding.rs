@@ -179,7 +179,7 @@ fn sources_are_written_without_the_root() {
         text.contains(r#""sources":["./bar.js","./baz.js"]"#),
         "{text}"
     );
-    assert_eq!(regular(&text), map);
+    assert_eq!(written(&regular(&text)), text);
 }
 
 #[test]

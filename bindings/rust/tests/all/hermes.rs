@@ -3,7 +3,7 @@ use sourcemap::{
     SourceView,
 };
 
-use crate::{regular, written, written_any};
+use crate::{raw_tokens, regular, written, written_any};
 
 const HERMES: &str = r#"{"version":3,"sources":["a.js"],"names":[],"mappings":"AAAA,KACK",
     "x_facebook_sources":[[{"names":["<global>","foo"],"mappings":"AAA,KCC"}]]}"#;
@@ -100,6 +100,22 @@ fn the_map_in_a_hermes_map_is_regular() {
     hermes.set_source(0, "b.js");
     assert_eq!(written(&hermes), expected.replace("a.js", "b.js"));
     assert_eq!(hermes.get_original_function_name(7), Some("foo"));
+}
+
+#[test]
+fn the_map_in_a_hermes_map_has_all_of_its_parts() {
+    // Names and sources of one text, and contents of one source of two.
+    let parts = r#""version":3,"file":"out.js","sourceRoot":"root","sources":["a.js","a.js"],
+        "sourcesContent":["let a;"],"names":["n","n"],"mappings":"AAAAA,ICCEC;E","rangeMappings":"C",
+        "ignoreList":[1],"debugId":"00000000-0000-0000-0000-00000000002a""#;
+    let expected = regular(&format!("{{{parts}}}"));
+    let hermes = hermes(&format!("{{{parts},\"x_facebook_sources\":[null]}}"));
+    let copy: SourceMap = (*hermes).clone();
+    assert_eq!(copy.names().collect::<Vec<_>>(), ["n", "n"]);
+    assert_eq!(raw_tokens(&copy), raw_tokens(&hermes));
+    assert_eq!(written(&copy), written(&expected));
+    assert_eq!(copy, expected);
+    assert_eq!(*hermes, expected);
 }
 
 #[test]

@@ -66,6 +66,46 @@ fn of_tokens_at_one_position_the_first_answers_it_and_the_last_what_follows() {
 }
 
 #[test]
+fn each_token_at_one_position_prints_itself() {
+    let map = of_mappings("CAAA,AACA,AACA,EACA", "");
+    let listed: Vec<_> = map.tokens().map(|token| token.to_string()).collect();
+    assert_eq!(listed, ["a.js:0:0", "a.js:1:0", "a.js:2:0", "a.js:3:0"]);
+    let third = map.get_token(2).expect("a token");
+    assert_eq!(format!("{third:#}"), "a.js:2:0 (0:1)");
+    assert_eq!(format!("{third:?}"), "<Token a.js:2:0 (0:1)>");
+    let after = map.lookup_token(0, 2).expect("a token");
+    assert_eq!(format!("{after:#}"), "a.js:2:0 (0:1)");
+    // One that is there twice.
+    let twice = of_mappings("CAAA,AAAA", "");
+    assert!(twice.tokens().all(|token| token.to_string() == "a.js:0:0"));
+}
+
+#[test]
+fn a_later_range_token_at_one_position_prints_itself() {
+    let map = of_mappings("CAAA,AACA", "C");
+    let listed: Vec<_> = map.tokens().map(|token| format!("{token:#}")).collect();
+    assert_eq!(listed, ["a.js:0:0 (0:1)", "a.js:1:0 (0:1) (range)"]);
+    let printed = |line, col| {
+        let token = map.lookup_token(line, col).expect("a token");
+        token.to_string()
+    };
+    assert_eq!(printed(0, 1), "a.js:0:0");
+    assert_eq!(printed(0, 4), "a.js:1:3");
+    assert_eq!(printed(1, 4), "a.js:1:0");
+}
+
+#[test]
+fn a_token_past_many_at_one_position_prints_itself() {
+    let mappings = ["CAAA", &",AACA".repeat(600)].concat();
+    let map = of_mappings(&mappings, "");
+    let last = map.get_token(600).expect("a token");
+    assert_eq!(last.to_string(), "a.js:600:0");
+    assert_eq!(map.lookup_token(9, 0), Some(last));
+    let answer = map.lookup_token(9, 0).expect("a token");
+    assert_eq!(answer.to_string(), "a.js:600:0");
+}
+
+#[test]
 fn sources_are_resolved_against_the_root() {
     let json = r#"{"version":3,"sourceRoot":"webpack:///","sources":["./bar.js","/abs.js",
         "https://host/b.js"],"names":[],"mappings":""}"#;

@@ -1,0 +1,18 @@
+-- The regular map of a Hermes map.
+use Rattle.std.specs.Prelude.{◌≡◌, Option, Some, None}
+use Rattle.sourcemap_map_regular.specs.Map.{MapValue}
+use Rattle.sourcemap_index_model.specs.MapTree.{MapTree, leaf, regular, hermes}
+
+-- the regular map, if the map is a Hermes map
+abbrev pub hermes_in : MapTree → Option MapValue
+hermes_in (leaf (hermes h)) = Some h.map
+hermes_in _ = None
+
+-- a regular map, as a map of any kind
+abbrev pub regular_tree : MapValue → MapTree
+regular_tree m = leaf (regular m)
+
+-- the handle has the regular map
+abbrev pub HoldsRegular : Option MapValue → (held : Option MapTree) → Type 0
+HoldsRegular None held = ⊥
+HoldsRegular (Some m) held = held ≡ Some (regular_tree m)
