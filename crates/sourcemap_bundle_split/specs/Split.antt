@@ -38,7 +38,8 @@ parts_on flat line m = record {
 abbrev pub utf8_text : List ℕ → Result (List ℕ) Error
 utf8_text bytes = if is_utf8 bytes then Ok bytes else Err InvalidRamBundleEntry
 
--- the module that begins at this line of the flat map, if the map answers there and the text is UTF-8
+-- the module that begins at this line of the flat map; an error if no token of the flat map is at the
+-- start of this line or before it, or if the text is not UTF-8
 abbrev pub parts_at : MapValue → ℕ → ModuleValue → Result ModuleParts Error
 parts_at flat line m =
     if is_some (meaning flat (line, 0)) && is_utf8 m.text then Ok (parts_on flat line m) else Err InvalidRamBundleEntry
