@@ -183,7 +183,7 @@ LIBRARIES = 'sourcemap sourcemap_index serde_json'
 # how many bytes `rt try` gives a program; and how many bytes and lines are asked with in one run of it, if not with a
 # single case, so that the run is short and the lines have less than the 1 MB that it may print
 MOST, MOST_AT_ONCE, MOST_LINES = 64 << 20, 4 << 20, 1000
-# the name of a run's input, over what it prints
+# the line with the name of a run's input, before what that run prints
 RUN = re.compile('^== [0-9]{6}\n', re.M)
 
 
@@ -238,7 +238,7 @@ def answers_here(cases):
         printed = printed_here([data for data, _ in inputs], folder)
     answers = []
     for (_, counts), text in zip(inputs, printed):
-        # what JSON leaves as it is may end a line for Python, as U+2028 does
+        # `splitlines` would also split at characters that JSON does not escape, such as U+2028
         lines = iter(text.split('\n'))
         answers += [[next(lines) for _ in range(count)] for count in counts]
     return answers

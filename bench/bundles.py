@@ -1,6 +1,6 @@
 """What the scripts know of RAM bundles: which modules one holds, and the texts and maps that it is split into. It is
-stated here anew, by the rules of the format, and takes nothing from the programs that are compared. `ways` are those
-of the reference's own, as compare-bundles.py names them."""
+stated here anew, by the rules of the format, and takes nothing from the programs that are compared. `ways` are the
+ways of the reference that compare-bundles.py lists."""
 import os, re, struct
 from composing import tokens_of_record
 from index_maps import LAST, in_order, is_index, offset_of, absolute_position
@@ -134,7 +134,7 @@ def parts_of(make, given, numbers, ways):
 
 
 def source_text(root, source):
-    """A source as a map shows it."""
+    """A source resolved against its root."""
     if not root or source and (source[0] == '/' or source.startswith(('http:', 'https:'))):
         return source
     return root.removesuffix('/') + '/' + source
@@ -177,7 +177,7 @@ class Flat:
 
 
 def first_of(tokens, line, ways):
-    """The number of the first token of a module at this line."""
+    """The index of the first token of a module that begins at this line."""
     before = sum(token[:2] < (line, 0) for token in tokens)
     is_there = before < len(tokens) and tokens[before][:2] == (line, 0)
     if before == 0 and not is_there:
@@ -186,7 +186,7 @@ def first_of(tokens, line, ways):
 
 
 def tokens_in(tokens, line, text, ways):
-    """The tokens of a module's text at this line."""
+    """The tokens of a module that begins at this line and has this text."""
     lines = re.split('\r\n|\n|\r', text)
     width = len(lines[-1].encode('utf-16-le')) // 2
     end = (line + len(lines)) % 2**32 if 'line' in ways else line + len(lines)

@@ -15,7 +15,7 @@ URL_FRONTS = [b'data:application/json;base64,', b'data:application/json;charset=
 CODE = ['a', 'b', 'function', 'f1', '$', '_x', 'é', '结', '👌', ' ', '  ', '\t', '\xa0', '(', ')', '{', '}', ';', '.', '1', '\u200d', 'aVeryLongName']
 ENDS = ['\n', '\n', '\n', '\r\n', '\r']
 MINIFIED_URL, MINIFIED_PATH = 'https://example.org/a/b/c.js', '/a/b/c.js'
-# a bundle that claims more modules is gone through for seconds
+# a bundle that claims more modules would take seconds
 MOST_MODULES = 4096
 PREFIXES = ['', '/', 'a', '/a', '/a/', 'a/b', 'a/é', 'http://a', '~', 'A']
 NO_URL = 'the provided data URL is invalid'
@@ -110,7 +110,7 @@ def index_and_bundle(chance, maps):
 # what is printed: each takes the bytes, and answers a number or a text
 
 def text_of(data):
-    """The text of bytes that are UTF-8."""
+    """The text of some bytes; what is not UTF-8 is refused."""
     try:
         return data.decode()
     except UnicodeDecodeError as error:
@@ -225,7 +225,7 @@ def interned(data):
 
 
 def encoded(data):
-    """The text of a map, an index map flattened."""
+    """The text of a regular map, or of a flattened index map."""
     found = rules.decoded(data)
     found = found.flat() if isinstance(found, rules.Index) else found
     if not rules.is_regular(found):
@@ -270,7 +270,7 @@ def with_file(data):
 
 
 def number_of(line):
-    """The number that a line is, 0 if it is none below 2^32."""
+    """The number on a line, 0 if the line is not a number below 2^32."""
     number = int(line) if NUMBER.fullmatch(line) else 0
     return number if number <= LAST else 0
 

@@ -51,7 +51,7 @@ POSITION = re.compile(rb' \((\d+):(\d+)\)( \(range\))?$')
 
 
 def is_refused_digit(data, here):
-    """Whether this program refuses digits that the reference takes, and the map has such."""
+    """Whether this program refuses a map for digits that the map has and the reference accepts."""
     refused = FOREIGN.fullmatch(here[1].decode(errors='replace'))
     if here[0] != 1 or not refused and here[1] != OVERFLOW:
         return False

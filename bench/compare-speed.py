@@ -70,7 +70,7 @@ TEXTS = {'100000-lines.js': (LINE + '\n') * 100_000, '100000-wide-lines.js': (LI
 
 
 def run(command, path):
-    """Seconds of processor time, and what was printed; None for a program that refuses."""
+    """Seconds of processor time, and what was printed; None for a program that is missing or refuses."""
     if not os.path.exists(command[0]):
         return None
     with open(path, 'rb') as source, tempfile.TemporaryFile() as sink:
@@ -103,7 +103,7 @@ def instructions(command, path):
 
 
 def repetitions(path, operation):
-    """So many that most runs take some tenths of a second at least."""
+    """How many rounds of an operation make most runs take at least some tenths of a second."""
     size = os.path.getsize(path)
     if operation == 'lookup':
         return 2

@@ -1,5 +1,5 @@
-"""What the scripts share: the two programs of this repository, running programs, telling lists of tokens
-apart, and counting."""
+"""What the scripts share: the two programs of this repository, running programs, comparing lists of tokens,
+and counting."""
 import collections, concurrent.futures, json, os, pathlib, re, subprocess, sys
 from hermes_maps import KEY, kept_entries
 from index_maps import LISTS, bytes_of, flat_tokens, is_index, pieces, record_of

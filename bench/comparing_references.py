@@ -1,6 +1,6 @@
-"""What compare-references.py, compare-loading.py and compare-bundles.py share: questions to the library,
-of the reference program and of the rules, and reasons for differences, each of which has to lead to the reference's
-answer."""
+"""What compare-references.py, compare-loading.py and compare-bundles.py share: questions to the library, to the
+reference program and to the rules, and reasons for differences. Each reason has to lead to the answer of the
+reference."""
 import collections, itertools, json, pathlib, sys, tempfile
 from asking import Case, answers_here
 from comparing import answer, noted, report

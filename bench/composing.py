@@ -116,7 +116,7 @@ def with_others_last(original, adjustment, theirs):
 
 
 def without_repeats(tokens):
-    """Tokens as they are written: none that is the one before once more."""
+    """Tokens as they are written: without each one that is equal to the one before it."""
     return [token for i, token in enumerate(tokens) if i == 0 or tokens[i - 1] != token]
 
 

@@ -6,7 +6,8 @@
 #
 # Takes the tests and the program that are proved and built already, as `rt ci` leaves them in each
 # crate's `out`, or with --build proves and builds those that are missing first. CRATE is a crate with
-# tests, or `sourcemap_tool` for the program; none are all of them. `failing.py` says how a run may end.
+# tests, or `sourcemap_tool` for the program; without CRATE it takes all of them. `failing.py` says how a run
+# may end.
 # Each call of a test fails in turn, unless that takes more than N processor milliseconds for one way to
 # fail; of a longer test some calls do, spread over all, and the number of the others is printed. N is 1000,
 # with which all crates take less than ten processor minutes; `--millis all` leaves no call out.

@@ -66,8 +66,8 @@ def scope(record, source, line, column):
 
 
 def function_name(record, offset, tokens=None):
-    """The name of the function that contains a bytecode offset, a column of line 0. Who asks often hands in
-    the map's tokens."""
+    """The name of the function that contains a bytecode offset, a column of line 0. A caller that asks often
+    passes the map's tokens."""
     token = closest(tokens or tokens_of_record(record), lambda token: token[:2], (0, offset))
     if token is None:
         return None

@@ -728,7 +728,7 @@ def measured(run, folder, counts, size=None):
 
 
 def has_stack(levels, stack):
-    """Whether so many index maps in one another take no more than this stack."""
+    """Whether this stack suffices for so many nested index maps."""
     try:
         ran = subprocess.run([BENCH_CALLS, NEST], input=str(levels).encode(), stdout=subprocess.DEVNULL, stderr=subprocess.DEVNULL,
                              env={}, preexec_fn=with_stack(stack))
@@ -738,7 +738,7 @@ def has_stack(levels, stack):
 
 
 def stack_of(levels):
-    """The least stack of so many index maps in one another, in bytes, up to the next page."""
+    """The least stack that suffices for so many nested index maps, in bytes, rounded up to whole pages."""
     low, high = 16, 2**15
     while high - low > 1:
         middle = (low + high) // 2

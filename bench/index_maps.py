@@ -36,7 +36,7 @@ def resolved(record):
 
 
 def pieces(record):
-    """The maps that a record is made of: an index, without the maps of its sections, and then theirs."""
+    """The records in a record: an index without the maps of its sections, and then the records in these maps."""
     if not is_index(record):
         return [record]
     bare = [{key: part for key, part in section.items() if key != 'map'} for section in in_order(record['sections'])]

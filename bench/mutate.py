@@ -257,7 +257,7 @@ def words_of(chance, path):
     if kind < 0.98:
         return ['trace', path]
     words = [chance.choice(['lookup', 'tokens', 'trace', 'Shift', '', 'é']) for _ in range(chance.choice([1, 2, 3]))]
-    # a file of some other name is not there
+    # `trace` with a name of another file would find no file, so the words are doubled
     return words + words if words[0] == 'trace' and len(words) == 2 else words
 
 
@@ -323,7 +323,7 @@ def contradiction(case, ended, want):
     if status > 2:
         return f'status {status}'
     if case.program == BENCH_BUNDLES and status == 1 and errors and not output:
-        # which error it is stands there in the words of the kit
+        # standard error names the error in the words of the kit, so only the status is compared
         return None if want[0] == 1 else f'the rules say {want}'
     if errors:
         return 'something on standard error'
@@ -436,7 +436,7 @@ def reasons(case, ended):
 
 
 def agreement(case, ended, asked):
-    """How an answer is beside that of the reference."""
+    """How an answer compares with that of the reference."""
     if ended[0] == asked[0] == 0 and ended[1] == asked[1]:
         return 'the same answer'
     # where memory runs out, the reference aborts

@@ -17,8 +17,8 @@ difference is borne out by the answer that it leads to:
 - new url: in version 2.5.4 of it the drive of `file:///C|/` keeps its bar, and what begins like a drive and goes on past
   ASCII is cut there
 - nothing: relative paths are joined by nothing
-- forgotten: of the paths that have something in common, those count alone that stand, by the number of their parts,
-  after the last that shares nothing with the shortest
+- forgotten: the paths are sorted by the number of their parts. Only the shortest one counts, and those after the last
+  one that shares nothing with it; none counts if that one is the last of all
 - array: a JSON array may replace the keys of a map, in their order
 - twice: a text with a key twice is no map
 - skipped: of a value that is not looked at, only the JSON outline counts

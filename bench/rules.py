@@ -64,7 +64,7 @@ def check_texts(value):
 
 
 def members(pairs):
-    """An object. A value that a later one of its key replaces has no half of a surrogate pair either."""
+    """An object. Half of a surrogate pair is refused also in a value that a later one with the same key replaces."""
     for _, value in pairs:
         check_texts(value)
     return dict(pairs)
@@ -106,7 +106,7 @@ def after_header(data):
 def json_of(data):
     try:
         text = after_header(data).decode('utf-8')
-        # what precedes and follows the value
+        # only white space may precede and follow the value
         value, end = DECODER.raw_decode(text, len(text) - len(text.lstrip(' \t\n\r')))
         if text[end:].strip(' \t\n\r'):
             raise parse()
@@ -116,7 +116,7 @@ def json_of(data):
     return value
 
 
-# Each reads a value as what a key holds; what is null or missing is None.
+# Each of these reads the value of a key; a value that is null or missing is None.
 
 def u32(value):
     if isinstance(value, bool) or not isinstance(value, int) or not 0 <= value <= LAST:

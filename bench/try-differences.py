@@ -24,7 +24,7 @@ DOCUMENT = CRATES.parent / 'docs/DIFFERENCES.md'
 # What is asked with which input, and of each answer its status and a text that is in it; the text of a second
 # file, if the word takes one.
 Trial = collections.namedtuple('Trial', 'word data here there file', defaults=[None])
-# What is asked of the library, and the first line of each answer; there maybe what it has to be beside ours.
+# What is asked of the library, and the first line of each answer; for the reference it may be a test of both lines.
 Asked = collections.namedtuple('Asked', 'case here there')
 
 
@@ -50,14 +50,14 @@ def has_the_same_steps(here, there):
 
 
 def is_covered_by_others(here, there):
-    """Whether two written maps have tokens for the same original positions, at some other column."""
+    """Whether two written maps have tokens for the same columns of sources, some of them at another column."""
     here, there = (sorted((token.source_column, token.column) for token in tokens_of_record(json.loads(text)))
                    for text in (here, there))
     return here != there and [original for original, _ in here] == [original for original, _ in there]
 
 
 def fails_after(data):
-    """A reader that gives these bytes and then fails: a terminal that was hung up."""
+    """A file to read that has these bytes and then fails: a terminal that was hung up."""
     ours, theirs = pty.openpty()
     tty.setraw(theirs)
     os.write(theirs, data)
@@ -66,7 +66,7 @@ def fails_after(data):
 
 
 def asked(word, record=None, text=None, question=None):
-    """One question to the library; behind slices there is a line with the count of lines."""
+    """One question to the library; after slices, one more line has the count of lines."""
     return Case(word, word, record, text, [question], 2 if word == 'slices' else 1)
 
 
@@ -105,7 +105,8 @@ def split(text, mappings, line=0, offset=5, **more):
 
 
 def split_into(text, *tokens):
-    """The answer to that: the module 0 with tokens on a line, of columns that are those in the source, and maybe a mark."""
+    """The answer to that: module 0 with these tokens. Each is a line, a column that is also its column in the source,
+    and maybe the mark of a range token."""
     rows = [[line, column, 0, column, 'a.js', None, bool(mark)] for line, column, *mark in tokens]
     return compact([['0.js', text, '0.js', [['a.js', None]] if tokens else [], [], rows]])
 
@@ -121,7 +122,7 @@ def has_listed_others(here, there):
 
 
 def is_shuffled(here, there):
-    """Whether there the same pairs stand by their first numbers, and some of one number in another order."""
+    """Whether the reference has the same pairs sorted by their first numbers, some of one number in another order."""
     pairs = [[tuple(map(int, pair.split(':'))) for pair in line.split()] for line in (here, there)]
     return pairs[0] != pairs[1] and pairs[0] == sorted(pairs[1]) and [first for first, _ in pairs[1]] == sorted(first for first, _ in pairs[1])
 

@@ -90,8 +90,8 @@ def within(kilobytes):
 
 
 def short_of_memory():
-    """The first run that is the program's own to end, of those with more and more memory: with less, the system or
-    the loader ends it. It gets no memory at all for itself."""
+    """The first run that the program itself ends, of runs with more and more memory: with less, the system or the
+    loader ends it. That run has no memory for allocations of the program."""
     runs = map(within, range(512, 1 << 20, 16))
     return next(run for run in runs if run and run[0] in (0, 1))
 

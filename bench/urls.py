@@ -72,7 +72,7 @@ def port_of(scheme, text):
 
 
 def apart(scheme, text):
-    """The text up to the first slash, and the rest."""
+    """The text up to the first slash, and the rest; in special schemes a backslash counts as a slash."""
     at = re.search(r'[/\\]' if is_special(scheme) else '/', text)
     return (text[:at.start()], text[at.start():]) if at else (text, '')
 
@@ -208,7 +208,7 @@ def url_of_path(path, is_folder=False):
 
 
 def path_of_url(url):
-    """The path of a file's URL, None for any other, and where it is not UTF-8."""
+    """The path of a `file` URL without a host; None for any other URL, and for a path that is not UTF-8."""
     if url.scheme != 'file' or url.host:
         return None
     try:

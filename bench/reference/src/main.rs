@@ -67,7 +67,7 @@ fn decoded(form: Form) -> Result<DecodedMap> {
     }
 }
 
-/// A map that is no index of others.
+/// A map that is not an index map.
 enum Single {
     Regular(SourceMap),
     Hermes(SourceMapHermes),
@@ -202,7 +202,7 @@ fn write_error<T>(read: Result<T>, output: &mut Output) -> Result<()> {
     }
 }
 
-/// Takes nothing.
+/// A writer that takes no bytes.
 struct Refusing;
 
 impl Write for Refusing {
@@ -215,7 +215,7 @@ impl Write for Refusing {
     }
 }
 
-/// The map rewritten, and contents that it lacks read from files.
+/// The map rewritten, with contents that it lacks read from files.
 fn with_contents(map: SourceMap) -> Result<SourceMap> {
     let options = RewriteOptions {
         load_local_source_contents: true,

@@ -86,7 +86,7 @@ fn rewritten(question: &Value, options: &RewriteOptions<'_>) -> Value {
     }
 }
 
-/// What is answered where the program runs in a folder.
+/// The answer of the program when it runs in this folder.
 fn within(folder: &str, answer: impl FnOnce() -> Value) -> Value {
     match env::set_current_dir(folder) {
         Ok(()) => answer(),

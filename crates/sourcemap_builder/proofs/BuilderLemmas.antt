@@ -9,7 +9,7 @@ use Rattle.sourcemap_builder.specs.Builder.{with_changes}
 use Rattle.sourcemap_map_parts.specs.Contents.{fitted}
 use Rattle.sourcemap_map_parts.proofs.ContentsLemmas.{length-fitted}
 
--- a new text after those that may be replaced
+-- if there are no more changes than texts, texts that are appended are not replaced
 pub with_changes-append : (cs : List (Option (List ℕ))) (ts us : List (List ℕ)) → length cs ≤ length ts → with_changes cs (ts ++ us) ≡ with_changes cs ts ++ us
 with_changes-append [] [] [] h = refl
 with_changes-append [] [] (u ∷ us) h = refl
@@ -36,14 +36,14 @@ with_changes-set (c ∷ cs) [] i x h = refl
 with_changes-set (c ∷ cs) (t ∷ ts) zero x h = refl
 with_changes-set (c ∷ cs) (t ∷ ts) (suc i) x h = ap (λ rest. unwrap_or c t ∷ rest) (with_changes-set cs ts i x (omega arith))
 
--- the list of changes may be extended by `None`
+-- setting a change replaces the text at its index; the list of changes is cut or filled to the length first
 pub with_changes-put : (cs : List (Option (List ℕ))) (ts : List (List ℕ)) (i : ℕ) (x : List ℕ) → i < length ts → length (fitted (length ts) cs) ≡ length ts
     → with_changes (slice_set (fitted (length ts) cs) i (Some x)) ts ≡ slice_set (with_changes cs ts) i x
 with_changes-put cs ts i x h full =
     with_changes-set (fitted (length ts) cs) ts i x (omega (arith, full))
     ∙ ap (λ current. slice_set current i x) (with_changes-filled cs ts (length ts) (length ts) (omega arith) (omega arith))
 
--- the text of an id
+-- the text at an index is its change if there is one, else the text that was there
 pub slice_get-with_changes : (cs : List (Option (List ℕ))) (ts : List (List ℕ)) (i : ℕ) → length cs ≤ length ts
     → slice_get (with_changes cs ts) i ≡ option_or (option_and_then (λ text. text) (slice_get cs i)) (slice_get ts i)
 slice_get-with_changes [] [] zero h = refl
@@ -55,7 +55,7 @@ slice_get-with_changes (None ∷ cs) (t ∷ ts) zero h = refl
 slice_get-with_changes (Some x ∷ cs) (t ∷ ts) zero h = refl
 slice_get-with_changes (c ∷ cs) (t ∷ ts) (suc i) h = slice_get-with_changes cs ts i (omega arith)
 
--- one more text
+-- a new text is appended and not replaced; a text that is there already changes nothing
 pub with_changes-with_text : (cs : List (Option (List ℕ))) (ts : List (List ℕ)) (t : List ℕ) → length cs ≤ length ts
     → with_changes cs (with_text ts t) ≡ cond (is_some (id_of t ts)) (with_changes cs ts) (with_changes cs ts ++ t ∷ [])
 with_changes-with_text cs ts t h =
@@ -66,20 +66,20 @@ pub on_ok : {X E P Q : Type 0} (r : Result X E) → (P → Q) → OnOk r P → O
 on_ok (Ok x) f h = f h
 on_ok (Err e) f h = h
 
--- the id of a text is below their count
+-- an id of a text is below the number of texts
 pub below-count : (r : Result ℕ Error) (texts : List (List ℕ)) (text : List ℕ) → IfOk r (λ id. slice_get texts id ≡ Some text)
     → IfOk r (λ id. id < length texts)
 below-count (Ok id) texts text h = slice_get_within texts id text h
 below-count (Err e) texts text h = h
 
--- the last text is not replaced
+-- a `None` at the end of the changes replaces nothing
 pub with_changes-kept : (cs : List (Option (List ℕ))) (ts : List (List ℕ)) → with_changes cs ts ≡ with_changes (cs ++ None ∷ []) ts
 with_changes-kept cs [] = refl
 with_changes-kept [] (t ∷ []) = refl
 with_changes-kept [] (t ∷ u ∷ us) = refl
 with_changes-kept (c ∷ cs) (t ∷ ts) = ap (λ rest. unwrap_or c t ∷ rest) (with_changes-kept cs ts)
 
--- the last text is replaced
+-- a `Some` at the end of the changes replaces the text at its index
 pub with_changes-last : (cs : List (Option (List ℕ))) (ts : List (List ℕ)) (i : ℕ) (x : List ℕ) → length cs ≡ i → i < length ts
     → with_changes cs (slice_set ts i x) ≡ with_changes (cs ++ Some x ∷ []) ts
 with_changes-last cs [] i x e h = absurd (omega arith)
@@ -112,7 +112,7 @@ pub nothing-changed : (cs : List (Option (List ℕ))) (ts : List (List ℕ)) →
 nothing-changed [] ts e = with_changes-nothing ts
 nothing-changed (c ∷ cs) ts e = absurd (omega arith)
 
--- the current text of an added one
+-- if there is a text at an index, the current one is its change, or else the text itself
 current-at : (cs : List (Option (List ℕ))) (ts : List (List ℕ)) (i : ℕ) (t : List ℕ) → slice_get ts i ≡ Some t
     → slice_get (with_changes cs ts) i ≡ Some (unwrap_or (option_and_then (λ text. text) (slice_get cs i)) t)
 current-at cs [] i t e = cc
@@ -139,7 +139,8 @@ module _ (f : List ℕ → List ℕ) where
       let more = further cs us vs i new t s (omega arith) at here is rest in
       cc
 
-  -- the texts after a function changed one more
+  -- if the new changes turn the first `i` texts into what a function makes of the current ones, one more
+  -- change does so for the first `i + 1`
   pub with_changes-further : (news olds : List (Option (List ℕ))) (ts : List (List ℕ)) (i : ℕ) (new : Option (List ℕ)) (t : List ℕ)
       → length news ≡ i → slice_get ts i ≡ Some t
       → unwrap_or new t ≡ f (unwrap_or (option_and_then (λ text. text) (slice_get olds i)) t)
@@ -148,7 +149,7 @@ module _ (f : List ℕ → List ℕ) where
   with_changes-further news olds ts i new t many at is h =
       rw add-one (further news ts (with_changes olds ts) i new t _ many at (current-at olds ts i t at) is h)
 
-  -- .. and after it changed all
+  -- if `i` is past the last text, they do so for all texts
   pub with_changes-through : (news olds : List (Option (List ℕ))) (ts : List (List ℕ)) (i : ℕ) → length ts ≤ i
       → with_changes news (take i ts) ≡ take i (map f (with_changes olds ts)) → map f (with_changes olds ts) ≡ with_changes news ts
   with_changes-through news olds ts i past h =

@@ -8,7 +8,7 @@ use Rattle.sourcemap_map_parts.proofs.ContentsLemmas.{slice_get-fitted}
 use Rattle.sourcemap_source_files.specs.Loading.{newly, Fills, IsNoFolder}
 use Rattle.sourcemap_builder.specs.Builder.{BuilderValue, Loads}
 
--- items beyond the sources do not count
+-- cutting or filling the old contents to `count` items does not change how many of the first `n` are new
 newly-fitted : (n count : ℕ) (before after : List (Option (List ℕ))) → n ≤ count → newly n (fitted count before) after ≡ newly n before after
 newly-fitted zero count before after h = refl
 newly-fitted (suc n) count before after h =
@@ -19,7 +19,7 @@ some_more : (o : Option (List ℕ)) (P Q : List ℕ → Type 0) → ((x : List �
 some_more (Some x) P Q f h = f x h
 some_more None P Q f h = h
 
--- the clauses of loading, for the value of the builder
+-- the clauses of loading, restated for the value of the builder
 module _ (old : BuilderValue) (texts : List (List ℕ)) (many : ℕ) (before loaded after : List (Option (List ℕ)))
     (are_texts : texts ≡ old.interned) (are_many : many ≡ length old.sources) (was : before ≡ old.contents) (is : after ≡ loaded) where
   fills : (folder : List ℕ) → Fills folder texts (fitted many before) loaded → Loads folder old (record old { contents = after })

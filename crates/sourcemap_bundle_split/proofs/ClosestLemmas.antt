@@ -80,7 +80,7 @@ module _ {X K : Type 0} (key : X → K) (cmp : K → K → Ordering) (p : K) whe
   before_p : X → Bool
   before_p x = is_lt (cmp (key x) p)
 
-  -- an item that is kept stays the closest one, where items at the position are kept
+  -- the closest item stays the closest one if the filter keeps it and keeps all items at the position
   pub closest-filter : (keep : X → Bool) (xs : List X) (y : X) → ((x : X) → is_eq (cmp (key x) p) ≡ true → keep x ≡ true)
       → closest_item key cmp xs p ≡ Some y → keep y ≡ true → closest_item key cmp (filter keep xs) p ≡ Some y
   closest-filter keep xs y passes found kept =
@@ -131,7 +131,7 @@ find_last-map {X} {Y} f test test' (x ∷ xs) same =
     here true = refl
     here false = refl
 
--- items whose order to a position is that of the changed ones to the changed position
+-- the changed item `f x` compares to `p'` as the item `x` compares to `p`
 abbrev pub KeepsOrder : {X Y K : Type 0} → (X → Y) → (X → K) → (Y → K) → (K → K → Ordering) → K → K → X → Type 0
 KeepsOrder f key key' cmp p p' x = cmp (key' (f x)) p' ≡ cmp (key x) p
 

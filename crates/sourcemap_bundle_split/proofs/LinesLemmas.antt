@@ -1,4 +1,5 @@
--- The tokens of some lines among all: those that a first search leaves out, and those that a second one keeps.
+-- The tokens from a line on and before an end: a first search drops those before the line, and a second one
+-- keeps those before the end.
 use Rattle.std.proofs.Common.{◌≡◌, ◌∙◌, refl, sym, ap, subst, ℕ, zero, suc, ◌+◌, ◌-◌, ◌<◌, ◌≤◌, List, [], ◌∷◌, length, get_or, take, drop, map, filter, All, Bool, true, false, cond, not, ◌&&◌, ltb, arith}
 use Rattle.std.specs.List.{AllByRecursion}
 use Rattle.std.specs.List.Sorted.{IsPartitionPoint, IsPartitionedBy}
@@ -14,7 +15,7 @@ use Rattle.sourcemap_tokens.proofs.TokensLemmas.{position_cmp_total}
 use Rattle.sourcemap_bundle_split.specs.ModuleMap.{moved_by}
 use Rattle.sourcemap_bundle_split.proofs.LoweredLemmas.{cmp-relative_position, not_before-line}
 
--- Where the items that pass come first.
+-- Lists in which the items that pass a test come first.
 
 point_parts : {X : Type 0} (p : X → Bool) (xs : List X) (i : ℕ) → i ≤ length xs → IsPartitionPoint (λ y. p y ≡ true) (λ y. p y ≡ false) xs i
     → (take i xs ≡ filter p xs) × (drop i xs ≡ filter (λ x. not (p x)) xs)
@@ -45,7 +46,7 @@ rank_less Less = refl
 rank_less Equal = refl
 rank_less Greater = refl
 
--- tokens in order are cut in two by each position
+-- of tokens in order, those before a position come first
 pub parted : (tokens : List RawToken) (b : ℕ × ℕ) → AreInOrder tokens → IsPartitionedBy (stands_before b) tokens
 parted tokens b up i j d l m passes =
     let rises = searchable_from_sorted position_cmp_total destination tokens b up in
@@ -66,7 +67,7 @@ filter-both {X} p q (x ∷ xs) = by_cases (p x) (q x) refl refl (filter-both p q
     by_cases true false a b rest = rw (a, b) rest
     by_cases false b' a b rest = rw a rest
 
--- What is kept of tokens in order is in order, and stays so on lines that count from a later one.
+-- A filter keeps tokens in order. They stay in order when their lines are counted from a later line.
 
 all-filter : {X : Type 0} (P : X → Type 0) (p : X → Bool) (xs : List X) → AllByRecursion P xs → AllByRecursion P (filter p xs)
 all-filter P p [] all = tt
@@ -119,7 +120,7 @@ pub in_order-moved : (line : ℕ) (sources names : List ℕ) (tokens : List RawT
 in_order-moved line sources names tokens later up =
     sorted_from_Rises stands_less (map (moved_by line sources names) tokens) (rises-moved line sources names tokens later (rising tokens up))
 
--- tokens that do not stand before a line stand on it or later
+-- tokens that are not before the start of a line are on it or later
 pub later-from : (line : ℕ) (tokens : List RawToken) → All (λ t. line ≤ t.dst_line) (filter (λ t. not (stands_before (line, 0) t)) tokens)
 later-from line tokens =
     All-weaker (λ (t : RawToken). not (stands_before (line, 0) t) ≡ true) (λ (t : RawToken). line ≤ t.dst_line)

@@ -1,4 +1,5 @@
--- The map of a module means on its lines what the flat map means there.
+-- On the lines of a module, its map has the meaning of the flat map. This holds wherever the closest token of
+-- the flat map is on these lines too.
 use Rattle.std.proofs.Common.{◌≡◌, ◌∙◌, refl, sym, ap, subst, ℕ, ◌+◌, ◌-◌, ◌<◌, ◌≤◌, ◌==◌, ◌&&◌, List, [], ◌∷◌, length, map, filter, Bool, true, false, cond, not, nat_lt, nat_eq, Option, Some, None, option_map, unwrap_or, slice_get, arith}
 use Rattle.std.specs.List.{AllByRecursion}
 use Rattle.std.proofs.lemmas.Bool.{eqb-true}
@@ -49,7 +50,7 @@ is_eq-same a b e = by_cases (nat_lt a b) (nat_eq a b) refl refl
     by_cases false true l same = eqb-true a b same
     by_cases false false l same = let no : false ≡ true = (rw (l, same) at e) in cc
 
--- a token at a position of these lines is on them
+-- a position that compares equal to one in a range is in the range
 at-in : (line : ℕ) (end p q : ℕ × ℕ) → is_in line end p ≡ true → is_eq (position_cmp q p) ≡ true → is_in line end q ≡ true
 at-in line end p q inside same =
     let both = is_eq-then (nat_cmp q.0 p.0) (nat_cmp q.1 p.1) same in
@@ -123,7 +124,7 @@ module _ (flat : MapValue) (name : List ℕ) (line : ℕ) (end p : ℕ × ℕ) (
       ∙ ap (λ name. meaning_by (source_of flat t.src_id) name (distance (moved t) (lowered_to line p))) name_same
       ∙ ap (meaning_by (source_of flat t.src_id) (name_of flat t.name_id)) distance_same
 
-  -- the map of a module answers where the flat map's closest token is one of the module's
+  -- the map of a module has the meaning of the flat map
   pub module_meaning : meaning new (lowered_to line p) ≡ meaning flat p
   unfolding of_item
   module_meaning =

@@ -1,4 +1,4 @@
--- Tokens that get their numbers one after another.
+-- Tokens whose sources and names get their numbers one token after another.
 use Rattle.std.proofs.Common.{◌≡◌, ◌∙◌, refl, sym, ap, subst, ℕ, zero, suc, ◌+◌, ◌<◌, ◌≤◌, List, [], ◌∷◌, ◌++◌, length, get_or, take, map, fold, Option, Some, None, option_map, slice_get, arith, inl, inr, ◌⊎◌}
 use Rattle.std.proofs.lemmas.List.{map-append, take_more}
 use Rattle.std.proofs.lemmas.List.Sums.{fold-append}
@@ -13,7 +13,7 @@ use Rattle.sourcemap_bundle_split.proofs.TableLemmas.{number_past}
 pub used-more : (count : ℕ) (ids : List ℕ) (id : ℕ) → used_ids count (ids ++ id ∷ []) ≡ with_id count (used_ids count ids) id
 used-more count ids id = fold-append (with_id count) [] ids (id ∷ [])
 
--- the ids that the tokens up to the next one use
+-- the ids that the first `i + 1` tokens use
 pub used-step : (count : ℕ) (of : RawToken → ℕ) (tokens : List RawToken) (i : ℕ) (d : RawToken) → i < length tokens
     → used_ids count (map of (take (i + 1) tokens)) ≡ with_id count (used_ids count (map of (take i tokens))) (of (get_or tokens i d))
 used-step count of tokens i d inside =
@@ -21,7 +21,7 @@ used-step count of tokens i d inside =
     ∙ ap (used_ids count) (map-append of (take i tokens) (get_or tokens i d ∷ []))
     ∙ used-more count (map of (take i tokens)) (of (get_or tokens i d))
 
--- an id that is used keeps its number, or has none for good
+-- an id that was used keeps its number, or still has none, when another id follows
 same_number : (count : ℕ) (ids : List ℕ) (k id new : ℕ) → slice_get ids k ≡ Some id
     → number_of (with_id count (used_ids count ids) new) id ≡ number_of (used_ids count ids) id
 same_number count ids k id new at =
@@ -56,7 +56,7 @@ module _ (line sources names : ℕ) (done : List RawToken) (t : RawToken) where
       (slice_get-map (λ (t : RawToken). t.name_id) done k ∙ ap (option_map (λ (t : RawToken). t.name_id)) at) in
       rw (source, name) refl
 
-  -- the numbers of the tokens before it stay when one token more gets its own
+  -- the tokens so far keep their numbers when one more token gets its own
   pub moved-more : map (moved_by line (with_id sources (source_ids done) t.src_id) (with_id names (name_ids done) t.name_id)) (done ++ t ∷ [])
       ≡ map (moved_by line (source_ids done) (name_ids done)) done
       ++ moved_by line (with_id sources (source_ids done) t.src_id) (with_id names (name_ids done) t.name_id) t ∷ []

@@ -43,7 +43,7 @@ number_of-append (x ∷ ids) k id = by_cases (x == id) (number_of ids id) (k == 
         rw (here, rest, is, same, one) refl
     by_cases false None false here is same rest = rw (here, rest, is, same) refl
 
--- a number that an id has stays
+-- an id that has a number keeps it
 pub number_of-stays : (count : ℕ) (ids : List ℕ) (k id n : ℕ) → number_of ids id ≡ Some n → number_of (with_id count ids k) id ≡ Some n
 number_of-stays count ids k id n found = by_cases (nat_lt k count && is_none (number_of ids k)) refl
   where
@@ -55,7 +55,7 @@ stays-fold : (count : ℕ) (more ids : List ℕ) (id n : ℕ) → number_of ids 
 stays-fold count [] ids id n found = found
 stays-fold count (k ∷ more) ids id n found = stays-fold count more (with_id count ids k) id n (number_of-stays count ids k id n found)
 
--- an id that is used has a number
+-- an id below `count` has a number once it is used
 pub number_of-met : (count : ℕ) (ids : List ℕ) (id : ℕ) → id < count → (n : ℕ) × (number_of (with_id count ids id) id ≡ Some n)
 number_of-met count ids id below = by_cases (number_of ids id) refl
   where
@@ -158,7 +158,7 @@ any-number (x ∷ ids) id n found = by_cases (x == id) (number_of ids id) refl r
     by_cases false (Some m) b is rest =
         let same : nat_eq id x ≡ false = grind (arith, nat_tests, b) in rw same (rest m is)
 
--- the text of an id that is used is that of its number, and an id that names nothing has a number that names nothing
+-- the text at the number of a used id is the text at the id; if the id names nothing, neither does its number
 pub text_by_number : (texts : List (List ℕ)) (ids : List ℕ) (k id : ℕ) → length texts ≤ 4294967295 → slice_get ids k ≡ Some id
     → slice_get (texts_at texts (used_ids (length texts) ids)) (unwrap_or (number_of (used_ids (length texts) ids) id) no_id) ≡ slice_get texts id
 text_by_number texts ids k id few at = by_index (slice_get_cases texts id).1

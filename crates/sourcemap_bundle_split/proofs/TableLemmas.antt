@@ -1,4 +1,4 @@
--- Numbers of ids in a table, of which those count that an id in order has.
+-- Numbers of ids in a table. The number in the slot of an id counts only if `order` has the id at that index.
 use Rattle.std.proofs.Common.{◌≡◌, ◌≢◌, ◌∙◌, refl, sym, ap, subst, ℕ, zero, suc, ◌+◌, ◌<◌, ◌≤◌, ◌==◌, List, [], ◌∷◌, ◌++◌, length, get_or, set, All, Bool, true, false, cond, nat_lt, nat_eq, Option, Some, None, is_none, option_map, unwrap_or, slice_get, arith, ◌⊎◌, inl, inr}
 use Rattle.std.specs.List.{IsDistinct, list_any}
 use Rattle.std.proofs.lemmas.Bool.{eqb-true}
@@ -16,7 +16,7 @@ use Rattle.sourcemap_bundle_split.proofs.NumberLemmas.{number_of-get, number_of-
 itself : (id : ℕ) → (id == id) ≡ true
 itself id = grind (arith, nat_tests)
 
--- an id that stands somewhere has a number
+-- an id in the list has a number
 number_of-there : (ids : List ℕ) (id n : ℕ) → slice_get ids n ≡ Some id → (m : ℕ) × (number_of ids id ≡ Some m)
 number_of-there [] id n at = cc
 number_of-there (k ∷ ids) id zero at =

@@ -31,7 +31,7 @@ same_entries (p ∷ m) (q ∷ n) h =
     let number : q.0 ≡ p.0 = h.0.0 in
     let text : q.1.items ≡ p.1.items = same_from_all_zip (λ x y. y ≡ x) p.1.items q.1.items h.0.1.0 (λ x y e. e) in cc
 
--- an entry is put among the same ones
+-- inserting a stored entry inserts the file that it holds
 match_ordering-map : (o : Ordering) (a b c : List (ℕ × Vec ℕ Global))
     → map numbered_file_value (match_ordering o a b c) ≡ match_ordering o (map numbered_file_value a) (map numbered_file_value b) (map numbered_file_value c)
 match_ordering-map Less a b c = refl
@@ -62,7 +62,7 @@ IsReadBy-push names startup folder name id text (found, numbered, read) n = (
   ap (λ f. with_file f (id, text)) read ∙ sym (fold_push with_file (no_modules startup) found (id, text)),
 )
 
--- a file is found among its entries as among the stored ones
+-- a lookup by number finds the text of the stored entry
 lookup-cond : (b : Bool) (text : Vec ℕ Global) (rest : Option (Vec ℕ Global))
     → option_map (λ v. v.items) (cond b (Some text) rest) ≡ cond b (Some text.items) (option_map (λ v. v.items) rest)
 lookup-cond true text rest = refl
@@ -75,7 +75,7 @@ found_by_number (e ∷ entries) test =
     ap (λ rest. cond (test e.0) (Some e.1.items) rest) (found_by_number entries test)
     ∙ sym (lookup-cond (test e.0) e.1 (lookup test entries))
 
--- the same of the first names of a list
+-- one more file: that of the next name of a list
 pub IsReadBy-more : (names : List (String Global)) (i : ℕ) (item : String Global) (name startup : List ℕ) (id : ℕ) (text : List ℕ)
     (folder folder' : FilesValue) → i < length names → item ≡ get_or names i item → name ≡ string_bytes item
     → folder' ≡ with_file folder (id, text) → IsNumbered name id
@@ -98,13 +98,13 @@ none_below : (found : Option (Vec ℕ Global)) (a b : ℕ) → a < b → (IsSome
 none_below None a b below least = refl
 none_below (Some text) a b below least = let past : b ≤ a = least refl in absurd (omega (arith, below, past))
 
--- a number of no stored file is that of no file
+-- a number without a stored entry has no file
 pub no_file : (folder : UnbundleRamBundle) (id : ℕ) → get nat_cmp folder.modules id ≡ None → file_module (files_value folder) id ≡ None
 no_file folder id none =
     ap (option_map (λ text. record { id = id; text = text }))
     (found_by_number folder.modules.entries (λ k. is_eq (nat_cmp id k)) ∙ ap (option_map (λ v. v.items)) none)
 
--- the first stored file from a number on, and none before it
+-- the first stored entry from a number on is a file, and no number between the two has one
 pub first_file : (folder : UnbundleRamBundle) (from : ℕ) (part : List (ℕ × Vec ℕ Global)) (e : ℕ × Vec ℕ Global) (rest : List (ℕ × Vec ℕ Global))
     → part ≡ e ∷ rest → IsRangeOf nat_cmp (Included from) Unbounded folder.modules part
     → (from ≤ e.0) × (file_module (files_value folder) e.0 ≡ Some (record { id = e.0; text = e.1.items }))

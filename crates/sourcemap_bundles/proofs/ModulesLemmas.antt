@@ -4,7 +4,7 @@ use Rattle.std.proofs.lemmas.Bool.{cases_lt}
 use Rattle.sourcemap_errors.specs.declared.errors.Error.{Error}
 use Rattle.sourcemap_bundles.specs.Modules.{BundleValue, FilesValue, ModuleValue, bundle_module, file_module, files, modules_from, with_item}
 
--- the module of the next number, if it has one, and those after it
+-- the item of the next number, if it has one, and then the items of later numbers
 pub modules_next : (bundle : BundleValue) (id end : ℕ) → id < end
     → modules_from bundle (end - id) id ≡ with_item (bundle_module bundle id) (modules_from bundle (end - (id + 1)) (id + 1))
 modules_next bundle id end below = let left : end - id ≡ suc (end - (id + 1)) = omega arith in rw left refl
@@ -37,7 +37,7 @@ modules_file folder id n end found from below is none =
     ∙ modules_next (files folder) n end below
     ∙ ap (λ item. with_item (Ok item) (modules_from (files folder) (end - (n + 1)) (n + 1))) is
 
--- no file from a number on is no module
+-- if no number from here on has a file, no modules are left
 pub modules_no_file : (folder : FilesValue) (id end : ℕ)
     → ((k : ℕ) → id ≤ k → k < end → file_module folder k ≡ None) → modules_from (files folder) (end - id) id ≡ []
 modules_no_file folder id end none = by (cases_lt id end)
@@ -55,7 +55,7 @@ with_item-length (Ok None) items = omega arith
 with_item-length (Ok (Some found)) items = omega arith
 with_item-length (Err e) items = omega arith
 
--- at most one item a number
+-- at most one item for each number
 pub modules_length : (bundle : BundleValue) (left id : ℕ) → length (modules_from bundle left id) ≤ left
 modules_length bundle zero id = omega arith
 modules_length bundle (suc left) id =

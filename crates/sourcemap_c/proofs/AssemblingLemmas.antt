@@ -1,4 +1,4 @@
--- The handle of a call that empties it.
+-- What a handle holds after a call that empties it.
 use Rattle.std.proofs.Common.{◌≡◌, ◌≢◌, ◌⊎◌, ℕ, Option, None, Result, Ok, Err, inl, inr, subst}
 use Rattle.sourcemap_errors.specs.declared.errors.Error.TheVariants.{OutOfMemory}
 use Rattle.sourcemap_c_handles.specs.Errors.{Finishes, Reports}

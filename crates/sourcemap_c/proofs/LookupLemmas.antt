@@ -22,12 +22,12 @@ before_next tokens n q before = by_next (slice_get tokens (n + 1)) before
     by_next None before = tt
     by_next (Some token) before = before
 
--- the closest token of the lists of a map stays the closest up to the token after it
+-- in a list in order, the token closest to a position stays the closest up to the start of the next token
 pub stays : (tokens : List RawToken) (p : ℕ × ℕ) (found : ℕ × RawToken) → AreInOrder tokens → closest_token tokens p ≡ Some found
     → StaysClosest tokens p (start_after tokens found.0)
 stays tokens p (n, token) up at q later before = closest-stays tokens p q (n, token) up at later (before_next tokens n q before) ∙ sym at
 
--- the closest token of a list, from the token of a map that a lookup returned
+-- a token that a lookup returned is the closest one in the list of the map's tokens
 pub closest-found : (m : MapValue) (p : ℕ × ℕ) (t : TokenValue) → Some t ≡ lookup m p → closest_token m.tokens p ≡ Some (t.index, t.raw)
 closest-found m p t is = by_entry (closest_token m.tokens p) is
   where

@@ -27,7 +27,7 @@ only_memory : {X Y : Type 0} (view : X → Y) (r : Result X Error) (y : Y) → G
 only_memory view (Ok x) y gave = cc
 only_memory view (Err e) y gave = memory_alone e (Ok y ≡ Err e) (λ wrong. cc) gave
 
--- the result of rewriting with default options
+-- rewriting with default options returns the map that `rewritten no_removal` specifies, or out of memory
 pub rewritten_by_default : (options : RewriteOptions) (m : MapValue) (r : Result MapValue Error) → IsDefault options
     → IsAnswer (λ m. m) (Rewrites options m) r → MatchResult r (λ n. n ≡ rewritten no_removal m) (λ e. e ≡ OutOfMemory)
 rewritten_by_default options m r is answered =

@@ -41,7 +41,7 @@ with_memory _ P is h = h
 
 -- From the output of a command to the reply.
 
--- a map's line, or out of memory
+-- a map's JSON line, or out of memory
 prints_map : (t : MapTree) (r : Result (String Global) Error)
     → MatchResult r (λ text. IsJsonLine t (string_bytes text)) (λ e. e ≡ OutOfMemory)
     → IsAnswer string_bytes (PrintsMap t) r
@@ -54,7 +54,7 @@ pub returns_rewritten : (l new : LeafMap) (t : MapTree) (r : Result (String Glob
 returns_rewritten l new t r is of h =
     subst (λ x. IsAnswer string_bytes (PrintsMap x) r) (of ∙ ap leaf is) (prints_map t r h)
 
--- a second step follows a first answer; an error of the first step is the result
+-- if the first step succeeds, the result is that of the second step; else it is the error of the first step
 then_made : {X : Type 0} (First : Result X Error → Type 0) (Next : X → Result (List ℕ) Error → Type 0) (x : X)
     (r : Result (String Global) Error) → First (Ok x) → IsAnswer string_bytes (Next x) r
     → IsAnswer string_bytes (Then First Next) r
@@ -128,17 +128,17 @@ pub returns_no_shift : (rows : ℕ) (i : IndexValue) → ¬ HaveRowsLeft rows i.
     → Returns (Shift rows) (index_tree i) None (Err IncompatibleSourceMap)
 returns_no_shift rows i past = returns_shift rows i (Err IncompatibleSourceMap) (inr (past, refl))
 
--- flattening another map than an index map is an error
+-- flattening a map that is not an index map is an error
 pub no_index_flat : (t : MapTree) (e : Error) → (e ≡ IncompatibleSourceMap) × IsNotIndex t → UnlessMemory e (Returns Flatten t None (Err e))
 no_index_flat (leaf l) e (is, other) = rw is refl
 no_index_flat (index parts ss) e (is, other) = absurd other
 
--- shifting another map than an index map is an error
+-- shifting a map that is not an index map is an error
 pub no_index_shift : (rows : ℕ) (t : MapTree) (e : Error) → (e ≡ IncompatibleSourceMap) × IsNotIndex t → UnlessMemory e (Returns (Shift rows) t None (Err e))
 no_index_shift rows (leaf l) e (is, other) = rw is refl
 no_index_shift rows (index parts ss) e (is, other) = absurd other
 
--- a command without positions needs only maps
+-- every command but `trace` needs only maps
 pub of_maps : (command : Command) → ((path : String Global) → command ≢ Trace path) → IsOfMaps command
 of_maps (Trace path) other = absurd (other path refl)
 of_maps command other = tt
@@ -180,7 +180,7 @@ file_of_error held e read =
     with_file held (λ file. Err e ≡ file) (λ file. UnlessMemory e (FileDecodes file (Err e)))
     (λ file is. subst (λ x. UnlessMemory e (FileDecodes x (Err e))) is (UnlessMemory-from e refl)) read
 
--- a map is adjusted by the one in a file, or the file does not decode
+-- the map is adjusted by the one in a file, or the file cannot be read or decoded
 pub composes_with : (path : String Global) (file : Result (List ℕ) Error) (t u : MapTree) (r : Result (String Global) Error)
     → FileDecodes file (Ok u) → IsAnswer string_bytes (Returns (Compose path) t (Some u)) r
     → IsAnswer string_bytes (ReturnsWithFile file (Compose path) t) r
@@ -190,7 +190,7 @@ pub composes_with_none : (path : String Global) (file : Result (List ℕ) Error)
     → UnlessMemory e (FileDecodes file (Err e)) → UnlessMemory e (ReturnsWithFile file (Compose path) t (Err e))
 composes_with_none path file t e is = then_refused (FileDecodes file) (λ other a. Returns (Compose path) t (Some other) a) e is
 
--- the same for a file that is not preloaded
+-- the same for a file that is preloaded or read
 pub composes_with_file : (held : Option (Result (List ℕ) Error)) (path : String Global) (t u : MapTree) (r : Result (String Global) Error)
     → WithFile held (λ file. FileDecodes file (Ok u)) → IsAnswer string_bytes (Returns (Compose path) t (Some u)) r
     → WithFile held (λ file. IsAnswer string_bytes (ReturnsWithFile file (Compose path) t) r)
@@ -279,7 +279,7 @@ reply_of_command held words bytes command answer r asked given is =
     (λ file. MatchResult r (IsReplyTo words bytes file) (λ e. e ≡ OutOfMemory))
     (λ file says. reply_on_file words bytes file command answer r asked says is) given
 
--- the reply to other words is the usage
+-- the reply to words that are no command is the usage
 pub reply_to_others : (held : Option (Result (List ℕ) Error)) (words : List (List ℕ)) (bytes : List ℕ) (r : Result Reply Error)
     → AskForNone words → MatchResult r (IsReply misused) (λ e. e ≡ OutOfMemory)
     → WithFile held (λ file. MatchResult r (IsReplyTo words bytes file) (λ e. e ≡ OutOfMemory))
@@ -287,9 +287,9 @@ reply_to_others held words bytes (Ok reply) none is =
     any_file held (λ file. IsReplyTo words bytes file reply) (λ file. (misused, none, is))
 reply_to_others held words bytes (Err e) none is = any_file held (λ file. e ≡ OutOfMemory) (λ file. is)
 
--- Words and bytes have one reply.
+-- Words, bytes and a file determine the reply, but for the texts of std's errors.
 
--- two results that print alike: equal values, or errors of the same text
+-- two results that print alike: equal values, or errors such that each text of the first is one of the second
 abbrev PrintAlike : {X : Type 0} → (a b : Result X Error) → Type 0
 PrintAlike (Ok s) (Ok t) = s ≡ t
 PrintAlike (Err e) (Err f) = (text : List ℕ) → IsRefusal e text → IsRefusal f text
@@ -299,7 +299,7 @@ alike : {X : Type 0} (a b : Result X Error) → a ≡ b → PrintAlike a b
 alike (Ok s) b is = subst (PrintAlike (Ok s)) is refl
 alike (Err e) b is = subst (PrintAlike (Err e)) is (λ text h. h)
 
--- second steps of first results that print alike
+-- two steps print alike if their first steps do, and their second steps do after the same value
 then_alike : {X : Type 0} (First : Result X Error → Type 0) (Next : X → Result (List ℕ) Error → Type 0)
     → ((a b : Result X Error) → First a → First b → PrintAlike a b)
     → ((x : X) (a b : Result (List ℕ) Error) → First (Ok x) → Next x a → Next x b → PrintAlike a b)
@@ -327,7 +327,7 @@ found_alike t p (Ok a) (Ok b) ordered (x, is, of) (y, is', of') =
 found_alike t p (Err e) b ordered h k = absurd h
 found_alike t p (Ok a) (Err f) ordered h k = absurd k
 
--- errors of one text
+-- errors whose texts are specified as the same, or not at all, print alike
 texts_alike : (e f : Error) → error_text e ≡ error_text f → (text : List ℕ) → IsRefusal e text → IsRefusal f text
 texts_alike e f same text refused =
     (refused.0, subst (λ known. IfSome known (λ line. refused.0 ≡ line)) same refused.1, refused.2)
@@ -350,7 +350,7 @@ shift_alike rows parts ss a b (inr (past, is)) (inr (past', is')) = alike a b (i
 shift_alike rows parts ss a b (inl (left, p)) (inr (past, is)) = absurd (past left)
 shift_alike rows parts ss a b (inr (past, is)) (inl (left, q)) = absurd (past left)
 
--- the adjusted map is determined, and so is its text
+-- if the resulting map is determined, so is its JSON line
 prints_alike : (First : Result MapValue Error → Type 0) → ((a b : Result MapValue Error) → First a → First b → PrintAlike a b)
     → (a b : Result (List ℕ) Error) → Then First (λ m a. PrintsMap (leaf (regular m)) a) a
     → Then First (λ m a. PrintsMap (leaf (regular m)) a) b → PrintAlike a b
@@ -384,7 +384,7 @@ refusal_alike : (e f : Error) (text : List ℕ) → IsSameError e f → IsRefusa
 refusal_alike (Io e) (Io f) text same h = h
 refusal_alike e f text same h = subst (λ x. IsRefusal x text) same h
 
--- bytes decode to one map, and so does a file
+-- bytes decode to one map or one error, and so does a file
 decoded_alike : (a b : Result MapTree Error) → AreSame a b → PrintAlike a b
 decoded_alike (Ok t) (Ok u) same = same
 decoded_alike (Err e) (Err f) same = λ text refused. refusal_alike e f text same refused
@@ -433,7 +433,7 @@ replies_alike words bytes file (answered a) misused p none reply is = absurd (no
 replies_alike words bytes file misused (answered b) none q reply is = absurd (none q.0 q.1)
 replies_alike words bytes file misused misused p q reply is = is
 
--- the reply is determined
+-- a right reply is right for every ending of the same words, bytes and file
 pub only_reply : (words : List (List ℕ)) (bytes : List ℕ) (file : Result (List ℕ) Error) (r : Result Reply Error)
     → MatchResult r (IsReplyTo words bytes file) (λ e. e ≡ OutOfMemory)
     → IfOk r (λ reply. (due : Ending) → Ends words bytes file due → IsReply due reply)
@@ -453,7 +453,7 @@ out_of_memory words e is = no_memory e _ is
 pub reading_failed : (words : List (List ℕ)) (command : Command) (e : Error) → AskFor words command → UnlessReadFails e ⊥ → IsCutShort words e
 reading_failed words command e asked h = UnlessMemory-from e (command, asked, h)
 
--- the reply to other words is the same on all bytes
+-- the reply to words that are no command is the same for all bytes
 any_bytes : (words : List (List ℕ)) (a b : List ℕ) (file : Result (List ℕ) Error) (reply : Reply) → AskForNone words
     → IsReplyTo words a file reply → IsReplyTo words b file reply
 any_bytes words a b file reply none (answered answer, ends, is) = absurd (none ends.0 ends.1)

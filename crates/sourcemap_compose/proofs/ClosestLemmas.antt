@@ -42,7 +42,7 @@ module _ {X : Type 0} where
   All-from_in P [] each = tt
   All-from_in P (y ∷ ys) each = (each y (inl refl), All-from_in P ys (λ x is. each x (inr is)))
 
--- sorting keeps an item
+-- sorting keeps all items
 in-insert_by : (z x : RawToken) (ys : List RawToken) → IsIn z (x ∷ ys) → IsIn z (insert_by destination position_cmp x ys)
 in-insert_by z x [] is = is
 in-insert_by z x (y ∷ ys) is =
@@ -132,7 +132,7 @@ cases_Option None = inl refl
 cases_Option (Some x) = inr (x, refl)
 
 module _ (q : ℕ × ℕ) where
-  -- the greatest item before a position in a list in order is the last of those before it
+  -- in a list in order, x is the last token before `q` if no other token before `q` is at x or after it
   last-here : (x : RawToken) (ys : List RawToken)
       → AllByRecursion (λ y. is_before (destination y) (destination x) ≡ false) ys
       → AllByRecursion (λ y. is_before (destination y) q ≡ true → is_before (destination y) (destination x) ≡ false → y ≡ x) ys
@@ -167,7 +167,7 @@ module _ (q : ℕ × ℕ) where
   before-not_at : (p : ℕ × ℕ) → is_before p q ≡ true → is_eq (position_cmp p q) ≡ false
   before-not_at p before = grind (arith, nat_tests)
 
-  -- a token of a list in order is the closest one, if no other is between it and the position
+  -- in a list in order, a token not after `q` is the closest one if no other is from it up to `q`
   pub closest-only : (x : RawToken) (xs : List RawToken) → Rises (λ a b. is_before (destination a) (destination b)) xs
       → IsIn x xs → is_before q (destination x) ≡ false
       → AllByRecursion (λ y. is_before (destination y) (destination x) ≡ false → is_before q (destination y) ≡ false → y ≡ x) xs
@@ -198,7 +198,7 @@ module _ (q : ℕ × ℕ) where
             rw (miss, last) refl
       ]
 
-  -- the token is in the list, not after the position, and no other is between them
+  -- the token is in the list and not after `q`, and each token after it is after `q`
   pub record IsGreatest (t : RawToken) (xs : List RawToken) : Type 0 where
     pub one : IsIn t xs
     pub reached : is_before q (destination t) ≡ false

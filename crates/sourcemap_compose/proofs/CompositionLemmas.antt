@@ -15,12 +15,12 @@ use Rattle.sourcemap_compose.proofs.StretchesLemmas.{IsAt, IsSound, before-chain
 
 -- A pair that overlaps.
 
--- a position of a stretch is on its line
+-- a position in a stretch is on the line of its start, at the column of the start or after it
 pub on_the_line : (start end p : ℕ × ℕ) → is_before (line_end start) end ≡ false → is_before p start ≡ false → is_before p end ≡ true
     → (start.0 ≡ p.0) × (start.1 ≤ p.1)
 on_the_line start end p short from to = (grind (arith, nat_tests), grind (arith, nat_tests))
 
--- so the later start of two that overlap is on the line of both
+-- so if two stretches overlap, the later start is on the line of each, at the column of its start or after it
 pub later-on_the_line : (a o : Stretch) → IsSound source a → IsSound destination o → overlap a o ≡ true
     → (a.start.0 ≡ (later_start a o).0) × (a.start.1 ≤ (later_start a o).1)
     × (o.start.0 ≡ (later_start a o).0) × (o.start.1 ≤ (later_start a o).1)
@@ -139,7 +139,7 @@ module _ (S T : List Stretch) (i j : ℕ) (a o : Stretch)
       ∙ ap (λ tokens. done ++ tokens) (sym (first_both a o (drop (i + 1) S) (drop (j + 1) T) ends ends_too at_o.later at_a.later))
       ∙ opened
 
-  -- a token of this pair is one of all
+  -- if the token of this pair overflows, one of all tokens does
   pub overflows_in_all : list_any overflows_column (pair a o) ≡ true → list_any overflows_column all ≡ true
   overflows_in_all passes =
       elim (cases_Bool (is_before o.end a.end)) [
@@ -147,7 +147,7 @@ module _ (S T : List Stretch) (i j : ℕ) (a o : Stretch)
         | inr second ↦ subst (λ tokens. list_any overflows_column tokens ≡ true) (next_adjustment second) (some-append overflows_column done (pair a o) (composed_all (drop (i + 1) S) (drop j T)) passes)
       ]
 
--- the walk has reached the end of one list
+-- at the end of one list, the walk has found all tokens
 pub walked_all : (S T : List Stretch) (i j : ℕ) (done all : List RawToken) → done ++ composed_all (drop i S) (drop j T) ≡ all
     → (slice_get S i ≡ None) ⊎ (slice_get T j ≡ None) → done ≡ all
 walked_all S T i j done all so_far (inl end) =

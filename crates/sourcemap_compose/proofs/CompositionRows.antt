@@ -28,24 +28,25 @@ empty_inside = refl
 empty_at_start : composition (at 0 5 1 1 ∷ []) (at 3 0 0 5 ∷ at 4 0 0 5 ∷ []) ≡ Ok (at 4 0 1 1 ∷ [])
 empty_at_start = refl
 
+-- a generated column past the highest one, and the highest one
 column_overflow : composition (at 0 0 1 1 ∷ at 0 1 1 2 ∷ []) (at 0 4294967295 0 0 ∷ []) ≡ Err IncompatibleSourceMap
 column_overflow = refl
 
 last_column : composition (at 0 0 1 1 ∷ []) (at 0 4294967295 0 0 ∷ []) ≡ Ok (at 0 4294967295 1 1 ∷ [])
 last_column = refl
 
--- the same for originals
+-- of two originals at one position the first is empty: it pairs only strictly inside of an adjustment
 empty_original_inside : composition (at 0 5 1 1 ∷ at 0 5 2 2 ∷ []) (at 0 0 0 0 ∷ []) ≡ Ok (at 0 5 1 1 ∷ at 0 5 2 2 ∷ [])
 empty_original_inside = refl
 
 empty_original_at_start : composition (at 0 5 1 1 ∷ at 0 5 2 2 ∷ []) (at 0 0 0 5 ∷ []) ≡ Ok (at 0 0 2 2 ∷ [])
 empty_original_at_start = refl
 
--- an adjustment without a source
+-- an adjustment with the original position of a token without source
 no_source : composition (at 0 0 1 1 ∷ []) (at 0 0 4294967295 4294967295 ∷ []) ≡ Ok []
 no_source = refl
 
--- two tokens at one position, in the order of the adjustment's sources
+-- two tokens at one position, in the order of the original positions of the adjustment
 one_position : composition (at 0 0 1 1 ∷ at 0 5 2 2 ∷ []) (at 0 0 0 0 ∷ at 0 0 0 5 ∷ []) ≡ Ok (at 0 0 1 1 ∷ at 0 0 2 2 ∷ [])
 one_position = refl
 
@@ -53,7 +54,7 @@ one_position = refl
 out_of_order : composition (at 0 5 2 2 ∷ at 0 0 1 1 ∷ []) (at 0 0 0 5 ∷ at 7 0 0 0 ∷ []) ≡ Ok (at 0 0 2 2 ∷ at 7 0 1 1 ∷ [])
 out_of_order = refl
 
--- cuts
+-- originals whose first columns fall away
 cut_range : composition (range 0 0 0 7 ∷ []) (at 5 0 0 10 ∷ []) ≡ Ok (range 5 0 0 17 ∷ [])
 cut_range = refl
 

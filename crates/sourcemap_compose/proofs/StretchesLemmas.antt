@@ -1,4 +1,4 @@
--- Stretches of a sorted list: their positions, and that each ends before later ones start.
+-- Stretches of a sorted list: their positions, and that no later one starts before an earlier one ends.
 use Rattle.std.proofs.Common.{◌≡◌, refl, sym, ap, subst, ◌∙◌, ℕ, zero, suc, ◌+◌, ◌<◌, ◌≤◌, List, [], ◌∷◌, length, drop, Bool, true, false, Some, None, Option, slice_get, IsSortedByKey, arith, inl, inr, ◌⊎◌, add-one}
 use Rattle.std.specs.List.{AllByRecursion}
 use Rattle.std.specs.Ordering.{is_lt}
@@ -28,7 +28,7 @@ before-from_line p q less = grind (arith, nat_tests)
 pub before-from_column : (p q : ℕ × ℕ) → p.0 ≡ q.0 → p.1 < q.1 → is_before p q ≡ true
 before-from_column p q same less = grind (arith, nat_tests)
 
--- the order of numbers, on three positions at most
+-- laws of the order, on at most three positions
 pub before-chain : (p q r : ℕ × ℕ) → is_before p q ≡ false → is_before q r ≡ false → is_before p r ≡ false
 before-chain p q r first second = grind (arith, nat_tests)
 
@@ -115,7 +115,7 @@ module _ (position : RawToken → ℕ × ℕ) where
   pub stretches_follow : (tokens : List RawToken) → IsSortedByKey position position_cmp tokens → Rises (λ (u s : Stretch). is_before u.start s.end) (stretches position tokens)
   stretches_follow tokens up = Rises-stretches tokens (Rises-from_sorted (λ a b. is_lt (position_cmp (position a) (position b))) (ranks_by position_cmp_total position) tokens up)
 
-  -- a stretch starts at its token, and ends on its line
+  -- a stretch starts at its token, and ends no later than its line
   pub record IsSound (s : Stretch) : Type 0 where
     pub start : s.start ≡ position s.token
     pub end : is_before (line_end s.start) s.end ≡ false

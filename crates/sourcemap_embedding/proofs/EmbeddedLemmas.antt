@@ -1,4 +1,4 @@
--- An error of a data URL is that of what it holds.
+-- The error for a data URL is the error of decoding it.
 use Rattle.std.proofs.Common.{◌≡◌, inr, ℕ, List, Bool, true, false, Err}
 use Rattle.std.specs.Bool.{MatchBool}
 use Rattle.sourcemap_errors.specs.declared.errors.Error.{Error}

@@ -79,7 +79,7 @@ parts-steps (a ∷ above) text = ap (λ later. codes ".." ∷ later) (parts-step
 
 -- ---- where parts lead
 
--- dropping the last part drops it from the later list
+-- dropping the last part of two joined lists drops that of the second, unless the second is empty
 but_last-append : (xs ys : List (List ℕ)) → 0 < length ys → take (length (xs ++ ys) - 1) (xs ++ ys) ≡ xs ++ take (length ys - 1) ys
 but_last-append [] ys l = refl
 but_last-append (x ∷ xs) ys l =
@@ -87,7 +87,7 @@ but_last-append (x ∷ xs) ys l =
     let size : length (x ∷ (xs ++ ys)) - 1 ≡ suc (length (xs ++ ys) - 1) = omega arith in
     ap (λ n. take n (x ∷ (xs ++ ys))) size ∙ ap (λ later. x ∷ later) (but_last-append xs ys l)
 
--- as many `../` as there are parts drop all of them
+-- one `..` for each of the last parts drops these parts
 followed-up : (ks ys xs rest : List (List ℕ)) → length ks ≡ length ys → followed (xs ++ ys) (map (λ part. codes "..") ks ++ rest) ≡ followed xs rest
 followed-up [] [] xs rest e = ap (λ from. followed from rest) (append-nil xs)
 followed-up [] (y ∷ ys) xs rest e = absurd (omega arith)

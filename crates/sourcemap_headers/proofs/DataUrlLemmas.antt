@@ -1,4 +1,4 @@
--- Decoding a data URL has one result.
+-- A data URL decodes to at most one result.
 use Rattle.std.proofs.Common.{◌≡◌, List, ℕ, refl, ap, Result, Ok, Err, ◌∙◌, sym}
 use Rattle.base64.specs.Engines.{standard}
 use Rattle.base64.specs.GeneralPurpose.{encode_of, decode_of}

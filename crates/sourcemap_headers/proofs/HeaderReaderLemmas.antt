@@ -27,7 +27,7 @@ pub junk_byte_at : (chunk later : List ℕ) (i : ℕ) → i < length chunk → g
 junk_byte_at chunk later i within h =
     rw (drop-cons chunk i 0 within, add-one) (junk_byte (get_or chunk i 0) (drop (suc i) chunk ++ later) h)
 
--- bytes that a reader returned are the first of those that it had
+-- the bytes that a reader returned are a prefix of the bytes that it had
 pub consumed : (old new : Option (List ℕ)) (bytes : List ℕ) → Consumes old new bytes → (xs : List ℕ) → old ≡ Some xs
     → (ys : List ℕ) × (new ≡ Some ys) × (xs ≡ bytes ++ ys)
 consumed None new bytes h xs e = cc
@@ -86,7 +86,7 @@ remaining_consumed remaining old middle new bytes (Some xs) e first next =
     let t = next f.0 f.1 in
     rw t.1 (known_consumed (remaining_in old.state xs) (remaining_in middle.state f.0) (remaining_in new.state t.0) bytes f.2 t.2)
 
--- junk, then bytes after it
+-- one step that outputs nothing, then one that outputs `bytes`: together they consume `bytes`
 pub outputs_consumed : {R : Type 0} (remaining : R → Option (List ℕ)) (old middle new : StripHeaderReader R) (bytes : List ℕ)
     → Outputs remaining old middle [] → Outputs remaining middle new bytes
     → Consumes (remaining_of remaining old) (remaining_of remaining new) bytes

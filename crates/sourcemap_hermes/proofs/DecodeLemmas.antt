@@ -1,4 +1,4 @@
--- A record decodes to one Hermes map, and its scopes do not change the regular map.
+-- A record decodes to at most one result, and its scopes do not change the regular map.
 use Rattle.std.proofs.Common.{◌≡◌, List, Option, Some, None, Result, Ok, Err, Vec, Global, option_map, sym, ap, subst, ◌∙◌, inl, inr}
 use Rattle.sourcemap_errors.specs.Answer.{IsAnswer}
 use Rattle.sourcemap_errors.specs.declared.errors.Error.{Error}

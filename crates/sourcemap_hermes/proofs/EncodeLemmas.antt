@@ -1,4 +1,5 @@
--- The record of a regular map, with scopes, is that of the Hermes map, and reads back.
+-- A record of the regular map, with the scopes added, is a record of the Hermes map. It reads back if the
+-- Hermes map is well-formed.
 use Rattle.std.proofs.Common.{◌≡◌, List, Result, Ok, sym, ap, subst, ◌∙◌, refl}
 use Rattle.sourcemap_errors.specs.declared.errors.Error.{Error}
 use Rattle.sourcemap_records.specs.Jsontypes.{Fields, Tree, plain, indexed, flat, AreInRange, IsFine}
@@ -27,7 +28,7 @@ flat-scoped : (t : Tree) (entries : List ScopeEntry) → flat (scoped t entries)
 flat-scoped (plain r) entries = refl
 flat-scoped (indexed r sections) entries = refl
 
--- the regular map decoded again, with its scopes
+-- for a well-formed map: if the record of the regular map reads back, so does the record with scopes added
 back-scoped : (h : HermesValue) (r : Fields) → IsWellFormed h → ReadsBack (RecordDecodes r) (RestoresRegular h.map)
     → ReadsBack (HermesDecodes (with_scopes r h.scopes.entries)) (Restores h)
 back-scoped h r well (back, decodes, restores) =
@@ -52,7 +53,7 @@ answered_with entries = Ok entries
 pub copied : (entries copies : List ScopeEntry) → answered_with entries ≡ answered_with copies → copies ≡ entries
 copied entries copies same = cc
 
--- the record that a map is written as is determined
+-- a map is written as at most one record
 pub scoped_once : (h : HermesValue) (a b : Tree) → IsRecordOf h a → IsRecordOf h b → a ≡ b
 scoped_once h a b (r, is, same) (s, is', same') =
     same ∙ ap (λ t. scoped t h.scopes.entries) (record_once h.map r s is is') ∙ sym same'

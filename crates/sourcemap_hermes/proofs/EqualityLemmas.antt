@@ -1,4 +1,4 @@
--- Hermes maps compare equal exactly if their values are.
+-- The test of equality of Hermes maps is true exactly if they are equal.
 use Rattle.std.proofs.Common.{◌≡◌, ap}
 use Rattle.std.specs.Bool.{Decides}
 use Rattle.sourcemap_tokens.proofs.DecidesLemmas.{decides_both}

@@ -1,4 +1,5 @@
--- A rewritten Hermes map is well-formed, and its tokens keep their scopes.
+-- A well-formed Hermes map stays well-formed when it is rewritten. Its tokens keep their scopes if no two
+-- sources resolve to the same text.
 use Rattle.std.proofs.Common.{◌≡◌, refl, sym, ap, subst, ◌∙◌, ℕ, zero, suc, ◌≤◌, List, [], ◌∷◌, length, map, Some, None, Option, Ok, inl, inr, ◌⊎◌, arith, slice_get, option_map, option_and_then, IfSome}
 use Rattle.std.specs.List.{AllByRecursion, AllZip}
 use Rattle.std.proofs.lemmas.List.{length-map}
@@ -72,14 +73,15 @@ module _ (removal : Removal) (h : HermesValue) (few : length h.map.sources ≤ 4
   }
 
   module _ (well : IsWellFormed h) (distinct : HasDistinctSources h) where
-    -- a token of the map
+    -- what holds of each token of the map: the rewritten map keeps its source and its name, and the token is
+    -- within the counts
     abbrev IsOwn : RawToken → Type 0
     IsOwn t = IsKept h.map t × IsWithin (length h.map.sources) (length h.map.names) t
 
     all_own : AllByRecursion IsOwn h.map.tokens
     all_own = All-both (IsKept h.map) (IsWithin (length h.map.sources) (length h.map.names)) h.map.tokens (all_tokens_kept h.map) well.map
 
-    -- its new id replaces its old one, or neither has scopes
+    -- the source at the new id `index` had the old id `id`, or neither id has scopes
     abbrev StandsFor : ℕ → ℕ → Type 0
     StandsFor index id =
         (slice_get (first_ids h.map) index ≡ Some id)
@@ -136,7 +138,7 @@ module _ (removal : Removal) (h : HermesValue) (few : length h.map.sources ≤ 4
         subst (λ functions. IfSome functions AreOffsetsInOrder)
         (sym (same_item h.scopes.function_maps (renumbered removal h.map t).src_id t.src_id (elim stands [ inl at ↦ inl at | inr none ↦ inr (none.0, none.2) ])))
 
-    -- By index.
+    -- Tokens by index.
 
     -- the token at this index, as getters return it
     abbrev indexed : MapValue → ℕ → RawToken → TokenValue
@@ -167,7 +169,7 @@ module _ (removal : Removal) (h : HermesValue) (few : length h.map.sources ≤ 4
         by_case None own up = tt
         by_case (Some t) own up = still_in_order t own up
 
-    -- By position.
+    -- Tokens by position.
 
     closest_own : (p : ℕ × ℕ) → IfSome (closest_token h.map.tokens p) (λ found. IsOwn found.1)
     closest_own p = by_case (closest_token h.map.tokens p) (index-closest destination position_cmp h.map.tokens p)
@@ -176,7 +178,7 @@ module _ (removal : Removal) (h : HermesValue) (few : length h.map.sources ≤ 4
         by_case None at = tt
         by_case (Some found) at = All-at IsOwn h.map.tokens found.0 found.1 at all_own
 
-    -- what is found in the rewritten map
+    -- what a lookup finds in the rewritten map, made of what it finds in the old one
     abbrev renumbered_found : Option (ℕ × RawToken) → Option (ℕ × RawToken)
     renumbered_found found = option_map (λ (e : ℕ × RawToken). (e.0, renumbered removal h.map e.1)) found
 

@@ -1,4 +1,5 @@
--- Rewriting a Hermes map with default options twice gives the same map as once.
+-- Rewriting a Hermes map twice with default options gives the same map as once, if it has at most 4294967295
+-- sources and at most 4294967295 names.
 use Rattle.std.proofs.Common.{◌≡◌, refl, sym, ap, subst, ◌∙◌, ℕ, ◌+◌, suc, ◌≤◌, List, [], ◌∷◌, ◌++◌, append_assoc, length, map, Some, None, Option, arith, slice_get}
 use Rattle.std.proofs.lemmas.List.{length-map}
 use Rattle.sourcemap_interning.specs.Interner.{id_of}
@@ -17,7 +18,7 @@ use Rattle.sourcemap_hermes_scopes.specs.Picks.{items_at}
 use Rattle.sourcemap_hermes.specs.Map.{HermesValue}
 use Rattle.sourcemap_hermes.specs.Rewrite.{rewritten}
 
--- Items selected each by its own index.
+-- Items that are each selected by their own index.
 
 at_end : {X : Type 0} (pre ys : List (Option X)) (y : Option X) → item_at (pre ++ y ∷ ys) (length pre) ≡ y
 at_end [] ys None = refl

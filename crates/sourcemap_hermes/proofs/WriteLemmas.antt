@@ -1,4 +1,5 @@
--- The text of a Hermes map's record has few levels, no fraction and no junk header, and so reads back.
+-- The text of a Hermes map's record has few levels, no fraction and no junk header. So it reads back if the
+-- map is well-formed.
 use Rattle.std.proofs.Common.{◌≡◌, inl, ℕ, ◌≤◌, List, [], ◌∷◌, codes, Option, Some, Ok, ap, ◌∙◌, sym, subst, arith}
 use Rattle.serde_json.specs.Data.{Data, depth, string}
 use Rattle.serde_json.specs.Read.{max_depth}
@@ -15,7 +16,7 @@ use Rattle.sourcemap_hermes.specs.Decode.{HermesDecodes, RecordDecodesAsHermes}
 use Rattle.sourcemap_hermes.specs.Encode.{IsRecordOf, IsCompactTextOf, RecordAnswer, Restores, with_scopes, scoped}
 use Rattle.sourcemap_hermes.specs.Map.{HermesValue, IsWellFormed}
 
--- the keys of a map's record, where its tokens are written as these texts
+-- the keys of a map's record, if its tokens are written as these texts of mappings and ranges
 abbrev fields_with : HermesValue → List ℕ → Option (List ℕ) → Fields
 fields_with h mappings ranges = with_scopes (record_with h.map mappings ranges) h.scopes.entries
 
@@ -35,12 +36,12 @@ low_written h mappings ranges =
     low_entries 1 3 (entries (record_with h.map mappings ranges)) (entries_low h.map mappings ranges) in
     (version, (file, (sources, (root, (contents, (names, (of_ranges, (of_mappings, (ignored, (offsets, (paths, (low_lists h.scopes.entries, (debug_id, end))))))))))))))
 
--- each record of the map is that of some texts
+-- each record of the map has these keys, for some texts of mappings and ranges
 record_plain : (h : HermesValue) (t : Tree) → IsRecordOf h t → (mappings : List ℕ) × (ranges : Option (List ℕ)) × (t ≡ plain (fields_with h mappings ranges))
 record_plain h t (r, (mappings, ranges, of_mappings, of_ranges, plain_is), is) =
     (mappings, ranges, is ∙ ap (λ r. scoped r h.scopes.entries) plain_is)
 
--- the record of a map has five levels, and no number in it has a fraction
+-- the record of a map has at most five levels, and no number in it has a fraction
 pub record-low : (h : HermesValue) (t : Tree) → IsRecordOf h t → IsLow 5 (written t)
 record-low h t is =
     let (mappings, ranges, same) = record_plain h t is in

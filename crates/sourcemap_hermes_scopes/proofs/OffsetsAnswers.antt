@@ -1,4 +1,4 @@
--- Scope mappings encode one list of offsets, or none.
+-- Scope mappings encode at most one list of offsets, and none if a part is invalid.
 use Rattle.std.proofs.Common.{◌≡◌, ℕ, suc, zero, List, [], ◌∷◌, ◌⊎◌, inl, inr, Any, Option, Some, None, sym, ap, ap₂, ◌∙◌, refl, subst, ℤ, arith}
 use Rattle.sourcemap_vlq.specs.Vlq.{Reads}
 use Rattle.sourcemap_mappings.specs.Segment.{Segment, parts_of}

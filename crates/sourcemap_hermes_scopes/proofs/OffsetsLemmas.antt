@@ -31,7 +31,7 @@ AddsOffsets-segment before here part numbers old new next some reads is items = 
   is_last = is;
 }
 
--- a part without numbers
+-- an empty part: it reads as no numbers, and appends no offset
 pub AddsOffsets-none : (before here : List Segment) (part : List ℕ) (numbers : List ℤ) (old : List HermesScopeOffset) (last : HermesScopeOffset)
     → length numbers ≡ 0 → Reads part numbers → IsLastOffset before here last → AddsOffsets before here (part ∷ []) old old last
 AddsOffsets-none before here [] numbers old last none reads is = record {
@@ -58,7 +58,8 @@ line_offsets-append before here (x ∷ xs) ys =
     (line_offsets-append before (here ++ x ∷ []) xs ys
     ∙ ap (λ zs. line_offsets before (here ++ x ∷ []) xs ++ line_offsets before zs ys) (append_assoc here (x ∷ []) xs))
 
--- the parts `all` of a line are decoded up to `left`, after the segments `before`
+-- of the parts `all` of a line, those before the suffix `left` are decoded;
+-- `before` has the segments of earlier lines, `here` those of this line so far
 pub record PartsSoFar (before : List Segment) (all left : List (List ℕ)) (old new : List HermesScopeOffset) (last : HermesScopeOffset) : Type 0 where
   pub here : List Segment
   pub read : (later : List Segment) → SegmentsRead left later → SegmentsRead all (here ++ later)
@@ -105,7 +106,7 @@ AddsOffsets-all before all old new last so_far = record {
 
 -- Lines.
 
--- the lines `all` are decoded up to `left`
+-- of the lines `all`, those before the suffix `left` are decoded
 pub record LinesSoFar (all left : List (List ℕ)) (offsets : List HermesScopeOffset) (last : HermesScopeOffset) : Type 0 where
   pub before : List Segment
   pub decoded_lines : List (List Segment)

@@ -6,7 +6,7 @@ use Rattle.std.proofs.lemmas.List.{map-set}
 use Rattle.sourcemap_tokens.specs.Items.{item_at}
 use Rattle.sourcemap_hermes_scopes.specs.Picks.{items_at, moved_items}
 
--- Of distinct ids.
+-- Distinct ids: moving the items out gives the same items as copying them.
 
 slice_get-other : {X : Type 0} (xs : List X) (i j : ℕ) (x : X) → i ≢ j → slice_get (slice_set xs i x) j ≡ slice_get xs j
 slice_get-other [] i j x ne = refl
@@ -29,13 +29,13 @@ moved-distinct items [] distinct = refl
 moved-distinct items (id ∷ ids) distinct =
     ap (λ rest. item_at items id ∷ rest) (moved-distinct (slice_set items id None) ids distinct.1 ∙ left_as_it_was items id ids distinct.0)
 
--- As many as ids.
+-- There is one item for each id.
 
 pub moved-length : {X : Type 0} (items : List (Option X)) (ids : List ℕ) → length (moved_items items ids) ≡ length ids
 moved-length items [] = refl
 moved-length items (id ∷ ids) = ap suc (moved-length (slice_set items id None) ids)
 
--- Items under a function.
+-- A function applied to each item, before or after the items are moved out.
 
 item_at-map : {X Y : Type 0} (f : X → Y) (xs : List (Option X)) (id : ℕ) → item_at (map (option_map f) xs) id ≡ option_map f (item_at xs id)
 item_at-map f [] id = refl

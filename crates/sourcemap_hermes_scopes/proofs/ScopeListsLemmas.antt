@@ -30,7 +30,7 @@ AllZip-more R f xs i d ys zs y within all one is =
 
 -- Scopes as they are stored.
 
--- the test of equality that the stored scopes have
+-- the test of equality on scopes as they are stored
 unfoldable pub stored_same : FacebookScopeMapping → FacebookScopeMapping → Bool
 stored_same x y =
     pointwise (λ a b. same_text (string_bytes a) (string_bytes b)) x.names.items y.names.items

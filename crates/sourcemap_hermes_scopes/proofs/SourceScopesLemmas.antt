@@ -17,7 +17,7 @@ use Rattle.sourcemap_hermes_scopes.proofs.FunctionMapLemmas.{offsets_decide}
 use Rattle.sourcemap_hermes_scopes.proofs.PicksLemmas.{moved-distinct, moved-length, moved-map}
 use Rattle.sourcemap_hermes_scopes.proofs.OffsetsAnswers.{StandsFor-same}
 
--- One list of function maps.
+-- Entries have at most one list of function maps.
 
 ScopesStandFor-same : (scopes : Option Scopes) (a b : Option (List HermesScopeOffset)) → ScopesStandFor scopes a → ScopesStandFor scopes b → a ≡ b
 ScopesStandFor-same None a b h k = h ∙ sym k
@@ -43,7 +43,7 @@ map_at (entry ∷ entries) [] id all = absurd all
 map_at (entry ∷ entries) (x ∷ maps) zero all = all.0
 map_at (entry ∷ entries) (x ∷ maps) (suc id) all = map_at entries maps id all.1
 
--- selected by the same ids, function maps are still those of the entries
+-- entries and function maps that are selected by the same ids still belong together
 pub picked_of_entries : (scopes : SourceScopesValue) (ids : List ℕ) → AreOfEntries scopes → AreOfEntries (picked_scopes scopes ids)
 picked_of_entries scopes [] all = tt
 picked_of_entries scopes (id ∷ ids) all = (map_at scopes.entries scopes.function_maps id all, picked_of_entries scopes ids all)

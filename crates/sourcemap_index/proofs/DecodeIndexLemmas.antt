@@ -27,7 +27,7 @@ use Rattle.sourcemap_index.specs.declared.family.DecodedMap.{DecodedMap}
 use Rattle.sourcemap_index.specs.declared.family.SourceMapIndex.{SourceMapIndex}
 use Rattle.sourcemap_index.specs.Decode.{SectionDecodes, PartsDecode, IndexDecodes, index_in, index_with}
 
--- ---- how far a record goes down
+-- ---- how many sections a record holds, at all levels
 
 abbrev mutual
   pub sections_below : Tree → ℕ
@@ -60,12 +60,12 @@ count-from (s ∷ ss) = let rest = count-from ss in by_case s.map ∙ omega (ari
 
 -- ---- answers
 
--- the answer of sections that come after these
+-- the answer with these sections before its own; an error stays
 abbrev pub prepend : List MapSection → Result (List MapSection) Error → Result (List MapSection) Error
 prepend done (Ok ss) = Ok (done ++ ss)
 prepend done (Err e) = Err e
 
--- a decoded section comes before those after it
+-- the answer for a list of sections, from its decoded head and the answer for its tail
 pub one_more : (s : Section) (rest : Sections) (v : MapSection) (a : Result (List MapSection) Error) → SectionDecodes s (Ok v) → SectionsDecode rest a
     → SectionsDecode (section_with s.head s.map rest) (prepend (v ∷ []) a)
 one_more s rest v a = by_case s.map a
@@ -78,7 +78,7 @@ one_more s rest v a = by_case s.map a
     by_case (Some t) (Err e) (inl (m, f, n)) k = inl (m, f, inr k)
     by_case (Some t) a (inr h) k = absurd h
 
--- a section that is refused is the first error
+-- if the head cannot be decoded, its error is that of the list
 pub one_refused : (s : Section) (rest : Sections) (e : Error) → SectionDecodes s (Err e) → SectionsDecode (section_with s.head s.map rest) (Err e)
 one_refused s rest e = by_case s.map
   where
@@ -130,7 +130,7 @@ is_some-map : {X Y : Type 0} (f : X → Y) (o : Option X) → is_some (option_ma
 is_some-map f None = refl
 is_some-map f (Some x) = refl
 
--- a record has the scopes that its tree has
+-- the tree of a record has scopes exactly if the record has
 pub scopes_there : (r : RawSourceMap) → is_some (flat (tree r)).x_facebook_sources ≡ is_some (out-RawSourceMap r).x_facebook_sources
 scopes_there r = ap (λ (fields : Fields). is_some fields.x_facebook_sources) (flat-tree r) ∙ is_some-map _ (out-RawSourceMap r).x_facebook_sources
 
@@ -160,7 +160,7 @@ index_refused fields ss e h = UnlessMemory-weaker e (index_error fields ss e) h
 never_refused : {X Y : Type 0} (x : X) (y : Y) (e : Error) → ◌≡◌ {A = Result X Error} (Ok x) (Err e) → ◌≡◌ {A = Result Y Error} (Ok y) (Err e)
 never_refused x y e h = cc
 
--- what only memory refuses, only memory refuses seen as something else
+-- where `x` is due, the only error is out of memory, so it is one where `y` is due too
 pub still_due : {X Y : Type 0} (x : X) (y : Y) (e : Error) → UnlessMemory e (◌≡◌ {A = Result X Error} (Ok x) (Err e)) → UnlessMemory e (◌≡◌ {A = Result Y Error} (Ok y) (Err e))
 still_due x y e h = UnlessMemory-weaker e (never_refused x y e) h
 
@@ -198,7 +198,7 @@ parts_decoded fields ss decoded sorted (Ok i) few h up made =
 parts_decoded fields ss decoded sorted (Err e) few h up made =
     UnlessMemory-weaker e (λ (h : ◌≡◌ {A = Result IndexValue Error} (Ok (index_with (index_parts fields) sorted)) (Err e)). cc) made
 
--- a record that has no sections, before and after they are taken
+-- a record without sections has the same answer after its sections are taken
 plain_tree : (r : RawSourceMap) → (out-RawSourceMap r).sections ≡ None → tree r ≡ plain (fields_view (out-RawSourceMap r))
 plain_tree r none = tree-out r ∙ ap (λ v. tree_with (fields_view (out-RawSourceMap r)) (option_map (λ v. sections_from (map section v.items)) v)) none
 
@@ -236,7 +236,7 @@ same_index a b same =
     let parts : a.parts ≡ b.parts = cc in
     ap (λ p. index_with p a.sections) parts ∙ ap (index_with b.parts) (same_sections a b same)
 
--- a record is that of one index, or of none for one reason
+-- a record has at most one result, an index or an error
 pub index_decodes_once : (t : Tree) (a b : Result IndexValue Error) → IndexDecodes t a → IndexDecodes t b → a ≡ b
 index_decodes_once (plain fields) a b h k = h ∙ sym k
 index_decodes_once (indexed fields ss) (Ok v) (Ok w) h k =

@@ -1,4 +1,4 @@
--- Bytes and values have one answer.
+-- A value, bytes and a data URL have at most one answer each. Of two `Io` errors only the kinds are compared.
 use Rattle.std.proofs.Common.{◌≡◌, ◌∙◌, refl, ap, ℕ, List, Option, Some, None, Result, Err, IfSome, MatchOption}
 use Rattle.serde_json.specs.Data.{Data}
 use Rattle.sourcemap_errors.specs.declared.errors.Error.{Error}
@@ -17,15 +17,12 @@ use Rattle.sourcemap_index.specs.Family.{map_tree}
 use Rattle.sourcemap_index.specs.Decode.{ValueDecodes, BytesDecode, UrlDecodes, AreSame, IsAnswerRead}
 use Rattle.sourcemap_index.specs.declared.family.DecodedMap.{DecodedMap}
 
--- a value has one answer
 pub value_decodes_once : (d : Data) (a b : Result MapTree Error) → ValueDecodes d a → ValueDecodes d b → a ≡ b
 value_decodes_once = value_once TreeDecodes tree_decodes_once
 
--- bytes have one answer
 pub bytes_decode_once : (bytes : List ℕ) (a b : Result MapTree Error) → BytesDecode bytes a → BytesDecode bytes b → AreSame a b
 bytes_decode_once = bytes_once TreeDecodes tree_decodes_once
 
--- a data URL has one answer
 pub url_decodes_once : (url : List ℕ) (a b : Result MapTree Error) → UrlDecodes url a → UrlDecodes url b → AreSame a b
 url_decodes_once = url_once TreeDecodes tree_decodes_once
 
@@ -34,27 +31,27 @@ of_no_record : (found : Option Tree) (e : Error) (answer : Result MapTree Error)
 of_no_record None e answer so is = let same : e ≡ BadJson Shape = cc in so ∙ ap Err same
 of_no_record (Some t) e answer so is = cc
 
--- a value that stands for no record stands for no map
+-- the error of reading a value as a record is also that of decoding it as a map
 pub error_of_value : (d : Data) (e : Error) → UnlessMemory e (due (record_of d) ≡ Err e) → UnlessMemory e (ValueDecodes d (Err e))
 error_of_value d e h = UnlessMemory-weaker e (of_no_record (record_of d) e (Err e) refl) h
 
--- a value's answer is the only one
+-- the result of a call that decodes a value is the only answer, or memory ran out
 pub value_only : (d : Data) (r : Result DecodedMap Error) → IsAnswer map_tree (ValueDecodes d) r
     → (due : Result MapTree Error) → ValueDecodes d due → Gives map_tree r due
 value_only d r h = Gives-only map_tree (ValueDecodes d) (value_decodes_once d) r h
 
--- and so is that of bytes
+-- the same for bytes
 pub bytes_only : (bytes : List ℕ) (r : Result DecodedMap Error) → IsAnswer map_tree (BytesDecode bytes) r
     → (due : Result MapTree Error) → BytesDecode bytes due → IsAnswer map_tree (AreSame due) r
 bytes_only = reading.bytes_only map_tree TreeDecodes tree_decodes_once
 
--- and of a reader's bytes
+-- the same for the bytes of a reader that specifies them, unless a read fails
 pub reader_only : (known : Option (List ℕ)) (bytes : List ℕ) (r : Result DecodedMap Error)
     → IfSome known (λ xs. bytes ≡ xs) → IsAnswer map_tree (BytesDecode bytes) r
     → IfSome known (λ xs. (due : Result MapTree Error) → BytesDecode xs due → IsAnswerRead map_tree (AreSame due) r)
 reader_only = reading.reader_only map_tree TreeDecodes tree_decodes_once
 
--- and of a data URL
+-- the same for a data URL
 pub url_only : (url : List ℕ) (r : Result DecodedMap Error) → IsAnswer map_tree (UrlDecodes url) r
     → (due : Result MapTree Error) → UrlDecodes url due → IsAnswer map_tree (AreSame due) r
 url_only url = answer_only map_tree (UrlDecodes url) AreSame (url_decodes_once url)

@@ -1,4 +1,4 @@
--- From the two calls that write and read a map to the round trip.
+-- The round trip, from the clauses of the call that writes a map and of the call that reads it.
 use Rattle.std.proofs.Common.{◌≡◌, Result, Ok, Err, MatchResult, refl, subst}
 use Rattle.sourcemap_errors.specs.declared.errors.Error.{Error}
 use Rattle.sourcemap_errors.specs.declared.errors.Error.TheVariants.{OutOfMemory}
@@ -12,12 +12,13 @@ memory_alone OutOfMemory P never h = refl
 memory_alone _ P never h = absurd (never h)
 
 module _ {X Y : Type 0} (view : X → Y) where
-  -- a call that gives what is due answers the same
+  -- from `Gives` to `IsAnswer`, where a value is due
   pub same_gives : (r : Result X Error) (back : Y) → Gives view r (Ok back) → IsAnswer view (AreSame (Ok back)) r
   same_gives (Ok x) back gave = cc
   same_gives (Err e) back gave = UnlessMemory-weaker e (λ wrong. cc) gave
 
-  -- what is read is restored, where nothing is read but what reads back
+  -- if there is an answer that is restored, and the call can return no other, it returns a restored value or
+  -- runs out of memory
   pub restored : (Answers : Result Y Error → Type 0) (IsRestored : Y → Type 0) (r : Result X Error) → ReadsBack Answers IsRestored
       → ((back : Y) → Answers (Ok back) → IsAnswer view (AreSame (Ok back)) r)
       → MatchResult r (λ x. IsRestored (view x)) (λ e. UnlessMemory e ⊥)
@@ -30,7 +31,7 @@ pub but_for_memory : {X : Type 0} (P : X → Type 0) (r : Result X Error) → Ma
 but_for_memory P (Ok x) h = h
 but_for_memory P (Err e) h = memory_alone e ⊥ (λ never. never) h
 
--- or of a writer
+-- weaker: other errors are allowed if `Q` holds of them
 pub but_for : {X : Type 0} (P : X → Type 0) (Q : Error → Type 0) (r : Result X Error) → MatchResult r P (λ e. UnlessMemory e ⊥)
     → MatchResult r P (λ e. UnlessMemory e (Q e))
 but_for P Q (Ok x) h = h

@@ -12,7 +12,7 @@ use Rattle.sourcemap_index_model.specs.Encode.{IsLeafAnswer, IsWrittenBy, AreWri
 use Rattle.sourcemap_index_model.specs.MapTree.{MapTree, MapSection, section_with as map_with, sections_from as maps_from}
 use Rattle.sourcemap_index.specs.Encode.{SectionIsWritten, MapWrites}
 
--- each record is that of the section with its index
+-- each record is that of the section at the same index
 abbrev pub ArePairs : List MapSection → List Section → Type 0
 ArePairs [] [] = Unit {0}
 ArePairs (s ∷ ss) (r ∷ rs) = SectionIsWritten s r × ArePairs ss rs
@@ -46,7 +46,7 @@ pairs_in_range (s ∷ ss) (r ∷ rs) pairs = by_case r.map pairs.0.1 (pairs_in_r
     by_case None h rest = (h.0, rest)
     by_case (Some t) h rest = (h.0, h.1, rest)
 
--- what is written is as is due
+-- what the clauses of `as_raw_sourcemap` say follows from `MapWrites`
 pub record_answer : (t : MapTree) (r : Result RawSourceMap Error) → IsAnswer tree (MapWrites t) r → IsAnswer tree (RecordAnswer t) r
 record_answer t (Ok raw) h = tree_answer t (tree raw) h.0 h.1
 record_answer t (Err e) h = h

@@ -23,7 +23,7 @@ index-out i = fold_out-SourceMapIndex MapTree IndexValue MapSection map_step ind
 pub index-roll : (r : SourceMapIndex-F DecodedMap SourceMapIndex SourceMapSection) → index_value (roll-SourceMapIndex r) ≡ record { parts = parts_view r; sections = map section_value r.sections.items }
 index-roll r = fold-roll-SourceMapIndex MapTree IndexValue MapSection map_step index_step section_step r
 
--- a borrowed item, seen by a function
+-- the image of a borrowed item is the item of the mapped list
 pub item_seen : {R X Y : Type 0} (now : R → X) (f : X → Y) (xs : List X) (i : ℕ) (found : Option R) → ItemBy now xs i i found → option_map (λ r. f (now r)) found ≡ slice_get (map f xs) i
 item_seen now f xs i (Some x) h = sym (slice_get-map f xs i ∙ ap (option_map f) (slice_get_read xs (length xs) i (now x) refl h.3.0 h.1))
 item_seen now f xs i None h = sym (slice_get-map f xs i ∙ ap (option_map f) (slice_get_past xs i h.3))
@@ -32,7 +32,7 @@ pub on_some : {X : Type 0} (found : Option X) (P : Type 0) → P → OnSome foun
 on_some (Some x) P h = h
 on_some None P h = tt
 
--- an index with another section instead of one
+-- an index in which one section is replaced
 pub section_put : (i : SourceMapIndex) (id : ℕ) (s : SourceMapSection)
     → index_value (roll-SourceMapIndex (record (out-SourceMapIndex i) { sections = with_item (out-SourceMapIndex i).sections id s })) ≡ with_section (index_value i) id (section_value s)
 section_put i id s =

@@ -27,7 +27,7 @@ use Rattle.sourcemap_index.proofs.LookupLemmas.{indexes, indexes_below}
 
 -- ---- one map
 
--- what is made of an index is added as one map
+-- an index is added as one piece, the concatenation of its own pieces
 pub index_added : (v : IndexValue) (before : List Piece) (offset : ℕ × ℕ) (pieces : List Piece) → pieces_after [] (sections_from v.sections) ≡ Ok pieces
     → map_added before offset (index_tree v) ≡ with_piece before (offset, merged v.parts.file pieces)
 index_added v before offset pieces due = ap (λ r. on_ok (on_ok r (λ pieces. Ok (merged v.parts.file pieces))) (λ m. with_piece before (offset, m))) due
@@ -66,7 +66,7 @@ pieces-next before s rest = by_map s.map
     by_map None = refl
     by_map (Some t) = by_flat (flat t)
 
--- so far all but the rest is gathered
+-- all sections but `rest` are gathered
 abbrev pub SoFar : (all rest : List MapSection) → Gathering → Type 0
 SoFar all rest g = (pieces : List Piece) × (pieces_after [] (sections_from all) ≡ pieces_after pieces (sections_from rest)) × Gathers pieces g
 
@@ -88,7 +88,7 @@ so_far-refused all s rest old e so_far refuses =
 pub flat_of_gathering : (all : List MapSection) (g : Gathering) (f : FlatMap) → SoFar all [] g → ((pieces : List Piece) → Gathers pieces g → IsFlat pieces f) → IsFlatOf (pieces_after [] (sections_from all)) f
 flat_of_gathering all g f so_far finish = (so_far.0, so_far.1, finish so_far.0 so_far.2)
 
--- ---- what is answered
+-- ---- the answer
 
 pub answer-made : (v : IndexValue) (file : Option (List ℕ)) (pieces : List Piece) (result : Result SourceMap Error) → file ≡ v.parts.file → pieces_after [] (sections_from v.sections) ≡ Ok pieces
     → Gives (λ m. m) result (Ok (merged file pieces)) → IsAnswer (λ m. m) (FlatAnswer (index_tree v)) result
@@ -109,7 +109,7 @@ pub flat-if_ok : (t : MapTree) (result : Result SourceMap Error) (P : MapValue �
 flat-if_ok t (Ok m) P answer all = all m answer
 flat-if_ok t (Err e) P answer all = tt
 
--- ---- how far a section goes down
+-- ---- how many indexes a section holds
 
 abbrev pub map_indexes : Option MapTree → ℕ
 map_indexes None = 0
@@ -125,7 +125,7 @@ section_below v k s at = by_map s.map refl
     by_map None is = omega arith
     by_map (Some t) is = indexes_below v s t (k, at) is
 
--- ---- the sections of an index, as they are gone through
+-- ---- the loop over the sections of an index
 
 module _ (items : List SourceMapSection) (i : ℕ) (item : SourceMapSection) (within : i < length items) (is : item ≡ get_or items i item) where
   pub item-at : slice_get (map section_value items) i ≡ Some (section_value item)
@@ -153,7 +153,7 @@ pub if_ok_then : {T E : Type 0} {P Q : T → Type 0} (r : Result T E) → ((x : 
 if_ok_then (Ok x) f h = f x h
 if_ok_then (Err e) f h = tt
 
--- all sections were gone through
+-- after the last section none is left
 pub none-left : (items : List SourceMapSection) (i : ℕ) → length items ≤ i → drop i (map section_value items) ≡ []
 none-left items i past = drop_all i (map section_value items) (let many : length (map section_value items) ≡ length items = length-map items section_value in omega (arith, many, past))
 

@@ -75,7 +75,8 @@ pub hermes_of_any : (t : Tree) (h : HermesValue) → TreeDecodes t (Ok (leaf (he
 hermes_of_any (plain fields) h k = leaf_hermes fields fields.x_facebook_sources h k
 hermes_of_any (indexed fields sections) h k = absurd (no_index (nat_lt 4294967295 (count sections)) fields sections (hermes h) k)
 
--- What stands for the one stands for the other.
+-- A value, bytes or a data URL stand for a map of one kind exactly if, decoded as a map of any kind, they
+-- stand for the same map.
 
 module _ {X : Type 0} (kind : X → LeafMap) (Decodes : Tree → Result X Error → Type 0)
     (as_any : (t : Tree) (x : X) → Decodes t (Ok x) → TreeDecodes t (Ok (leaf (kind x))))

@@ -1,4 +1,4 @@
--- What an index answers is what its closest section answers.
+-- The lookup in an index is the lookup in its closest section.
 use Rattle.std.proofs.Common.{◌≡◌, inl, inr, refl, sym, ap, subst, ◌∙◌, ℕ, ◌+◌, ◌<◌, ◌≤◌, arith, zero, suc, List, [], ◌∷◌, map, Option, Some, None, option_map, IfSome, slice_get, IsSortedByKey}
 use Rattle.std.specs.Prelude.{option_and_then}
 use Rattle.std.specs.List.{AllByRecursion}
@@ -16,9 +16,9 @@ use Rattle.sourcemap_index_model.specs.WellFormed.{IsInOrder, AreSectionsInOrder
 use Rattle.sourcemap_index_model.proofs.MapTreeLemmas.{InSection, section_list-from}
 use Rattle.sourcemap_index.specs.Lookup.{AnyHasToken, HasToken, IsAmong}
 
--- ---- how far a map goes down
+-- ---- how many indexes a map holds
 
--- the indexes in a map, it itself among them
+-- the number of indexes in a map, itself included
 abbrev mutual
   pub indexes : MapTree → ℕ
   indexes (leaf l) = 0
@@ -43,7 +43,7 @@ indexes_at (s' ∷ ss) (suc k) s t at is =
     let more = indexes_with s'.head s'.map (sections_from ss) in
     omega (arith, less, more)
 
--- the map of a section holds less than the index
+-- the map of a section holds fewer indexes than the index itself
 pub indexes_below : (v : IndexValue) (s : MapSection) (t : MapTree) → IsAmong v.sections s → s.map ≡ Some t → indexes t < indexes (index_tree v)
 indexes_below v s t (k, at) is = let less = indexes_at v.sections k s t at is in omega (arith, less)
 
@@ -64,7 +64,7 @@ lookups-from (s ∷ ss) = by_case s.map ∙ ap (λ rest. entry s ∷ rest) (look
     by_case None = refl
     by_case (Some t) = refl
 
--- what the closest section answers
+-- what the section that was found answers
 abbrev pub found_answer : Option MapSection → ℕ × ℕ → Option TokenValue
 found_answer found p = option_and_then (λ s. answer_of s.map (relative_position (section_offset s) p)) found
 
@@ -90,7 +90,7 @@ each_in_order (s ∷ ss) h = let both = by_case s.map h in (both.0, each_in_orde
     by_case None h = (tt, h)
     by_case (Some t) h = h
 
--- an index answers what the closest section answers that was found
+-- the lookup in an index in order is right if the search for the section and the lookup in its map are
 pub index_answers : (v : IndexValue) (p : ℕ × ℕ) (found : Option MapSection) (answer : Option TokenValue)
     → (IsSortedByKey {K = ℕ × ℕ} section_offset position_cmp v.sections → found ≡ closest_item {K = ℕ × ℕ} section_offset position_cmp v.sections p)
     → (IfSome found (λ s. IfSome s.map IsInOrder) → answer ≡ found_answer found p)
@@ -110,7 +110,7 @@ sorted_before f key cmp xs sorted k d l m =
     let up = sorted k (f d) (omega arith) (omega arith) in
     rw (sym (get_or-map f xs (k + 1) d (f d) (omega arith)), sym (get_or-map f xs k d (f d) (omega arith))) up
 
--- the closest item, seen by a function
+-- the image of the item that a search finds is the closest of the images, if these are sorted
 pub closest_seen : {X Y K : Type 0} (f : X → Y) (key : Y → K) (cmp : K → K → Ordering) (xs : List X) (p : K) (found : Option (ℕ × X))
     → (IsSortedByKey (λ x. key (f x)) cmp xs → found ≡ closest (λ x. key (f x)) cmp xs p)
     → IsSortedByKey key cmp (map f xs) → option_map (λ e. f e.1) found ≡ closest_item key cmp (map f xs) p
@@ -124,7 +124,7 @@ closest_seen {X} f key cmp xs p found is sorted =
     both None = refl
     both (Some e) = refl
 
--- the token that was found means what the position does
+-- the meaning of the token that a lookup returns is that of the position
 pub meaning_found : (t : MapTree) (p : ℕ × ℕ) (found : Option Token) → option_map token_value found ≡ lookup t p → option_map meaning_of_token found ≡ meaning t p
 meaning_found t p found is = both found ∙ ap (option_map says) is
   where
@@ -132,7 +132,7 @@ meaning_found t p found is = both found ∙ ap (option_map says) is
     both None = refl
     both (Some token) = refl
 
--- ---- whose token it is
+-- ---- which map the token is from
 
 pub found_in_leaf : (l : LeafMap) (p : ℕ × ℕ) (found : Option Token) → option_map token_value found ≡ lookup_regular (held l) p
     → IfSome found (λ token. HasToken (leaf l) (token_value token))

@@ -10,7 +10,7 @@ use Rattle.sourcemap_index.specs.declared.family.SourceMapSection.{SourceMapSect
 abbrev pub at_line : ℕ → MapSection → MapSection
 at_line n s = record s { head = record s.head { line = n } }
 
--- a section moved down as far as there are rows
+-- a section moved down by `rows`, at most to line 4294967295
 abbrev pub moved : ℕ → MapSection → MapSection
 moved rows s = at_line (min (s.head.line + rows) 4294967295) s
 
@@ -30,7 +30,7 @@ moved_all rows (s ∷ ss) h =
     let line : min (s.head.line + rows) 4294967295 ≡ s.head.line + rows = omega (arith, few) in
     λ k. at_line (line k) s ∷ moved_all rows ss h.1 k
 
--- a turn of a loop that moves the sections
+-- one turn of the loop that moves the sections
 pub moved_more : (rows : ℕ) (old now : List SourceMapSection) (i r : ℕ) (d : SourceMapSection) → i < length now → length now ≡ length old
     → map section_value now ≡ map (moved rows) (take i (map section_value old)) ++ drop i (map section_value old)
     → r ≡ min ((out-SourceMapSection (get_or now i d)).offset.0 + rows) 4294967295

@@ -1,4 +1,5 @@
--- No error of mappings, of a record or of JSON is `InvalidDataUrl`: that comes of texts that are no data URL alone.
+-- No error of mappings, of a record or of JSON is `InvalidDataUrl`. Only texts that are no data
+-- URL have that error.
 use Rattle.std.proofs.Common.{◌≡◌, inl, inr, ℕ, ◌+◌, List, [], ◌∷◌, ◌++◌, Bool, true, false, Option, Some, None, if◌then◌else◌, nat_lt, Result, Ok, Err, IfErr, MatchOption, subst}
 use Rattle.std.specs.Bool.{MatchBool}
 use Rattle.serde_json.specs.Data.{Data}
@@ -20,7 +21,7 @@ use Rattle.sourcemap_index.specs.Family.{map_tree}
 use Rattle.sourcemap_index.specs.Decode.{ValueDecodes, BytesDecode, UrlDecodes, IsNoUrl}
 use Rattle.sourcemap_index.specs.declared.family.DecodedMap.{DecodedMap}
 
--- Of a choice neither side holds.
+-- A choice does not hold if neither side does.
 
 neither : (known : Bool) {P Q : Type 0} → ¬ P → ¬ Q → ¬ MatchBool known P Q
 neither true p q h = p h
@@ -121,13 +122,13 @@ pub no_bytes_error : (bytes : List ℕ) → ¬ BytesDecode bytes (Err InvalidDat
 no_bytes_error bytes (inl (d, holds, h)) = no_value_error d h
 no_bytes_error bytes (inr h) = no_json_error bytes h
 
--- Texts.
+-- Data URLs.
 
 pub error_of_no_url : (url : List ℕ) → UrlDecodes url (Err InvalidDataUrl) → IsNoUrl url
 error_of_no_url url (inl (bytes, holds, h)) = absurd (no_bytes_error bytes h)
 error_of_no_url url (inr (is, none)) = none
 
--- a text that was refused as no data URL is none
+-- a text with the error `InvalidDataUrl` is no data URL
 pub refused_as_no_url : (url : List ℕ) (r : Result DecodedMap Error) → IsAnswer map_tree (UrlDecodes url) r
     → IfErr r (λ e. e ≡ InvalidDataUrl → IsNoUrl url)
 refused_as_no_url url (Ok m) h = tt

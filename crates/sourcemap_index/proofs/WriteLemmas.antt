@@ -1,4 +1,4 @@
--- The text that a map is written as is the compact one, and reads back.
+-- The text that a map is written as is compact. It reads back if the map is well-formed and shallow.
 use Rattle.std.proofs.Common.{◌≡◌, refl, sym, ap, ◌∙◌, inl, ℕ, List, Some, Ok}
 use Rattle.serde_json.specs.Written.{compact_text}
 use Rattle.sourcemap_headers.specs.Header.{after_header}
@@ -19,7 +19,7 @@ use Rattle.sourcemap_index.proofs.WrittenValueLemmas.{whole_value}
 pub text_compact : (t : MapTree) (text : List ℕ) → IsEncoded (RecordAnswer t) text → IsTextOf t text
 text_compact t text (r, (of, fine, back), is) = (written r, (r, of, refl), is.compact (whole_value t (written r) (r, of, refl)))
 
--- a text that begins with a brace has no junk header
+-- the text of a record begins with a brace, so it has no junk header
 no_header : (r : Tree) (text : List ℕ) → text ≡ compact_text (written r) → after_header text ≡ Some text
 no_header (plain fields) text is = ap after_header is ∙ ap Some (sym is)
 no_header (indexed fields sections) text is = ap after_header is ∙ ap Some (sym is)

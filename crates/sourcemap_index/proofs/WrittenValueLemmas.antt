@@ -1,5 +1,5 @@
--- The value that a map of any kind is written as: there is one, no number in it has a fraction, and it has few levels
--- where few indexes stand in one another.
+-- The value that a map of any kind is written as. There is at most one, and no number in it has a fraction.
+-- It has few levels if index maps are not nested deep.
 use Rattle.std.proofs.Common.{◌≡◌, ◌∙◌, ◌+◌, ◌*◌, ◌≤◌, ◌++◌, refl, sym, ap, subst, arith, ℕ, List, [], ◌∷◌, codes, Option, Some, false}
 use Rattle.serde_json.specs.Data.{Data, null, string, array, object, Members, no_members, Items, item, depth, items_depth}
 use Rattle.serde_json.specs.Read.{max_depth}
@@ -14,11 +14,11 @@ use Rattle.sourcemap_index_model.specs.MapTree.{LeafMap, regular, hermes, IndexP
 use Rattle.sourcemap_index_model.proofs.EncodeLemmas.{tree_written_once}
 use Rattle.sourcemap_index.specs.DecodedMap.{levels, deepest, IsShallow, IsValueOf, IsTextOf}
 
--- more levels do not matter
+-- a bound on the levels may be raised
 low_more : (n m : ℕ) (d : Data) → n ≤ m → IsLow n d → IsLow m d
 low_more n m d upto low = ((let a = low.0 in omega (arith, upto)), low.1)
 
--- An object with one key more.
+-- An object with one more key.
 
 put_all-push : (es : List (List ℕ × Option Data)) (e : List ℕ × Option Data) (ms : Members) → put_all (es ++ e ∷ []) ms ≡ put_if e.0 e.1 (put_all es ms)
 put_all-push [] e ms = refl
@@ -85,7 +85,7 @@ low_leaf : (l : LeafMap) (r : Tree) → IsLeafRecord l r → IsLow 5 (written r)
 low_leaf (regular m) r is = low_more 2 5 (written r) (omega arith) (regular-low m r is)
 low_leaf (hermes h) r is = hermes-low h r is
 
--- an index around sections of this value
+-- if its sections are written with at most `n` levels, an index is written with at most `n + 2`
 low_index : (n : ℕ) (parts : IndexParts) (xs : Sections) → items_depth (written_sections xs) ≤ n → items_have_float (written_sections xs) ≡ false
     → IsLow (n + 2) (object (put_if (codes "sections") (Some (array (written_sections xs))) (written_fields (index_fields parts))))
 low_index n parts xs few whole =
@@ -128,13 +128,13 @@ mutual
 pub whole_value : (t : MapTree) (d : Data) → IsValueOf t d → has_float d ≡ false
 whole_value t d (r, is, same) = ap has_float same ∙ (low_tree t r is).1
 
--- what a map is written as has at most 127 levels where at most 40 indexes stand in one another
+-- a map with indexes nested at most 40 deep is written with at most 127 levels
 pub shallow_within : (t : MapTree) → levels t ≤ 40 → IsShallow t
 shallow_within t few d (r, is, same) = subst (λ d. depth d ≤ max_depth) (sym same) (let low = (low_tree t r is).0 in omega (arith, few))
 
 value_once : (t : MapTree) (d e : Data) → IsValueOf t d → IsValueOf t e → d ≡ e
 value_once t d e (r, is, same) (r', is', same') = same ∙ ap written (tree_written_once t r r' is is') ∙ sym same'
 
--- a map is written as one text
+-- a map is written as at most one text
 pub written_text_once : (t : MapTree) (a b : List ℕ) → IsTextOf t a → IsTextOf t b → a ≡ b
 written_text_once t a b (d, of_d, is) (e, of_e, is') = is ∙ ap compact_text (value_once t d e of_d of_e) ∙ sym is'

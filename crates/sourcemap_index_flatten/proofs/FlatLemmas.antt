@@ -1,4 +1,4 @@
--- A concatenation of maps, as a part and as a map.
+-- The concatenation of maps: its lists as a `Part`, and as a regular map.
 use Rattle.std.proofs.Common.{◌≡◌, refl, sym, ap, subst, ◌∙◌, Bool, true, false, ℕ, suc, ◌+◌, List, [], ◌∷◌, ◌++◌, map, Some, None, Option, option_map, option_and_then, slice_get, string_bytes, arith, ◌&&◌, zero-add, Result, Ok, is_some, cond}
 use Rattle.std.specs.List.{AllByRecursion, enumerate_from}
 use Rattle.std.specs.Option.{option_or}
@@ -106,7 +106,7 @@ part-of_lists m lists part are tokens ignored sources names = record {
   names = names ∙ ap (map (λ (name : List ℕ). (name, None))) are.names;
 }
 
--- Texts of entries.
+-- Texts and contents of entries.
 
 pub texts-kept : (entered : List TextEntry) → map (λ (e : TextEntry). e.0) (entries_kept entered) ≡ texts_entered entered
 texts-kept entered = back (texts_entered entered)

@@ -57,7 +57,7 @@ module _ (given : MapValue → List TextEntry) where
   abbrev text_of : MapValue → ℕ → Option (List ℕ)
   text_of m id = option_map (λ e. e.0) (slice_get (given m) id)
 
-  -- the new id of an id of a map
+  -- the new id for an id of a map
   abbrev number : List Piece → MapValue → ℕ → ℕ
   number pieces m id = number_in (texts_entered (entered pieces)) (text_of m id)
 
@@ -97,7 +97,7 @@ module _ (given : MapValue → List TextEntry) where
       subst (λ all. AllByRecursion (HasNumber all) (p ∷ ps)) (append_assoc front (p ∷ []) ps)
       (numbered-front (front ++ p ∷ []) ps p (numbered-last front p), numbered-appended (front ++ p ∷ []) ps)
 
-  -- so ids do not change
+  -- each text of each piece has an id, and this id does not change when a piece is added
   pub all-numbered : (pieces : List Piece) → AllByRecursion (HasNumber pieces) pieces
   all-numbered pieces = numbered-appended [] pieces
 
@@ -114,7 +114,7 @@ module _ (given : MapValue → List TextEntry) where
           ap (λ all. id_of text (texts_entered all)) all ∙ text_id-more (entered before) (given next.1) text h.0 h.1 in
           rw (later, h.1) refl
 
-  -- and the texts of a new map have ids
+  -- the new ids of the added map are the numbers that were returned when its texts were entered
   pub number-new : (before : List Piece) (piece : Piece) (numbers : List ℕ) → numbers ≡ numbers_among (entered before ++ given piece.1) (given piece.1)
       → (id : ℕ) → number (before ++ piece ∷ []) piece.1 id ≡ new_number numbers id
   number-new before piece numbers are id =
@@ -265,7 +265,7 @@ module _ (before : List Piece) (piece : Piece) where
   same_names : texts_entered (all_name_entries before ++ name_entries piece.1) ≡ names_in (before ++ piece ∷ [])
   same_names = ap texts_entered (sym all_names) ∙ texts_of_names (before ++ piece ∷ [])
 
-  -- errors of a piece
+  -- errors for too many sources or names
   pub refused-sources : (reason : List ℕ) (e : Error) → reason ≡ codes "too many sources or names"
       → RefusesBy (are_too_many (texts_entered (all_source_entries before ++ source_entries piece.1))) reason e → RefusesPiece before piece e
   refused-sources reason e is refused = UnlessMemory-weaker e (λ h. (reason, due h.0, h.1)) refused
@@ -307,7 +307,7 @@ module _ (before : List Piece) (piece : Piece) where
         let inside : list_any (λ t. passes_the_end (absolute_position piece.0 (destination t))) piece.1.tokens ≡ false = sym (any-same passes (λ t. passes_the_end (absolute_position piece.0 (destination t))) same piece.1.tokens) ∙ within in
         rw (sources-fit, names-fit, inside) refl
 
--- A part of a map.
+-- The lists of a map, as a `Part`, are added.
 
 abbrev enters : List TextEntry → List TextEntry → List ℕ → Table → Type 0
 enters before entries ids t = AreEntered (before ++ entries) entries ids t

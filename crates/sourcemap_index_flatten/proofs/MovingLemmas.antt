@@ -29,7 +29,7 @@ is_eq-nat_cmp a b = by_case (nat_lt a b) (nat_eq a b) refl refl
     by_case false true l s = rw (l, s) refl
     by_case false false l s = rw (l, s) refl
 
--- a test of the set is one of its list
+-- the set's test by `nat_cmp` is a test for equality
 pub same_test : (id : ℕ) (ignored : List ℕ) → list_any (λ k. is_eq (nat_cmp id k)) ignored ≡ list_any (nat_eq id) ignored
 same_test id [] = refl
 same_test id (k ∷ ks) = λ i. is_eq-nat_cmp id k i || same_test id ks i
@@ -61,7 +61,7 @@ no_items : {X : Type 0} (xs : List X) → length xs ≡ 0 → xs ≡ []
 no_items [] none = refl
 no_items (x ∷ xs) none = absurd (omega arith)
 
--- where no source is ignored
+-- without ignored sources nothing is inserted
 pub listed-none : (ignored sources start : List ℕ) (tokens : List RawToken) → length ignored ≡ 0 → start ≡ fold (insert_key nat_cmp) start (ignored_numbers ignored sources tokens)
 listed-none ignored sources start tokens none =
     ap (fold (insert_key nat_cmp) start) (sym (ap (λ ids. ignored_numbers ids sources tokens) (no_items ignored none) ∙ ignored_numbers-none sources tokens))

@@ -56,7 +56,7 @@ IsAmong entered e = IsListedIfAny (texts_entered entered) (Some e.0)
 pub among-more : (entered more : List TextEntry) (e : TextEntry) → IsAmong entered e → IsAmong (entered ++ more) e
 among-more entered more e among = (among.0, text_id-more entered more e.0 among.0 among.1)
 
--- so do all that were entered
+-- each text that was entered has a number
 pub all-among : (before entries : List TextEntry) → AllByRecursion (IsAmong (before ++ entries)) entries
 all-among before [] = tt
 all-among before (e ∷ es) =
@@ -103,7 +103,7 @@ find_last-push test (y ∷ ys) x =
 abbrev gives : List ℕ → TextEntry → Bool
 gives text e = bytes_eq e.0 text && is_some e.1
 
--- other texts keep their contents
+-- a text keeps its contents if the new entry has another text or no contents
 contents-other : (entered : List TextEntry) (e : TextEntry) (text : List ℕ) → gives text e ≡ false → contents_entered (entered ++ e ∷ []) text ≡ contents_entered entered text
 contents-other entered e text none =
     ap (option_and_then (λ (e : TextEntry). e.1))
@@ -163,7 +163,7 @@ module _ (before : List TextEntry) (e : TextEntry) where
   distinct : AreDistinct T
   distinct = distinct-kept_once (map (λ e. e.0) before)
 
-  -- the entries of unchanged texts
+  -- the entries stay the same if the new one gives contents to none of their texts
   kept-same : ((k : ℕ) (text : List ℕ) → slice_get T k ≡ Some text → gives text e ≡ false) → map (with_contents after) T ≡ map (with_contents before) T
   kept-same apart = ext (map (with_contents (before ++ e ∷ [])) T) (map (with_contents before) T) at
     where
@@ -280,7 +280,7 @@ module _ (before : List TextEntry) (e : TextEntry) where
 pub table-none : (t : Table) → t.ids ≡ [] → entry_values t.entries.items ≡ [] → IsTable [] t
 table-none t index none = record { index = index; kept = none; few = omega arith }
 
--- with one more text
+-- the table after one more text
 pub entered-more : (before : List TextEntry) (e : TextEntry) (number : ℕ) (old new : Table) → IsTable before old
     → (id_of e.0 old.ids ≡ None → length old.ids < 4294967295)
     → id_of e.0 new.ids ≡ Some number
@@ -310,7 +310,7 @@ entered-more before e number old new is free found index put =
 pub full-more : (before : List TextEntry) (e : TextEntry) → are_too_many (with_text (texts_entered before) e.0) ≡ true → are_too_many (texts_entered (before ++ e ∷ [])) ≡ true
 full-more before e many = ap are_too_many (texts-push before e) ∙ many
 
--- Several.
+-- Several entries.
 
 numbers-push : (before entries : List TextEntry) (e : TextEntry) (number : ℕ) → id_of e.0 (texts_entered (before ++ (entries ++ e ∷ []))) ≡ Some number
     → numbers_among (before ++ (entries ++ e ∷ [])) (entries ++ e ∷ []) ≡ numbers_among (before ++ entries) entries ++ number ∷ []
@@ -372,7 +372,7 @@ module _ (entries : List Entry) (number : ℕ) (e : Entry) where
   pub put-kept : (put : List Entry) → number < length entries → is_some e.contents ≡ false → put ≡ entries → entry_values put ≡ put_at number (entry_value e) (entry_values entries)
   put-kept put within none is = ap entry_values is ∙ sym (rw (inside within, is_some-copied e, none) refl)
 
--- too many before the end is too many at the end
+-- if there are too many texts after some of the entries, there are too many after all of them
 pub too_many-at : (before : List TextEntry) (entries : List Entry) (i : ℕ) (d : Entry) → i < length entries
     → are_too_many (texts_entered ((before ++ entry_values (take i entries)) ++ entry_value (get_or entries i d) ∷ [])) ≡ true
     → are_too_many (texts_entered (before ++ entry_values entries)) ≡ true
@@ -396,7 +396,7 @@ entered-next before entries i d within numbers numbers' number old new so_far en
     subst (λ xs. AreEntered (before ++ xs) xs numbers' new) (sym (map_more entry_value entries i d within))
     (all-entered-more before (entry_values (take i entries)) (entry_value (get_or entries i d)) numbers numbers' number old new so_far entered pushed)
 
--- a table has as many entries as texts
+-- a table has at most 4294967295 entries
 pub table-few : (entered : List TextEntry) (t : Table) → IsTable entered t → vec_len t.entries ≤ 4294967295
 table-few entered t is =
     let values : length (entry_values t.entries.items) ≡ length t.entries.items = length-map t.entries.items _ in

@@ -1,5 +1,5 @@
--- Lookups in a list of positions with the meaning of a token at each: the flat list of an orderly
--- map answers as the map.
+-- Lookups in a list that has the position and the meaning of each token. Where an orderly map with sorted
+-- tokens has a meaning, its flat list, sorted stably by position, has the same.
 use Rattle.std.proofs.Common.{◌≡◌, refl, sym, ap, ◌∙◌, ℕ, ◌-◌, ◌==◌, if◌then◌else◌, List, [], ◌∷◌, ◌++◌, map, find, Bool, true, false, ◌&&◌, Option, Some, None, option_map, option_and_then, arith, inl, inr, ◌⊎◌}
 use Rattle.std.proofs.lemmas.Bool.{cases_Bool}
 use Rattle.std.specs.List.{AllByRecursion}
@@ -32,7 +32,7 @@ entry_position entry = entry.0
 abbrev pub by_position : List Entry → List Entry
 by_position entries = sorted_by entry_position position_cmp entries
 
--- its meaning at a position after it
+-- the meaning of a position `p` whose closest entry is this one
 abbrev pub meaning_at : ℕ × ℕ → Entry → Meaning
 meaning_at p entry = record entry.1 {
   column = column_after entry.1.column (if entry.1.is_range && (entry.0.0 == p.0) then p.1 - entry.0.1 else 0);
@@ -104,7 +104,8 @@ closest_section sections p = closest_item (λ (s : SectionLookup). s.0) position
 abbrev answer_of : ℕ × ℕ → Option SectionLookup → Option Meaning
 answer_of p s = option_map says (option_and_then (λ section. section.1 (relative_position section.0 p)) s)
 
--- a position at or after the first of the sections, and after all of the section before them
+-- the position `p` is after the offset `o` and the tokens `own` of a section, and one of the later sections
+-- `ss` is the closest to it
 record IsReached (o : ℕ × ℕ) (own : List (ℕ × ℕ)) (ss : MapSections) (p : ℕ × ℕ) : Type 0 where
   offset : IsBefore o p
   all : AllByRecursion (λ q. IsBefore q p) own
@@ -147,7 +148,7 @@ follow_or_reach o own (filled head t rest) p h =
       | inr reached ↦ inr (reach o own (offset_of head) p _ (filled head t rest) (lookups rest) refl refl h.0 h.1 reached)
     ]
 
--- a single section answers from its offset on
+-- if a single section answers, the position is not before its offset, and the answer is that of its map
 alone : (s : SectionLookup) (p : ℕ × ℕ) (m : Meaning) → answer_of p (closest_section (s ∷ []) p) ≡ Some m
     → (is_lt (position_cmp p s.0) ≡ false) × (option_map says (s.1 (relative_position s.0 p)) ≡ Some m)
 alone s p m e =
@@ -159,7 +160,8 @@ alone s p m e =
       ]
     ]
 
--- the closest section is the first, or one after it
+-- if all later sections are after the position, only the first counts; if a later one is reached, only the
+-- later ones count
 closest_if_followed : (s : SectionLookup) (ss : MapSections) (p : ℕ × ℕ) → Follow (spans ss) p → closest_section (s ∷ lookups ss) p ≡ closest_section (s ∷ []) p
 closest_if_followed s ss p follow = closest_before (λ (s : SectionLookup). s.0) p (s ∷ []) (lookups ss) (lookups_follow p ss follow)
 
@@ -169,7 +171,7 @@ closest_if_reached s own ss p reached =
     closest_of_later (λ (s : SectionLookup). s.0) p (s ∷ []) (lookups ss) (reached.offset, tt)
     ∙ ap (λ c. option_or c (closest_section (s ∷ []) p)) found.1 ∙ sym found.1
 
--- The flat list answers as the map.
+-- Where the map answers, the flat list answers the same.
 
 module _ (head : SectionHead) (t : MapTree) (rest : MapSections) (apart : AreApart (spans (filled head t rest))) (p : ℕ × ℕ) (m : Meaning) where
   abbrev block : List Entry
@@ -233,7 +235,7 @@ hollow_answers head rest apart p m later e =
     ]
 
 mutual
-  -- where a map has a meaning, its sorted flat list has the same
+  -- where an orderly map with sorted tokens has a meaning, its sorted flat list has the same
   pub flat_list_answers : (t : MapTree) → HasTokensInOrder t → IsOrderly t → (p : ℕ × ℕ) (m : Meaning) → meaning t p ≡ Some m → answer_in (by_position (flat_list t)) p ≡ Some m
   flat_list_answers (leaf l) ordered orderly p m e =
       ap (λ es. answer_in es p) (meanings_sorted (held l) ordered) ∙ sym (meaning_in (held l) p) ∙ e

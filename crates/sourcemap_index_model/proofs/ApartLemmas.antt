@@ -18,7 +18,7 @@ use Rattle.sourcemap_index_model.proofs.SortLemmas.{sorted-from_keys}
 abbrev pub Span : Type 0
 Span = (ℕ × ℕ) × List (ℕ × ℕ)
 
--- all of these are after the position
+-- these sections do not overlap, and the first of them is after the position
 abbrev pub Follow : List Span → ℕ × ℕ → Type 0
 Follow later p = AreApart ((p, []) ∷ later)
 

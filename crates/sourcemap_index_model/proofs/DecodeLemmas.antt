@@ -1,4 +1,4 @@
--- A record decodes to one map, which is well-formed.
+-- A record decodes to at most one result, a map or an error.
 use Rattle.std.proofs.Common.{◌≡◌, sym, ap, subst, ◌∙◌, List, ◌∷◌, Bool, true, false, Option, Some, None, nat_lt, Result, Ok, Err, inl, inr}
 use Rattle.std.specs.Bool.{MatchBool}
 use Rattle.sourcemap_errors.specs.declared.errors.Error.{Error}

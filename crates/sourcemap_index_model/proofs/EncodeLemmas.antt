@@ -1,4 +1,4 @@
--- The record that a map is written as is determined, and what it reads back as.
+-- A map is written as at most one record. The record of a well-formed map reads back.
 use Rattle.std.proofs.Common.{◌≡◌, ◌≢◌, refl, sym, ap, subst, ◌∙◌, ℕ, ◌≤◌, List, [], ◌∷◌, length, map, false, Option, Some, None, option_map, option_and_then, nat_lt, Ok, inl, arith}
 use Rattle.std.proofs.lemmas.Bool.Decides.{nat_tests}
 use Rattle.serde_json.specs.Data.{null, string}
@@ -24,7 +24,7 @@ use Rattle.sourcemap_index_model.specs.WellFormed.{IsWellFormed, IsWellFormedLea
 use Rattle.sourcemap_index_model.proofs.ApartLemmas.{SectionLookup}
 use Rattle.sourcemap_index_model.proofs.SortLemmas.{sorted-of_keys}
 
--- One record.
+-- The record is unique.
 
 module _ (IsOf : LeafMap → Tree → Type 0) (once : (l : LeafMap) (a b : Tree) → IsOf l a → IsOf l b → a ≡ b) where
   mutual
@@ -98,7 +98,7 @@ meaning_by_sections parts ss p =
 
 -- Reading back, level by level.
 
--- sections that were decoded, and those that were written
+-- the decoded sections `backs` have the offsets, the parts and the meanings of the written sections `ss`
 record AreBack (backs : List MapSection) (ss : MapSections) : Type 0 where
   offsets : map section_offset backs ≡ map section_offset (section_list ss)
   kept : KeepSections (sections_from backs) ss

@@ -1,5 +1,6 @@
--- The flattened map: its tokens have the meanings of the sections' tokens, lookups in it answer as in
--- the index map if that is orderly, and it is well-formed if that is.
+-- The flattened map. It is well-formed if the index map is. If the tokens of each map are sorted, its tokens
+-- have the meanings of the sections' tokens, sorted by position. If the index map is also orderly, each
+-- position that has a meaning there has the same in the flattened map.
 use Rattle.std.proofs.Common.{◌≡◌, refl, sym, ap, subst, ◌∙◌, ℕ, zero, suc, ◌≤◌, List, [], ◌∷◌, ◌++◌, append_assoc, length, map, flat_map, Bool, true, false, ◌||◌, if◌then◌else◌, Option, Some, None, option_map, slice_get, IfSome, nat_lt, Result, Ok, Err, codes, arith}
 use Rattle.std.proofs.lemmas.List.{append-nil, map-append}
 use Rattle.std.proofs.lemmas.Option.{slice_get-map, slice_get_past, slice_get_within}
@@ -30,14 +31,14 @@ use Rattle.sourcemap_index_model.proofs.WellFormedLemmas.{not_above}
 
 -- The pieces of an index map.
 
--- each section flattened, in order
+-- each section has a map, and the pieces are these maps flattened, in order
 abbrev pub AreFlattened : MapSections → List Piece → Type 0
 AreFlattened no_sections pieces = pieces ≡ []
 AreFlattened (hollow head rest) pieces = ⊥
 AreFlattened (filled head t rest) pieces =
     (m : MapValue) × (more : List Piece) × (pieces ≡ (offset_of head, m) ∷ more) × (flat t ≡ Ok m) × AreFlattened rest more
 
--- each text has a number
+-- there is an id for each source and for each name
 abbrev pub AreFew : List Piece → Type 0
 AreFew pieces = (length (sources_in pieces) ≤ 4294967295) × (length (names_in pieces) ≤ 4294967295)
 
@@ -104,7 +105,7 @@ all_kept texts =
     subst (λ us. AllByRecursion (HasText (kept_once us)) texts) (present-all texts)
     (All-unmapped (IsListedIfAny (kept_once (present (map Some texts)))) Some texts (used-kept (map Some texts)))
 
--- the texts of a piece are among those of all
+-- the sources and names of a piece are among those of all pieces
 abbrev pub IsAmong : List Piece → Piece → Type 0
 IsAmong pieces piece = AllByRecursion (HasText (sources_in pieces)) (resolved_sources piece.1) × AllByRecursion (HasText (names_in pieces)) piece.1.names
 
@@ -196,7 +197,7 @@ module _ (file : Option (List ℕ)) (pieces : List Piece) (few : AreFew pieces) 
       AllWithin-in_order (length (sources_in pieces)) (length (names_in pieces)) (flat_map tokens_of pieces)
       (All-flat_map (IsWithin (length (sources_in pieces)) (length (names_in pieces))) tokens_of pieces (pieces_within pieces (all_among pieces) all))
 
--- The tokens of the flattened map are the flat list.
+-- The meanings of the flattened map's tokens are the flat list, sorted stably.
 
 abbrev absolute_meaning : Piece → List Entry
 absolute_meaning piece = map (absolute_entry piece.0) (token_meanings piece.1)
@@ -222,7 +223,7 @@ mutual
       (stable-sorted_by entry_position position_cmp_total (map (absolute_entry (offset_of head)) (flat_list t))))
       (pieces_stable rest more ordered.1 made))
 
--- It is well-formed.
+-- The flattened map of a well-formed map is well-formed.
 
 held_well : (l : LeafMap) → IsWellFormedLeaf l → IsWellFormedRegular (held l)
 held_well (regular m) well = well
@@ -242,7 +243,7 @@ mutual
   pieces_well (filled head t rest) pieces well (m, more, is, flat_is, made) =
       subst (AllByRecursion (λ (piece : Piece). IsWellFormedRegular piece.1)) (sym is) (flat_well t m well.0 flat_is, pieces_well rest more well.1 made)
 
--- It answers as the index map does.
+-- Where an orderly map with sorted tokens has a meaning, its flattened map has the same.
 
 pub flat_answers : (t : MapTree) (m : MapValue) → HasTokensInOrder t → IsOrderly t → flat t ≡ Ok m → AnswersLike t m
 flat_answers t m ordered orderly e p = by_case (meaning t p) refl

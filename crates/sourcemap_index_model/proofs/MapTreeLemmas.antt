@@ -1,4 +1,4 @@
--- Sections as a list, and facts of each level.
+-- Sections as a list, and facts that hold at each level.
 use Rattle.std.proofs.Common.{◌≡◌, refl, ap, ◌∙◌, List, [], ◌∷◌, Option, Some, None, IfSome}
 use Rattle.std.specs.List.{AllByRecursion}
 use Rattle.sourcemap_records.specs.Jsontypes.{SectionHead}
@@ -18,7 +18,7 @@ section_list-from (s ∷ ss) = by_case s.map ∙ ap (λ rest. s ∷ rest) (secti
     by_case (Some t) = refl
 
 module _ (OfMap : LeafMap → Type 0) (OfSections : MapSections → Type 0) where
-  -- a fact of each level of a section's map, if it has one
+  -- the facts hold at each level of the section's map, if it has one
   abbrev pub InSection : MapSection → Type 0
   InSection s = IfSome s.map (λ t. AtEachLevel OfMap OfSections t)
 

@@ -27,18 +27,18 @@ reached_here (a, b) (c, d) h = grind (arith, nat_tests)
 pub reached_or : (p q : ℕ × ℕ) → is_lt (position_cmp p q) ≡ false → is_eq (position_cmp q p) ≡ false → IsBefore q p
 reached_or (a, b) (c, d) h k = grind (arith, nat_tests)
 
--- no position moves before the offset
+-- what is before the offset is before each position of the section
 pub before_absolute : (p o q : ℕ × ℕ) → IsBefore p o → IsBefore p (absolute_position o q)
 before_absolute (a, b) (c, d) (e, f) h = grind (arith, nat_tests)
 
--- order is kept
+-- moving by an offset keeps the order
 pub absolute_lt : (o p q : ℕ × ℕ) → is_lt (position_cmp (absolute_position o p) (absolute_position o q)) ≡ is_lt (position_cmp p q)
 absolute_lt (a, b) (c, d) (e, f) = grind (arith, nat_tests)
 
 pub absolute_eq : (o p q : ℕ × ℕ) → is_eq (position_cmp (absolute_position o p) (absolute_position o q)) ≡ is_eq (position_cmp p q)
 absolute_eq (a, b) (c, d) (e, f) = grind (arith, nat_tests)
 
--- and back
+-- a position at or after the offset, made relative and then absolute again, is unchanged
 absolute_line : (a c : ℕ) → a ≤ c → c - a + a ≡ c
 absolute_line a c h = omega arith
 
@@ -51,7 +51,7 @@ line_reached a b c d h = grind (arith, nat_tests)
 pub absolute_relative : (o p : ℕ × ℕ) → is_lt (position_cmp p o) ≡ false → absolute_position o (relative_position o p) ≡ p
 absolute_relative (a, b) (c, d) h = λ i. (absolute_line a c (line_reached a b c d h) i, absolute_column a b c d h i)
 
--- how far a position is after another of its line, relative to the section
+-- the column distance between positions of one line is the same in the section and in the whole
 pub distance_from_section : (o p q : ℕ × ℕ) → is_lt (position_cmp p o) ≡ false
     → (if (absolute_position o q).0 == p.0 then p.1 - (absolute_position o q).1 else 0) ≡ (if q.0 == (relative_position o p).0 then (relative_position o p).1 - q.1 else 0)
 distance_from_section (a, b) (c, d) (e, f) h = grind (arith, nat_tests)

@@ -24,7 +24,7 @@ module _ {X K : Type 0} (key : X → K) (cmp : K → K → Ordering) where
       ])
 
 module _ {X K : Type 0} (key : X → K) {cmp : K → K → Ordering} (o : IsTotalOrder cmp) where
-  -- where no item of the second list is less than one of the first, each is sorted by itself
+  -- if no item of `ys` is less than one of `xs`, the two lists can be sorted separately
   pub sorted_by-append : (xs ys : List X) → AllByRecursion (λ x. AllByRecursion (λ y. is_lt (cmp (key y) (key x)) ≡ false) ys) xs
       → sorted_by key cmp (xs ++ ys) ≡ sorted_by key cmp xs ++ sorted_by key cmp ys
   sorted_by-append [] ys all = refl
@@ -32,7 +32,7 @@ module _ {X K : Type 0} (key : X → K) {cmp : K → K → Ordering} (o : IsTota
       ap (insert_by key cmp x) (sorted_by-append xs ys all.1)
       ∙ insert_by-append key cmp x (sorted_by key cmp xs) (sorted_by key cmp ys) (All-sorted_by key o (λ y. is_lt (cmp (key y) (key x)) ≡ false) ys all.0)
 
-  -- lists with the same items of each key, in one order, are sorted to one list
+  -- lists that have the same items for each key, in the same order, are sorted to the same list
   pub sorted_by-stable : (xs ys : List X) → IsStableByKey key cmp xs ys → sorted_by key cmp ys ≡ sorted_by key cmp xs
   sorted_by-stable xs ys stable = stably_sorted key o xs (sorted_by key cmp ys) (sorted-sorted_by key o ys) (λ a. stable-sorted_by key o ys a ∙ stable a)
 
@@ -42,7 +42,7 @@ module _ {X K : Type 0} (key : X → K) {cmp : K → K → Ordering} (o : IsTota
       ∙ (λ i. h a i ++ k a i)
       ∙ sym (filter-append (ties (λ x y. is_lt (cmp (key x) (key y))) a) xs ys)
 
--- a map that keeps the order of keys commutes with the sort
+-- a function that keeps the order of keys commutes with the sort
 module _ {X Y K L : Type 0} (key : X → K) (cmp : K → K → Ordering) (key' : Y → L) (cmp' : L → L → Ordering) (change : X → Y)
     (kept : (x y : X) → is_lt (cmp' (key' (change x)) (key' (change y))) ≡ is_lt (cmp (key x) (key y))) where
   insert_by-change : (x : X) (ys : List X) → insert_by key' cmp' (change x) (map change ys) ≡ map change (insert_by key cmp x ys)
@@ -58,7 +58,7 @@ module _ {X Y K L : Type 0} (key : X → K) (cmp : K → K → Ordering) (key' :
   sorted_by-change [] = refl
   sorted_by-change (x ∷ xs) = ap (insert_by key' cmp' (change x)) (sorted_by-change xs) ∙ insert_by-change x (sorted_by key cmp xs)
 
--- Lists whose items have the same keys are sorted together.
+-- If two lists have the same keys, one is sorted if the other is.
 
 module _ {X K : Type 0} (key : X → K) (lt : K → K → Bool) where
   Rises-keys : (xs : List X) → Rises (λ x y. lt (key x) (key y)) xs → Rises lt (map key xs)

@@ -1,4 +1,4 @@
--- Decoded maps are well-formed and have sorted tokens; well-formed maps are sorted.
+-- Decoded maps are well-formed and have sorted tokens. Well-formed maps have sorted sections.
 use Rattle.std.proofs.Common.{◌≡◌, refl, sym, ap, subst, ◌∙◌, ℕ, ◌+◌, ◌≤◌, List, [], ◌∷◌, length, Bool, true, false, Option, Some, None, nat_lt, Result, Ok, Err, inl, inr, arith}
 use Rattle.std.specs.Bool.{MatchBool}
 use Rattle.std.specs.List.{AllByRecursion}

@@ -32,7 +32,7 @@ is_text-last : (texts : List (List ℕ)) (text : List ℕ) → is_text text (sli
 is_text-last [] text = bytes_eq-refl text
 is_text-last (first ∷ texts) text = is_text-last texts text
 
--- the only id of a string is the one that is found
+-- if a string has no id but `found`, the result is `found`, whether the given id matches or not
 matching_id-is : (texts : List (List ℕ)) (text : List ℕ) (id : Option ℕ) (found : ℕ) → ((n : ℕ) → slice_get texts n ≡ Some text → n ≡ found) → option_or (matching_id texts text id) (Some found) ≡ Some found
 matching_id-is texts text None found only = refl
 matching_id-is texts text (Some id) found only =
@@ -48,7 +48,7 @@ matching_id-is texts text (Some id) found only =
 matching_id-past : (texts : List (List ℕ)) (text : List ℕ) → matching_id texts text (Some (length texts)) ≡ None
 matching_id-past texts text = rw (slice_get_past texts (length texts) (le_refl (length texts))) refl
 
--- a string whose digest is new
+-- a new string that goes to `firsts`, where its digest has no id yet
 pub IsIndex-first : (firsts after : ℕ → Option ℕ) (others : List ℕ → Option ℕ) (texts : List (List ℕ)) (text : List ℕ) (count : ℕ)
     → IsIndex firsts others texts → id_of text texts ≡ None → length texts ≡ count → firsts (digest text) ≡ None
     → ((n : ℕ) → after n ≡ cond (digest text == n) (Some count) (firsts n)) → IsIndex after others (texts ++ text ∷ [])
@@ -73,7 +73,7 @@ IsIndex-first firsts after others texts text count index missing counted free no
     here : option_or (matching_id (texts ++ text ∷ []) text (after (digest text))) (others text) ≡ id_of text (texts ++ text ∷ [])
     here = rw (own, is_text-last texts text) (sym (id_of-last texts text (length texts) refl missing))
 
--- a string whose digest another string has
+-- a new string that goes to `others`
 pub IsIndex-other : (firsts : ℕ → Option ℕ) (others after : List ℕ → Option ℕ) (texts : List (List ℕ)) (text : List ℕ) (count : ℕ)
     → IsIndex firsts others texts → AreDistinct texts → id_of text texts ≡ None → length texts ≡ count
     → ((t : List ℕ) → after t ≡ cond (bytes_eq text t) (Some count) (others t)) → IsIndex firsts after (texts ++ text ∷ [])

@@ -26,7 +26,7 @@ taken_or_free : (slots : List Slot) (slot_index : ℕ) → IsTaken slots slot_in
 taken_or_free slots slot_index taken free = taken.2 (ap (λ (s : Slot). s.number) (one_slot slots slot_index taken.0 free.0 taken.1 free.1) ∙ free.2)
 
 module _ (texts : List (List ℕ)) (mask : ℕ) (slots : List Slot) (others : List ℕ → Option ℕ) (is : IsIndex texts mask slots others) (text : List ℕ) where
-  -- a numbered text is in none of the slots that a search has passed
+  -- the text that is looked for is in none of the slots that its search has passed
   passed_not : (count n : ℕ) → ArePassed texts slots (start_of mask (hash_of text)) text count → slice_get texts n ≡ Some text
       → (reached : IsReached slots (start_of mask (hash_of text)) n) → reached.steps < count → ⊥
   passed_not count n passed named reached below =

@@ -47,7 +47,7 @@ byte_read old new text at inside plain_byte put =
 
 -- ---- escapes
 
--- where whole characters were appended, what is before them and what follows is UTF-8
+-- a step that appends whole characters; if the whole is UTF-8, so are the parts before and after them
 pub added_read : (old new added text : List ℕ) (at next : ℕ) → IsUtf8 added → 0 < length added → IsDecodedBetween (drop at text) added (drop next text) → IsUtf8UpTo text at next → new ≡ old ++ added
     → IsReadUpTo old text at new next
 added_read old new added text at next added_is some decodes passed put =
@@ -75,17 +75,17 @@ first_stored a b xs to n most within few placed =
     sym (take-take (to + n) (to + most) b (omega arith)) ∙ ap (λ k. take (k + n) (take (to + most) b)) (sym (length-take-le to a within))
     ∙ cut_back (take to a) xs (take (to + most) b) n most few placed.bytes
 
--- the bytes from an index on, as a slice of the text has them
+-- a block from the slice of the text that starts at an index is a block of the text
 pub rest_stored : (a b text : List ℕ) (at to n : ℕ) → Placed a b to (take n (take (length text - at) (drop at text))) (to + n) → Placed a b to (take n (drop at text)) (to + n)
 rest_stored a b text at to n placed = subst (λ xs. Placed a b to (take n xs) (to + n)) (take_rest text at) placed
 
--- the front of a vector that was filled as a slice
+-- the first bytes of a buffer whose start was overwritten
 pub front_kept : (n len : ℕ) (filled old : List ℕ) → n ≤ length filled → n ≤ len → take n (take len (filled ++ drop (length filled) old)) ≡ take n filled
 front_kept n len filled old within few = take-take n len (filled ++ drop (length filled) old) few ∙ take-append-le n filled (drop (length filled) old) within
 
--- ---- the end of a text
+-- ---- the end of a string
 
--- a quote follows what was decoded from the start of the string
+-- a quote after what was decoded from the start of the string ends the string
 pub string_ends : (text first front decoded : List ℕ) (start at stop : ℕ) → IsReadUpTo [] text start first at → front ≡ first → IsReadUpTo front text at decoded stop → get_or text stop 32 ≡ 34
     → (content plain (drop start text) ≡ Some decoded) × (lex in_string (drop start text) ≡ lex between (drop (stop + 1) text)) × (IsUtf8 decoded → IsUtf8UpTo text start (stop + 1))
 string_ends text first front decoded start at stop before same last quoted =

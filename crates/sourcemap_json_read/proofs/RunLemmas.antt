@@ -40,7 +40,7 @@ equals x y = full_if (eqb x y)
 abbrev below : ℕ → ℕ → ℕ
 below x y = full_if (ltb x y)
 
--- which bytes are a quote, a backslash or a control byte, a lane for each
+-- one lane for each byte: 255 for a quote, a backslash or a control byte, else 0
 abbrev stop_lanes : ℕ → List ℕ → List ℕ
 stop_lanes n v = zip2 bit_or (zip2 bit_or (zip2 equals v (replicate n 34)) (zip2 equals v (replicate n 92))) (zip2 below v (replicate n 32))
 
@@ -114,7 +114,7 @@ module _ (stop : ℕ → Bool) (text : List ℕ) (at n : ℕ) (inside : at + n �
       let rest = prefix_len (λ x. not (stop x)) (drop (at + n) text) in
       split ∙ ap (λ whole. cond whole (length part + rest) (prefix_len (λ x. not (stop x)) part)) (eq-eqb _ _ (leading_from_mask_l stop part none)) ∙ ap (λ k. k + rest) (length-chunk at n text inside)
 
-  -- the lowest bit is where it ends
+  -- the lowest set bit of the mask is where the run ends
   pub run_stops : n ≤ 64 → 0 < mask_l (map stop (chunk at n text)) → prefix_len (λ x. not (stop x)) (drop at text) ≡ count_trailing_zeros 64 (mask_l (map stop (chunk at n text)))
   run_stops few some =
       let part = chunk at n text in
@@ -134,7 +134,7 @@ run_within stop text at h = omega (arith, prefix_len-le-length (λ x. not (stop 
 
 -- ---- a run that is copied
 
--- copies more bytes
+-- appending the next bytes extends the copied run
 pub copied_more : (out before text : List ℕ) (from at n : ℕ) → from ≤ at → out ≡ before ++ take (at - from) (drop from text)
     → out ++ take n (drop at text) ≡ before ++ take (at + n - from) (drop from text)
 copied_more out before text from at n after is =

@@ -65,7 +65,7 @@ no_longer false p m n both rest = omega arith
 no_longer true true m n both rest = omega (arith, rest)
 no_longer true false m n both rest = absurd (false≢true (both refl))
 
--- a run of ASCII is one of plain bytes
+-- a run of plain ASCII bytes is no longer than the run of plain bytes there
 bare_within : (xs : List ℕ) → prefix_len is_bare xs ≤ prefix_len is_plain xs
 bare_within [] = omega arith
 bare_within (x ∷ xs) = no_longer (is_bare x) (is_plain x) (prefix_len is_bare xs) (prefix_len is_plain xs) (plain_if_bare x) (bare_within xs)

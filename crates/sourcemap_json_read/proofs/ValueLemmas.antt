@@ -35,7 +35,7 @@ value_shorter depth d old new h = skip_value-shorter depth old new (ap left h.1)
 
 -- ---- items
 
--- an array that ends here holds no value here
+-- tokens that begin with a value do not begin with the end of an array
 not_closed : (depth : ℕ) (j : json.Json) (ts r : List Token) → json.value depth ts ≡ Some (j, r) → after_end_array ts ≡ None
 not_closed depth j [] r e = refl
 not_closed depth j (Token.begin_object ∷ ts) r e = refl

@@ -29,7 +29,7 @@ escape_by_code x control none =
     let first : digit_char (x / 16) ≡ 48 + x / 16 = rw (lt-ltb (x / 16) 10 (omega arith)) in
     rw (none, lt-ltb x 32 control, first) refl
 
--- the byte after a run
+-- the byte after a run of plain bytes is a stop
 pub stop_at : (text : List ℕ) (at end : ℕ) → end ≡ at + prefix_len is_plain (drop at text) → end < length text → is_stop (get_or text end 0) ≡ true
 stop_at text at end is inside =
     let n = prefix_len is_plain (drop at text) in
@@ -58,7 +58,7 @@ plain_block text at n goes_on =
     escape_to_stop text at stop (34 ∷ []) (omega (arith, goes_on)) ∙ ap (λ k. take k xs ++ rest) count ∙ ap (λ l. l ++ rest) (take-add n m xs) ∙ append_assoc (take n xs) (take m (drop n xs)) rest
     ∙ ap (λ l. take n xs ++ l) (ap (λ ys. take m ys ++ rest) (drop-drop n at text) ∙ ap (λ k. take k (drop (at + n) text) ++ rest) more ∙ sym (escape_to_stop text (at + n) stop (34 ∷ []) (omega arith)))
 
--- a run that ends here
+-- a whole run of plain bytes is its own escaped text
 whole_run : (text : List ℕ) (at n : ℕ) → prefix_len is_plain (drop at text) ≡ n → left text at ≡ take n (drop at text) ++ left text (at + n)
 whole_run text at n is =
     let count : at + n - at ≡ n = omega arith in

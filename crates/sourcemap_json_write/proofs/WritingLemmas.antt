@@ -1,4 +1,4 @@
--- The compact text of a value without fractions reads back as the value.
+-- The compact text of a plain value that is not nested too deeply reads back as the value.
 use Rattle.std.proofs.Common.{◌≡◌, ℕ, ℤ, pos, negsuc, suc, ◌^◌, ◌<◌, ◌≤◌, max, nat_lt, cond, int_lt, true, false, Bool, SFits, w64, List, [], ◌∷◌, ◌++◌, append-nil, Some, None, option_map, option_and_then, refl, sym, ap, ap₂, ◌∙◌, subst, arith}
 use Rattle.std.proofs.lemmas.Fmt.{IsAscii-decimal, IsAscii-signed}
 use Rattle.std.proofs.lemmas.Str.{IsUtf8-append, IsUtf8-nil, IsUtf8-from_ascii}
@@ -66,7 +66,7 @@ plain_negative (float y) z is below fits = absurd (cc)
 
 -- ---- values
 
--- the rest of the members, after those before are read
+-- the members `rest` have numbers and UTF-8 texts; read after the members `before`, they give `all`
 abbrev pub IsPlainRest : Members → Members → Members → Type 0
 IsPlainRest before rest all = MembersHaveNumbers (members_outline rest) × (of_members (members_outline rest) before ≡ Some all) × ((later : Bool) → IsUtf8 (members_text later rest))
 

@@ -1,4 +1,4 @@
--- From the index where a search in a line ends to the closest token.
+-- From the index where a search in a line ends to the closest token, and how many comparisons this takes.
 use Rattle.std.proofs.Common.{◌≡◌, refl, sym, ap, subst, ◌∙◌, ℕ, zero, suc, ◌<◌, ◌≤◌, ◌+◌, ◌-◌, ◌*◌, ◌/◌, ◌^◌, arith, inl, inr, eq-eqb, min, Bool, not, ◌&&◌, nat_lt, true, false, List, length, get_or, Some, None, Option, option_map}
 use Rattle.std.proofs.Math.Nat.{pow-succ'}
 use Rattle.std.specs.Option.{IfSome, SomeIff}
@@ -45,7 +45,8 @@ closest-in-none tokens p up none =
     let bracket : IsBracket destination position_cmp tokens p 0 0 = record { below = λ d some. absurd (omega arith); above = λ d some. absurd (omega (arith, none)) } in
     ap (option_map (λ found. found.0)) (closest-none position_cmp_total destination tokens p 0 up bracket refl (λ d some. absurd (omega (arith, none))))
 
--- a search in the tokens of the line of p, from low up to high, for the column of q, which is p, ended at index
+-- a search for the column of q, which is p, ended at `index`; the tokens on the line of p are those from low
+-- up to, not including, high
 module _ (tokens : List RawToken) (p : ℕ × ℕ) (low high index : ℕ) (up : AreInOrder tokens) (span : IsSpan tokens p.0 low high) (at_least : low ≤ index) (at_most : index ≤ high) (q : ℕ × ℕ) (kept : q ≡ p) (before : (d : RawToken) → low < index → (get_or tokens (index - 1) d).dst_col < q.1) (from : (d : RawToken) → index < high → q.1 ≤ (get_or tokens index d).dst_col) where
   col : q.1 ≡ p.1
   col = ap (λ k. k.1) kept
@@ -65,7 +66,7 @@ module _ (tokens : List RawToken) (p : ℕ × ℕ) (low high index : ℕ) (up : 
     ];
   }
 
-  -- a token at index is at p
+  -- the token at index is at p
   index-hit : (e : RawToken) (r : ℕ × ℕ) → r ≡ q → index < high → is_eq (nat_cmp r.1 (get_or tokens index e).dst_col) ≡ true → Some index ≡ option_map (λ found. found.0) (closest_token tokens p)
   index-hit e r still l same =
       let inside = span.inside in
@@ -102,7 +103,7 @@ module _ (tokens : List RawToken) (p : ℕ × ℕ) (low high index : ℕ) (up : 
   closest-at-index-inside e r still l true same back stepped a found = no_step index a (subst (λ k. SomeIff a (k ≤ index) (index - k)) stepped found) ∙ index-hit e r still l (sym same)
   closest-at-index-inside e r still l false same back stepped a found = index-miss (index-apart e r still l (sym same)) a (subst (λ k. SomeIff a (k ≤ index) (index - k)) stepped found)
 
-  -- the result is index if its token is at p, else index - 1
+  -- the result is index if its token is at p, otherwise index - 1, and none if index is 0
   pub closest-at-index : (e : RawToken) (n : ℕ) (r : ℕ × ℕ) → r ≡ q → (index < high → n ≡ index) → (b : Bool) → b ≡ is_eq (nat_cmp r.1 (get_or tokens n e).dst_col) → (back : ℕ) → back ≡ bool_byte (not (nat_lt index high && b))
       → (a : Option ℕ) → SomeIff a (back ≤ index) (index - back) → a ≡ option_map (λ found. found.0) (closest_token tokens p)
   closest-at-index e n r still here b same back stepped a found =
@@ -136,7 +137,7 @@ digits_suffice (suc most) n l =
       | inr some ↦ rw (ne_eqb n 0 some, pow-succ' 2 (digits_within most (n / 2))) (twice n _ later)
     ]
 
--- a count is below the power of two of its binary digits
+-- a count is below 2 to the power of the number of its binary digits
 pub binary_digits_suffice : (n : ℕ) → n < 2 ^ (binary_digits n)
 binary_digits_suffice n = digits_suffice n n (omega arith)
 
@@ -165,7 +166,8 @@ binary_digits_fewest n d small = fewest_within n n d (omega arith) small
 thirty_two_times : (d : ℕ) → 2 ^ suc (suc (suc (suc (suc d)))) ≡ 2 * (2 * (2 * (2 * (2 * 2 ^ d))))
 thirty_two_times d = rw (pow-succ' 2 (suc (suc (suc (suc d)))), pow-succ' 2 (suc (suc (suc d))), pow-succ' 2 (suc (suc d)), pow-succ' 2 (suc d), pow-succ' 2 d) refl
 
--- with samples, a search for a column makes at most five comparisons more, and one for a line as many fewer
+-- with samples, the bound of comparisons for the column is higher by five, but that for the line is lower by
+-- five
 count_by_few_lines : (d count lines start found left : ℕ) → count < 2 ^ d → 0 < lines → 32 * lines ≤ count → ((e : ℕ) → lines < 2 ^ e → found ≤ start + (e + 1)) → left ≤ found + (d + 5) → left ≤ start + (2 * d + 1)
 count_by_few_lines zero count lines start found left small some few f l = absurd (omega arith)
 count_by_few_lines (suc zero) count lines start found left small some few f l = absurd (omega arith)
@@ -177,7 +179,7 @@ count_by_few_lines (suc (suc (suc (suc (suc d))))) count lines start found left 
     let line : found ≤ start + (d + 1) = f d (omega arith) in
     omega arith
 
--- comparisons for the line, one of equality with it, and those for the column
+-- the comparisons for the line, one for equality with it, and those for the column but the last
 pub count_before_last : (count lines samples start found left d : ℕ) → count < 2 ^ d → lines ≤ count → (lines ≡ 0 → count ≡ 0) → (0 < samples → (0 < count) × (32 * lines ≤ count)) → ((e : ℕ) → lines < 2 ^ e → found ≤ start + (e + 1))
     → ((e : ℕ) → samples ≡ 0 → count < 2 ^ e → left ≤ found + e) → ((e : ℕ) → count < 2 ^ e → left ≤ found + (e + 5)) → left ≤ start + (2 * d + 1)
 count_before_last count lines samples start found left d small few filled sampled f none some =
@@ -191,6 +193,6 @@ count_before_last count lines samples start found left d small few filled sample
           ]
     ]
 
--- with the last comparison of the column, if a token is left
+-- with the last comparison of the column
 pub count_in_all : (start left end d : ℕ) → left ≤ start + (2 * d + 1) → end ≡ min (left + 1) 4294967295 → end ≤ start + 2 * (d + 1)
 count_in_all start left end d l e = omega arith

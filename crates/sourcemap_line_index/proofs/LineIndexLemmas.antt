@@ -25,7 +25,7 @@ fewer_left most made next left l some n = omega arith
 saturated : (made next : ℕ) → next ≡ min (made + 1) 4294967295 → next ≤ made + 1
 saturated made next e = omega arith
 
--- after one more comparison, in at most half of the indices
+-- after one more comparison, at most half of the indices are left
 pub Remains-half : (most made size next half : ℕ) → 0 < size → next ≡ min (made + 1) 4294967295 → half ≤ size / 2 → Remains most made size → Remains most next half
 Remains-half most made size next half some counted halved r =
     elim (cases_eq r.left 0) [

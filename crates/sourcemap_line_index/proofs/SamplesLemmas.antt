@@ -8,7 +8,7 @@ use Rattle.sourcemap_line_index.specs.LineIndex.{Rises, col_at}
 use Rattle.sourcemap_line_index.specs.Samples.{AreColumns, AreSamples, HasRisingColumns}
 use Rattle.sourcemap_line_index.proofs.LineIndexLemmas.{if_less, if_not_less}
 
--- a list with samples is not empty, and has few lines
+-- a list with samples is not empty, and has at least 32 tokens per line on average
 pub sampled_some : (tokens : List RawToken) (lines : ℕ) (columns : List ℕ) → AreSamples tokens lines columns → 0 < length columns → (0 < length tokens) × (32 * lines ≤ length tokens)
 sampled_some tokens lines columns sampled some = let is = sampled some in (let first = is.0.inside 0 some in omega arith, is.1)
 
@@ -28,7 +28,7 @@ some_token : (tokens : List RawToken) → 0 < length tokens → RawToken
 some_token [] l = absurd (omega arith)
 some_token (t ∷ ts) l = t
 
--- the samples of tokens on one line do not fall
+-- the samples of tokens whose columns do not fall do not fall either
 pub samples_rise : (tokens : List RawToken) (columns : List ℕ) (first end low high : ℕ) → AreColumns tokens columns → ((d : RawToken) → Rises (col_at tokens d) first end)
     → first ≤ 8 * low → 8 * high < end + 8 → high ≤ length columns → Rises (slice_index columns) low high
 samples_rise tokens columns first end low high are rises l h within k lk hk =
@@ -39,7 +39,7 @@ samples_rise tokens columns first end low high are rises l h within k lk hk =
     let far' : col_at tokens d (8 * k) ≤ col_at tokens d (8 * (k + 1)) = subst (λ n. col_at tokens d (8 * k) ≤ col_at tokens d n) (sym next) far in
     rw (are.own k d (omega arith), are.own (k + 1) d (omega arith)) far'
 
--- a part of the tokens whose columns do not fall
+-- columns that do not fall do not fall in a part of the tokens
 pub narrowed : (tokens : List RawToken) (first end from to : ℕ) → HasRisingColumns tokens first end → first ≤ from → from ≤ to → to ≤ end → HasRisingColumns tokens from to
 narrowed tokens first end from to rising l m h =
     let within = rising.within in
@@ -76,7 +76,8 @@ module _ (tokens : List RawToken) (columns : List ℕ) (first end low high sampl
 eight_times : (d : ℕ) → 2 ^ suc (suc (suc d)) ≡ 2 * (2 * (2 * 2 ^ d))
 eight_times d = rw (pow-succ' 2 (suc (suc d)), pow-succ' 2 (suc d), pow-succ' 2 d) refl
 
--- the search in the samples, then token by token between two samples, makes at most five comparisons more than a search in all tokens
+-- a search in the samples, and then token by token between two samples, makes at most five comparisons more
+-- than the bound for a search in all tokens
 pub count_by_samples : (d count end low high from to start found left : ℕ) → count < 2 ^ d → 8 ≤ end → end ≤ count → 8 * high < end + 8 → to - from < 8
     → ((e : ℕ) → high - low < 2 ^ e → found ≤ start + e) → left ≤ found + (to - from) → left ≤ start + (d + 5)
 count_by_samples zero count end low high from to start found left small many inside near short f l = absurd (omega arith)
@@ -88,12 +89,13 @@ count_by_samples (suc (suc (suc d))) count end low high from to start found left
     let among : found ≤ start + suc d = f (suc d) (subst (λ n. high - low < n) (sym (pow-succ' 2 d)) few) in
     omega arith
 
--- the tokens from `first` to `at` were compared with a key: those before `index` are below it, the others are not
+-- the numbers from `first` up to, not including, `at` were compared with a key: those before `index` are
+-- below it, the others are not
 pub record IsPassed (number : ℕ → ℕ) (key first index at : ℕ) : Type 0 where
   pub before : first < index → number (index - 1) < key
   pub from : index < at → key ≤ number index
 
--- one more token
+-- one more number
 pub passed_one : (number : ℕ → ℕ) (key first end index at skipped : ℕ) → Rises number first end → first ≤ index → index ≤ at → at < end
     → skipped ≡ (if nat_lt (number at) key then 1 else 0) → IsPassed number key first index at → IsPassed number key first (index + skipped) (at + 1)
 passed_one number key first end index at skipped rises least l inside is p =

@@ -27,7 +27,7 @@ token_line tokens k line d at =
     let same : Some (get_or tokens k d).dst_line ≡ Some line = subst (λ o. option_map (λ t. t.dst_line) o ≡ Some line) found at in
     cc
 
--- its token
+-- an index with a line has a token
 token_of : (tokens : List RawToken) (k line : ℕ) → line_at tokens k ≡ Some line → (t : RawToken) × (slice_get tokens k ≡ Some t)
 token_of tokens k line at =
     let found = slice_get_cases tokens k in
@@ -48,7 +48,7 @@ lines_rise tokens up i j d l within =
     first_at_most (get_or tokens i d).dst_line (get_or tokens i d).dst_col (get_or tokens j d).dst_line (get_or tokens j d).dst_col
     (searchable_from_sorted position_cmp_total destination tokens (destination (get_or tokens j d)) up i j d l within)
 
--- the table of an empty list
+-- the table of no tokens
 pub table_of_none : (tokens : List RawToken) → IsLineTable tokens 0 (record { lines = []; firsts = [] })
 table_of_none tokens = record {
   same_length = refl;
@@ -83,7 +83,7 @@ last_at : (tokens : List RawToken) (n : ℕ) (lines firsts : List ℕ) → IsLin
     → (row : ℕ) → row + 1 ≡ length lines → line_at tokens (n - 1) ≡ Some (slice_index lines row)
 last_at tokens n lines firsts t row e = let back : length lines - 1 ≡ row = omega arith in subst (λ k. line_at tokens (n - 1) ≡ Some (slice_index lines k)) back (t.ends (omega arith))
 
--- a token on a later line than all rows adds a row
+-- a token on a later line than the last row adds a row
 module _ (tokens : List RawToken) (n line : ℕ) (lines firsts : List ℕ) (at : line_at tokens n ≡ Some line) (after : (row : ℕ) → row + 1 ≡ length lines → slice_index lines row < line) (t : IsLineTable tokens n (record { lines = lines; firsts = firsts })) where
   old_line : (row : ℕ) → row < length lines → slice_index (lines ++ line ∷ []) row ≡ slice_index lines row
   old_line row l = get_or_append_left lines (line ∷ []) 0 row l
@@ -224,7 +224,7 @@ module _ (old more : List RawToken) (line : ℕ) where
         let whole : length old + (length more - 1) + 1 ≡ length (old ++ more) = let many = length-append old more in omega arith in
         subst (λ n. IsLineTable (old ++ more) n (with_row table line (length old))) whole (table_of_more (with_row table line (length old)) (length more - 1) (omega arith) begun)
 
--- the tokens of a row; `low` is the index of its first
+-- the tokens of a row; `low` is the index of its first one, or the length of the list past the last row
 module _ (tokens : List RawToken) (table : LineTable) (made : IsTableOf tokens table) (row low p : ℕ) (within : row < length table.firsts → low ≡ slice_index table.firsts row) (past : length table.firsts ≤ row → low ≡ length tokens) (in_rows : row ≤ length table.lines) where
   pub inside_row : low ≤ length tokens
   inside_row =
@@ -278,7 +278,7 @@ module _ (tokens : List RawToken) (table : LineTable) (made : IsTableOf tokens t
         | inr ge ↦ let is = past (omega arith) in absurd (omega arith)
       ]
 
-  -- no row has the line
+  -- no row has the line p: the row before, if any, has an earlier line, and this row, if any, a later one
   pub span_of_none : (0 < row → slice_index table.lines (row - 1) < p) → (row < length table.lines → p < slice_index table.lines row) → IsSpan tokens p low low
   span_of_none less more = record {
     ordered = omega arith;
@@ -288,7 +288,7 @@ module _ (tokens : List RawToken) (table : LineTable) (made : IsTableOf tokens t
     on_line = λ index d from to. absurd (omega arith);
   }
 
--- this row has the line, and its tokens end at `high`
+-- this row has the line p, and its tokens end before `high`
 module _ (tokens : List RawToken) (table : LineTable) (made : IsTableOf tokens table) (row low high p : ℕ) (within : row < length table.firsts → low ≡ slice_index table.firsts row) (within' : row + 1 < length table.firsts → high ≡ slice_index table.firsts (row + 1)) (past' : length table.firsts ≤ row + 1 → high ≡ length tokens) (l : row < length table.lines) (here : p ≡ slice_index table.lines row) where
   starts : low ≡ slice_index table.firsts row
   starts = let same_length = made.1.same_length in within (omega arith)

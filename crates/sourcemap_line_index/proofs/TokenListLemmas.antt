@@ -1,4 +1,4 @@
--- Equality of tokens decides `≡`, and an index of a list has one token.
+-- `same_raw` is true exactly for equal tokens, and a list has at most one token at an index.
 use Rattle.std.proofs.Common.{◌≡◌, refl, ap, ℕ, List, Option, Some, None, option_map, slice_get}
 use Rattle.std.specs.Option.{IfSome}
 use Rattle.std.specs.Bool.{Decides}

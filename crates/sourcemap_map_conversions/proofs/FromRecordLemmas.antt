@@ -1,4 +1,4 @@
--- What a record is read as, from what its fields are read as.
+-- The parts of a record, or its error, by what its fields are read as.
 use Rattle.std.proofs.Common.{◌≡◌, List, [], ◌∷◌, ◌++◌, reverse, length, map, option_map, Result, Ok, Err, refl, sym, ap, subst, ◌∙◌, inl, inr, vec_len, string_bytes, IfOk, ◌≤◌}
 use Rattle.std.proofs.lemmas.List.{length-map, append-nil}
 use Rattle.serde_json.specs.View.{view}
@@ -67,15 +67,15 @@ module _ (r : Fields) (parts : RecordParts) (are : ArePartsIn r parts) where
     contents = are.lists.contents i;
   }
 
-  -- a list that is too long
+  -- if a list is too long, the error is `IncompatibleSourceMap`
   pub refused-few_items : ¬ HaveFewItems parts.lists → PartsAnswer r (Err IncompatibleSourceMap)
   refused-few_items full = inl ((λ few_items. full (have_few_items_back few_items)), refl)
 
-  -- an error of the mappings
+  -- if no list is too long, an error of the mappings is that of the record
   pub refused-tokens : HaveFewItems parts.lists → (e : Error) → UnlessMemory e (TextsAnswer (Err e)) → UnlessMemory e (PartsAnswer r (Err e))
   refused-tokens few_items e h = UnlessMemory-weaker e (λ due. inr (have_few_items few_items, tokens_due (Err e) due)) h
 
-  -- the parts
+  -- if the mappings have tokens, the parts that are made of these and of the fields are those of the record
   pub read : HaveFewItems parts.lists → (tokens : List RawToken) → TextsAnswer (Ok tokens) → (result : Result Parts Error)
       → Gives parts_view result (Ok (parts_read parts.metadata parts.lists tokens)) → IsAnswer parts_view (PartsAnswer r) result
   read few_items tokens h (Ok p) gave =

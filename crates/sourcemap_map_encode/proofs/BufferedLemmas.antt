@@ -42,15 +42,15 @@ pub more_copies : (m n x : ℕ) → replicate m x ++ replicate n x ≡ replicate
 more_copies zero n x = ap (λ (k : ℕ). replicate k x) (sym (zero-add n))
 more_copies (suc m) n x = ap (λ r. x ∷ r) (more_copies m n x) ∙ ap (λ (k : ℕ). replicate k x) (next_of m n)
 
--- the end of a text is buffered, then the buffer is flushed
 pub OnOk-then : {T E : Type 0} (result : Result T E) (P Q : Type 0) → (P → Q) → OnOk result P → OnOk result Q
 OnOk-then (Ok x) P Q f p = f p
 OnOk-then (Err e) P Q f p = tt
 
+-- the end of a text is buffered, then the buffer is flushed
 pub Grows-flushed : (h i j : Option (List ℕ)) (a b c text : List ℕ) → Grows h a i b text → Grows i b j c [] → Grows h a j c text
 Grows-flushed h i j a b c text x y = subst (λ (t : List ℕ). Grows h a j c t) (append-nil text) (Grows-join h i j a b c text [] x y)
 
--- the same buffer under an equal name
+-- appending to the buffer, by an equation for the new buffer
 pub Grows-into : (held : Option (List ℕ)) (a b text : List ℕ) → b ≡ a ++ text → Grows held a held b text
 Grows-into held a b text is = subst (λ (r : List ℕ). Grows held a held r text) (sym is) (Grows-push held a text)
 

@@ -82,7 +82,7 @@ put-carried names done more previous against other h i j a b c e f k l w =
     (subst (λ (known : Option (List ℕ)). GrowsBy (Written names done previous against) h a known c) (sym k)
     (subst (λ (r : List ℕ). GrowsBy (Written names done previous against) h a i r) (sym l) w)))
 
--- all tokens
+-- after all tokens, the text is that of their mappings
 pub all-put : (names : ℕ) (tokens : List RawToken) (previous : Option RawToken) (against : RawToken) (h i : Option (List ℕ)) (a b : List ℕ)
     → names < 2 ^ 32 → AreInOrder tokens → GrowsBy (Written names tokens previous against) h a i b → GrowsBy (IsMappingsText names tokens) h a i b
 all-put names tokens previous against h i a b few order (text, w, x) =
@@ -154,7 +154,7 @@ ranged-carried line n done more flags others h i j a b c d e f k l w =
     (subst (λ (known : Option (List ℕ)). GrowsBy (Ranged line done flags) h a known c) (sym k)
     (subst (λ (r : List ℕ). GrowsBy (Ranged line done flags) h a i r) (sym l) w))))
 
--- the bits of the last line
+-- after the bits of the last line, the text has all range bits
 pub all-ranged : (line : ℕ) (tokens : List RawToken) (previous : Option RawToken) (flags : List Bool) (h i j : Option (List ℕ)) (a b c : List ℕ)
     → Walked line tokens previous → GrowsBy (Ranged line tokens flags) h a i b → GrowsBy (IsLineOfBits flags 0) i b j c → GrowsBy (IsBitsText tokens) h a j c
 all-ranged line tokens previous flags h i j a b c walked (text, w, x) (more, is, y) =

@@ -1,4 +1,5 @@
--- The compact text of a value of strings and integers reads back as the value. `sourcemap_json_write` proves the same of the values that it prints.
+-- The compact text of a plain value reads back as the value, if it is not too deep. Values made of strings
+-- and unsigned integers are plain. `sourcemap_json_write` proves the same of the values that it prints.
 use Rattle.std.proofs.Common.{◌≡◌, ℕ, suc, ◌^◌, ◌<◌, ◌≤◌, max, true, false, Bool, List, [], ◌∷◌, ◌++◌, append-nil, Some, option_map, option_and_then, refl, sym, ap, ap₂, ◌∙◌, arith}
 use Rattle.std.proofs.lemmas.Fmt.{IsAscii-decimal}
 use Rattle.std.proofs.lemmas.Str.{IsUtf8-append, IsUtf8-nil, IsUtf8-from_ascii}
@@ -44,14 +45,14 @@ plain_reads_back d plain shallow =
     ∙ ap (λ o. option_and_then of_json (option_and_then (λ p. json.if_last p.0 p.1) o)) (value-json_tokens (outline d) max_depth [] (omega (arith, shallow, depth-outline d)))
     ∙ plain.1
 
--- ---- numbers
+-- Numbers.
 
 pub plain_unsigned : (x : Num) (n : ℕ) → as_u64 x ≡ Some n → n < 2 ^ 64 → IsPlainNumber x
 plain_unsigned (unsigned m) n is fits = let same : m ≡ n = cc in let small : m < 2 ^ 64 = omega arith in (IsNumber-decimal m small, number_of-decimal m small, IsUtf8-from_ascii _ (IsAscii-decimal m small))
 plain_unsigned (negative z) n is fits = absurd (cc)
 plain_unsigned (float y) n is fits = absurd (cc)
 
--- ---- values
+-- Values.
 
 -- members after those that are read already
 abbrev pub IsPlainRest : Members → Members → Members → Type 0
@@ -86,7 +87,7 @@ plain_item d ds here rest = (
   λ later. IsUtf8-append _ _ (comma_utf8 later) (IsUtf8-append _ _ here.2 (rest.2 true)),
 )
 
--- ---- members
+-- Members.
 
 pub plain_member : (k : List ℕ) (d : Data) (before rest all : Members) → IsUtf8 k → IsPlainValue d → IsPlainRest (put k d before) rest all → IsPlainRest before (member k d rest) all
 plain_member k d before rest all key here more = (

@@ -1,4 +1,5 @@
--- Items of lists that are cut or filled to a length; std has lemmas on `take`, `++` and `replicate` alone.
+-- Items of lists that are cut or filled to a length. std has lemmas on `take`, `++` and `replicate`, but none
+-- on this combination.
 use Rattle.std.proofs.Common.{◌≡◌, ℕ, zero, suc, ◌+◌, ◌<◌, ◌≤◌, List, [], ◌∷◌, ◌++◌, length, take, drop, replicate, Option, Some, None, slice_get, refl, ap, ◌∙◌, arith, length-take, length-append, add-one, option_and_then}
 use Rattle.std.proofs.lemmas.List.{length-replicate, take_more}
 use Rattle.std.proofs.lemmas.Option.{get_or_from_slice_get}
@@ -31,7 +32,7 @@ filled (x ∷ xs) zero k i fits here = absurd (omega arith)
 filled (x ∷ xs) (suc n) k zero fits here = refl
 filled (x ∷ xs) (suc n) k (suc i) fits here = filled xs n k i (omega arith) (omega arith)
 
--- an item of such a list
+-- an item below the length is the old one, or `None` past the end of the old list
 pub slice_get-fitted : (contents : List (Option (List ℕ))) (n i : ℕ) → i < n → slice_get (fitted n contents) i ≡ Some (option_and_then (λ x. x) (slice_get contents i))
 slice_get-fitted contents n i here = filled contents n n i (omega arith) here
 

@@ -3,7 +3,7 @@ use Rattle.std.proofs.Common.{◌≡◌, ℕ, zero, suc, ◌+◌, ◌≤◌, Lis
 use Rattle.std.proofs.lemmas.List.{replicate-append-replicate, take-append-le, take-map, map-append, map-set, length-replicate}
 use Rattle.sourcemap_map_parts.specs.Contents.{fitted}
 
--- further fill past the length makes no difference
+-- once a list is filled to `n` items or more, further fill does not change its first `n`
 filled : {X : Type 0} (n k m : ℕ) (xs : List X) (x : X) → n ≤ length xs + k → take n (xs ++ replicate (k + m) x) ≡ take n (xs ++ replicate k x)
 filled n k m xs x h =
     let enough : n ≤ length (xs ++ replicate k x) = omega (arith, length-append xs (replicate k x), length-replicate k x) in

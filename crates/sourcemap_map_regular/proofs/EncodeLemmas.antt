@@ -78,7 +78,7 @@ read_ids : (ids : List ℕ) → list_or_empty (written_ids ids) ≡ ids
 read_ids [] = refl
 read_ids (x ∷ xs) = let more : (suc (length xs) == 0) ≡ false = grind (arith, nat_tests) in rw more
 
--- no contents are lost if none are written
+-- if no item of a list is `Some`, there are no contents at any index
 none_in : (contents : List (Option (List ℕ))) (i : ℕ) → list_any is_some contents ≡ false → option_and_then (λ x. x) (slice_get contents i) ≡ None
 none_in [] i e = refl
 none_in (Some x ∷ cs) i e = cc
@@ -96,7 +96,7 @@ read_contents contents i =
 few_read : (contents : List (Option (List ℕ))) → length (list_or_empty (if list_any is_some contents then Some contents else None)) ≤ length contents
 few_read contents = elim (list_any is_some contents) as (λ b. length (list_or_empty (if b then Some contents else None)) ≤ length contents) [ true ↦ omega arith | false ↦ omega arith ]
 
--- a name id without a name may become 4294967295
+-- replacing an id that names nothing by 4294967295 does not change the name
 sound_name : (names : List (List ℕ)) (id : ℕ) → length names ≤ 4294967295 → slice_get names (if nat_lt id (length names) then id else 4294967295) ≡ slice_get names id
 sound_name names id few =
     elim (cases_Bool (nat_lt id (length names))) [
@@ -128,7 +128,7 @@ means_the_same back m few kept p =
     each None = refl
     each (Some t) = ap Some (one t)
 
--- the map that the record of a map decodes to
+-- the record of a map decodes to a map that restores it, if its mappings read as the reduced tokens
 pub reads_back : (m : MapValue) (mappings : List ℕ) (ranges : Option (List ℕ))
     → length m.names ≤ 4294967295 → length m.sources ≤ 4294967295 → IsStrictlySortedBy nat_cmp m.ignored
     → MappingsAnswer mappings (list_or_empty ranges) (record { sources = length m.sources; names = length m.names }) (Ok (reduced (length m.names) m.tokens))
@@ -170,7 +170,7 @@ pub answered-if : (m : MapValue) → length m.names ≤ 4294967295 → length m.
 answered-if m few_names few_sources up (Ok r) h = answered m few_names few_sources up (tree r) h
 answered-if m few_names few_sources up (Err e) h = h
 
--- a record that the call returns decodes to a map that restores the old one
+-- if the map is well-formed, a record that the call returns decodes to a map that restores it
 pub back-if : (m : MapValue) (result : Result RawSourceMap Error) → IsAnswer tree (RecordAnswer m) result
     → IfOk result (λ r. IsWellFormed m → ReadsBack (RecordDecodes (flat (tree r))) (Restores m))
 back-if m (Ok r) h = h.2

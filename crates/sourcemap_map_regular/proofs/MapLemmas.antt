@@ -66,7 +66,7 @@ meaning-item m p = rw (← item-closest destination position_cmp m.tokens p) (th
 
 -- Well-formed maps.
 
--- a result that is a well-formed map
+-- a result is well-formed if the map that is due is
 pub given-well : (result : Result MapValue Error) (m : MapValue) → Gives (λ m. m) result (Ok m) → IsWellFormed m → IfOk result IsWellFormed
 given-well (Ok n) m gave well = let same : m ≡ n = cc in subst IsWellFormed same well
 given-well (Err e) m gave well = tt
@@ -79,12 +79,12 @@ made-well tokens names sources within =
     AllWithin-in_order (length (texts_of sources)) (length (texts_of names)) tokens
     (subst (λ n. AllWithin (length (texts_of sources)) n tokens) many_names (subst (λ n. AllWithin n (vec_len names) tokens) many_sources within))
 
--- a map without names
+-- a map without its names is still well-formed
 pub nameless-well : (m : MapValue) → IsWellFormed m → IsWellFormed (record m { names = [] })
 nameless-well m well =
     All-weaker (IsWithin (length m.sources) (length m.names)) (IsWithin (length m.sources) 0)
     (λ t within past. let bare = within past in (bare.0, bare.1, bare.2, omega arith)) m.tokens well
 
--- replacing a source keeps the number of sources
+-- a map is still well-formed after a source is replaced, since the number of sources stays
 pub well-set : (m : MapValue) (id : ℕ) (text : List ℕ) → IsWellFormed m → IsWellFormed (record m { sources = slice_set m.sources id text })
 well-set m id text well = subst (λ n. AllWithin n (length m.names) m.tokens) (sym (length-set m.sources id text)) well

@@ -1,4 +1,4 @@
--- The parts of the result of `rewrite` equal those of `rewritten`.
+-- The parts of a rewritten map equal those of `rewritten`, except for contents that were loaded.
 use Rattle.std.proofs.Common.{◌≡◌, refl, sym, ap, subst, ◌∙◌, ℕ, ◌≤◌, List, [], ◌∷◌, length, map, Bool, true, false, cond, MatchBool, Ok, Some, None, Option, arith, slice_get}
 use Rattle.std.proofs.lemmas.List.{length-map}
 use Rattle.sourcemap_tokens.specs.declared.tokens.RawToken.{RawToken}

@@ -27,7 +27,8 @@ cut-nothing : (text : Option (List ℕ)) → option_map (without_prefix []) text
 cut-nothing None = refl
 cut-nothing (Some text) = refl
 
--- the first result among items that pass a test, if no other item has a result
+-- If only items that pass a test have results, each of them may have the first result instead of its own.
+-- The first result stays the same.
 module _ {X : Type 0} (test : X → Bool) (own : X → Option (List ℕ)) (none : (x : X) → test x ≡ false → own x ≡ None) where
   nothing : (xs : List X) → first_some {Y = List ℕ} (λ x. cond (test x) None None) xs ≡ None
   nothing [] = refl
@@ -77,7 +78,7 @@ module _ (m : MapValue) (few_sources : length m.sources ≤ 4294967295) (few_nam
       ∙ map-same (IsKept m) (λ t. renumbered no_removal (rewritten no_removal m) (renumbered no_removal m t)) (renumbered no_removal m)
       (λ t kept i. record t { src_id = number_in (same_sources i) (same_source t kept i); name_id = number_in (same_names i) (same_name t kept i) }) m.tokens (all_tokens_kept m)
 
-  -- a token's source is this text
+  -- whether the token's source is this text
   abbrev is_from : List ℕ → RawToken → Bool
   is_from text t = elim (source_of m t.src_id) as (λ o. Bool) [ None ↦ false | Some source ↦ bytes_eq source text ]
 
@@ -89,7 +90,8 @@ module _ (m : MapValue) (few_sources : length m.sources ≤ 4294967295) (few_nam
       by_case None e = refl
       by_case (Some source) e = rw e refl
 
-  -- the contents that a token of the rewritten map has for a text
+  -- for a text that is its source, a token of the rewritten map has the contents that the old map has for
+  -- this text; for any other text, it has none
   contents_now : (text : List ℕ) (t : RawToken) → IsKept m t → contents_if (rewritten no_removal m) text (renumbered no_removal m t) ≡ cond (is_from text t) (contents_for m text) None
   contents_now text t kept =
       ap (option_and_then (λ source. cond (bytes_eq source text) (contents_of (rewritten no_removal m) (renumbered no_removal m t).src_id) None)) (same_source t kept)

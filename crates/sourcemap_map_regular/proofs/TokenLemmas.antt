@@ -6,7 +6,7 @@ use Rattle.std.proofs.lemmas.Fmt.{IsAscii-decimal}
 use Rattle.std.proofs.lemmas.List.{drop-set, take_rest}
 use Rattle.std.proofs.lemmas.Str.{IsAscii-append, IsUtf8-from_ascii}
 
--- a byte set before the end of a buffer
+-- setting the byte right before a suffix of a buffer puts it in front of that suffix
 pub byte_before : (buffer ends : List ℕ) (start byte : ℕ) → 0 < start → start ≤ length buffer → drop start buffer ≡ ends
     → drop (start - 1) (set buffer (start - 1) byte) ≡ byte ∷ ends
 byte_before buffer ends start byte some within is =
@@ -16,7 +16,7 @@ byte_before buffer ends start byte some within is =
 colons : (xs ys : List ℕ) → 58 ∷ (xs ++ 58 ∷ ys) ≡ codes ":" ++ xs ++ codes ":" ++ ys
 colons xs ys = sym (ap (λ bs. 58 ∷ bs) (append_assoc xs (58 ∷ []) ys))
 
--- the column at the end of a buffer after a colon, and the line before it after another
+-- the suffix of the buffer: a colon, the line, a colon, the column
 module _ (buffer columns lines : List ℕ) (size line column at_column at_line : ℕ) (some_column : 0 < at_column) (some_line : 0 < at_line)
     (order : at_line ≤ at_column) (within : at_column ≤ size) (empty : length buffer ≡ size) (long : length columns ≡ size) (same : length lines ≡ size)
     (column_is : drop at_column columns ≡ decimal column ++ drop size buffer)
@@ -32,7 +32,7 @@ module _ (buffer columns lines : List ℕ) (size line column at_column at_line :
       ap (λ n. take (n - (at_line - 1)) (drop (at_line - 1) (set lines (at_line - 1) 58))) (sym same_length)
       ∙ take_rest (set lines (at_line - 1) 58) (at_line - 1) ∙ first ∙ colons (decimal line) (decimal column)
 
--- the text of a line and a column is ASCII
+-- the text of a line and a column is UTF-8, since it is ASCII
 pub position_text_utf8 : (line column : ℕ) → line < 2 ^ 64 → column < 2 ^ 64 → IsUtf8 (codes ":" ++ decimal line ++ codes ":" ++ decimal column)
 position_text_utf8 line column l c =
     IsUtf8-from_ascii (codes ":" ++ decimal line ++ codes ":" ++ decimal column) (search (arith, IsAscii-append, IsAscii-decimal))

@@ -1,4 +1,4 @@
--- A map has one record. Its text is shallow and has no fraction and no junk header, so it decodes.
+-- A map has at most one record. Its text is shallow and has no fraction and no junk header, so it decodes.
 use Rattle.std.proofs.Common.{◌≡◌, inl, ℕ, ◌+◌, length, ◌≤◌, List, [], ◌∷◌, map, Option, Some, None, option_map, Bool, true, false, ◌||◌, Ok, refl, sym, ap, ◌∙◌, subst, arith}
 use Rattle.std.specs.Ordering.{nat_cmp, match_ordering}
 use Rattle.std.specs.Cmp.Lexicographic.{slice_cmp}
@@ -83,7 +83,7 @@ module _ (n : ℕ) where
   low_put_all [] ms p q = q
   low_put_all (e ∷ es) ms p q = low_put_all es (put_if e.0 e.1 ms) p.1 (low_put_if e.0 e.1 ms p.0 q)
 
-  -- an object of such members
+  -- an object of such members has one level more
   pub low_object : (es : List (List ℕ × Option Data)) → EntriesAreLow n es → IsLow (n + 1) (object (put_all es no_members))
   low_object es all = let p = low_put_all es no_members all low_none in ((let a = p.0 in omega arith), p.1)
 
@@ -96,7 +96,7 @@ module _ (n : ℕ) where
         neither (has_float (write x)) (items_have_float (items_of (map write xs))) p.1 q.1,
       )
 
-  -- a list of such items
+  -- a list of such items has one level more
   pub low_list : {X : Type 0} (write : X → Data) → ((x : X) → IsLow n (write x)) → (xs : List X) → IsLow (n + 1) (written_list write xs)
   low_list write each xs = let p = low_items write each xs in ((let a = p.0 in omega arith), p.1)
 
@@ -108,7 +108,7 @@ module _ (n : ℕ) where
   low_if write each None = tt
   low_if write each (Some x) = each x
 
-  -- more levels do not matter
+  -- the bound on the levels may be raised
   pub low_entries : (more : ℕ) (es : List (List ℕ × Option Data)) → EntriesAreLow n es → EntriesAreLow (n + more) es
   low_entries more [] all = tt
   low_entries more (e ∷ es) all = (by_case e.1 all.0, low_entries more es all.1)
@@ -123,7 +123,7 @@ module _ (n : ℕ) where
   pub low_number : (k : ℕ) → IsLow n (written_number k)
   low_number k = (omega arith, refl)
 
--- the members of the record of a map are texts, numbers and lists of these
+-- the members of the record of a map are texts, numbers, and lists of texts, numbers or nulls
 pub entries_low : (m : MapValue) (mappings : List ℕ) (ranges : Option (List ℕ)) → EntriesAreLow 1 (entries (record_with m mappings ranges))
 entries_low m mappings ranges = (
   low_number 1 3,
@@ -173,14 +173,14 @@ shallow m mappings ranges = let p = (low_written m mappings ranges).0 in omega a
 no_fraction : (m : MapValue) (mappings : List ℕ) (ranges : Option (List ℕ)) → has_float (written (plain (record_with m mappings ranges))) ≡ false
 no_fraction m mappings ranges = (low_written m mappings ranges).1
 
--- a map has one record
+-- a map has at most one record
 pub record_once : (m : MapValue) (a b : Tree) → IsRecordOf m a → IsRecordOf m b → a ≡ b
 record_once m a b (mappings, ranges, of_mappings, of_ranges, is) (mappings', ranges', of_mappings', of_ranges', is') =
     let one : mappings ≡ mappings' = IsWritten-same (length m.names) m.tokens mappings mappings' of_mappings of_mappings' in
     let range : ranges ≡ ranges' = IsRangeText-same m.tokens ranges ranges' of_ranges of_ranges' in
     is ∙ ap (λ r. plain (record_with m r ranges)) one ∙ ap (λ r. plain (record_with m mappings' r)) range ∙ sym is'
 
--- the value of the record has two levels
+-- the value of the record has at most two levels, and no fraction
 pub record-low : (m : MapValue) (t : Tree) → IsRecordOf m t → IsLow 2 (written t)
 record-low m t (mappings, ranges, of_mappings, of_ranges, is) = subst (λ t. IsLow 2 (written t)) (sym is) (low_written m mappings ranges)
 
@@ -192,11 +192,11 @@ record-whole m t (mappings, ranges, of_mappings, of_ranges, is) = ap (λ t. has_
 pub encoded-compact : (m : MapValue) (text : List ℕ) → IsEncoded (RecordAnswer m) text → IsCompactTextOf m text
 encoded-compact m text h = (h.0, h.1.0, h.2.compact (record-whole m h.0 h.1.0))
 
--- a text that begins with a brace has no junk header
+-- the compact text of an object begins with a brace, so it has no junk header
 pub no_header : (text : List ℕ) (ms : Members) → text ≡ compact_text (object ms) → after_header text ≡ Some text
 no_header text ms is = ap after_header is ∙ ap Some (sym is)
 
--- the text of the record of a map parses to its value
+-- if the record of a map decodes to a map that restores it, so does the text of the record
 text_back : (m : MapValue) (mappings : List ℕ) (ranges : Option (List ℕ)) (text : List ℕ)
     → IsFine (plain (record_with m mappings ranges)) → ReadsBack (RecordDecodes (record_with m mappings ranges)) (Restores m)
     → IsText (plain (record_with m mappings ranges)) text → ReadsBack (BytesHaveResult RegularDecodes text) (Restores m)
@@ -206,7 +206,7 @@ text_back m mappings ranges text fine back is =
     let holds : HoldJson text (written t) = (text, bare, is.reads_back (shallow m mappings ranges)) in
     (back.0, inl (written t, holds, value_of_record RegularDecodes (written t) t (record-back t fine.0 fine.1) (Ok back.0) back.1), back.2)
 
--- the text of a map decodes to a map that restores it
+-- the text of a well-formed map decodes to a map that restores it
 pub encoded-back : (m : MapValue) (text : List ℕ) → IsEncoded (RecordAnswer m) text → IsWellFormed m
     → ReadsBack (BytesHaveResult RegularDecodes text) (Restores m)
 encoded-back m text h well = by h.0 h.1.0 h.1.1 (h.1.2 well) h.2
@@ -218,7 +218,7 @@ encoded-back m text h well = by h.0 h.1.0 h.1.1 (h.1.2 well) h.2
         (subst (λ (t : Tree). ReadsBack (RecordDecodes (flat t)) (Restores m)) r.4 back)
         (subst (λ (t : Tree). IsText t text) r.4 is)
 
--- and so does its data URL
+-- if a text does so, so does each URL that holds it
 pub url-back : (m : MapValue) (url text : List ℕ) → Holds url text → ReadsBack (BytesHaveResult RegularDecodes text) (Restores m)
     → ReadsBack (UrlHasResult RegularDecodes url) (Restores m)
 url-back m url text holds back = (back.0, inl (text, holds, back.1), back.2)

@@ -55,7 +55,7 @@ none_before texts ids text new =
     none_names texts (texts_in_use texts ids) text new ids
     (All-unmapped (IsListedIfAny (texts_in_use texts ids)) (slice_get texts) ids (used-kept (map (slice_get texts) ids)))
 
--- the first number of a new text is the next one
+-- if no earlier number names the text of `id`, its first number is `id`
 pub first_here : (texts : List (List ℕ)) (before later : List ℕ) (id : ℕ) (text : List ℕ)
     → id_of text (texts_in_use texts before) ≡ None → slice_get texts id ≡ Some text → first_of texts (before ++ id ∷ later) text ≡ id
 first_here texts before later id text new at =
@@ -134,7 +134,7 @@ distinct_by_index (x ∷ xs) apart =
 pub firsts-distinct : (texts : List (List ℕ)) (ids : List ℕ) → IsDistinct nat_eq (firsts_of texts ids)
 firsts-distinct texts ids = distinct_by_index (firsts_of texts ids) apart
   where
-    -- the text at an index
+    -- the first number at an index names the kept text at this index
     text_at : (k x : ℕ) → slice_get (firsts_of texts ids) k ≡ Some x → (text : List ℕ) × (slice_get (texts_in_use texts ids) k ≡ Some text) × (slice_get texts x ≡ Some text)
     text_at k x e = by_case (slice_get (texts_in_use texts ids) k) refl
       where
@@ -154,7 +154,7 @@ firsts-distinct texts ids = distinct_by_index (firsts_of texts ids) apart
         let (other, at_other, named_other) = text_at j x f in
         one_index one other i j (sym named_one ∙ named_other) (distinct-texts_in_use texts ids one i at_one) (distinct-texts_in_use texts ids other j at_other)
 
--- The numbers that were seen have the same first numbers as those of the tokens.
+-- Among the numbers that were seen, each text has the same first number as among those of the tokens.
 
 -- a number that passes a test, as a singleton text
 abbrev passing : (ℕ → Bool) → ℕ → Option (List ℕ)

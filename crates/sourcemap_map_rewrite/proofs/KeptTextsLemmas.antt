@@ -13,7 +13,7 @@ use Rattle.sourcemap_map_rewrite.proofs.FirstIdsLemmas.{first_here}
 use Rattle.sourcemap_interning.proofs.ItemLemmas.{slice_get-set_other}
 use Rattle.sourcemap_map_rewrite.proofs.NumberingLemmas.{texts_in_use-push, id_of-with_text, id_of-texts_in_use}
 
--- each text was not moved yet, or is among the moved ones
+-- each text is still at its old number, or is among the moved ones
 abbrev pub AreLeftOrMoved : (old now moved : List (List ℕ)) → Type 0
 AreLeftOrMoved old now moved = (id : ℕ) (text : List ℕ) → slice_get old id ≡ Some text → (slice_get now id ≡ Some text) ⊎ ((k : ℕ) × (id_of text moved ≡ Some k))
 
@@ -132,7 +132,7 @@ module _ (texts : List (List ℕ)) (n : NewNumbers) (is : AreNumbered texts n) (
     unfolding before
     many = ap length so_far ∙ length-map (texts_in_use texts (take i n.order.items)) (first_of texts n.order.items)
 
-    -- the first number of a new text is the next
+    -- the current old number is the first one of a new text
     pub first-more : number ≡ length ids → (ids' : List ℕ) → ids' ≡ ids ++ id ∷ [] → ids' ≡ map (first_of texts n.order.items) (texts_in_use texts (take (i + 1) n.order.items))
     unfolding before after
     first-more next ids' e =

@@ -32,7 +32,7 @@ present-push [] o = refl
 present-push (None ∷ os) o = present-push os o
 present-push (Some t ∷ os) o = ap (λ ts. t ∷ ts) (present-push os o)
 
--- one more number
+-- one more optional text, or one more number
 pub kept_once-push : (os : List (Option (List ℕ))) (o : Option (List ℕ)) → kept_once (present (os ++ o ∷ [])) ≡ with_text_if (kept_once (present os)) o
 kept_once-push os o = ap kept_once (present-push os o) ∙ by_case o
   where
@@ -43,7 +43,7 @@ kept_once-push os o = ap kept_once (present-push os o) ∙ by_case o
 pub texts_in_use-push : (texts : List (List ℕ)) (ids : List ℕ) (id : ℕ) → texts_in_use texts (ids ++ id ∷ []) ≡ with_text_if (texts_in_use texts ids) (slice_get texts id)
 texts_in_use-push texts ids id = ap (λ os. kept_once (present os)) (map_push (slice_get texts) ids id) ∙ kept_once-push (map (slice_get texts) ids) (slice_get texts id)
 
--- a text keeps its number when others are added
+-- a text keeps its number when another is added
 pub id_of-with_text : (texts : List (List ℕ)) (text other : List ℕ) (n : ℕ) → id_of other texts ≡ Some n → id_of other (with_text texts text) ≡ Some n
 id_of-with_text texts text other n e =
     elim (cases_Option (id_of text texts)) [
@@ -66,7 +66,7 @@ pub id_of-with_text_if : (texts : List (List ℕ)) (o : Option (List ℕ)) (othe
 id_of-with_text_if texts None other n e = e
 id_of-with_text_if texts (Some t) other n e = id_of-with_text texts t other n e
 
--- also with more numbers
+-- and when more old numbers are used
 pub id_of-texts_in_use : (texts : List (List ℕ)) (ids more : List ℕ) (text : List ℕ) (n : ℕ) → id_of text (texts_in_use texts ids) ≡ Some n → id_of text (texts_in_use texts (ids ++ more)) ≡ Some n
 id_of-texts_in_use texts ids [] text n e = rw (append-nil ids) e
 id_of-texts_in_use texts ids (id ∷ more) text n e =
@@ -189,7 +189,7 @@ AreFew-with_text_if kept texts i few = by_case (slice_get texts i) refl
     by_case None e = few
     by_case (Some t) e = by_text t e (id_of t kept) refl
 
--- a new text has a number below the maximum
+-- the number of a new text is below the number of all texts
 below_max-for_new : (kept texts : List (List ℕ)) (i : ℕ) (text : List ℕ) → AreFew kept texts → slice_get texts i ≡ Some text → id_of text kept ≡ None → length kept < length texts
 below_max-for_new kept texts i text few at new =
     let less = one_less kept texts text i at new in
@@ -232,7 +232,7 @@ module _ {X : Type 0} where
 pub text-at : (texts : List (String Global)) (i : ℕ) (s : String Global) → i < length texts → s ≡ get_or texts i s → slice_get (map string_bytes texts) i ≡ Some (string_bytes s)
 text-at texts i s within read = slice_get-map string_bytes texts i ∙ ap (option_map string_bytes) (slice_get_read texts (length texts) i s refl within read)
 
--- an item that occurs in the list does not change the first result
+-- appending an item that occurs in the list does not change the first result
 first_some-seen : {X Y : Type 0} (f : X → Option Y) (xs : List X) (k : ℕ) (x : X) → slice_get xs k ≡ Some x → first_some f xs ≡ option_or (first_some f xs) (f x)
 first_some-seen f [] k x e = cc
 first_some-seen f (y ∷ ys) zero x e = let same : y ≡ x = cc in rw (← same) (twice (f y) (first_some f ys))
@@ -289,7 +289,7 @@ module _ (texts : List (List ℕ)) (n : Numbering) (id : ℕ) (text : List ℕ) 
       let less = below_max-for_new (seen_texts texts n.seen) texts id text (AreFew-texts_in_use texts n.seen.order.items) named (ap (id_of text) (sym is.index) ∙ new) in
       omega (arith, ap length is.index)
 
-  -- an old number that was not
+  -- an old number that was not seen before
   module _ (number : ℕ) (next : Numbering) (meets : Assigns text id number n next) where
     within : id < length n.seen.numbers.items
     within = let here = slice_get_within texts id text named in omega (arith, is.numbered.many)

@@ -47,7 +47,7 @@ difference_near a b ha hb = elim (cases_lt a b) [
       rw is (omega arith)
 ]
 
--- a rest below 32 is the last digit of a difference
+-- if what is left of the raw value is below 32, it is the last digit of the difference
 pub Adds-last : (a b : ℕ) (old part : List ℕ) (left : ℕ) → a < 2 ^ 32 → b < 2 ^ 32 → AllByRecursion HasContinuation part → left < 32
     → raw_difference a b ≡ raw_of part + 2 ^ (5 * length part) * left → (0 < length part → 0 < left)
     → Adds (difference a b ∷ []) old (old ++ (part ++ glyph left ∷ []))
@@ -77,7 +77,7 @@ Adds-three a b old ha hb more low =
     (HasContinuation-glyph (raw % 32) (omega arith), (HasContinuation-glyph (raw / 32 % 32) (omega arith), tt)) (omega arith)
     (raw_of-split (first ∷ []) raw (raw / 32) (raw_of-split [] raw raw (omega arith))) (λ _. omega arith)
 
--- two stores, of which one counts, or both
+-- two bytes are stored; only the first is kept, or both are
 pub pair-one : (buffer : List ℕ) (at x y n : ℕ) → n ≡ at + 1 → at + 1 < length buffer → take n (set (set buffer at x) (at + 1) y) ≡ take at buffer ++ x ∷ []
 pair-one buffer at x y n e h = take-set-le n (set buffer at x) (at + 1) y (omega arith) ∙ take-set_at buffer at n x e (omega arith)
 
@@ -88,7 +88,7 @@ pair-two buffer at x y n e h =
     ∙ ap (λ xs. xs ++ y ∷ []) (take-set_at buffer at (at + 1) x refl (omega arith))
     ∙ append_assoc (take at buffer) (x ∷ []) (y ∷ [])
 
--- three stores, of which one counts, or two, or all
+-- three bytes are stored; the first one, two or three are kept
 pub triple-one : (buffer : List ℕ) (at x y z n : ℕ) → n ≡ at + 1 → at + 2 < length buffer
     → take n (set (set (set buffer at x) (at + 1) y) (at + 2) z) ≡ take at buffer ++ x ∷ []
 triple-one buffer at x y z n e h =
@@ -108,7 +108,7 @@ triple-three buffer at x y z n e h =
     ∙ ap (λ xs. xs ++ z ∷ []) (pair-two buffer at x y (at + 2) refl (omega arith))
     ∙ append_assoc (take at buffer) (x ∷ y ∷ []) (z ∷ [])
 
--- a difference has at most seven digits
+-- at most six digits of a difference come before the last one
 pub few_before : (raw k left total : ℕ) → total < 2 ^ 34 → total ≡ raw + 2 ^ (5 * k) * left → 0 < left → k ≤ 6
 few_before raw k left total small e some =
     let heavy : 2 ^ (5 * k) ≤ total = weighs raw (2 ^ (5 * k)) left total some e in
@@ -119,7 +119,7 @@ few_before raw k left total small e some =
       | inr few ↦ few
     ]
 
--- the raw value of a difference from -15 to 15, counted from 0
+-- the raw value of the difference n - 15
 raw_near : ℕ → ℕ
 raw_near n = raw_difference n 15
 

@@ -1,4 +1,4 @@
--- Decoding has exactly one result, and its tokens are within the bounds of the map.
+-- Decoding has at most one result, and the decoded tokens are within the counts of the map.
 use Rattle.std.proofs.Common.{◌≡◌, ℕ, suc, ◌+◌, ◌≤◌, ◌⊎◌, ℤ, List, [], ◌∷◌, ◌++◌, length, Some, None, Result, Ok, Err, IfOk, IfErr, sym, ap, ap₂, ◌∙◌, subst, inl, inr, append_assoc, append-nil, arith}
 use Rattle.std.proofs.lemmas.Bool.Decides.{nat_tests}
 use Rattle.sourcemap_tokens.specs.declared.tokens.RawToken.{RawToken}
@@ -14,7 +14,7 @@ use Rattle.sourcemap_vlq.proofs.VlqLemmas.{SegmentAnswers-same}
 use Rattle.sourcemap_tokens.proofs.AllLemmas.{All-append}
 use Rattle.sourcemap_tokens.proofs.TokensLemmas.{AllWithin-in_order}
 
--- a text has at most one decoded value or error
+-- a text has at most one decoded value and at most one error, and not both
 record HasOneAnswer {Y : Type 0} (Reading : Y → Type 0) (IsError : Error → Type 0) : Type 0 where
   same : (x y : Y) → Reading x → Reading y → x ≡ y
   sound : (x : Y) (e : Error) → Reading x → IsError e → ⊥
@@ -27,7 +27,7 @@ HasOneAnswer-weaker R R' F F' r f one = record {
   first = λ d e h k. one.first d e (f d h) (f e k);
 }
 
--- a list that is decoded item by item
+-- a list that is decoded item by item: P is for its head, and Q, which depends on the head, for its tail
 Cons : {A : Type 0} → (A → Type 0) → (A → List A → Type 0) → List A → Type 0
 Cons P Q [] = ⊥
 Cons P Q (x ∷ xs) = P x × Q x xs
@@ -180,7 +180,7 @@ no_source counts all s sound past = grind (arith, nat_tests)
 field-none : (k : ℕ) (all : List Segment) (s : Segment) → length s.numbers ≤ k → field k all s ≡ 4294967295
 field-none k all s few = grind (arith, nat_tests)
 
--- a valid segment refers to a source of the map, or to no source and no name
+-- the token of a valid segment has a source of the map, or neither a source nor a name
 IsWithin-token : (counts : Counts) (n : ℕ) (bits : List ℕ) (here all : List Segment) (s : Segment) → counts.names ≤ 4294967295 → segment_error counts all s ≡ None → IsWithin counts.sources counts.names (token_of n bits here all s)
 IsWithin-token counts n bits here all s small sound = λ past.
     let few : length s.numbers ≤ 1 = no_source counts all s sound past in
@@ -214,7 +214,7 @@ AllWithin-lines counts n before (text ∷ texts) (line ∷ decoded_lines) small 
 
 -- From the tokens of the lines to the result.
 
--- the result of a call is equal to what is due
+-- if a call returns Ok, its value is the one that is due
 pub given_same : {X : Type 0} (result : Result X Error) (due same : X) → Gives (λ x. x) result (Ok due) → due ≡ same → IfOk result (λ x. x ≡ same)
 given_same (Ok x) due same given e = cc
 given_same (Err _) due same given e = tt

@@ -1,4 +1,4 @@
--- The steps of decoding together.
+-- Lemmas that combine the steps of decoding.
 use Rattle.std.proofs.Common.{◌≡◌, ◌≢◌, ℕ, ◌+◌, ◌^◌, ◌<◌, ◌==◌, true, false, List, [], ◌∷◌, ◌++◌, length, get_or, All, Some, None, sym, ap, ◌∙◌, refl, subst, inl, inr, append_assoc, append-nil, length-append, ℤ, arith, eqb-true}
 use Rattle.sourcemap_errors.specs.Answer.{UnlessMemory}
 use Rattle.sourcemap_errors.proofs.AnswerLemmas.{UnlessMemory-weaker}
@@ -30,7 +30,7 @@ lines_of-first text line tail e h = ap lines_of e ∙ slice_split_at (λ b. b ==
 
 -- Parts of a line.
 
--- after the segments `before` and `here`, and one more
+-- regroups the segments up to `s`: `before` of earlier lines, `here` of this line, and `s`
 regrouped : (P : List Segment → Type 0) (before here : List Segment) (s : Segment) → P (before ++ (here ++ s ∷ [])) → P ((before ++ here) ++ s ∷ [])
 regrouped P before here s h = subst P (sym (append_assoc before here (s ∷ []))) h
 
@@ -64,7 +64,7 @@ AddsParts-segment counts position bits before here (c ∷ cs) numbers token old 
       sums_after = after;
     }
 
--- one part, and the parts after it
+-- a part is decoded, and so are the parts after it
 PartsRead-cons : (counts : Counts) (index : ℕ) (before : List Segment) (part : List ℕ) (parts : List (List ℕ)) (ss later : List Segment)
     → PartsRead counts index before (part ∷ []) ss → PartsRead counts (index + 1) (before ++ ss) parts later → PartsRead counts index before (part ∷ parts) (ss ++ later)
 PartsRead-cons counts index before [] parts ss later h rest =
@@ -240,7 +240,7 @@ AddsLine-none counts n before (c ∷ cs) bits old sums is h =
     let none : length (c ∷ cs) ≡ 0 = eqb-true _ _ is in
     absurd (omega arith)
 
--- a line that is not
+-- a line that is not empty
 pub AddsLine-parts : (counts : Counts) (n : ℕ) (before : List Segment) (text bits : List ℕ) (old new : List RawToken) (sums : Sums) → (length text == 0) ≡ false
     → n < 2 ^ 32 → first_non_digit bits ≡ None
     → AddsParts counts (record { line = n; index = 0 }) bits before [] (parts_of text) old new sums

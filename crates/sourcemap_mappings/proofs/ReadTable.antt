@@ -1,4 +1,4 @@
--- The line table, line by line.
+-- How the line table grows with each line.
 use Rattle.std.proofs.Common.{◌≡◌, sym, ap, subst, ◌∙◌, ℕ, ◌<◌, ◌≤◌, ◌+◌, List, [], ◌∷◌, ◌++◌, length, get_or, Some, arith}
 use Rattle.std.specs.List.{AllByRecursion}
 use Rattle.std.proofs.lemmas.List.{append_assoc, append-nil, length-append}
@@ -19,7 +19,7 @@ no_row tokens before more table is none t =
     let many = ap length is ∙ length-append before more in
     subst (λ ts. IsLineTable ts (length ts) table) (sym (is ∙ with_none before more (omega arith))) t
 
--- a line with tokens has the row of its first one
+-- a line with tokens adds a row with the index of its first token
 pub row_added : (tokens before more : List RawToken) (line first : ℕ) (d : RawToken) (old new : LineTable) → tokens ≡ before ++ more → first ≡ length before
     → AllByRecursion (λ t. t.dst_line < line) before → AllByRecursion (λ t. t.dst_line ≡ line) more
     → IsLineTable before (length before) old → first < length tokens → new ≡ with_row old (get_or tokens first d).dst_line first
@@ -35,7 +35,7 @@ row_added tokens before more line first d old new is at below all t some row =
     let made = table_of_line before more line all old below more_than_none t in
     subst (λ ts. IsLineTable ts (length ts) new) (sym is) (subst (IsLineTable (before ++ more) (length (before ++ more))) (sym same) made)
 
--- a decoded line appends its tokens
+-- Appends of tokens of one line.
 
 pub adds_none : (line : ℕ) (old : List RawToken) → AddsOnLine line old old
 adds_none line old = ([], sym (append-nil old), tt)

@@ -1,4 +1,4 @@
--- The steps of decoding a segment together.
+-- Lemmas that combine the steps of decoding a segment.
 use Rattle.std.proofs.Common.{◌≡◌, ◌≢◌, ℕ, zero, suc, slice_index, ◌^◌, ◌==◌, true, false, List, [], ◌∷◌, ◌++◌, length, Option, Some, None, sym, ap, ◌∙◌, refl, subst, inl, inr, append_assoc, append-nil, length-append, ℤ, arith, eqb-true}
 use Rattle.std.specs.List.{onto_first, AllByRecursion}
 use Rattle.std.proofs.lemmas.Bool.{cases_Bool, cond-true, cond-false}
@@ -66,7 +66,7 @@ unfolding Lacks
 Lacks-continues [] h = tt
 Lacks-continues (c ∷ cs) ((v, e, on), h) = (no_comma c v e, Lacks-continues cs h)
 
--- bytes before the first `,` of a text extend its first part
+-- bytes without a `,`, in front of a text, extend its first part
 parts_of-onto : (xs ys m : List ℕ) (ms : List (List ℕ)) → Lacks xs → parts_of ys ≡ m ∷ ms → parts_of (xs ++ ys) ≡ (xs ++ m) ∷ ms
 unfolding Lacks
 parts_of-onto [] ys m ms h e = e
@@ -84,7 +84,8 @@ append_some : (xs ys : List ℕ) → ys ≢ [] → xs ++ ys ≢ []
 append_some [] ys some none = some none
 append_some (x ∷ xs) ys some none = absurd cc
 
--- an error at the byte c of an unfinished number, or of the number that ends there
+-- the byte c, which is no `,`, comes after the digits of an unfinished number, and the number has an error
+-- whatever follows c
 HasPartError-at : (line front rest part : List ℕ) (numbers : List ℤ) (c : ℕ) (e : Error) → line ≡ front ++ rest → Reads front numbers → Lacks front → (c == comma) ≡ false
     → (goes : GoesTo rest part c) → ((m : List ℕ) → GoesTo (part ++ c ∷ m) part c → NumberError (part ++ c ∷ m) e) → HasPartError line e
 HasPartError-at line front rest part numbers c e whole reads lacks differs goes error =
@@ -106,7 +107,7 @@ HasPartError-at line front rest part numbers c e whole reads lacks differs goes 
           (error tail.0 (record { more = tail.0; split = refl; unfinished = goes.unfinished }));
     }
 
--- a number that is not finished at the end of the part
+-- the part ends within a number
 HasPartError-cut : (line front rest part : List ℕ) (numbers : List ℤ) (parts : List (List ℕ)) → parts_of line ≡ (front ++ part) ∷ parts → Reads front numbers
     → part ≢ [] → IsUnfinished part → HasPartError line VlqLeftover
 HasPartError-cut line front rest part numbers parts split reads some unfinished = record {
@@ -132,7 +133,8 @@ HasPartError-comma line rest c cs sound d (x ∷ xs) goes lacks first ne is =
     ∙ ap (λ p. p ∷ parts) (append-nil (front ++ part)))
     sound.reads (λ none. cc) goes.unfinished
 
--- the first error of a line after some numbers, where no `,` comes next
+-- after valid numbers without a `,`, and where no `,` comes next: the error of the next number, as the error
+-- of the line's first part
 pub HasPartError-from : (line rest : List ℕ) (c : ℕ) (cs : List ℕ) (sound : IsSound line rest) (e : Error) → Lacks sound.front → rest ≡ c ∷ cs → (c == comma) ≡ false
     → NumberError rest e → HasPartError line (error_in_part e)
 HasPartError-from line rest c cs sound (InvalidBase64 d) lacks first ne (part, goes, none) = elim (cases_Bool (d == comma)) [
@@ -194,7 +196,7 @@ HasFirstPart-last line rest read sound lacks steps none =
       steps = steps;
     }
 
--- the end of the part
+-- a `,` ends the part
 pub HasFirstPart-comma : (line rest : List ℕ) (c : ℕ) (tail : Bor (List ℕ)) (read : Numbers) (sound : IsSound line rest) → Lacks sound.front → AreSteps sound.numbers read
     → rest ≡ c ∷ tail.now → (c == comma) ≡ true → HasFirstPart line read (Some tail)
 HasFirstPart-comma line rest c tail read sound lacks steps first is =

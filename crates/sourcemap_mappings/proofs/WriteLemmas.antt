@@ -1,4 +1,4 @@
--- The steps of encoding together.
+-- Lemmas that combine the steps of encoding.
 use Rattle.std.proofs.Common.{◌≡◌, ℕ, List, [], ◌∷◌, ◌++◌, ℤ, Bool, true, false, cond, refl, sym, ap, subst, ◌∙◌, append_assoc, append-nil}
 use Rattle.sourcemap_vlq.specs.Vlq.{Spells, IsShortest}
 use Rattle.sourcemap_tokens.specs.declared.tokens.RawToken.{RawToken}
@@ -38,7 +38,7 @@ source_added : (against t : RawToken) (s a b c d : List ℕ)
 unfolding source_numbers
 source_added against t s a b c d x y z w = Adds-join _ _ s c d (Adds-join _ _ s b c (Adds-join _ _ s a b x y) z) w
 
--- the numbers by whether there is a source and a name
+-- the numbers of a token, by whether it has a source and a name
 unfoldable pub numbers_by : RawToken → RawToken → Bool → Bool → List ℤ
 numbers_by against t source name =
     difference t.dst_col against.dst_col

@@ -76,7 +76,7 @@ Ended-blank P line (suc k) text blank e =
     subst (λ (t : List ℕ). Ended P (line + suc k) t) (append_assoc text (semicolon ∷ []) (replicate k semicolon))
     (subst (λ (m : ℕ). Ended P m ((text ++ semicolon ∷ []) ++ replicate k semicolon)) (omega arith) rest)
 
--- the part of this line ended, and k blank lines
+-- this line ends after its part, and k blank lines follow
 Ended-turn_by : (P : ℕ → List ℕ → Type 0) (line k : ℕ) (text part : List ℕ) → ((m : ℕ) → line < m → P m [])
     → Ended P line text → P line part → Ended P (line + 1 + k) ((text ++ part) ++ replicate (suc k) semicolon)
 Ended-turn_by P line k text part blank e p =
@@ -85,7 +85,7 @@ Ended-turn_by P line k text part blank e p =
     (ap (λ t. t ++ replicate k semicolon) (sym (append_assoc text part (semicolon ∷ []))) ∙ append_assoc (text ++ part) (semicolon ∷ []) (replicate k semicolon))
     rest
 
--- from the part of this line to a later line
+-- this line ends after its part, and blank lines follow up to line n
 pub Ended-turn : (P : ℕ → List ℕ → Type 0) (line n : ℕ) (text part : List ℕ) → line < n → ((m : ℕ) → line < m → P m [])
     → Ended P line text → P line part → Ended P n ((text ++ part) ++ replicate (n - line) semicolon)
 Ended-turn P line n text part h blank e p =
@@ -95,7 +95,7 @@ Ended-turn P line n text part h blank e p =
     (subst (λ (m : ℕ). Ended P m ((text ++ part) ++ replicate (suc (n - line - 1)) semicolon)) at
     (Ended-turn_by P line (n - line - 1) text part blank e p))
 
--- with the part of the last line the text is complete
+-- the part of the last line completes the text
 pub Ended-last : (P : ℕ → List ℕ → Type 0) (line : ℕ) (text part : List ℕ) (tokens : List RawToken)
     → line + 1 ≡ line_count tokens → Ended P line text → P line part → LineByLine P tokens (text ++ part)
 Ended-last P line text part tokens at e p =

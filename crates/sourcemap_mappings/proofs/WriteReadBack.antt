@@ -1,4 +1,4 @@
--- Decoding the encoded texts gives the tokens back.
+-- Decoding the encoded texts gives the reduced list of tokens.
 use Rattle.std.proofs.Common.{◌≡◌, ℕ, ◌+◌, ◌^◌, ◌||◌, ◌<◌, ◌≤◌, suc, zero, Bool, true, false, cond, List, [], ◌∷◌, ◌++◌, length, map, filter, Option, Some, None, Ok, refl, sym, ap, subst, ◌∙◌, inl, inr, append_assoc, append-nil, arith, add-zero, zero-add}
 use Rattle.std.specs.List.{join_with_byte, AllByRecursion, slice_index_or, last_or, list_any}
 use Rattle.std.specs.Option.{option_map_or}
@@ -19,7 +19,7 @@ use Rattle.sourcemap_mappings.proofs.WriteBytes.{IsFree, IsMark, Spells-free, Sp
 
 -- Segments of a line.
 
--- the segments of some tokens of a line, after the tokens `before`, of which the first has this index
+-- the segments of some tokens of a line, after the tokens `before`; the first segment has this index
 segments_of : ℕ → ℕ → List RawToken → List RawToken → List Segment
 segments_of names at before [] = []
 segments_of names at before (t ∷ ts) = segment_of names at before t ∷ segments_of names (at + 1) (before ++ t ∷ []) ts
@@ -53,7 +53,7 @@ carries_line sources names at before (t ∷ ts) all few few_names sound c =
     subst (λ (us : List RawToken). Carries names us (all ++ s ∷ later)) (append_assoc before (t ∷ []) ts)
     (subst (λ (ss : List Segment). Carries names ((before ++ t ∷ []) ++ ts) ss) (append_assoc all (s ∷ []) later) rest)
 
--- the bits of a text from this index on are the range flags
+-- the bits of a text, from this index on, begin with the range flags of these tokens
 Flags : List ℕ → ℕ → List RawToken → Type 0
 Flags bits at ts = (k : ℕ) → k < length ts → bit_of bits (at + k) ≡ slice_index_or (map (λ t. t.is_range) ts) k false
 
@@ -116,7 +116,7 @@ none_above_first : (ts : List RawToken) → filter (is_above 0) ts ≡ []
 none_above_first [] = refl
 none_above_first (t ∷ ts) = ap (λ b. cond b (t ∷ filter (is_above 0) ts) (filter (is_above 0) ts)) (not_above_first t) ∙ none_above_first ts
 
--- Lines.
+-- One line.
 
 segments_free : (c names : ℕ) (before ts : List RawToken) (parts : List (List ℕ)) → IsMark c → AreSegments names before ts parts
     → AllByRecursion (IsFree c) parts
@@ -125,7 +125,7 @@ segments_free c names before (t ∷ ts) [] mark are = absurd are
 segments_free c names before (t ∷ ts) (p ∷ ps) mark are =
     (Spells-free c (numbers names (base names t.dst_line before) t) p mark are.0, segments_free c names (before ++ t ∷ []) ts ps mark are.1)
 
--- an empty text has no segments
+-- if the text of a line is empty, the line has no tokens
 empty_on : (names : ℕ) (before ts : List RawToken) (parts : List (List ℕ)) → AreSegments names before ts parts → [] ≡ join_with_byte comma parts → ts ≡ []
 empty_on names before [] parts are e = refl
 empty_on names before (t ∷ ts) [] are e = absurd are
@@ -133,7 +133,7 @@ empty_on names before (t ∷ ts) ([] ∷ ps) are e = absurd (Spells-nonempty _ _
 empty_on names before (t ∷ ts) ((x ∷ xs) ∷ []) are e = absurd cc
 empty_on names before (t ∷ ts) ((x ∷ xs) ∷ q ∷ qs) are e = absurd cc
 
--- a text that is not empty has some
+-- if it is not empty, its parts are the segments, and the line has tokens
 some_on : (names : ℕ) (before ts : List RawToken) (parts : List (List ℕ)) (c : ℕ) (cs : List ℕ) → AreSegments names before ts parts → c ∷ cs ≡ join_with_byte comma parts
     → (parts_of (c ∷ cs) ≡ parts) × ((t : RawToken) × (us : List RawToken) × (ts ≡ t ∷ us))
 some_on names before [] parts c cs are e = absurd (let none = e ∙ ap (join_with_byte comma) are in cc)
@@ -193,7 +193,7 @@ line_tokens_back sources names n ts all part bits few few_names sound c line fit
       flags [] l = subst (λ (us : List RawToken). Flags [] 0 us) (sym (empty_on names (filter (is_above n) ts) (filter (is_on n) ts) l.0 l.1 l.2)) (λ k h. absurd (omega arith))
       flags (x ∷ xs) l = fit.1
 
--- Lines.
+-- All lines.
 
 EachText : (ℕ → List ℕ → Type 0) → (ℕ → List ℕ → Type 0) → ℕ → List LineText → Type 0
 EachText P B n [] = Unit {0}

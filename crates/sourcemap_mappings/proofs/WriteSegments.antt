@@ -114,7 +114,8 @@ IsLine-more names ts t part segment rises upto spelled line =
 
 -- The invariant of encoding.
 
--- the text, and what the next segment is relative to, where `done` are the tokens so far and `previous` is the last
+-- the text so far, and what the next segment is relative to; `done` are the tokens so far, `previous` is the
+-- last one
 pub record Writing (names : ℕ) (done : List RawToken) (previous : Option RawToken) (against : RawToken) (text : List ℕ) : Type 0 where
   pub walked : Walked against.dst_line done previous
   pub small : AllByRecursion IsSmall (without_repeats done)
@@ -162,7 +163,7 @@ gap_is line ts (Some p) t h u s = ⊎_elim
     ∙ ap (λ us. replicate (t.dst_line - line) semicolon ++ comma_tail us) (sym (none_on line t.dst_line ts u past)))
     (cases_eq p.dst_line t.dst_line)
 
--- a gap and the segment of a token added
+-- the gap and the segment of a token are appended
 grown : (names line : ℕ) (ts : List RawToken) (previous : Option RawToken) (t : RawToken) (text digits : List ℕ)
     → line ≤ t.dst_line → Rises ts → UpTo line ts → IsAtLine line ts previous
     → Spells (numbers names (base names t.dst_line ts) t) digits → Reached (IsLine names ts) line text

@@ -1,4 +1,4 @@
--- The sums of the written numbers give the tokens back.
+-- The sums of the written numbers give the tokens back, with `no_id` for name ids that name nothing.
 use Rattle.std.proofs.Common.{◌≡◌, ℕ, ◌+◌, ◌-◌, ◌%◌, ◌^◌, ◌<◌, ◌≤◌, ◌==◌, ◌&&◌, nat_lt, nat_le, Bool, true, false, cond, List, [], ◌∷◌, ◌++◌, length, sum_by, Option, Some, None, ℤ, pos, unsigned_abs, refl, sym, ap, ◌∙◌, ⊎_elim, add-zero, arith, slice_get}
 use Rattle.std.specs.Option.{option_map_or}
 use Rattle.std.specs.List.{AllByRecursion}
@@ -20,7 +20,7 @@ use Rattle.sourcemap_mappings.proofs.WriteTokens.{last_field-push_no, last_field
 
 -- Sums modulo 2^32.
 
--- a difference as a step
+-- a number modulo 2^32
 abbrev pub delta : ℤ → ℕ
 delta z = unsigned_abs (int_rem_euclid z (pos (2 ^ 32)))
 
@@ -30,7 +30,7 @@ delta_is a b ha hb = ap unsigned_abs (int_rem_euclid_is (difference a b) (pos (2
 undone : (a b total : ℕ) → a < 2 ^ 32 → total % 2 ^ 32 ≡ b → (total + (a + 2 ^ 32 - b) % 2 ^ 32) % 2 ^ 32 ≡ a
 undone a b total ha hb = omega arith
 
--- number k of a list as a step
+-- number k of a list modulo 2^32, 0 if it is missing
 abbrev pub step_of : ℕ → List ℤ → ℕ
 step_of k ns = option_map_or delta (slice_get ns k) 0
 
@@ -47,7 +47,7 @@ sum_same k b all s was is =
 
 -- Tokens.
 
--- a token within the numbers of sources and names, with fields of 32 bits
+-- a token within the counts of sources and names, whose lines and columns have 32 bits
 pub record IsSound (sources names : ℕ) (t : RawToken) : Type 0 where
   pub dst_line : t.dst_line < 2 ^ 32
   pub dst_col : t.dst_col < 2 ^ 32
@@ -55,7 +55,7 @@ pub record IsSound (sources names : ℕ) (t : RawToken) : Type 0 where
   pub src_col : t.src_col < 2 ^ 32
   pub within : IsWithin sources names t
 
--- the segment of a token
+-- the segment of a token, with its index and the tokens before it
 abbrev pub segment_of : ℕ → ℕ → List RawToken → RawToken → Segment
 segment_of names index before t = record { index = index; numbers = numbers names (base names t.dst_line before) t }
 
@@ -90,7 +90,7 @@ name_is names t e = grind (arith, nat_tests)
 no_name : (names : ℕ) (t : RawToken) → has_source t ≡ true → has_name names t ≡ false → names ≤ t.name_id
 no_name names t s e = grind (arith, nat_tests)
 
--- the fields of a token that are written have 32 bits
+-- the lines and columns of a token that are written have 32 bits
 abbrev pub IsSmall : RawToken → Type 0
 IsSmall t = (t.dst_line < 2 ^ 32) × HasSmallPositions t
 
@@ -121,7 +121,7 @@ all_sound_from sources names [] few within small = tt
 all_sound_from sources names (t ∷ ts) few within small =
     (sound_by sources names t (has_source t) refl few within.0 small.0, all_sound_from sources names ts few within.1 small.1)
 
--- the sums over some segments are the fields of the tokens written last
+-- the sums over some segments, except for columns, are the fields that were written last, 0 if none was
 pub record Carries (names : ℕ) (before : List RawToken) (all : List Segment) : Type 0 where
   pub id : sum_at 1 all ≡ last_field has_source (λ t. t.src_id) before
   pub line : sum_at 2 all ≡ last_field has_source (λ t. t.src_line) before
@@ -172,7 +172,7 @@ Carries-more sources names at before all t few few_names sound c =
             name = sum_more 4 t.name_id _ all s (omega arith) c.name (ap (step_of 4) ns) ∙ sym (last_field-push_yes (has_name names) (λ u. u.name_id) before t name);
           }
 
--- the sum of the columns of a line
+-- with the segment of a token, the sum of the columns of its line is the column of the token
 pub column_more : (sources names at : ℕ) (before : List RawToken) (here : List Segment) (t : RawToken) → IsSound sources names t
     → sum_at 0 here ≡ last_field (is_on t.dst_line) (λ u. u.dst_col) before
     → sum_at 0 (here ++ segment_of names at before t ∷ []) ≡ t.dst_col
@@ -187,7 +187,7 @@ below_is m n h = grind (arith, nat_tests)
 below_not : (m n : ℕ) → n ≤ m → nat_lt m n ≡ false
 below_not m n h = grind (arith, nat_tests)
 
--- the segment of a token has no error
+-- the segment of a sound token has no error
 pub segment_sound : (sources names at : ℕ) (before : List RawToken) (all : List Segment) (t : RawToken)
     → sources < 2 ^ 32 → IsSound sources names t → Carries names (before ++ t ∷ []) all
     → segment_error (record { sources = sources; names = names }) all (segment_of names at before t) ≡ None
@@ -223,7 +223,7 @@ segment_sound sources names at before all t few sound c =
           ∙ ap (λ b. cond b (Some (BadSourceReference (sum_at 1 all))) (cond (nat_le names (sum_at 4 all)) (Some (BadNameReference (sum_at 4 all))) None)) (valid_source source)
           ∙ ap (λ b. cond b (Some (BadNameReference (sum_at 4 all))) None) (valid_name name)
 
--- the token that a token's segment decodes to
+-- the segment of a sound token decodes to the token, with `no_id` for a name id that names nothing
 pub token_back : (sources names n at : ℕ) (bits : List ℕ) (before : List RawToken) (here all : List Segment) (t : RawToken)
     → sources < 2 ^ 32 → IsSound sources names t → n ≡ t.dst_line → bit_of bits at ≡ t.is_range
     → sum_at 0 here ≡ t.dst_col → Carries names (before ++ t ∷ []) all

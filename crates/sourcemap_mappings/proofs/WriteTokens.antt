@@ -1,4 +1,4 @@
--- Tokens by lines, and lists of tokens without repeats, after one more token.
+-- How a token that is appended changes the tokens of each line, and the list without repeats.
 use Rattle.std.proofs.Common.{◌≡◌, ◌≢◌, ℕ, ◌+◌, ◌<◌, ◌≤◌, ◌==◌, nat_lt, Bool, true, false, cond, List, [], ◌∷◌, ◌++◌, filter, Option, Some, None, refl, sym, ap, subst, ◌∙◌, ⊎_elim, append-nil, arith}
 use Rattle.std.specs.List.{last_or, AllByRecursion}
 use Rattle.std.specs.Option.{option_map_or}
@@ -140,7 +140,7 @@ all_above n (t ∷ ts) all =
     ap (λ b. cond b (t ∷ filter (is_above (n + 1)) ts) (filter (is_above (n + 1)) ts)) (below_yes t.dst_line (n + 1) (omega arith))
     ∙ ap (λ us. t ∷ us) (all_above n ts all.1)
 
--- a test by lines of the first token, and the rest of the three lists
+-- the step of `above_more` for one more head: it is above line n, on it or after it
 above_more_at : (n : ℕ) (t : RawToken) (ts : List RawToken) → From t.dst_line ts
     → filter (is_above (n + 1)) ts ≡ filter (is_above n) ts ++ filter (is_on n) ts
     → filter (is_above (n + 1)) (t ∷ ts) ≡ filter (is_above n) (t ∷ ts) ++ filter (is_on n) (t ∷ ts)
@@ -170,6 +170,7 @@ pub above_more : (n : ℕ) (ts : List RawToken) → Rises ts → filter (is_abov
 above_more n [] r = refl
 above_more n (t ∷ ts) r = above_more_at n t ts r.0 (above_more n ts r.1)
 
--- if no token is after line n, the tokens above it and on it are all tokens
+-- if lines never decrease and no token is after line n, the tokens above it and then those on it are the
+-- whole list
 pub cut_at : (n : ℕ) (ts : List RawToken) → Rises ts → UpTo n ts → filter (is_above n) ts ++ filter (is_on n) ts ≡ ts
 cut_at n ts r u = sym (above_more n ts r) ∙ all_above n ts u

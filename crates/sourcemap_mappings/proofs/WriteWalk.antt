@@ -11,7 +11,8 @@ use Rattle.sourcemap_mappings.specs.Write.{is_on, is_above, line_count}
 use Rattle.sourcemap_mappings.specs.WriteSteps.{repeats}
 use Rattle.sourcemap_mappings.proofs.WriteTokens.{UpTo, Rises, Rises-push, all_push, all_weaker, all_above, filter_push_yes, last_or-push, without_repeats-repeat, without_repeats-more, same_line, on_yes}
 
--- the previous token and the last written one are on this line; without a previous token nothing was written
+-- the previous token is on this line, and so is at least one written token; without a previous token, the
+-- line is 0 and nothing was written
 abbrev pub IsAtLine : ℕ → List RawToken → Option RawToken → Type 0
 IsAtLine line ts None = (line ≡ 0) × (ts ≡ [])
 IsAtLine line ts (Some p) = (p.dst_line ≡ line) × ((u : RawToken) × (us : List RawToken) × (filter (is_on line) ts ≡ u ∷ us))
@@ -26,7 +27,7 @@ pub record Walked (line : ℕ) (done : List RawToken) (previous : Option RawToke
 pub Walked-none : Walked 0 [] None
 Walked-none = record { rises = tt; upto = tt; is_at_line = (refl, refl); last = refl }
 
--- the list without repeats, at a repeat and at another token
+-- a repeat leaves the list without repeats unchanged; any other token is appended to it
 pub same_list : (line : ℕ) (done : List RawToken) (previous : Option RawToken) (t : RawToken) → repeats previous t ≡ true → Walked line done previous
     → without_repeats done ≡ without_repeats (done ++ t ∷ [])
 same_list line done previous t e w = sym (without_repeats-repeat done t (subst (λ (o : Option RawToken). repeats o t ≡ true) w.last e))
@@ -83,7 +84,7 @@ line_from_order p q e = grind (arith, nat_tests)
 some_inj : (p q : RawToken) → Some p ≡ Some q → p ≡ q
 some_inj p q e = cc
 
--- the next token is on the line that the text has reached, or below it
+-- the next token is on the line that the loop has reached, or on a later one
 pub next_line : (i line : ℕ) (tokens : List RawToken) (previous : Option RawToken) (t d : RawToken)
     → AreInOrder tokens → i < length tokens → t ≡ get_or tokens i d → Walked line (take i tokens) previous
     → line ≤ t.dst_line
@@ -102,7 +103,7 @@ next_line (suc k) line tokens (Some p) t d order h at w =
     let its_line : (get_or tokens (k + 1) d).dst_line ≡ t.dst_line = ap (λ (u : RawToken). u.dst_line) here in
     omega arith
 
--- the written lines are those of the tokens
+-- after all tokens, the loop has reached the last line
 pub count_is : (line : ℕ) (tokens : List RawToken) (p : RawToken) → Walked line tokens (Some p) → line + 1 ≡ line_count tokens
 count_is line tokens p w = ap (λ n. n + 1) (sym w.is_at_line.0) ∙ ap (λ o. option_map_or (λ t. t.dst_line + 1) o 0) w.last
 

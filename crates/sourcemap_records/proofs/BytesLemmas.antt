@@ -1,4 +1,4 @@
--- Bytes and values have one result each. Results of inner calls are results of outer calls.
+-- Bytes and values have at most one result each. Results of inner calls are results of outer calls.
 use Rattle.std.proofs.Common.{◌≡◌, inl, inr, refl, sym, ◌∙◌, ap, ℕ, List, [], Option, Some, None, Result, Ok, Err, IfSome, MatchOption, MatchResult, IsErrAnd}
 use Rattle.serde_json.specs.Data.{Data}
 use Rattle.serde_json.specs.Read.{read}
@@ -13,7 +13,7 @@ use Rattle.sourcemap_records.specs.Jsontypes.{Tree, record_of}
 use Rattle.sourcemap_headers.proofs.DataUrlLemmas.{one_answer}
 use Rattle.sourcemap_records.specs.Bytes.{IsJson, HoldJson, IsHeaderError, HoldNoJson, HoldRecord, HoldNoRecord, ValueHasResult, BytesHaveResult, UrlHasResult, IsSameError, AreSame, UnlessReadFails, IsAnswerRead, Reading}
 
--- Bytes have one JSON value, or one error.
+-- Bytes have at most one JSON value or one error, and not both.
 
 json_once : (bytes : List ℕ) (d e : Data) → HoldJson bytes d → HoldJson bytes e → d ≡ e
 json_once bytes d e p q = let same : p.0 ≡ q.0 = cc in let again : read p.0 ≡ Some e = rw same q.2.1 in cc
@@ -52,7 +52,7 @@ unless_read_any (Io _) P (inr h) = inr h
 unless_read_any OutOfMemory P h = tt
 unless_read_any _ P h = absurd h
 
--- a reader has bytes, those that it specifies
+-- some bytes for a reader: those that it specifies, if it does
 bytes_of_reader : (known : Option (List ℕ)) → (bytes : List ℕ) × IfSome known (λ remaining. bytes ≡ remaining)
 bytes_of_reader None = ([], tt)
 bytes_of_reader (Some remaining) = (remaining, refl)
@@ -97,7 +97,7 @@ module _ {Y : Type 0} where
   value_or_none bytes d (Ok n) p q = q
   value_or_none bytes d (Err e) p q = json_or_none (after_header bytes) d e p q
 
-  -- where records have one result each, so do values and bytes
+  -- if a record has at most one result, so have values, bytes and data URLs
   module _ (Decodes : Tree → Result Y Error → Type 0)
       (once : (t : Tree) (a b : Result Y Error) → Decodes t a → Decodes t b → a ≡ b) where
     record_once : (found : Option Tree) (a b : Result Y Error)
@@ -149,7 +149,7 @@ module _ {Y : Type 0} where
     answer_read Answers (Ok x) h = h
     answer_read Answers (Err e) h = unless_read e _ h
 
-    -- where there is one result, it was returned
+    -- if there is at most one result, the call returned it, or memory ran out
     pub answer_only : (Answers : Result Y Error → Type 0) (Same : Result Y Error → Result Y Error → Type 0)
         → ((a b : Result Y Error) → Answers a → Answers b → Same a b)
         → (r : Result X Error) → IsAnswer view Answers r → (due : Result Y Error) → Answers due → IsAnswer view (Same due) r
@@ -161,7 +161,7 @@ module _ {Y : Type 0} where
         → IfSome known (λ remaining. bytes ≡ remaining) → IsAnswer view (Answers bytes) r → Reading known (λ bytes. IsAnswerRead view (Answers bytes) r)
     answer_of_reader Answers known bytes r same h = (bytes, same, answer_read (Answers bytes) r h)
 
-    -- a failed read is a result for any bytes
+    -- a failed read may be returned whatever the result for the bytes is
     pub error_of_reader : (Answers : List ℕ → Result Y Error → Type 0) (known : Option (List ℕ)) (e : Error)
         → UnlessReadFails e ⊥ → Reading known (λ bytes. UnlessReadFails e (Answers bytes (Err e)))
     error_of_reader Answers known e h =
@@ -199,7 +199,7 @@ module _ {Y : Type 0} where
             → (due : Result Y Error) → BytesHaveResult Decodes bytes due → IsAnswer view (AreSame due) r
         bytes_only bytes r h = answer_only (BytesHaveResult Decodes bytes) AreSame (bytes_once Decodes once bytes) r h
 
-        -- the result for a reader's bytes is unique
+        -- if a reader specifies its bytes, the result for them is unique
         pub reader_only : (known : Option (List ℕ)) (bytes : List ℕ) (r : Result X Error)
             → IfSome known (λ xs. bytes ≡ xs) → IsAnswer view (BytesHaveResult Decodes bytes) r
             → IfSome known (λ xs. (due : Result Y Error) → BytesHaveResult Decodes xs due → IsAnswerRead view (AreSame due) r)

@@ -1,4 +1,4 @@
--- How deep a member is.
+-- The value of a member is at most as deep as the deepest of the members.
 use Rattle.std.proofs.Common.{◌≡◌, ℕ, ◌≤◌, max, List, Option, Some, None, option_map, Ordering, Less, Equal, Greater, nat_cmp, arith}
 use Rattle.std.specs.Cmp.Lexicographic.{slice_cmp}
 use Rattle.std.specs.Ordering.{match_ordering}
@@ -7,7 +7,7 @@ use Rattle.serde_json.specs.Find.{get_member}
 use Rattle.serde_json.specs.View.{view}
 use Rattle.serde_json.specs.declared.value.Value.{Value}
 
--- 0 for none
+-- the depth of a value, 0 if there is none
 abbrev pub depth_in : Option Data → ℕ
 depth_in None = 0
 depth_in (Some d) = depth d

@@ -1,4 +1,4 @@
--- Keys that are kept while another is removed, and the two keys whose values are records.
+-- Keys that are kept while another is removed, and the two keys whose values hold records.
 use Rattle.std.proofs.Common.{◌≡◌, ℕ, ◌<◌, arith, String, Global, BTreeMap, option_map, List, [], ◌∷◌, ◌++◌, Option, Some, None, Ordering, Less, Equal, Greater, nat_cmp, codes, refl, sym, ap, ◌∙◌}
 use Rattle.std.specs.Cmp.Lexicographic.{slice_cmp}
 use Rattle.std.specs.Ordering.{match_ordering}
@@ -20,14 +20,12 @@ found_either read Less r d = refl
 found_either read Equal r d = refl
 found_either read Greater r d = refl
 
--- `sections_in` is `at` of the key `sections`
 pub sections_in-at : (ms : Members) → sections_in ms ≡ at (codes "sections") sections_of ms
 sections_in-at no_members = refl
 sections_in-at (member key d ms) =
     let o = slice_cmp nat_cmp (codes "sections") key in
     ap (λ r. match_ordering o r (or_null sections_of d) r) (sections_in-at ms) ∙ sym (found_either sections_of o (get_member (codes "sections") ms) d)
 
--- `map_in` is `at` of the key `map`
 pub map_in-at : (ms : Members) → map_in ms ≡ at (codes "map") record_of ms
 map_in-at no_members = refl
 map_in-at (member key d ms) =

@@ -12,7 +12,7 @@ flat-tree_with : (fields : Fields) (sections : Option Sections) → flat (tree_w
 flat-tree_with fields None = refl
 flat-tree_with fields (Some _) = refl
 
--- the keys of a record except its sections are its fields
+-- the tree of a record has the fields of the record
 pub flat-tree : (r : RawSourceMap) → flat (tree r) ≡ fields_view (out-RawSourceMap r)
 flat-tree r = ap flat (fold_out-RawSourceMap Section Tree section_step tree_step r) ∙ flat-tree_with _ _
 
@@ -57,7 +57,7 @@ sections_listed : {X : Type 0} (f : List Section → X) (v : Option (Vec RawSect
 sections_listed f None = refl
 sections_listed f (Some v) = refl
 
--- a record is written as its fields and then its sections
+-- a record is written as its fields and its sections
 pub written-tree : (r : RawSourceMap) → written (tree r)
     ≡ object (put_if (codes "sections") (option_map (λ v. array (items_of (map written_one (map section v.items)))) (out-RawSourceMap r).sections) (written_fields (fields_view (out-RawSourceMap r))))
 written-tree r =

@@ -20,7 +20,7 @@ use Rattle.sourcemap_records.specs.Field.{Makes, KeepsOthers, found, at, any, te
 use Rattle.sourcemap_records.specs.Jsontypes.{FitsU32, Fields, Scopes, Tree, plain, indexed, Sections, no_more, bare, mapped, AreInRange, IsInRange, AreSectionsInRange, HasNoNullFile, HaveNoNullFile, scopes, debug_id, debug_id_in, fields_in, sections_read, record_of, written, written_fields, written_scopes, written_sections, entries}
 use Rattle.sourcemap_records.proofs.FromJsonLemmas.{sections_in-at, fields_kept}
 
--- ---- what a key gives after entries were put
+-- ---- the value at a key after entries were put
 
 abbrev if_key : Bool → Option Data → Option Data → Option Data
 if_key b d o = if b then option_or d o else o
@@ -62,13 +62,13 @@ each : {X : Type 0} (P Q : X → Type 0) → ((x : X) → P x → Q x) → (xs :
 each P Q h [] all = tt
 each P Q h (x ∷ xs) all = (h x all.0, each P Q h xs all.1)
 
--- a key that is left out if there is none
+-- a key that is left out if it has no value
 back : {X : Type 0} (read : Data → Option X) (write : X → Data) (o : Option X) → IfSome o (λ x. or_null read (write x) ≡ Some (Some x))
     → found read (option_or (option_map write o) None) ≡ Some o
 back read write None h = refl
 back read write (Some x) h = h
 
--- a key that is null if there is none
+-- a key that is written as null if it has no value
 back_null : {X : Type 0} (read : Data → Option X) (write : X → Data) (o : Option X) → IfSome o (λ x. or_null read (write x) ≡ Some (Some x))
     → or_null read (written_or_null write o) ≡ Some o
 back_null read write None h = refl

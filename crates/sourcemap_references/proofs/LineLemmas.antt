@@ -1,4 +1,5 @@
--- A text split at its newlines is UTF-8 if each of its lines is.
+-- A text is UTF-8 exactly if the parts on both sides of a newline are. The lines up to the first one with a
+-- mark decide its reference.
 use Rattle.std.proofs.Common.{◌≡◌, refl, sym, ap, subst, ◌∙◌, ℕ, zero, suc, ◌+◌, ◌-◌, ◌<◌, ◌≤◌, Bool, true, false, ◌&&◌, if◌then◌else◌, List, [], ◌∷◌, ◌++◌, MatchOption, Option, None, Some, is_some, option_map, length, take, drop, get_or, nat_lt, slice_range, arith, append_assoc, IsUtf8}
 use Rattle.std.proofs.lemmas.Bool.{and_parts, eqb-true, and_from, false_from_ne_true}
 use Rattle.std.specs.Cmp.{both_ways}
@@ -99,7 +100,8 @@ line_counts false found later some = refl
 
 -- ---- lines without a mark
 
--- the lines before this index have no reference
+-- the bytes before this index are lines without a reference: if they are UTF-8, the reference of the text is
+-- that of the bytes from the index on
 pub record IsPassed (text : List ℕ) (start : ℕ) : Type 0 where
   pub within : start ≤ length text
   pub parts : (later : List ℕ) → is_utf8 (take start text ++ later) ≡ (is_utf8 (take start text) && is_utf8 later)

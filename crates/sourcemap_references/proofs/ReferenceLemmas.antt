@@ -62,7 +62,7 @@ not_utf8_before text end lines not_utf8 = lines.left ∙ if_text-none (take end 
 pub range_from_start : (text : List ℕ) (end : ℕ) → slice_range text 0 end ≡ take end text
 range_from_start text end = let all : end - 0 ≡ end = omega arith in ap (λ n. take n text) all
 
--- the result on the line that decides
+-- the result for the first line with a mark
 pub decided : (text front part : List ℕ) (line : Line) (result : Result (Option SourceMapRef) Error) → IsFirstMarked text line → front ≡ take line.end text
     → IsUtf8 front → part ≡ drop line.start front → Gives (option_map reference) result (Ok (reference_on part)) → Locates result (first_reference text)
 decided text front part line result decides is utf8 rest gives =

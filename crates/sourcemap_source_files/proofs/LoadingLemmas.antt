@@ -25,7 +25,7 @@ item_at-set_other (x ∷ items) zero (suc other) item apart = refl
 item_at-set_other (x ∷ items) (suc id) zero item apart = refl
 item_at-set_other (x ∷ items) (suc id) (suc other) item apart = item_at-set_other items id other item (λ e. apart (ap suc e))
 
--- an item that is set later does not count
+-- setting an item at index `n` or later does not change the count of new items before `n`
 pub newly-set_later : {X : Type 0} (n : ℕ) (before after : List (Option X)) (id : ℕ) (item : Option X) → n ≤ id → newly n before (slice_set after id item) ≡ newly n before after
 newly-set_later zero before after id item h = refl
 newly-set_later (suc n) before after id item h =
@@ -75,7 +75,7 @@ Fills-set folder sources before after id item is within same kept from_file = re
   from_file_at other none some (inr apart) =
       let P : Option (List ℕ) → Type 0 = IsSome in is.from_file other none (subst P (item_at-set_other after id other item apart) some)
 
--- the sources below `id` are done
+-- the sources below `id` are done, and `loaded` of them have new contents; items from `id` on are unchanged
 pub record IsLoaded (before after : List (Option (List ℕ))) (id loaded : ℕ) : Type 0 where
   pub count : loaded ≡ newly id before after
   pub few : loaded ≤ id

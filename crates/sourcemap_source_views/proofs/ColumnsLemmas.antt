@@ -54,9 +54,9 @@ option_map-id : {X : Type 0} (o : Option X) → option_map (λ x. x) o ≡ o
 option_map-id None = refl
 option_map-id (Some x) = refl
 
--- ---- characters that do not reach a column before their end
+-- ---- characters that start before a column
 
--- each of these characters starts before the column
+-- each character starts before the column, so no shorter prefix of them reaches it
 abbrev pub BeginBefore : ℕ → List ℕ → Type 0
 BeginBefore col [] = ⊤
 BeginBefore col (c ∷ cs) = (0 < col) × BeginBefore (col - units_of c) cs
@@ -93,7 +93,7 @@ BeginBefore-further (x ∷ xs) col more b =
     ] in
     (omega arith, later)
 
--- the result is a prefix, and its characters start before the column
+-- the result is a prefix, and each of its characters starts before the column
 record Found (col : ℕ) (cs prefix : List ℕ) : Type 0 where
   rest : List ℕ
   is : cs ≡ prefix ++ rest
@@ -131,7 +131,7 @@ encoded_more done c = encodes-append done (c ∷ []) ∙ ap (λ t. encode_utf8_a
 
 -- ---- offsets
 
--- there are at most as many UTF-16 units as bytes
+-- characters have at most as many UTF-16 units as bytes
 units_few : (c : ℕ) → units_of c ≤ len_utf8 c
 units_few c = grind (arith, nat_tests)
 
@@ -151,7 +151,8 @@ width-append (x ∷ xs) ys = let later = width-append xs ys in omega arith
 width_more : (done : List ℕ) (c : ℕ) → width (done ++ c ∷ []) ≡ width done + units_of c
 width_more done c = let e = width-append done (c ∷ []) in omega arith
 
--- a walk along a line has read some characters, and the rest of the line is left
+-- a walk to a column has read characters of a line, each of which starts before the column; they have `units`
+-- units, and the rest of the line is left
 pub record Walked (line : List ℕ) (col : ℕ) (rest : List ℕ) (units : ℕ) : Type 0 where
   pub done : List ℕ
   pub bytes : line ≡ encode_utf8_all done ++ rest
@@ -187,7 +188,7 @@ offset_is line rest col units w =
     let all : length line ≡ length (encode_utf8_all w.done) + length rest = ap length w.bytes ∙ length-append (encode_utf8_all w.done) rest in
     omega arith
 
--- the walk ends at the offset of the column
+-- once the units that are read reach the column, the walk is at the offset of the column
 pub Walked-reaches : (line rest : List ℕ) (col units : ℕ) → col ≤ units → Walked line col rest units → Some (length line - length rest) ≡ column_offset line col
 Walked-reaches line rest col units l w =
     let counted = w.counted in
@@ -210,7 +211,7 @@ Walked-units line rest col units u w =
     let same = append_cancel_right (chars (encode_utf8_all w.done)) w.done (chars rest) cut in
     w.counted ∙ ap width (sym (ap chars front ∙ same))
 
--- the line ends before the column
+-- if the line ends before the column, the column has no offset
 pub Walked-short : (line rest : List ℕ) (col units : ℕ) → units < col → length rest ≡ 0 → Walked line col rest units → None ≡ column_offset line col
 Walked-short line [] col units l e w =
     let counted = w.counted in
@@ -238,7 +239,7 @@ IsCharBoundary-in_ascii line (suc n) u l a =
     let last : get_or line n 0 < 128 = subst (λ b. b < 128) (get_or-take (suc n) line n 0 (omega arith)) (a n) in
     subst (λ m. IsCharBoundary line m) (add-one n) (IsCharBoundary-after_ascii line n u (omega arith) last)
 
--- the first characters are as many bytes
+-- a walk past n bytes of ASCII, not past the column, has read n units
 pub Walked-ascii : (line : List ℕ) (col n : ℕ) → IsUtf8 line → n ≤ length line → n ≤ col → IsAscii (take n line) → Walked line col (drop n line) n
 Walked-ascii line col n u l m a =
     let len : length (take n line) ≡ n = length-take-le n line l in
@@ -334,7 +335,8 @@ offset_cuts line col offset u e =
     let f = found (chars line) m.0 col m.1 in
     cut_at line m.0 f.rest col offset u f.is f.begin m.2 (found_passes (λ prefix. nat_le col (width prefix)) (prefixes (chars line)) m.0 m.1)
 
--- the offset of a later column is the offset of the first plus that of the difference in the rest
+-- the offset of a later column, found in the rest of the line: the units before the first offset are
+-- subtracted from the column, and the first offset is added to the result
 pub offset-further : (line : List ℕ) (col more offset units : ℕ) → IsUtf8 line
     → Some offset ≡ column_offset line col → units ≡ width (chars (take offset line))
     → column_offset line (col + more) ≡ option_map (λ n. offset + n) (column_offset (drop offset line) (col + more - units))
@@ -406,7 +408,8 @@ BeginBefore-own (x ∷ xs) =
     let left : width xs ≡ units_of x + width xs - units_of x = omega arith in
     (omega arith, subst (λ n. BeginBefore n xs) left (BeginBefore-own xs))
 
--- an offset is that of a column if each character before it starts before the column
+-- an offset is that of a column if the units before the offset reach the column, and each character before
+-- the offset starts before the column
 pub offset-reached : (line : List ℕ) (offset units col : ℕ) → IsUtf8 line → IsOffset line offset units → col ≤ units → BeginBefore col (chars (take offset line)) → Some offset ≡ column_offset line col
 offset-reached line offset units col u p l b =
     let before = IsUtf8-take line offset u p.0 in
@@ -421,12 +424,12 @@ offset-reached line offset units col u p l b =
     ap (λ prefix. length (encode_utf8_all prefix)) (append-nil front) ∙ ap length (encodes-chars (take offset line) before) ∙ length-take-le offset line p.0.0 in
     sym (ap (option_map (λ prefix. length (encode_utf8_all prefix))) here ∙ ap Some bytes)
 
--- the column of an offset itself
+-- an offset is that of the column that equals the number of units before it
 pub offset-own : (line : List ℕ) (offset units : ℕ) → IsUtf8 line → IsOffset line offset units → Some offset ≡ column_offset line units
 offset-own line offset units u p =
     offset-reached line offset units units u p (le_refl units) (subst (λ n. BeginBefore n (chars (take offset line))) (sym p.1) (BeginBefore-own (chars (take offset line))))
 
--- one character back
+-- one step back over the character `c`; columns after its start, up to its end, have the offset after it
 pub record SteppedBack (line : List ℕ) (offset units c : ℕ) : Type 0 where
   pub some : length (encode_utf8 c) ≤ offset
   pub wide : units_of c ≤ units
@@ -452,7 +455,7 @@ stepped-back line rest offset units c u p s e =
       short = λ col l m. offset-reached line offset units col u p l (subst (BeginBefore col) (sym spelt) (BeginBefore-more (chars rest) c col (subst (λ n. n < col) (sym left) m)));
     }
 
--- a column that is left of an offset by bytes of ASCII
+-- if the `count` bytes before an offset are ASCII, they are `count` columns
 pub ascii-back : (line : List ℕ) (offset units count col : ℕ) → IsUtf8 line → IsOffset line offset units → col + count ≡ units → count ≤ offset → IsAscii (slice_range line (offset - count) offset)
     → (Some (offset - count) ≡ column_offset line col) × IsOffset line (offset - count) col
 ascii-back line offset units count col u p e l a =
@@ -517,7 +520,7 @@ offset-few line offset units u p =
     let wide = p.1 in
     omega arith
 
--- a later offset
+-- the units before a later offset are those before the first offset and those between both
 pub offset-ahead : (line : List ℕ) (offset units end more : ℕ) → IsUtf8 line → IsOffset line offset units → IsCharBoundary line end → offset ≤ end → more ≡ width (chars (slice_range line offset end)) → IsOffset line end (units + more)
 offset-ahead line offset units end more u p b l m =
     let between : offset + (end - offset) ≡ end = omega arith in
@@ -528,7 +531,7 @@ offset-ahead line offset units end more u p b l m =
     let first = p.1 in
     (b, omega arith)
 
--- the units of a text, as far as they are counted
+-- `total` units of a text are counted, and `rest` is left
 pub record Counted (text rest : List ℕ) (total : ℕ) : Type 0 where
   pub utf8 : IsUtf8 rest
   pub left : total + width (chars rest) ≡ width (chars text)

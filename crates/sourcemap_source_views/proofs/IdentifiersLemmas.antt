@@ -22,7 +22,7 @@ is_part-past_ascii c l m n =
 
 -- ---- how far characters pass a test
 
--- the length of the first characters that pass a test, in bytes
+-- the length in bytes of the longest prefix whose characters all pass a test
 abbrev pub passing_bytes : (ℕ → Bool) → List ℕ → ℕ
 passing_bytes test cs = length (encode_utf8_all (take_while test cs))
 
@@ -60,7 +60,7 @@ pub passing-none : (test : ℕ → Bool) (rest : List ℕ) → length rest ≡ 0
 passing-none test [] e = ap (passing_bytes test) chars-nil
 passing-none test (b ∷ rest) e = absurd (omega arith)
 
--- all of them pass if the length is that of all
+-- all characters pass exactly if this length is that of all characters
 pub all_pass : (test : ℕ → Bool) (cs : List ℕ) (more : ℕ) → (more + passing_bytes test cs == more + length (encode_utf8_all cs)) ≡ list_all test cs
 all_pass test [] more = grind (arith, nat_tests)
 all_pass test (c ∷ cs) more =
@@ -118,7 +118,7 @@ is_identifier-bytes text u = ap (λ bytes. identifier_bytes (chars text) == leng
 ascii_white : (c : ℕ) → ((nat_lt 8 c && nat_lt c 14) || (c == 32)) ≡ true → 128 ≤ c → ⊥
 ascii_white c e l = grind (arith, nat_tests)
 
--- white space continues no identifier
+-- white space past ASCII does not have XID_Continue
 continues_not : (c : ℕ) → is_whitespace c ≡ true → 128 ≤ c → is_xid_continue c ≡ false
 unfolding unicode_ident
 continues_not c white l =
@@ -232,7 +232,7 @@ some_bytes (c ∷ cs) e = refl
 pub token-none : (text words : List ℕ) (len : ℕ) → IsUtf8 text → words ≡ trim_start text → len ≡ identifier_bytes (chars words) → len ≡ 0 → None ≡ token_at_start text
 token-none text words len u e is none = sym (ap unless_empty (word_identifier text words u e) ∙ no_bytes (identifier_at_start (chars words)) (sym is ∙ none))
 
--- characters start with those that pass
+-- the characters up to the first that fails a test are a prefix
 begins : (test : ℕ → Bool) (cs : List ℕ) → (rest : List ℕ) × (cs ≡ take_while test cs ++ rest)
 begins test cs = (drop (prefix_len test cs) cs, sym (take-append-drop (prefix_len test cs) cs))
 
@@ -256,7 +256,7 @@ token-there text words len u v e is some = identifier_front words len v is some 
 
 -- ---- the walk along the characters of an identifier
 
--- the walk is at this offset, and this rest of the text is left
+-- the walk is at this offset, all characters before it pass, and this rest of the text is left
 pub record Passed (test : ℕ → Bool) (text rest : List ℕ) (offset : ℕ) : Type 0 where
   pub rest_is : drop offset text ≡ rest
   pub inside : offset + length rest ≡ length text
@@ -284,7 +284,7 @@ Passed-boundary test text rest offset p =
     let inside = p.inside in
     IsCharBoundary-from_drop text offset (omega arith) (subst IsUtf8 (sym p.rest_is) p.utf8)
 
--- the text after its first character
+-- the rest of a text after its first character starts at a character boundary
 pub after_first : (text rest : List ℕ) (c width : ℕ) → IsUtf8 text → text ≡ encode_utf8 c ++ rest → width ≡ length (encode_utf8 c) → IsCharBoundary text width × (drop width text ≡ rest)
 after_first text rest c width u e n = (
   subst (λ k. IsCharBoundary text k) (sym n) (IsCharBoundary-at_seam text (encode_utf8 c) rest e (IsUtf8-past_char text rest c u e)),

@@ -240,7 +240,8 @@ mask-after (x ∷ xs) (suc k) =
     ap (λ n. mask_l (map is_terminator (x ∷ xs)) / n) (pow-suc 2 k ∙ mul_comm (2 ^ k) 2) ∙ sym (div-div-eq-div-mul (mask_l (map is_terminator (x ∷ xs))) 2 (2 ^ k))
     ∙ ap (λ n. n / 2 ^ k) (half (is_terminator x) (mask_l (map is_terminator xs))) ∙ mask-after xs k
 
--- what the lowest bit says of the bytes from an offset to an end
+-- the lowest bit of the mask `left` is that of the first terminator from `offset` to `end`, `gap` bytes on;
+-- the bits above it are the mask of the bytes after that terminator
 pub record Lowest (text : List ℕ) (offset end left gap : ℕ) : Type 0 where
   pub inside : offset + gap < end
   pub quiet : (k : ℕ) → offset ≤ k → k < offset + gap → is_terminator (get_or text k 0) ≡ false
@@ -274,7 +275,7 @@ pub lowest_bit : (text : List ℕ) (offset end left : ℕ) → offset ≤ end �
 lowest_bit text offset end left ordered bounded few is some =
     subst (λ m. Lowest text offset end m (count_trailing_zeros 64 m)) (sym is) (lowest text offset end ordered bounded few (subst (λ m. 0 < m) is some))
 
--- no bit is left
+-- if no bit is left, there is no terminator
 pub no_bit : (text : List ℕ) (offset end left : ℕ) → offset ≤ end → end ≤ length text → left ≡ mask_l (map is_terminator (chunk offset (end - offset) text)) → left ≡ 0
     → (k : ℕ) → offset ≤ k → k < end → is_terminator (get_or text k 0) ≡ false
 no_bit text offset end left ordered bounded is none k l m = none_from_empty_mask is_terminator text offset (end - offset) 0 (omega arith) (sym is ∙ none) k l (omega arith)
@@ -310,11 +311,11 @@ none_found text start f =
 
 -- ---- lines in their text
 
--- a terminator is ASCII
+-- a terminator is ASCII and not empty
 abbrev pub IsEnd : List ℕ → Type 0
 IsEnd terminator = (0 < length terminator) × IsAscii terminator
 
--- each line but the last has a terminator
+-- each line but the last has a terminator; the last has none
 abbrev pub AreEnded : List Line → Type 0
 AreEnded [] = ⊤
 AreEnded (line ∷ []) = line.terminator ≡ []
@@ -423,7 +424,7 @@ joined-lines_of (byte ∷ text) =
       ]
     ]
 
--- the line at this index of a list, as it is in the text
+-- the range is that of the body of the line at this index, between character boundaries of the text
 pub record IsInText (text : List ℕ) (lines : List Line) (row : ℕ) (range : ℕ × ℕ) : Type 0 where
   pub ordered : range.0 ≤ range.1
   pub start : IsCharBoundary text range.0
@@ -447,7 +448,7 @@ past_length xs ys row same none =
       | inr g ↦ g
     ]
 
--- the end of a line
+-- the body of a line ends at a character boundary
 end_boundary : (text : List ℕ) (start : ℕ) (line : Line) (lines : List Line) → drop start text ≡ joined (line ∷ lines) → start ≤ length text → AreEnded (line ∷ lines) → IsCharBoundary text (start + length line.body)
 end_boundary text start line [] e l a =
     let all : length (drop start text) ≡ length line.body = ap length (e ∙ ap (λ t. line.body ++ (t ++ [])) a ∙ append-nil line.body) in
@@ -463,7 +464,7 @@ end_boundary text start line (next ∷ lines) e l a =
     ∙ front_byte line.body line.terminator (joined (next ∷ lines)) some in
     IsCharBoundary-before_ascii text (start + length line.body) (omega arith) (subst (λ b. b < 128) (sym byte) (a.0.1 0))
 
--- the start of the next line
+-- the next line starts at a character boundary
 next_boundary : (text : List ℕ) (start : ℕ) (line next : Line) (lines : List Line) → IsUtf8 text → drop start text ≡ joined (line ∷ next ∷ lines) → start ≤ length text → AreEnded (line ∷ next ∷ lines)
     → IsCharBoundary text (start + length line.body + length line.terminator) × (start + length line.body + length line.terminator ≤ length text)
 next_boundary text start line next lines u e l a =

@@ -66,7 +66,7 @@ drop_all : (xs : List ℕ) → drop (length xs) xs ≡ []
 drop_all [] = refl
 drop_all (x ∷ xs) = drop_all xs
 
--- a text after a front of n bytes, by its length
+-- a suffix starts at the difference of both lengths
 pub suffix_at : (text rest : List ℕ) (n : ℕ) → rest ≡ drop n text → length rest ≤ length text → drop (length text - length rest) text ≡ rest
 suffix_at text rest n e few =
     let left : length rest ≡ length text - n = ap length e ∙ length-drop n text in
@@ -88,7 +88,7 @@ drop_front zero front back l = refl
 drop_front (suc i) [] back l = absurd (omega arith)
 drop_front (suc i) (x ∷ front) back l = drop_front i front back (omega arith)
 
--- a character boundary in the front of a text
+-- a character boundary of a prefix is one of the whole text
 boundary_in_front : (front back : List ℕ) (i : ℕ) → IsUtf8 front → IsUtf8 back → IsCharBoundary front i → IsCharBoundary (front ++ back) i
 boundary_in_front front back i u v b =
     let few = b.0 in
@@ -103,7 +103,7 @@ word_at line offset blank u b inside is = (
   ap chars (sym (drop-drop blank offset line) ∙ is) ∙ chars-trim_start (drop offset line) (IsUtf8-drop line offset u b),
 )
 
--- only white space is before the later offset
+-- if there is only white space up to `next`, the first word from `next` on is the first word from `offset` on
 pub word_kept : (line : List ℕ) (offset next word blank : ℕ) → IsUtf8 line → offset ≤ next → IsCharBoundary line offset → IsCharBoundary line next
     → drop blank (slice_range line offset next) ≡ trim_start (slice_range line offset next) → blank ≡ length (slice_range line offset next)
     → IsWord line next word → IsWord line offset word
@@ -113,7 +113,7 @@ word_kept line offset next word blank u l b d is all w =
     let split : chars (drop offset line) ≡ chars gap ++ chars (drop next line) = ap chars (drop_split line offset next l) ∙ chars-append gap (drop next line) (IsUtf8-between line offset next u l b d) in
     (w.0, w.1 ∙ sym (ap skip_leading_whitespace split ∙ skip-all (chars gap) (chars (drop next line)) (skipped_none gap none)))
 
--- a word starts before it
+-- if there is more than white space up to `next`, the first word starts before `next`
 pub word_found : (line : List ℕ) (offset next blank : ℕ) → IsUtf8 line → offset ≤ next → IsCharBoundary line offset → IsCharBoundary line next
     → drop blank (slice_range line offset next) ≡ trim_start (slice_range line offset next) → blank ≢ length (slice_range line offset next) → IsCharBoundary (slice_range line offset next) blank
     → IsWord line offset (offset + blank)
@@ -179,7 +179,7 @@ passing-some test gap rest u few =
 pub end_at : (line : List ℕ) (word len : ℕ) → IsCharBoundary line word → IsCharBoundary (drop word line) len → len ≡ passing_bytes is_part (chars (drop word line)) → IsWordEnd line word (word + len)
 end_at line word len b inside e = (IsCharBoundary-from_rest line word len b.0 inside, ap (λ n. word + n) e)
 
--- they reach the later offset
+-- if all characters up to `next` can continue an identifier, the runs from `word` and `next` have one end
 pub end_kept : (line : List ℕ) (word next end len : ℕ) → IsUtf8 line → word ≤ next → IsCharBoundary line word → IsCharBoundary line next
     → len ≡ passing_bytes is_part (chars (slice_range line word next)) → len ≡ length (slice_range line word next)
     → IsWordEnd line next end → IsWordEnd line word end
@@ -192,7 +192,7 @@ end_kept line word next end len u l b d is all e =
     let end_is = e.1 in
     (e.0, omega (arith, whole, long, within, end_is))
 
--- or they end before it
+-- if not all of them can, the run ends before `next`
 pub end_found : (line : List ℕ) (word next len : ℕ) → IsUtf8 line → word ≤ next → IsCharBoundary line word → IsCharBoundary line next
     → len ≡ passing_bytes is_part (chars (slice_range line word next)) → len ≢ length (slice_range line word next) → IsCharBoundary (slice_range line word next) len
     → IsWordEnd line word (word + len)
@@ -233,14 +233,14 @@ identifier_none line offset word w starts =
     let same : identifier_at_start words ≡ [] = identifier-by-parts words ∙ ap (λ t. cond t (take_while is_part words) []) starts in
     sym (token_of_word line offset word w ∙ ap unless_empty same)
 
--- at a column
+-- the identifier at a column: none if the units before the offset do not reach the column
 pub identifier_far : (line : List ℕ) (col offset units : ℕ) → col ≤ units → token_at_start (drop offset line) ≡ identifier_from line col offset units
 identifier_far line col offset units l = let far : nat_le col units ≡ true = grind (arith, nat_tests) in rw far refl
 
 pub identifier_short : (line : List ℕ) (col offset units : ℕ) → units < col → None ≡ identifier_from line col offset units
 identifier_short line col offset units l = let short : nat_le col units ≡ false = grind (arith, nat_tests) in rw short refl
 
--- ---- an identifier that is compared
+-- ---- an identifier that is compared with a name
 
 named : (n : ℕ) (ns rest : List ℕ) → is_start n ≡ true → list_all is_part ns ≡ true → identifier_at_start (n ∷ (ns ++ rest)) ≡ (n ∷ ns) ++ take_while is_part rest
 named n ns rest starts all = rw starts (ap (λ cs. n ∷ cs) (pass-all is_part ns rest all))
@@ -271,14 +271,14 @@ named_bytes (n ∷ ns) rest name valid spelt some =
     let bytes : encode_utf8_all (n ∷ (ns ++ take_while is_part rest)) ≡ name ++ encode_utf8_all (take_while is_part rest) = encodes-append (n ∷ ns) (take_while is_part rest) ∙ ap (λ t. t ++ encode_utf8_all (take_while is_part rest)) spelt in
     same_name name (encode_utf8_all (take_while is_part rest)) rest refl ∙ sym (ap (λ t. bytes_eq t name) bytes) ∙ sym (ap (λ i. is_text name (unless_empty i)) is)
 
--- the text starts with the name
+-- if the text starts with the name, its identifier is the name unless the next character can continue it
 pub named_if : (text rest name : List ℕ) → IsUtf8 name → is_identifier (chars name) ≡ true → name ≢ [] → text ≡ name ++ rest
     → not (first_passes is_part (chars rest)) ≡ is_text name (unless_empty (identifier_at_start (chars text)))
 named_if text rest name u valid some e =
     named_bytes (chars name) (chars rest) name valid (encodes-chars name u) some
     ∙ ap (λ cs. is_text name (unless_empty (identifier_at_start cs))) (sym (ap chars e ∙ chars-append name rest u))
 
--- the text does not start with the name, or the name is empty
+-- if the text does not start with the name, or the name is empty, its identifier is not the name
 pub named_not : (text name : List ℕ) → IsUtf8 text → ((rest : List ℕ) → text ≡ name ++ rest → name ≡ []) → false ≡ is_text name (unless_empty (identifier_at_start (chars text)))
 named_not text name u apart =
     let whole = identifier_begins (chars text) in

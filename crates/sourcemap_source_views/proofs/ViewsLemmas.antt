@@ -3,7 +3,7 @@ use Rattle.std.proofs.Common.{◌≡◌, refl, sym, ap, ◌∙◌, ℕ, zero, su
 use Rattle.std.specs.Result.{result_ok}
 use Rattle.std.proofs.lemmas.Option.{none-some, same_Some}
 
--- an item that exists comes next
+-- if there is an item at the index, and the index is below the maximum, it comes next
 pub drop-next : {X : Type 0} (xs : List X) (most index : ℕ) (x : X) → index < most → Some x ≡ slice_get xs index → drop index (take most xs) ≡ x ∷ drop (index + 1) (take most xs)
 drop-next [] most index x l e = absurd (none-some x (sym e))
 drop-next (y ∷ xs) zero index x l e = absurd (omega arith)
@@ -13,7 +13,7 @@ drop-next (y ∷ xs) (suc most) (suc index) x l e =
     let at : suc (index + 1) ≡ suc index + 1 = omega arith in
     later ∙ ap (λ n. x ∷ drop n (y ∷ take most xs)) at
 
--- nothing comes without an item
+-- if there is no item at the index, nothing is left
 pub drop-none : {X : Type 0} (xs : List X) (most index : ℕ) → None ≡ slice_get xs index → drop index (take most xs) ≡ []
 drop-none [] zero zero e = refl
 drop-none [] zero (suc index) e = refl
@@ -24,7 +24,7 @@ drop-none (x ∷ xs) zero (suc index) e = refl
 drop-none (x ∷ xs) (suc most) zero e = absurd (none-some x e)
 drop-none (x ∷ xs) (suc most) (suc index) e = drop-none xs most index e
 
--- nor after the maximum
+-- if the index has reached the maximum, nothing is left
 pub drop-past : {X : Type 0} (xs : List X) (most index : ℕ) → most ≤ index → drop index (take most xs) ≡ []
 drop-past xs zero zero l = refl
 drop-past xs zero (suc index) l = refl

@@ -1,4 +1,4 @@
--- How a walk along tokens finds the one before a `function`.
+-- How a walk along tokens finds the one with a given identifier that a `function` follows.
 use Rattle.std.proofs.Common.{◌≡◌, refl, sym, ap, ◌∙◌, ℕ, zero, suc, ◌-◌, ◌<◌, ◌⊎◌, List, [], ◌∷◌, take, drop, true, false, cond, Some, None, Option, option_map, arith, inl, inr, codes, is_some, true≢false}
 use Rattle.std.proofs.lemmas.Bool.{cases_Bool}
 use Rattle.std.proofs.lemmas.Option.{none-some}
@@ -71,7 +71,7 @@ pub some_seen : {T S : Type 0} (seen : T → S) (token : Option T) → is_some t
 some_seen seen None e = absurd (true≢false (sym e))
 some_seen seen (Some token) e = refl
 
--- the item before is found if the next one is `function`
+-- the item `called` is found if the next one is `function`
 pub found_after-fired : {S : Type 0} (name : List ℕ) (called : Option S) (item : S × Option (List ℕ)) (left next : List (S × Option (List ℕ))) (n : ℕ) (due : Option S)
     → 0 < n → left ≡ item ∷ next → is_some called ≡ true → is_text (codes "function") item.1 ≡ true
     → found_after name called (take n left) ≡ due → called ≡ due
@@ -81,7 +81,7 @@ found_after-fired name (Some token) item left next n due l e some fired was =
     let here : found_after name (Some token) (item ∷ take (n - 1) next) ≡ Some token = rw fired refl in
     sym here ∙ sym (ap (found_after name (Some token)) items_left) ∙ was
 
--- the tokens before one, by the one that comes before it
+-- the tokens before another: the one that comes right before it, if there is one, and those before that
 pub tokens_before : {T S : Type 0} (seen : T → S) (before : T → List S) (token : Option T) (tokens : List S) → MatchOption token (tokens ≡ []) (λ t. tokens ≡ seen t ∷ before t) → tokens ≡ tokens_from seen before token
 tokens_before seen before None tokens e = e
 tokens_before seen before (Some token) tokens e = e

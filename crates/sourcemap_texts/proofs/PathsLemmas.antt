@@ -98,7 +98,7 @@ common_parts-assoc (p ∷ ps) (q ∷ qs) (r ∷ rs) =
           ])
     ]
 
--- with one more list at the end
+-- the common first parts with one more list at the end
 first_parts-append : (parts : List (List ℕ)) (lists : List (List (List ℕ))) (last : List (List ℕ)) → first_parts ((parts ∷ lists) ++ last ∷ []) ≡ common_parts (first_parts (parts ∷ lists)) last
 first_parts-append parts [] last = refl
 first_parts-append parts (next ∷ lists) last =
@@ -120,7 +120,7 @@ start_of-append (parts ∷ lists) last = ap Some (first_parts-append parts lists
 
 -- ---- the texts so far
 
--- the parts of the absolute paths among them
+-- the parts of the absolute paths among texts
 abbrev pub parts_among : List (Bor (List ℕ)) → List (List (List ℕ))
 parts_among texts = map path_parts (filter is_absolute (map (λ text. text.now) texts))
 
@@ -140,7 +140,7 @@ parts_among-skipped (first ∷ texts) text e =
     ≡ map path_parts (cond b (first.now ∷ filter is_absolute (map (λ t. t.now) texts)) (filter is_absolute (map (λ t. t.now) texts))))
     [ true ↦ ap (λ l. path_parts first.now ∷ l) rest | false ↦ rest ]
 
--- the start of the texts so far and one more
+-- the start of the texts so far and one more absolute path
 pub start_of-taken : (texts : List (Bor (List ℕ))) (text : Bor (List ℕ)) → is_absolute text.now ≡ true → start_of (parts_among (texts ++ text ∷ [])) ≡ Some (start_with (start_of (parts_among texts)) (path_parts text.now))
 start_of-taken texts text e = ap start_of (parts_among-taken texts text e) ∙ start_of-append (parts_among texts) (path_parts text.now)
 
@@ -155,7 +155,7 @@ concat-first_parts (parts ∷ lists) (Some s) none joined empty is same =
 
 -- ---- where two texts differ
 
--- the length of the shared front with one more equal byte, from the length after that byte
+-- the length of the common first parts with one more equal byte in front, from the length without it
 abbrev pub extended : ℕ → Bool → ℕ
 extended zero both_end = cond both_end 1 0
 extended (suc count) both_end = suc (suc count)
@@ -203,7 +203,7 @@ extended-true : (count : ℕ) → extended count true ≡ suc count
 extended-true zero = refl
 extended-true (suc count) = refl
 
--- no bytes have no parts, and only they
+-- if the first n bytes of a nonempty text have no parts, n is 0
 take-empty : (n : ℕ) (x : ℕ) (a : List ℕ) → path_parts (take n (x ∷ a)) ≡ [] → n ≡ 0
 take-empty zero x a e = refl
 take-empty (suc n) x a e = let h = starts x (take n a) in let clash : [] ≡ (x ∷ h.part) ∷ h.others = sym e ∙ h.is in cc
@@ -217,7 +217,7 @@ parts-both_end x a b e f tails =
     ∙ sym (ap (λ l. common_parts l (path_parts (x ∷ b))) (path_parts-cut x a e) ∙ ap (common_parts ((x ∷ []) ∷ path_parts a)) (path_parts-cut x b f)
     ∙ common_parts-same (x ∷ []) (x ∷ []) (path_parts a) (path_parts b) (bytes_eq-refl (x ∷ [])))
 
--- neither does
+-- neither text ends a part after x
 parts-neither_ends : (x c d : ℕ) (a b : List ℕ) → is_separator c ≡ false → is_separator d ≡ false
     → path_parts (take (shared (c ∷ a) (d ∷ b)) (c ∷ a)) ≡ common_parts (path_parts (c ∷ a)) (path_parts (d ∷ b))
     → path_parts (take (shared (x ∷ c ∷ a) (x ∷ d ∷ b)) (x ∷ c ∷ a)) ≡ common_parts (path_parts (x ∷ c ∷ a)) (path_parts (x ∷ d ∷ b))
@@ -251,7 +251,7 @@ parts-neither_ends x c d a b e f tails =
     grown zero part others h = cc
     grown (suc n) part others h = path_parts-joined x (take (suc n) (c ∷ a)) e ∙ ap (with_first_byte x) h
 
--- only the first does
+-- only the first text ends a part after x
 parts-left_ends : (x d : ℕ) (a b : List ℕ) → ends_part a ≡ true → is_separator d ≡ false
     → path_parts (take (shared (x ∷ a) (x ∷ d ∷ b)) (x ∷ a)) ≡ common_parts (path_parts (x ∷ a)) (path_parts (x ∷ d ∷ b))
 parts-left_ends x d a b e f =
@@ -264,7 +264,7 @@ parts-left_ends x d a b e f =
     ∙ ap (common_parts ((x ∷ []) ∷ path_parts a)) (path_parts-joined x (d ∷ b) f ∙ ap (with_first_byte x) right.is)
     ∙ common_parts-apart (x ∷ []) (x ∷ d ∷ right.part) (path_parts a) right.others differ)
 
--- only the second does
+-- only the second text ends a part after x
 parts-right_ends : (x c : ℕ) (a b : List ℕ) → is_separator c ≡ false → ends_part b ≡ true
     → path_parts (take (shared (x ∷ c ∷ a) (x ∷ b)) (x ∷ c ∷ a)) ≡ common_parts (path_parts (x ∷ c ∷ a)) (path_parts (x ∷ b))
 parts-right_ends x c a b e f =
@@ -324,7 +324,8 @@ path_parts-shared (x ∷ a) (y ∷ b) =
 
 -- ---- a walk over both texts
 
--- the shared bytes when the bytes at `at` are equal, as many are shared after it, and `kept` are shared if none are
+-- the shared bytes after `at` equal bytes, from the number that the rests share. If that is 0, `at` bytes are
+-- shared where both texts end a part at `at`, and otherwise `kept`
 abbrev pub shared_at : ℕ → ℕ → Bool → ℕ → ℕ
 shared_at at zero both_end kept = cond both_end at kept
 shared_at at (suc count) both_end kept = at + suc count
@@ -393,7 +394,8 @@ ends_part-drop zero (x ∷ a) = let no : nat_le (suc (length a)) 0 ≡ false = l
 ends_part-drop (suc at) [] = let yes : nat_le 0 (suc at) ≡ true = le-leb 0 (suc at) (omega arith) in rw yes refl
 ends_part-drop (suc at) (x ∷ a) = rw (nat_le-suc (length a) at) (ends_part-drop at a)
 
--- the walk ends at different bytes, or at the end of a text: with a cut of both there, or else with the last cut
+-- the walk ends where the bytes differ or a text ends. If both texts end a part there, `at` bytes are shared,
+-- otherwise `kept`
 module _ {a b : List ℕ} {at kept : ℕ} (walk : IsWalk a b at kept) (differ : at < length a → at < length b → get_or a at 0 ≢ get_or b at 0)
     (x y : Bool) (left : x ≡ (nat_le (length a) at || is_separator (get_or a at 0))) (right : y ≡ (nat_le (length b) at || is_separator (get_or b at 0))) where
   IsWalk-end : shared a b ≡ cond (x && y) at kept

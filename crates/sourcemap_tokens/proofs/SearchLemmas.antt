@@ -17,12 +17,12 @@ use Rattle.std.proofs.lemmas.List.Recursion.{found_at, found_nowhere}
 use Rattle.std.proofs.lemmas.List.Sorted.{searchable_from_sorted}
 use Rattle.sourcemap_tokens.specs.Search.{find_last, closest_item, closest}
 
--- the item before index `low` is before p, and the item at index `high` is not
+-- the item before index `low`, if any, has a key before p, and the item at index `high`, if any, has not
 pub record IsBracket {X K : Type 0} (key : X → K) (cmp : K → K → Ordering) (xs : List X) (p : K) (low high : ℕ) : Type 0 where
   pub below : (d : X) → 0 < low → is_lt (cmp (key (get_or xs (low - 1) d)) p) ≡ true
   pub above : (d : X) → high < length xs → is_lt (cmp (key (get_or xs high d)) p) ≡ false
 
--- the item at index n does not have key p
+-- the item at index n, if any, does not have key p
 abbrev pub IsApart : {X K : Type 0} → (X → K) → (K → K → Ordering) → List X → K → ℕ → Type 0
 IsApart {X} key cmp xs p n = (d : X) → n < length xs → is_eq (cmp (key (get_or xs n d)) p) ≡ false
 
@@ -120,7 +120,7 @@ module _ {X K : Type 0} {cmp : K → K → Ordering} (o : IsTotalOrder cmp) (key
       find_last-none (λ x. is_lt (cmp (key x) p)) xs d (λ k l. not_less-later _ (high_rank k d (omega arith) l)) in
       rw (miss, last)
 
--- the item of an entry
+-- entry k of the list with indices is the index k and the item at k
 entry-at : {X : Type 0} (xs : List X) (k : ℕ) (e : ℕ × X) → k < length xs → get_or (enumerate_from 0 xs) k e ≡ (k, get_or xs k e.1)
 entry-at xs k e l = get_or-enumerate_from 0 xs k e l ∙ ap (λ i. (i, get_or xs k e.1)) (zero-add k)
 
@@ -145,7 +145,7 @@ module _ {X K : Type 0} {cmp : K → K → Ordering} (o : IsTotalOrder cmp) (key
       let many = length-enumerate_from 0 xs in
       rw (entry-item xs n d (omega arith)) (apart d.1 (omega arith))
 
-  -- the search ends at an item at p
+  -- the search ends at an item with key p
   pub closest-hit : (x : X) → n < length xs → x ≡ get_or xs n x → is_eq (cmp (key x) p) ≡ true → Some (n, x) ≡ closest key cmp xs p
   unfolding closest
   closest-hit x l read here =
@@ -154,7 +154,7 @@ module _ {X K : Type 0} {cmp : K → K → Ordering} (o : IsTotalOrder cmp) (key
       let hit = closest_item-hit o (λ (e : ℕ × X). key e.1) (enumerate_from 0 xs) p n entries_sorted (entries_bracket (omega arith)) (0, x) (omega arith) (rw entry here) in
       sym (hit ∙ ap Some entry)
 
-  -- the search ends after an item before p, and no item is at p
+  -- the search ends after the item x, and the item where it ends, if any, does not have key p
   pub closest-miss : (x : X) → 0 < n → n ≤ length xs → x ≡ get_or xs (n - 1) x → IsApart key cmp xs p n → Some (n - 1, x) ≡ closest key cmp xs p
   unfolding closest
   closest-miss x some within read apart =
@@ -163,7 +163,7 @@ module _ {X K : Type 0} {cmp : K → K → Ordering} (o : IsTotalOrder cmp) (key
       let miss = closest_item-miss o (λ (e : ℕ × X). key e.1) (enumerate_from 0 xs) p n entries_sorted (entries_bracket within) (0, x) some (omega arith) (entries_apart apart) in
       sym (miss ∙ ap Some entry)
 
--- the search ends at the front, and no item is at p
+-- the search ends at index 0, and the item there, if any, does not have key p
 none_at_front : {X K : Type 0} {cmp : K → K → Ordering} (o : IsTotalOrder cmp) (key : X → K) (xs : List X) (p : K) → IsSortedByKey key cmp xs → IsBracket key cmp xs p 0 0 → IsApart key cmp xs p 0 → None ≡ closest key cmp xs p
 unfolding closest
 none_at_front o key [] p sorted b apart = refl
@@ -179,7 +179,7 @@ module _ {X K : Type 0} (key : X → K) (cmp : K → K → Ordering) (xs : List 
   pub bracket-all : IsBracket key cmp xs p 0 (length xs)
   bracket-all = record { below = λ d l. absurd (omega arith); above = λ d l. absurd (omega arith) }
 
-  -- it continues after the item x at k, which is before p
+  -- it continues after the item x at k, whose key is before p
   pub bracket-up : (low high k : ℕ) (x : X) → IsBracket key cmp xs p low high → k < length xs → x ≡ get_or xs k x → is_lt (cmp (key x) p) ≡ true → IsBracket key cmp xs p (k + 1) high
   bracket-up low high k x b l read less = record {
     below = λ d m.
@@ -190,18 +190,18 @@ module _ {X K : Type 0} (key : X → K) (cmp : K → K → Ordering) (xs : List 
     above = b.above;
   }
 
-  -- it continues up to the item x at k, which is not
+  -- it continues up to the item x at k, whose key is not before p
   pub bracket-down : (low high k : ℕ) (x : X) → IsBracket key cmp xs p low high → k < length xs → x ≡ get_or xs k x → is_lt (cmp (key x) p) ≡ false → IsBracket key cmp xs p low k
   bracket-down low high k x b l read not_less = record {
     below = b.below;
     above = λ d m. subst (λ y. is_lt (cmp (key y) p) ≡ false) (read ∙ get_or_default xs k x d l) not_less;
   }
 
--- a search has ended, at an item x that is not at p
+-- the search has ended at an item x that does not have key p
 pub apart_from_read : {X K : Type 0} (key : X → K) (cmp : K → K → Ordering) (xs : List X) (p : K) (n : ℕ) (x : X) → x ≡ get_or xs n x → is_eq (cmp (key x) p) ≡ false → IsApart key cmp xs p n
 apart_from_read key cmp xs p n x read other d l = subst (λ y. is_eq (cmp (key y) p) ≡ false) (read ∙ get_or_default xs n x d l) other
 
--- or after the last item
+-- the search has ended after the last item
 pub apart_at_end : {X K : Type 0} (key : X → K) (cmp : K → K → Ordering) (xs : List X) (p : K) (n : ℕ) → length xs ≤ n → IsApart key cmp xs p n
 apart_at_end key cmp xs p n past d l = absurd (omega arith)
 
@@ -230,7 +230,7 @@ is_le-equal Less e = refl
 is_le-equal Equal e = refl
 is_le-equal Greater e = cc
 
--- the closest item has what all items have
+-- the closest item has each property that all items have
 module _ {X K : Type 0} (key : X → K) (cmp : K → K → Ordering) (P : X → Type 0) where
   found_has : (t : X → Bool) (xs : List X) → AllByRecursion P xs → IfSome (find t xs) P
   found_has t [] all = tt

@@ -80,7 +80,6 @@ one_flag true false e = cc
 one_flag false true e = cc
 one_flag false false e = refl
 
--- tokens that are equal in all fields are one
 pub same_from_are_same : (s t : RawToken) → are_same s t ≡ true → s ≡ t
 same_from_are_same s t e =
     let on_line = and_parts (s.dst_line == t.dst_line) _ e in
@@ -99,7 +98,7 @@ same_from_are_same s t e =
       is_range = one_flag s.is_range t.is_range name.1 i;
     }
 
--- a fold that ignores an item equal to the last one ignores repeats
+-- a fold ignores repeats if its step, done twice in a row with one token, is the step done once
 module _ {R : Type 0} (sees : List RawToken → R) (step : RawToken → R → R) (each : (t : RawToken) (ts : List RawToken) → sees (t ∷ ts) ≡ step t (sees ts)) (once : (t : RawToken) (r : R) → step t (step t r) ≡ step t r) where
   sees-changes_after : (t : RawToken) (ts : List RawToken) → sees (t ∷ changes_after t ts) ≡ sees (t ∷ ts)
   sees-changes_after t [] = refl
@@ -187,7 +186,7 @@ AreInOrder-reduced names tokens up =
 sound_name_fits : (names id : ℕ) → names ≤ 4294967295 → names ≤ id → names ≤ (if nat_lt id names then id else 4294967295)
 sound_name_fits names id few out = grind (arith, nat_tests)
 
--- and within the same bounds
+-- if tokens are within the counts, so is their reduced list
 pub AllWithin-reduced : (sources names : ℕ) (tokens : List RawToken) → names ≤ 4294967295 → AllWithin sources names tokens → AllWithin sources names (reduced names tokens)
 AllWithin-reduced sources names tokens few all =
     All-map (IsWithin sources names) (with_valid_name names) (without_repeats tokens)

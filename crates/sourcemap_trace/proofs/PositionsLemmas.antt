@@ -18,7 +18,7 @@ use Rattle.std.proofs.Math.Dec.{eqb-suc-zero}
 use Rattle.std.proofs.Math.Nat.{eq-or-lt_of_le}
 use Rattle.sourcemap_trace.specs.Positions.{is_colon, is_newline, lines_of, number_of, position_of, without_empty_last}
 
--- one digit more makes a number of ten times as much, and the digit
+-- one more digit: the new number is ten times the old one, plus the digit
 module _ (text : List ℕ) (i value digit : ℕ) (within : i < length text) (so_far : value ≡ digits_value 10 (take i text))
     (is : IsInRange 48 57 (get_or text i 0)) (of : digit ≡ get_or text i 0 - 48) where
   pub next_value : value * 10 + digit ≡ digits_value 10 (take (i + 1) text)
@@ -28,7 +28,7 @@ module _ (text : List ℕ) (i value digit : ℕ) (within : i < length text) (so_
       let made : digit ≡ digit_value (get_or text i 0) = omega arith in
       cc
 
-  -- past the limit no further digit makes it a number
+  -- if this exceeds 4294967295, the whole text is no number
   pub past_limit : 4294967295 < value * 10 + digit → None ≡ number_of text
   past_limit past =
       let bound = digits_value-take-le 10 text (i + 1) (lit≤ tt) in
@@ -36,7 +36,7 @@ module _ (text : List ℕ) (i value digit : ℕ) (within : i < length text) (so_
       let wide : nat_le (digits_value 10 text) 4294967295 ≡ false = lt-leb (digits_value 10 text) 4294967295 above in
       rw (wide, and-false, and-false) refl
 
--- digits make a number, if it is small enough
+-- one or more digits make a number, if it is at most 4294967295
 number_made : (text : List ℕ) (value : ℕ) → 0 < length text → list_all is_ascii_digit text ≡ true → value ≡ digits_value 10 text
     → value ≤ 4294967295 → Some value ≡ number_of text
 number_made text value some digits is limit =
@@ -45,7 +45,7 @@ number_made text value some digits is limit =
     rw (longer, digits, small) (ap Some is)
 
 module _ (mark : ℕ) (bytes : List ℕ) (i : ℕ) (others : (k : ℕ) → k < i → (get_or bytes k 0 == mark) ≡ false) where
-  -- the first mark is past a byte that is none
+  -- if the byte at `i` is not the mark, the first mark is after it, or there is none
   not_yet : i < length bytes → (get_or bytes i 0 == mark) ≡ false → i < position_or_len (λ b. b == mark) bytes
   not_yet within other = by (nat_le (position_or_len (λ b. b == mark) bytes) i) refl
     where
@@ -62,7 +62,7 @@ module _ (mark : ℕ) (bytes : List ℕ) (i : ℕ) (others : (k : ℕ) → k < i
       by true e = early (leb-true _ _ e)
       by false e = leb-false _ _ e
 
-  -- a loop over the bytes before a mark ends at the first mark, or where there is none
+  -- a loop that stops at a mark, or else at the end, stops at the first mark, or at the end if there is none
   ends_at : i ≤ length bytes → (i < length bytes → (get_or bytes i 0 == mark) ≡ true)
       → position_or_len (λ b. b == mark) bytes ≡ i
   ends_at within stops = position_or_len_is (λ b. b == mark) bytes i 0 within others stops
@@ -71,12 +71,12 @@ module _ (mark : ℕ) (bytes : List ℕ) (i : ℕ) (others : (k : ℕ) → k < i
       → drop (i + 1) bytes ≡ after_first (λ b. b == mark) bytes
   after_end within stops = sym (ap (λ n. drop (n + 1) bytes) (ends_at within stops))
 
-  -- the first mark is at an index before which there is none
+  -- a mark with none before it is the first one: what follows it is what follows the first mark
   pub cut_there : i < length bytes → get_or bytes i 0 ≡ mark
       → take (length bytes - (i + 1)) (drop (i + 1) bytes) ≡ after_first (λ b. b == mark) bytes
   cut_there within is = take_rest bytes (i + 1) ∙ after_end (omega arith) (λ _. eq-eqb _ _ is)
 
-  -- without one nothing stands after it
+  -- without a mark, `after_first` is empty
   pub not_cut : i ≡ length bytes → [] ≡ after_first (λ b. b == mark) bytes
   not_cut all = sym (drop_of_length-le bytes (omega arith)) ∙ after_end (omega arith) (λ more. absurd (omega arith))
 
@@ -110,7 +110,7 @@ module _ (mark : ℕ) (bytes : List ℕ) (i : ℕ) (others : (k : ℕ) → k < i
         (so_far ∙ ap (digits_value 10) (sym (take-take i (position_or_len (λ b. b == mark) bytes) bytes (omega (arith, not_yet within other)))))
         (subst (IsInRange 48 57) (sym at) is) (of ∙ ap (λ b. b - 48) (sym at)) past
 
--- what stands after an index that is at most the length
+-- dropping `n` items, or all of them if there are fewer
 pub drop_least : (n : ℕ) (bytes : List ℕ) (least : ℕ) → least ≡ min n (length bytes) → drop least bytes ≡ drop n bytes
 drop_least n bytes least is = by (nat_le n (length bytes)) refl
   where
@@ -120,7 +120,7 @@ drop_least n bytes least is = by (nat_le n (length bytes)) refl
         let past = leb-false _ _ e in
         drop_of_length-le bytes (omega (arith, is, past)) ∙ sym (drop_of_length-le bytes (omega (arith, past)))
 
--- one byte more that is no mark
+-- one more byte that is not the mark
 pub other_byte : (byte mark : ℕ) → (byte ≡ mark → ⊥) → (byte == mark) ≡ false
 other_byte byte mark apart = ne_eqb byte mark apart
 
@@ -131,7 +131,8 @@ others_more mark bytes i others other k within = elim (eq-or-lt_of_le (let low :
   | inr before ↦ others k before
 ]
 
--- The lines of a text that has bytes: what stands before its first newline, and the lines of what stands after.
+-- The lines of a text that is not empty: the bytes before its first newline, and then the lines of the bytes
+-- after it.
 
 split_on : (text part : List ℕ) (parts : List (List ℕ)) → slice_split is_newline text ≡ parts → 0 < length parts
     → without_empty_last (part ∷ slice_split is_newline text) ≡ part ∷ lines_of text
@@ -182,7 +183,7 @@ module _ (lines : List ℕ) where
   line_long : length line ≡ newline
   line_long = length-take-le newline lines (prefix_len-le-length (λ b. not (is_newline b)) lines)
 
-  -- the first colon stands in the first line
+  -- the first colon is on the first line
   module _ (order : colon < newline) where
     there : colon < length lines
     there = omega (arith, order, prefix_len-le-length (λ b. not (is_newline b)) lines)
@@ -222,7 +223,7 @@ module _ (lines : List ℕ) where
         ap (λ n. drop (n + 1) (drop (colon + 1) lines)) newline_later ∙ drop-drop (newline - (colon + 1) + 1) (colon + 1) lines
         ∙ ap (λ n. drop n lines) whole
 
-  -- it does not
+  -- the first colon is not on the first line
   none_in_line : newline ≤ colon → position_of line ≡ None
   none_in_line late =
       let at : position_or_len is_colon line ≡ newline =
@@ -255,7 +256,7 @@ module _ (lines : List ℕ) where
 
   module _ (row col : ℕ) (row_is : Some row ≡ number_of (before_first is_colon lines))
       (col_is_some : Some col ≡ number_of (before_first is_newline (after_first is_colon lines))) where
-    -- the colon of two numbers stands before the first newline
+    -- if both numbers are there, the colon is before the first newline
     in_order : colon < newline
     in_order = by_order (λ order. order) (λ late. absurd (out late))
       where

@@ -21,13 +21,13 @@ one_more says rest later old new position some named others pushed =
     rw (next_line rest some, named, others) refl in
     rw (pushed, answers, append_assoc old (answer_at says position ++ codes "\n") (trace_of says later)) refl
 
--- maps of one meaning answer alike
+-- maps with the same meaning give the same answers
 pub alike : (s t : MapTree) (positions : List ℕ) → MeansTheSame s t → trace_of (meaning s) positions ≡ trace_of (meaning t) positions
 alike s t positions same =
     let one : meaning s ≡ meaning t = λ i. λ p. same p i in
     ap (λ says. trace_of says positions) one
 
--- so does a map that is read back, where one map is
+-- a map that is read back gives the answers of the map that was written, if at most one map can be read
 pub back_alike : (t back : MapTree) (Stands : Result MapTree Error → Type 0) (positions : List ℕ)
     → ((a b : Result MapTree Error) → Stands a → Stands b → a ≡ b) → ReadsBack Stands (Restores t) → Stands (Ok back)
     → trace_of (meaning back) positions ≡ trace_of (meaning t) positions
@@ -35,7 +35,7 @@ back_alike t back Stands positions once (read, stands, restored) stands' =
     let same : read ≡ back = let both = once (Ok read) (Ok back) stands stands' in cc in
     alike back t positions (subst (λ x. MeansTheSame x t) same restored.0)
 
--- a flat map answers as its index where that does not answer `none`
+-- a flat map gives the answer of its index, unless the index answers `none`
 flat_at : (t : MapTree) (m : MapValue) (p : Option (ℕ × ℕ)) → AnswersLike t m → answer_at (meaning t) p ≢ codes "none"
     → answer_at (meaning (leaf (regular m))) p ≡ answer_at (meaning t) p
 flat_at t m None like other = refl

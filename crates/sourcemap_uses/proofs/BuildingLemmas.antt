@@ -36,7 +36,7 @@ reads_back m due text is any (back, decodes, restored) =
       subst (λ m. Restores (leaf (regular m)) (leaf (regular back))) is whole,
     )
 
--- the decoded map has the meaning of the written map
+-- the decoded map has the same original line and column at each position as the written map
 pub lookup_found : (bytes text : List ℕ) (m : MapValue) (map : DecodedMap) (p : ℕ × ℕ)
     → bytes ≡ text → ReadsBack (BytesDecode text) (Restores (leaf (regular m)))
     → ((due : Result MapTree Error) → BytesDecode bytes due → IsAnswer map_tree (AreSame due) (Ok map))
@@ -45,7 +45,7 @@ lookup_found bytes text m map p same (back, decodes, restored) only =
     let read = only (Ok back) (subst (λ bytes. BytesDecode bytes (Ok back)) (sym same) decodes) in
     ap (option_map source_position) (ap (λ t. meaning_of t p) (sym read) ∙ restored.0 p)
 
--- the written map decodes, or out of memory
+-- the only error of decoding the written map is out of memory
 pub read_unless_memory : (bytes text : List ℕ) (m : MapValue) (e : Error)
     → bytes ≡ text → ReadsBack (BytesDecode text) (Restores (leaf (regular m)))
     → ((due : Result MapTree Error) → BytesDecode bytes due → IsAnswer map_tree (AreSame due) (Err e)) → e ≡ OutOfMemory

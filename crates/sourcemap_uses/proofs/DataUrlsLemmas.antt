@@ -1,4 +1,4 @@
--- An error of a data URL is that of its payload.
+-- An error of a data URL, other than `InvalidDataUrl`, is that of its payload.
 use Rattle.std.proofs.Common.{◌≢◌, inl, inr, ap, ℕ, List, Result, Ok, Err}
 use Rattle.sourcemap.specs.Answer.{UnlessMemory}
 use Rattle.sourcemap.specs.DataUrl.{Holds}

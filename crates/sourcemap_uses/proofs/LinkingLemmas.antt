@@ -24,7 +24,7 @@ set_same (y ∷ ys) (suc id) x there = ap (λ zs. y ∷ zs) (set_same ys id x th
 pub linked_none : (i : IndexValue) (id : ℕ) (url : List ℕ) → None ≡ slice_get i.sections id → i ≡ linked i id url
 linked_none i id url none = ap (λ o. unwrap_or (option_map (λ s. with_section i id (with_url s (Some url))) o) i) none
 
--- changing a section changes the index accordingly
+-- setting the URL of a section changes the index accordingly; after an error the index is unchanged
 pub linked_as : {T : Type 0} (r : Result T Error) (before after : IndexValue) (id : ℕ) (old new : MapSection) (url : List ℕ)
     → Some old ≡ slice_get before.sections id → after ≡ with_section before id new → Changes r old new (with_url old (Some url))
     → Changes r before after (linked before id url)

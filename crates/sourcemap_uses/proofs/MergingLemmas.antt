@@ -13,11 +13,11 @@ use Rattle.sourcemap_uses.proofs.RefusalLemmas.{unless_memory}
 
 -- Added sources.
 
--- an added source is displayed unchanged
+-- if all sources are displayed unchanged, they are so after one more is added
 added_unchanged : (b : BuilderValue) (text : List ℕ) → b.sources ≡ b.interned → (with_source b text).sources ≡ (with_source b text).interned
 added_unchanged b text same = ap (λ texts. cond (is_some (id_of text b.interned)) texts (texts ++ text ∷ [])) same
 
--- nothing else is changed
+-- adding sources that are displayed unchanged changes only the two lists of sources
 all_added : (b : BuilderValue) (texts : List (List ℕ)) → b.sources ≡ b.interned
     → fold with_source b texts ≡ record b { interned = fold with_text b.interned texts; sources = fold with_text b.interned texts }
 all_added b [] same = ap (λ sources. record b { sources = sources }) same
@@ -31,7 +31,7 @@ fold_twice : {X Y : Type 0} → (f : X → Y → X) → (x : X) → (ys zs : Lis
 fold_twice f x [] zs = refl
 fold_twice f x (y ∷ ys) zs = fold_twice f (f x y) ys zs
 
--- sources are added in order
+-- adding two lists of sources one after the other adds their concatenation
 pub both_added : (b one two : BuilderValue) (first second : List (List ℕ)) → one ≡ fold with_source b first → two ≡ fold with_source one second
     → two ≡ fold with_source b (first ++ second)
 both_added b one two first second is_one is_two =
@@ -78,7 +78,7 @@ no_fewer texts (text ∷ more) =
 too_many_more : (texts more : List (List ℕ)) (e : Error) → AreTooMany texts e → AreTooMany (fold with_text texts more) e
 too_many_more texts more e many = (many.0, omega (arith, many.1, no_fewer texts more))
 
--- a text without an id is one too many
+-- with a text that cannot get an id there are too many texts
 without_id : (o : Option ℕ) (texts : List (List ℕ)) (text : List ℕ) (e : Error) → id_of text texts ≡ o
     → id_for texts text ≡ Err e → AreTooMany (with_text texts text) e
 without_id (Some id) texts text e known refused = absurd (let no : Ok id ≡ Err e = rw known at refused in cc)
@@ -96,13 +96,14 @@ stopped_at b text texts e h = unless_memory e (id_for b.interned text ≡ Err e)
     (too_many_more (with_text b.interned text) texts e (without_id (id_of text b.interned) b.interned text e refl refused)))
     h
 
--- the sources of both maps are too many if those of the first are
+-- adding the sources of the first map, then those of the second, keeps each source of both once
 both_kept : (b : BuilderValue) (first second : List (List ℕ)) → empty_builder None ≡ b
     → fold with_text (fold with_source b first).interned second ≡ kept_once (first ++ second)
 both_kept b first second start =
     ap (λ texts. fold with_text texts second) (ap (λ b. (fold with_source b first).interned) (sym start) ∙ all_interned (empty_builder None) first)
     ∙ fold_twice with_text [] first second
 
+-- the sources of both maps are too many if those of the first are
 pub too_many_first : (b : BuilderValue) (first second : List (List ℕ)) (e : Error) → Gives (λ b. b) (Ok b) (Ok (empty_builder None))
     → UnlessMemory e (AreTooMany (fold with_source b first).interned e) → UnlessMemory e (AreTooMany (kept_once (first ++ second)) e)
 too_many_first b first second e made h =

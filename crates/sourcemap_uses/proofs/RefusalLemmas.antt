@@ -22,7 +22,7 @@ pub never_refused : {X Y : Type 0} (view : X → Y) (due : Y) (r : Result X Erro
 never_refused view due (Ok x) Q gave = tt
 never_refused view due (Err e) Q gave = due_refused due e (Q e) gave
 
--- a regular map is written, or out of memory
+-- the only error of writing a regular map is out of memory
 pub unwritten : (m : MapValue) (e : Error) (P : Type 0) → UnlessMemory e (RecordAnswer m (Err e)) → UnlessMemory e P
 unwritten m e P h = unless_memory e ⊥ P (λ never. absurd never) h
 
@@ -31,6 +31,6 @@ pub memory_alone : (e : Error) → UnlessMemory e ⊥ → e ≡ OutOfMemory
 memory_alone OutOfMemory h = refl
 memory_alone _ h = absurd h
 
--- a call whose only error is out of memory returns no other error
+-- if the only error of a call is out of memory, any claim about its other errors holds
 pub memory_refused : {X : Type 0} (Q : Error → Type 0) (r : Result X Error) → IsOkUnless r OutOfMemory → IfErr r (λ e. UnlessMemory e (Q e))
 memory_refused Q r h = IfErr-weaker r (λ e. e ≡ OutOfMemory) (λ e. UnlessMemory e (Q e)) (λ e is. rw is tt) h

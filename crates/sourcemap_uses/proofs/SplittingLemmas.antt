@@ -13,7 +13,7 @@ module _ (i : IndexValue) (modules : List (Result ModuleValue Error)) (split : S
   split_over : MapValue → SplitValue
   split_over flat = record { flat = flat; offsets = is_first.offsets; modules = modules }
 
-  -- the flattened map of the bundle, and the first result
+  -- the split has this flattened map, and its first item is the one due for the first module
   pub first_due : Splits i modules (Ok split)
       → (split.flat ≡ flat) × ((others : List (Result ModuleParts Error)) × (dues_in split ≡ parts_at flat first found ∷ others))
   unfolding split_over

@@ -1,4 +1,4 @@
--- Decoded bits of a text, and that bits have exactly one shortest text.
+-- The bits of a text, and the shortest text of bits, of which there is at most one.
 use Rattle.std.proofs.Common.{◌≡◌, ◌≢◌, ℕ, zero, suc, ◌+◌, ◌*◌, ◌/◌, ◌%◌, ◌^◌, ◌<◌, ◌≤◌, ◌==◌, Bool, true, false, List, [], ◌∷◌, ◌++◌, length, take, drop, get_or, slice_get, Option, Some, None, unwrap_or, refl, sym, ◌∙◌, ap, arith, inl, inr, if◌then◌else◌, Result, Ok, Err}
 use Rattle.std.specs.Prelude.{is_none}
 use Rattle.std.specs.List.{slice_index_or}
@@ -91,7 +91,7 @@ same_lists (x ∷ xs) (y ∷ ys) len same =
     let rest : xs ≡ ys = same_lists xs ys (omega arith) (λ j h. same (suc j) (omega arith)) in
     cc (first, rest)
 
--- a text has one result
+-- a text has at most one result
 pub BitAnswers-same : (text : List ℕ) (a b : Result (List Bool) Error) → BitAnswers text a → BitAnswers text b → a ≡ b
 BitAnswers-same text (Ok a) (Ok b) of_a of_b =
     let len : length a ≡ length b = of_a.six_a_digit ∙ sym of_b.six_a_digit in
@@ -105,7 +105,7 @@ BitAnswers-same text (Err e) (Err f) of_a of_b =
 
 -- ---- the digits of bits
 
--- a digit appended to a text
+-- a digit is appended to a text
 value_at-front : (xs : List ℕ) (c k : ℕ) → k < length xs → value_at (xs ++ c ∷ []) k ≡ value_at xs k
 value_at-front [] c k h = absurd (omega arith)
 value_at-front (x ∷ xs) c zero h = refl
@@ -139,7 +139,7 @@ bit_of-none text j e = ap (λ v. bit_at v (j % 6) == 1) e ∙ bit_at-zero (j % 6
 pub bit_of-past : (text : List ℕ) (j : ℕ) → length text ≤ j / 6 → bit_of text j ≡ false
 bit_of-past text j h = bit_of-none text j (value_at-past text (j / 6) h)
 
--- the sum of six bits has these bits
+-- six bits, each times its weight, sum to a value with these bits
 pub value_of_bits : (bits : ℕ → Bool) (a b c d e f : ℕ) → a ≤ 1 → b ≤ 1 → c ≤ 1 → d ≤ 1 → e ≤ 1 → f ≤ 1
     → (a == 1) ≡ bits 0 → (b == 1) ≡ bits 1 → (c == 1) ≡ bits 2 → (d == 1) ≡ bits 3 → (e == 1) ≡ bits 4 → (f == 1) ≡ bits 5
     → (k : ℕ) → k < 6 → (bit_at (a + 2 * b + 4 * c + 8 * d + 16 * e + 32 * f) k == 1) ≡ bits k
@@ -157,7 +157,7 @@ value_of_bits bits a b c d e f la lb lc ld le lf ea eb ec ed ee ef (suc (suc (su
     let same : (a + 2 * b + 4 * c + 8 * d + 16 * e + 32 * f) / 32 % 2 ≡ f = omega arith in ap (λ v. v == 1) same ∙ ef
 value_of_bits bits a b c d e f la lb lc ld le lf ea eb ec ed ee ef (suc (suc (suc (suc (suc (suc k)))))) h = absurd (omega arith)
 
--- digits whose bits are those of a list, as far as they reach
+-- digits whose bits are the first ones of a list, and false past its end
 pub record Begins (bits : List Bool) (part : List ℕ) : Type 0 where
   pub digits : first_non_digit part ≡ None
   pub each : (j : ℕ) → j < 6 * length part → bit_of part j ≡ slice_index_or bits j false
@@ -204,7 +204,7 @@ IsBitText-whole bits part count begins len rest last = record {
       cc clash;
 }
 
--- ---- bits have one shortest text
+-- ---- bits have at most one shortest text
 
 same_bit : (m n : ℕ) → m < 2 → n < 2 → (m == 1) ≡ (n == 1) → m ≡ n
 same_bit m n h i e = elim (cases_lt m 1) [
@@ -258,7 +258,6 @@ digits-same (c ∷ cs) (d ∷ ds) of_a of_b len same =
     let rest : cs ≡ ds = digits-same cs ds left.2 right.2 (omega arith) (λ k. same (suc k)) in
     cc (head, rest)
 
--- bits have one shortest text
 pub IsBitText-same : (bits : List Bool) (a b : List ℕ) → IsBitText bits a → IsBitText bits b → a ≡ b
 IsBitText-same bits a b of_a of_b =
     let values : (k : ℕ) → value_at a k ≡ value_at b k = values-same a b (λ j. of_a.each j ∙ sym (of_b.each j)) in

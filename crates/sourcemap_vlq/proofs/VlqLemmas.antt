@@ -1,4 +1,5 @@
--- Groups of digits, digit by digit, and that a text decodes in exactly one way.
+-- Groups of digits, digit by digit. A text has at most one result of decoding, and a list of numbers at most
+-- one of encoding.
 use Rattle.std.proofs.Common.{◌≡◌, ◌≢◌, ℕ, zero, suc, ◌+◌, ◌*◌, ◌/◌, ◌%◌, ◌^◌, ◌<◌, ◌≤◌, ◌==◌, ◌&&◌, ◌||◌, Bool, true, false, nat_lt, nat_le, List, [], ◌∷◌, ◌++◌, length, take, drop, get_or, Option, Some, None, unwrap_or, refl, sym, ◌∙◌, ap, subst, arith, inl, inr, ◌⊎◌, if◌then◌else◌, Result, Ok, Err, ℤ, pos, negsuc, unsigned_abs, Any}
 use Rattle.std.specs.List.{AllByRecursion}
 use lib.IntN.{neg_ℤ}
@@ -24,7 +25,7 @@ digit_value_cases c = some_cases (digit_value c) where
 
 -- ---- sequences of digits
 
--- the weight of the digit after n others
+-- the weight of a digit is 32 times that of the digit before it
 weight-suc : (n : ℕ) → 2 ^ (5 * suc n) ≡ 32 * 2 ^ (5 * n)
 weight-suc n =
     let e : 5 * suc n ≡ 5 + 5 * n = omega arith in
@@ -56,7 +57,7 @@ IsChain-push [] c all last = last
 IsChain-push (x ∷ []) c all last = (all.0, last)
 IsChain-push (x ∷ y ∷ xs) c all last = (all.0, IsChain-push (y ∷ xs) c all.1 last)
 
--- the test for overflow before a digit is read
+-- the decoder's test for overflow, made before a digit is added: the number fits exactly if it succeeds
 pub fits_in_number-small : (part : List ℕ) (c n : ℕ) → IsUnfinished part → n ≡ length part
     → (nat_lt n 12 || ((n == 12) && nat_lt (data_of c) 8)) ≡ true → FitsOneNumber (part ++ c ∷ [])
 fits_in_number-small part c n unfinished e within =
@@ -114,7 +115,7 @@ split_at text n h = sym (take-append-drop n text) ∙ ap (λ rest. take n text +
 pub GoesTo-at : (text : List ℕ) (n : ℕ) → n < length text → IsUnfinished (take n text) → GoesTo text (take n text) (get_or text n 0)
 GoesTo-at text n h unfinished = record { more = drop (n + 1) text; split = split_at text n h; unfinished = unfinished }
 
--- a digit with the continuation bit
+-- a digit with the continuation bit extends an unfinished number
 pub IsUnfinished-more : (text : List ℕ) (n v : ℕ) → n < length text → IsUnfinished (take n text)
     → digit_value (get_or text n 0) ≡ Some v → 32 ≤ v
     → (nat_lt n 12 || ((n == 12) && nat_lt (v % 32) 8)) ≡ true → IsUnfinished (take (n + 1) text)
@@ -137,7 +138,7 @@ raw_of-more text n v h e =
     let pushed : raw_of (take n text ++ get_or text n 0 ∷ []) ≡ raw_of (take n text) + 2 ^ (5 * length (take n text)) * data_of (get_or text n 0) = raw_of-push (take n text) (get_or text n 0) in
     ap raw_of (take_more text n 0 h) ∙ (pushed ∙ (rw (len, bits) (omega arith)))
 
--- the last digit
+-- a digit without the continuation bit ends the number
 pub BeginsWith-last : (text : List ℕ) (n v : ℕ) → n < length text → IsUnfinished (take n text)
     → digit_value (get_or text n 0) ≡ Some v → v < 32
     → (nat_lt n 12 || ((n == 12) && nat_lt (v % 32) 8)) ≡ true
@@ -219,7 +220,7 @@ IsSound-more text rest tail front numbers n reads split b = (
   split ∙ (ap (λ xs. front ++ xs) b.split ∙ sym (append_assoc front b.group tail)),
 )
 
--- ---- a text decodes in one way: a decoder from the left
+-- ---- a text has at most one result: that of a decoder from the left
 
 is_small : List ℕ → Bool
 is_small digits = nat_le (length digits) 13 && nat_lt (raw_of digits) (2 ^ 63)
@@ -242,7 +243,8 @@ with_numbers : List ℤ → Result (List ℤ) Error → Result (List ℤ) Error
 with_numbers [] r = r
 with_numbers (n ∷ ns) r = with_number n (with_numbers ns r)
 
--- what follows a byte: `more` after a continuation bit, `next` after the end of the number
+-- the result from a byte on: `more` after a continuation bit, the number and then `next` after its last
+-- digit, or an error
 after_digit : List ℕ → ℕ → Option ℕ → Result (List ℤ) Error → Result (List ℤ) Error → Result (List ℤ) Error
 after_digit whole c None more next = Err (InvalidBase64 c)
 after_digit whole c (Some v) more next =
@@ -264,7 +266,7 @@ not_none (Err e) = Err e
 answer_of : List ℕ → Result (List ℤ) Error
 answer_of text = not_none (scan_from [] text)
 
--- one byte with the continuation bit
+-- one digit with the continuation bit
 scan-continues : (part cs : List ℕ) (c : ℕ) → HasContinuation c → FitsOneNumber (part ++ c ∷ []) → scan_from part (c ∷ cs) ≡ scan_from (part ++ c ∷ []) cs
 unfolding scan_from after_digit
 scan-continues part cs c (v, e, goes) small =
@@ -279,7 +281,7 @@ scan-last part cs c (v, e, last) small =
     let test : nat_lt v 32 ≡ true = lt-ltb v 32 last in
     rw (e, fits, test) refl
 
--- digits in front of small digits are small
+-- a prefix of digits that fit one number fits one number too
 FitsOneNumber-front : (xs ys : List ℕ) → FitsOneNumber (xs ++ ys) → FitsOneNumber xs
 FitsOneNumber-front xs ys small =
     let raw : raw_of (xs ++ ys) ≡ raw_of xs + 2 ^ (5 * length xs) * raw_of ys = raw_of-append xs ys in
@@ -325,7 +327,7 @@ scan-reads front rest (n ∷ ns) (group, tail, g, e, reads) =
     ∙ (ap (λ xs. scan_from [] xs) (append_assoc group tail rest)
     ∙ (scan-group group (tail ++ rest) n g ∙ ap (λ r. with_number n r) (scan-reads tail rest ns reads)))
 
--- to the byte c
+-- the decoder reaches the byte c after an unfinished number
 scan-goes_to : (text part : List ℕ) (c : ℕ) → (to : GoesTo text part c) → scan_from [] text ≡ scan_from part (c ∷ to.more)
 scan-goes_to text part c to = ap (λ xs. scan_from [] xs) to.split ∙ scan-unfinished [] part (c ∷ to.more) to.unfinished.continues to.unfinished.fits
 
@@ -388,7 +390,7 @@ answer-same text (Ok numbers) due = same-numbers text numbers due.0 due.1
 answer-same text (Err VlqNoValues) due = sym (ap answer_of due)
 answer-same text (Err e) due = same-error text due.0 e due.1 due.2 due.3
 
--- a text has one result
+-- a text has at most one result
 pub SegmentAnswers-same : (text : List ℕ) (a b : Result (List ℤ) Error) → SegmentAnswers text a → SegmentAnswers text b → a ≡ b
 SegmentAnswers-same text a b of_a of_b = answer-same text a of_a ∙ sym (answer-same text b of_b)
 
@@ -431,7 +433,7 @@ unfolding total_of
 number_of-total (pos k) = number_of-even k
 number_of-total (negsuc k) = number_of-odd (suc k)
 
--- raw 1 alone is another form of the number of raw 0
+-- each raw value except 1 is that of its number; 1 is a zero with a sign
 total_of-number : (r : ℕ) → (r ≡ 1) ⊎ (total_of (number_of r) ≡ r)
 unfolding total_of
 total_of-number r =
@@ -495,14 +497,14 @@ IsShortest-raw digits n s = elim (IsGroup-raw digits n s.is_group) [
   | inr same ↦ same
 ]
 
--- a number has one shortest group
+-- a number has at most one shortest group
 pub IsShortest-same : (xs ys : List ℕ) (n : ℤ) → IsShortest xs n → IsShortest ys n → xs ≡ ys
 IsShortest-same xs ys n left right =
     let one_way : length xs ≤ length ys = left.shortest ys right.is_group in
     let other_way : length ys ≤ length xs = right.shortest xs left.is_group in
     same_chain xs ys left.is_group.chain right.is_group.chain (omega arith) (IsShortest-raw xs n left ∙ sym (IsShortest-raw ys n right))
 
--- numbers have one text
+-- numbers have at most one text of shortest groups
 pub Spells-same : (numbers : List ℤ) (a b : List ℕ) → Spells numbers a → Spells numbers b → a ≡ b
 Spells-same [] a b of_a of_b = of_a ∙ sym of_b
 Spells-same (n ∷ ns) a b (xs, rest, shortest, e, tail) (ys, rest', shortest', e', tail') =
@@ -533,7 +535,7 @@ total_of-zero : (n : ℤ) (group : List ℕ) → IsGroup group n → raw_of grou
 unfolding total_of
 total_of-zero n group g one = ap total_of (g.value ∙ ap number_of one)
 
--- a number with a group is below 2 ^ 62
+-- the absolute value of a number with a group is below 2 ^ 62
 pub IsGroup-near : (group : List ℕ) (n : ℤ) → IsGroup group n → unsigned_abs n < 2 ^ 62
 IsGroup-near group n g =
     let abs : 2 * unsigned_abs n ≤ total_of n = total_of-abs n in
@@ -553,7 +555,7 @@ Spells-not_far numbers text spells (k, n, lt, at, far) =
     let same : unsigned_abs (get_or numbers k n) ≡ unsigned_abs n = ap unsigned_abs at in
     omega arith
 
--- encoding numbers has one result
+-- encoding numbers has at most one result
 pub SpellingAnswers-same : (numbers : List ℤ) (a b : Result (List ℕ) Error) → SpellingAnswers numbers a → SpellingAnswers numbers b → a ≡ b
 SpellingAnswers-same numbers (Ok a) (Ok b) of_a of_b = ap Ok (Spells-same numbers a b of_a of_b)
 SpellingAnswers-same numbers (Ok a) (Err VlqOverflow) of_a of_b = absurd (Spells-not_far numbers a of_a of_b)
@@ -565,7 +567,7 @@ SpellingAnswers-same numbers (Err _) b of_a of_b = absurd of_a
 
 -- ---- digits written from the left
 
--- a value as a digit
+-- the digit of a value, with the continuation bit and without it
 pub HasContinuation-glyph : (v : ℕ) → v < 32 → HasContinuation (glyph (v + 32))
 HasContinuation-glyph v h = (v + 32, digit_value-glyph (v + 32) (omega arith), omega arith)
 
@@ -601,7 +603,7 @@ unfolding total_of
 total_of-not_one (pos k) h = omega arith
 total_of-not_one (negsuc k) h = omega arith
 
--- a digit that is not 0 is at least its weight
+-- if something is left at the weight w, the total is at least w
 pub weighs : (raw w left total : ℕ) → 0 < left → total ≡ raw + w * left → w ≤ total
 weighs raw w left total h e =
     let more : w * 1 ≤ w * left = mul-le w 1 w left (omega arith) h in
@@ -647,7 +649,7 @@ no_shorter k m n other g e heavy =
           ]
     ]
 
--- a raw value below 32 is the last digit
+-- if what is left of the raw value is below 32, it is the last digit, and the digits are the shortest
 pub IsShortest-last : (part : List ℕ) (n : ℤ) (left : ℕ) → AllByRecursion HasContinuation part → left < 32 → unsigned_abs n < 2 ^ 62
     → total_of n ≡ raw_of part + 2 ^ (5 * length part) * left → (0 < length part → 0 < left)
     → IsShortest (part ++ glyph left ∷ []) n

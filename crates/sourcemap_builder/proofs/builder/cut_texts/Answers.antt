@@ -1,4 +1,4 @@
--- One more text.
+-- Prefixes are removed from one text after another.
 use Rattle.std.proofs.Common.{◌≡◌, ◌∙◌, Ok, Some, ap, arith, map, option_map, string_bytes, slice_get, unwrap_or, sym}
 use Rattle.std.specs.Option.{option_copied}
 use Rattle.std.proofs.lemmas.List.{map-append, length-map}

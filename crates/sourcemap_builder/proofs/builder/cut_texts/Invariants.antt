@@ -4,7 +4,7 @@ use Rattle.sourcemap_builder.specs.Builder.{with_changes}
 use Rattle.sourcemap_texts.specs.Prefixes.{without_prefix}
 use Rattle.sourcemap_builder.proofs.builder.cut_texts.Given as goal
 
--- the first texts are cut
+-- there is one item for each of the first `id` texts, and these changes remove the prefixes
 abbrev pub invariant-loop-id : goal.invariant-loop-id
 invariant-loop-id g l =
     (vec_len l.cut ≡ l.id)

@@ -1,4 +1,4 @@
--- `sm_bundle_module` lends the handle to `Handle::get`, and `answer_module` answers with what that found.
+-- `sm_bundle_module` passes the handle to `Handle::get`, and the result to `answer_module`.
 use Rattle.sourcemap_c.proofs.Steps.{◌≡◌, List, [], ◌∷◌, refl, proved, id⊢, ftrue, flft, named, fact, tables, ‵, raw, ◌⊛◌, ◌$◌, ◌∵◌, !, qed, move, keep, use2, split, join, rewrite, suffices, frame, group, enter, addr, stop, no_more, and_then, returns, alloc_all, pass_all, free_all, look_at, get, through, sets, lands_as, u8, MutRef, mut_vals, mut_Tells, uint_vals, uint_Tells, plain, nothing, Stays, stay_dropped, Goes-dropped, ends_at, framed, done}
 use mir.Syntax.{w64}
 use contract.Lifetimes.{toks}

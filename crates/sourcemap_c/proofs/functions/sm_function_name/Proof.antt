@@ -1,4 +1,4 @@
--- `sm_function_name` lends the handle to `map_in`, and `put_name_in` writes the name, if that found a map.
+-- `sm_function_name` passes the handle to `map_in`, and the result to `put_name_in`.
 use Rattle.sourcemap_c.proofs.Steps.{◌≡◌, List, [], ◌∷◌, refl, proved, id⊢, ftrue, flft, named, fact, tables, ‵, raw, ◌⊛◌, ◌$◌, ◌∵◌, !, qed, move, keep, use2, split, join, rewrite, suffices, frame, group, enter, addr, stop, no_more, and_then, returns, alloc_all, pass_all, free_all, look_at, get, through, sets, lands_as, u8, MutRef, mut_vals, mut_Tells, uint_vals, uint_Tells, plain, nothing, Stays, stay_dropped, Goes-dropped, ends_at, framed, done}
 use mir.Syntax.{w32}
 use base.Logic.{sep}

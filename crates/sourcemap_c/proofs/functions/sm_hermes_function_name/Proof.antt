@@ -1,4 +1,4 @@
--- `sm_hermes_function_name` lends the handle to `map_in`, and `put_name_at` writes what that found.
+-- `sm_hermes_function_name` passes the handle to `map_in`, and the result to `put_name_at`.
 use Rattle.sourcemap_c.specs.Functions.{NamesAt}
 use Rattle.sourcemap_c.proofs.Lending.{maps, lends_1}
 use Rattle.sourcemap_c.specs.contracts.functions.sm_hermes_function_name.Key as key

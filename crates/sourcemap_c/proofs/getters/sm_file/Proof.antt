@@ -1,4 +1,4 @@
--- `sm_file` lends the handle to `map_in`, and `put_file` writes what that found.
+-- `sm_file` passes the handle to `map_in`, and the result to `put_file`.
 use Rattle.std.specs.Prelude.{option_map}
 use Rattle.sourcemap_c.specs.Codes.{ReturnsValue}
 use Rattle.sourcemap_c.specs.Getters.{file_of}

@@ -1,4 +1,4 @@
--- `sm_name` lends the handle to `map_in`, and `put_name` writes what that found.
+-- `sm_name` passes the handle to `map_in`, and the result to `put_name`.
 use Rattle.std.specs.Prelude.{option_map}
 use Rattle.sourcemap_c.specs.Codes.{ReturnsValue}
 use Rattle.sourcemap_c.specs.Getters.{name_in}

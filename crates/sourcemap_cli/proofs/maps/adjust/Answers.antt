@@ -1,4 +1,4 @@
--- Both maps are regular, or the error for another kind.
+-- The adjusted map, the error of adjusting, or the error for a map of another kind.
 use Rattle.std.proofs.Common.{Ok, Err}
 use Rattle.std.proofs.lemmas.Result.{err_from_is_err_and}
 use Rattle.sourcemap.specs.AnyMap.{map_tree}

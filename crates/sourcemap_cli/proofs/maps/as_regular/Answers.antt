@@ -1,4 +1,4 @@
--- A map of another kind.
+-- An index map or a Hermes map is not regular.
 use Rattle.std.proofs.Common.{◌≡◌, ◌⊎◌, inl, inr, ◌∙◌, ap, refl, subst, sym}
 use Rattle.sourcemap.specs.AnyMap.{map_tree}
 use Rattle.sourcemap_hermes.specs.declared.map.SourceMapHermes.{SourceMapHermes}

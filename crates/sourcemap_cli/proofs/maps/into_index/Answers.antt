@@ -1,4 +1,4 @@
--- A map that is no index.
+-- A regular map or a Hermes map is not an index map.
 use Rattle.std.proofs.Common.{◌≡◌, ◌⊎◌, inl, inr, ◌∙◌, ap, refl, subst, sym}
 use Rattle.sourcemap.specs.AnyMap.{map_tree}
 use Rattle.sourcemap_hermes.specs.declared.map.SourceMapHermes.{SourceMapHermes}

@@ -1,4 +1,4 @@
--- A map of another kind.
+-- An index map or a Hermes map is not regular.
 use Rattle.std.proofs.Common.{◌∙◌, ap, refl, subst, sym}
 use Rattle.sourcemap.specs.AnyMap.{map_tree}
 use Rattle.sourcemap_cli.specs.Program.{IsNotRegular}

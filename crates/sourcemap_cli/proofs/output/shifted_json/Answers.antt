@@ -1,4 +1,5 @@
--- The index map with its sections moved, or an error if one would pass the last row.
+-- The index map with its sections moved, or an error: a section would pass the last row, or the map is no
+-- index map.
 use Rattle.std.proofs.Common.{◌∙◌, ap, refl}
 use Rattle.std.proofs.lemmas.Result.{err_from_is_err_and}
 use Rattle.sourcemap.specs.AnyMap.{index_value, map_tree}

@@ -2,7 +2,7 @@ use Rattle.std.proofs.Common.{◌≡◌, ◌==◌, ◌++◌, List, ℕ, length, 
 use Rattle.sourcemap_file_urls.specs.Places.{is_component, escaped}
 use Rattle.sourcemap_file_urls.proofs.places.url_text.Given as goal
 
--- the text has each component so far, and `is_bare` is true if there was none
+-- the text has each component so far, and `is_bare` is true exactly if there was none
 abbrev pub invariant-loop-part : goal.invariant-loop-part
 invariant-loop-part l =
     let parts : List (List ℕ) = filter is_component (map (λ part. part.now) l.yielded) in

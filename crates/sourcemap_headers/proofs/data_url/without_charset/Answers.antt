@@ -1,4 +1,4 @@
--- The first spelling.
+-- A charset in the first of both spellings.
 use Rattle.std.proofs.Common.{rules}
 use Rattle.sourcemap_headers.proofs.data_url.without_charset.Goals as goal
 

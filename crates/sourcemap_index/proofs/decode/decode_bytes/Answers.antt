@@ -1,4 +1,4 @@
--- The record that bytes hold answers for them.
+-- The answer for bytes is that of the record that they hold.
 use Rattle.std.proofs.lemmas.Result.{err_from_is_err_and}
 use Rattle.sourcemap_records.specs.Jsontypes.{tree}
 use Rattle.sourcemap_records.proofs.BytesLemmas.{answer_of_bytes, error_of_bytes}

@@ -1,4 +1,4 @@
--- The record that was read answers for its value.
+-- The answer for a value is that of the record that it stands for.
 use Rattle.std.proofs.lemmas.Result.{err_from_is_err_and}
 use Rattle.serde_json.specs.View.{view}
 use Rattle.sourcemap_records.specs.Jsontypes.{tree}

@@ -20,7 +20,8 @@ decreases-decode_sections l = 4 * sections_among (sections_from (map section l.s
 abbrev pub decreases-decode_section : goal.decreases-decode_section
 decreases-decode_section l = 4 * sections_at (section l.part).map + 1
 
--- what is left, after the sections that were decoded, and no deeper
+-- the answer for the sections that are left, after those that were decoded, is the answer for all; those
+-- that are left hold no more sections than all do
 abbrev pub invariant-decode_sections-loop-part : goal.invariant-decode_sections-loop-part
 invariant-decode_sections-loop-part l = record {
   decoded : (a : Result (List MapSection) Error) → SectionsDecode (sections_from (map section (into_iter_items l.part-iterator))) a

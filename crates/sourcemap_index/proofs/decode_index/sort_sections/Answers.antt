@@ -1,4 +1,4 @@
--- A stable sort by offset is the sorted list.
+-- A stable sort by offset returns the list `by_offset`.
 use Rattle.std.proofs.Common.{◌≡◌, refl, sym, ap, ◌∙◌, map, ℕ, rules}
 use Rattle.std.proofs.lemmas.List.Sorted.{answers_always}
 use Rattle.sourcemap_tokens.specs.Tokens.{position_cmp}

@@ -1,4 +1,4 @@
--- Each section's record has its index.
+-- The record of each section has the section's index.
 use Rattle.std.proofs.Common.{◌≡◌, ◌∙◌, sym, subst, [], map}
 use Rattle.std.specs.Vec.Iter.{into_iter_items}
 use Rattle.std.proofs.lemmas.List.{append-nil, nil_from_length}

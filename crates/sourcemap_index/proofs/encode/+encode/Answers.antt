@@ -1,4 +1,4 @@
--- Each section's record has its index.
+-- The record of each section has the section's index.
 use Rattle.std.proofs.Common.{◌≡◌, ◌∙◌, sym, ap, subst, arith, ◌+◌, ◌++◌, [], ◌∷◌, map, take}
 use Rattle.std.proofs.lemmas.List.{map-append, take_more, take_all}
 use Rattle.sourcemap_records.specs.Jsontypes.{section}

@@ -1,4 +1,4 @@
--- Sections are gathered one after another, each with what its map is made to.
+-- Sections are gathered one after another, each with its map flattened.
 use Rattle.std.proofs.Common.{◌≡◌, ◌∙◌, sym, ap, subst, List, [], ◌∷◌, arith, map, drop, take, OnOk, ◌+◌, slice_get}
 use Rattle.std.specs.List.{AllByRecursion}
 use Rattle.std.proofs.lemmas.Result.{err_from_is_err_and}

@@ -1,4 +1,4 @@
--- The closest section's map answers for the index.
+-- The lookup in an index is the lookup in the map of its closest section.
 use Rattle.std.proofs.Common.{◌≡◌, ◌∙◌, sym, ap, subst, ℕ, arith, None, Some, option_map, IfSome}
 use Rattle.sourcemap_map_regular.specs.Token.{token_value}
 use Rattle.sourcemap_index_model.specs.MapTree.{section_offset}

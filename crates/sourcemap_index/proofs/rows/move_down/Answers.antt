@@ -1,4 +1,4 @@
--- Each section that has rows left is moved down.
+-- Each section is moved down, at most to line 4294967295.
 use Rattle.std.proofs.Common.{◌∙◌, map}
 use Rattle.std.proofs.lemmas.List.{length-map}
 use Rattle.sourcemap_index.specs.Family.{section_value}

@@ -14,7 +14,7 @@ more_ends h i j a b c more m n k sum is x y =
     subst (λ (t : List ℕ). Grows h a j c t) (ap (λ t. replicate m semicolon ++ t) is ∙ more_copies m n semicolon ∙ ap (λ l. replicate l semicolon) sum)
     (Grows-join h i j a b c (replicate m semicolon) more x y)
 
--- an empty buffer is empty under equal names
+-- writing directly while the buffer is empty, by an equation for the buffer
 through_empty : (i j : Option (List ℕ)) (b text : List ℕ) → b ≡ [] → Appends i j text → Grows i b j b text
 through_empty i j b text is x = subst (λ (r : List ℕ). Grows i r j r text) (sym is) (Grows-written i j text x)
 

@@ -8,7 +8,7 @@ use Rattle.sourcemap_vlq.proofs.VlqLemmas.{HasContinuation-push, HasContinuation
 use Rattle.sourcemap_mappings.proofs.BufferLemmas.{Adds-last, few_before}
 use Rattle.sourcemap_mappings.proofs.buffer.put_any.Goals as goal
 
--- a byte appended to the digits so far
+-- a byte is appended to the digits so far
 put : (buffer start part : List ℕ) (end byte digit : ℕ) → end < length buffer → byte ≡ digit → take end buffer ≡ start ++ part
     → take (end + 1) (slice_set buffer end byte) ≡ start ++ (part ++ digit ∷ [])
 put buffer start part end byte digit h is before =

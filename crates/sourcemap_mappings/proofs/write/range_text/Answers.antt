@@ -18,7 +18,7 @@ loop-token-init c = record {
       (subst (λ (fs : List Bool). Ranging 0 [] [] fs) (sym c.new-flags.ensures.items) Ranging-none);
 }
 
--- the facts about text, flags and line, transported along equalities
+-- replaces the line, the text and the flags by equal values
 carried : (n m : ℕ) (ts : List RawToken) (s t : List ℕ) (fs gs : List Bool) → m ≡ n → t ≡ s → gs ≡ fs → Ranging n ts s fs → Ranging m ts t gs
 carried n m ts s t fs gs em et eg r =
     subst (λ (k : ℕ). Ranging k ts t gs) (sym em) (subst (λ (x : List ℕ). Ranging n ts x gs) (sym et) (subst (λ (x : List Bool). Ranging n ts s x) (sym eg) r))

@@ -18,7 +18,7 @@ loop-token-init c = record {
   ascii = IsAscii-nil;
 }
 
--- the facts about a text and a buffer, transported along equalities
+-- the invariant, for a text and a buffer; `carried` replaces what it is about by equal values
 record Gathered (names : ℕ) (done : List RawToken) (previous : Option RawToken) (against : RawToken) (text buffer : List ℕ) (at : ℕ) : Type 0 where
   writing : Writing names done previous against (text ++ take at buffer)
   within : at ≤ 1024
@@ -70,7 +70,7 @@ loop-token-preserved c =
           record { writing = all.writing; within = all.within; ascii = all.ascii }
     ]
 
--- the text and the buffer together contain all tokens
+-- after the loop, the whole text contains all tokens
 whole : (names n : ℕ) (tokens : List RawToken) (previous : Option RawToken) (against : RawToken) (text gathered : List ℕ) → length tokens ≤ n
     → text ≡ gathered → Writing names (take n tokens) previous against gathered → Writing names tokens previous against text
 whole names n tokens previous against text gathered h is w =

@@ -1,4 +1,4 @@
--- The decoded map has the meaning of the written map.
+-- The decoded map has the same original position as the written map.
 use Rattle.std.proofs.Common.{◌∙◌, [], ◌∷◌, None}
 use Rattle.std.proofs.lemmas.Result.{err_from_is_err_and}
 use Rattle.sourcemap.specs.AnyMap.{map_tree}

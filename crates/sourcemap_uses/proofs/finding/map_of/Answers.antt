@@ -1,4 +1,4 @@
--- A reference with an embedded map, and one that names a file.
+-- A reference with an embedded map, and one without.
 use Rattle.std.proofs.Common.{refl, inl, Some}
 use Rattle.sourcemap.specs.AnyMap.{map_tree}
 use Rattle.sourcemap.specs.References.{url_of}

@@ -1,4 +1,4 @@
--- The name by the decoded map.
+-- The name that the decoded map returns.
 use Rattle.std.proofs.Common.{Err, option_map, string_bytes}
 use Rattle.std.proofs.lemmas.Result.{IfOk-weaker}
 use Rattle.sourcemap.specs.Hermes.{hermes_value}

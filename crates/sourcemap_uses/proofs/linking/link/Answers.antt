@@ -1,4 +1,4 @@
--- Writing one section changes no other.
+-- Setting the URL of one section changes no other section.
 use Rattle.std.proofs.Common.{◌≡◌, ◌∙◌, ap, slice_get, subst}
 use Rattle.std.specs.Option.{OnSome}
 use Rattle.sourcemap.specs.AnyMap.{index_value, section_value}

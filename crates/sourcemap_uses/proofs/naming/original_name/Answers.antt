@@ -1,4 +1,4 @@
--- The guess by the decoded map.
+-- The name that the decoded map guesses.
 use Rattle.std.proofs.Common.{◌≡◌, Err, option_map, string_bytes}
 use Rattle.std.proofs.lemmas.Result.{IfOk-weaker}
 use Rattle.sourcemap.specs.Reading.{BytesHaveResult, RegularDecodes}

@@ -37,7 +37,7 @@ returns-clause-written c =
     c.digit_count-digits.ensures.rest c.digit_count-digits.ensures.last in
     (part, whole, c.loop-digit.invariant.1 ∙ ap (λ xs. xs ++ part) c.reserve.ensures.bytes)
 
--- the capacity was reserved for each digit
+-- `push` cannot fail, since capacity for all digits was reserved
 pub returns-in_err-push-clause-unchanged : goal.returns-in_err-push-clause-unchanged
 returns-in_err-push-clause-unchanged c =
     let code : c.glyph_char.result ≡ glyph c.value_from.result = c.glyph_char.ensures in

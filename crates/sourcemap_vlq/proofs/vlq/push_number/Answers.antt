@@ -53,7 +53,7 @@ returns-clause-written c =
       written ∙ ap (λ xs. xs ++ (part ++ digit ∷ [])) c.reserve.ensures.bytes,
     )
 
--- capacity was reserved for the most digits that a number has
+-- `push` cannot fail, since capacity for the maximum number of digits was reserved
 pub returns-in_err-push-clause-unchanged : goal.returns-in_err-push-clause-unchanged
 returns-in_err-push-clause-unchanged c =
     let part : List ℕ = c.loop-raw.invariant.0 in

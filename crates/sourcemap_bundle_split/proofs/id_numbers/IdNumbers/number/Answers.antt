@@ -14,7 +14,7 @@ returns-then-slot-len-clause-number c =
     number_past (length numbers.items) c.self.inside.order.items c.args.id c.self.invariant.below (omega (arith, c.if-slot-len.true, c.len.ensures, numbers.ok.0)) in
     rw (← c.self.view_is, none) refl
 
--- an id that stands at its number has it
+-- the list has the id at the number of its slot: the id already has this number
 
 pub returns-then-is_at-clause-ids : goal.returns-then-is_at-clause-ids
 returns-then-is_at-clause-ids c =
@@ -34,7 +34,7 @@ returns-then-is_at-clause-number c =
     let known = number_at numbers order c.args.id c.index-number.result.now c.self.invariant.stand at in
     rw (← c.self.view_is, known) refl
 
--- a new one gets the next
+-- a new id gets the next number
 
 pub overflow_cast-number-2 : goal.overflow_cast-number-2
 overflow_cast-number-2 c =

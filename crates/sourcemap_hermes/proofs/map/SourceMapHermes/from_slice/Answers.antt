@@ -1,4 +1,4 @@
--- Bytes decode to one result.
+-- Bytes decode to at most one result.
 use Rattle.sourcemap_records.proofs.BytesLemmas.{bytes_only}
 use Rattle.sourcemap_hermes.specs.Decode.{RecordDecodesAsHermes}
 use Rattle.sourcemap_hermes.specs.Map.{hermes_value}

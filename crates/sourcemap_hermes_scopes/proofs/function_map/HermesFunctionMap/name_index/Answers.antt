@@ -1,4 +1,4 @@
--- The search over the offsets finds the closest one.
+-- If the offsets are in order, the search finds the closest one.
 use Rattle.std.proofs.Common.{◌∙◌, ◌+◌, sym, ap, subst, ℕ, Some, None}
 use Rattle.sourcemap_tokens.specs.Search.{closest}
 use Rattle.sourcemap_tokens.specs.Tokens.{position_cmp}

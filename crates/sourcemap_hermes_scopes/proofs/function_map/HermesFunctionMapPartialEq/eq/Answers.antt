@@ -1,4 +1,4 @@
--- Function maps test equal exactly if they are.
+-- The test of equality of function maps is true exactly if they are equal.
 use Rattle.sourcemap_hermes_scopes.proofs.FunctionMapLemmas.{offsets_decide}
 use Rattle.sourcemap_hermes_scopes.proofs.function_map.HermesFunctionMapPartialEq.eq.Goals as goal
 

@@ -1,4 +1,4 @@
--- Scopes of sources test equal exactly if they are.
+-- The test of equality of the scopes of sources is true exactly if they are equal.
 use Rattle.sourcemap_hermes_scopes.proofs.SourceScopesLemmas.{source_scopes_decide}
 use Rattle.sourcemap_hermes_scopes.proofs.source_scopes.SourceScopesPartialEq.eq.Goals as goal
 

@@ -1,4 +1,4 @@
--- The record that is made is as is due.
+-- The returned record is as `RecordAnswer` says.
 use Rattle.sourcemap_index.specs.Family.{map_tree}
 use Rattle.sourcemap_index.proofs.EncodeLemmas.{record_answer, answer_fine, answer_back}
 use Rattle.sourcemap_index.proofs.encode.DecodedMapEncodable.as_raw_sourcemap.Goals as goal

@@ -1,4 +1,4 @@
--- The record that is made is as is due.
+-- The returned record is as `RecordAnswer` says.
 use Rattle.sourcemap_index_model.specs.MapTree.{index_tree}
 use Rattle.sourcemap_index.specs.Family.{index_value}
 use Rattle.sourcemap_index.proofs.EncodeLemmas.{record_answer, answer_fine, answer_back}

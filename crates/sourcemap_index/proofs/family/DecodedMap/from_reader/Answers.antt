@@ -1,4 +1,4 @@
--- The map is that of `decode`, so that a wrong body is refused fast.
+-- The map is that of `decode`. Saying so here makes a wrong body fail fast.
 use Rattle.sourcemap_index.proofs.family.DecodedMap.from_reader.Goals as goal
 
 pub returns-clause-answer : goal.returns-clause-answer

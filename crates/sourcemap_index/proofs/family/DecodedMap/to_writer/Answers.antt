@@ -1,4 +1,4 @@
--- The text is that of `encode`, so that a wrong body is refused fast.
+-- The text is that of `encode`. Saying so here makes a wrong body fail fast.
 use Rattle.sourcemap_index.proofs.family.DecodedMap.to_writer.Goals as goal
 
 pub returns-clause-encoded : goal.returns-clause-encoded

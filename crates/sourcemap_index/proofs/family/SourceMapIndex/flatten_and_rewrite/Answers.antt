@@ -1,4 +1,4 @@
--- What the flat map answers, less what rewriting takes away.
+-- The result means what the flat map means, less what rewriting removes.
 use Rattle.sourcemap_map_regular.specs.Rewrite.{removal_of}
 use Rattle.sourcemap_index_model.specs.MapTree.{MapTree, index_tree}
 use Rattle.sourcemap_index.specs.Family.{index_value}

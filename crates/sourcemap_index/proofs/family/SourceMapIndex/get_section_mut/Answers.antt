@@ -1,4 +1,4 @@
--- A section of the list, and what replaces it.
+-- The section is that of the list, and what is written to it replaces it there.
 use Rattle.std.proofs.Common.{refl, ◌∙◌, sym, ap, slice_get}
 use Rattle.sourcemap_index.proofs.FamilyLemmas.{index-out, index_same, item_seen, on_some, section_put}
 use Rattle.sourcemap_index.specs.Family.{section_value}

@@ -9,7 +9,7 @@ use Rattle.sourcemap_map_regular.proofs.AdjustLemmas.{adjusted_meaning}
 use Rattle.sourcemap_map_regular.proofs.map.SourceMap.adjust_mappings.Goals as goal
 use Rattle.sourcemap_map_regular.proofs.map.SourceMap.adjust_mappings.Goals.{After-drop-self-inside}
 
--- the composition of the stored tokens of both maps
+-- the new list is the composition of the tokens of both maps
 composed : (c : After-drop-self-inside) → composition c.self.inside.tokens c.adjustment.inside.tokens ≡ Ok c.in_ok-list.list
 composed c =
     subst (λ tokens. composition tokens c.adjustment.inside.tokens ≡ Ok c.in_ok-list.list) c.as_slice.ensures.value

@@ -1,4 +1,4 @@
--- The bytes that were read are the reader's.
+-- The result for the reader is that for the bytes that were read from it.
 use Rattle.std.proofs.lemmas.Result.{err_from_is_err_and}
 use Rattle.sourcemap_records.specs.Bytes.{BytesHaveResult}
 use Rattle.sourcemap_map_regular.specs.Decode.{RegularDecodes}

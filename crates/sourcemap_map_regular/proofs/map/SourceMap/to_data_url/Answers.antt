@@ -1,4 +1,4 @@
--- The URL holds the text, which decodes.
+-- The URL holds the text, which decodes if the map is well-formed.
 use Rattle.std.proofs.Common.{string_bytes}
 use Rattle.sourcemap_map_regular.proofs.WriteLemmas.{encoded-back, url-back}
 use Rattle.sourcemap_map_regular.proofs.map.SourceMap.to_data_url.Goals as goal
