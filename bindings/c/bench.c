@@ -150,7 +150,7 @@ static uint32_t draw_positions(const struct library *library, struct input *inpu
     return counts.tokens;
 }
 
-/* The sum of original lines and columns, so that no answer is for nothing. */
+/* The sum of original line and column, so that the compiler cannot drop a lookup. */
 static uint64_t sum_found(const sm_found *found)
 {
     return found->found ? found->token.original_line + (uint64_t)found->token.original_column : 0;

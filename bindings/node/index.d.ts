@@ -1,13 +1,16 @@
-/** Of several tokens the closest one at the position or before it: the default of most calls. */
+/**
+ * Finds the token at the position (of several the first), else the last one before
+ * it on the line. The default, but for `allGeneratedPositionsFor`.
+ */
 export declare const GREATEST_LOWER_BOUND: 1;
-/** The closest one at the position or after it. */
+/** Finds the token at the position (of several the last), else the first one after it on the line. */
 export declare const LEAST_UPPER_BOUND: -1;
 export type Bias = typeof GREATEST_LOWER_BOUND | typeof LEAST_UPPER_BOUND;
 
-/** In the answers of `originalPositionsFor` the id of no source and of no name. */
+/** In the answers of `originalPositionsFor`, the id of a source or name that is missing. */
 export declare const NONE: 0xffffffff;
 
-/** Column; then source, original line and column; then name. Ids, and all lines and columns, count from 0. */
+/** Generated column; then source id, original line and column; then name id. All count from 0. */
 export type SourceMapSegment =
   | [column: number]
   | [column: number, source: number, originalLine: number, originalColumn: number]
@@ -50,7 +53,7 @@ type ReadonlyDeep<T> = T extends (infer Item)[]
     : T;
 type Input<T> = T | ReadonlyDeep<T>;
 
-/** A map: its JSON as text or as the bytes of that in UTF-8, such as a Buffer; its object; or one that is open. */
+/** A map: its JSON, as text or as UTF-8 bytes such as a Buffer; the object that JSON describes; or a TraceMap. */
 export type SourceMapInput = string | Uint8Array | Input<EncodedSourceMap> | Input<DecodedSourceMap> | TraceMap;
 export type SectionedSourceMapInput = SourceMapInput | Input<SectionedSourceMap>;
 
@@ -61,7 +64,10 @@ export interface Needle {
   bias?: Bias;
 }
 
-/** An original position; the source is one of `sources` or of `resolvedSources`. */
+/**
+ * An original position: the line counts from 1, the column from 0. The source is
+ * one of `sources` or of `resolvedSources`.
+ */
 export interface SourceNeedle extends Needle {
   source: string;
 }
@@ -122,15 +128,18 @@ export type SourceMapErrorCode =
   | 'OUT_OF_MEMORY'
   | 'PAST_LIMIT';
 
-/** Why a map or a position is refused. An argument of a wrong type is a TypeError instead, which names it. */
+/** Why a map or a position is refused. An argument of a wrong type throws a TypeError instead, which names it. */
 export declare class SourceMapError extends Error {
   readonly code: SourceMapErrorCode;
-  /** What the code counts, as the id of a source that does not exist; else 0. */
+  /** The number that the error is about, such as the id of a source that does not exist; else 0. */
   readonly number: number;
   constructor(message: string, code: SourceMapErrorCode, number?: number, options?: { cause?: unknown });
 }
 
-/** A map that is not an index map. What is refused is refused here, and not by a later lookup. */
+/**
+ * A map that is not an index map. The constructor reads all mappings, and throws a
+ * SourceMapError if it refuses the map.
+ */
 export declare class TraceMap {
   version: SourceMapV3['version'];
   file: SourceMapV3['file'];
@@ -144,44 +153,66 @@ export declare class TraceMap {
   constructor(map: SourceMapInput, mapUrl?: string | null);
 }
 
-/** A map of any kind; an index map is flattened. */
+/**
+ * Opens a map of any kind, with or without `new`; an index map is flattened. Throws
+ * as the constructor of TraceMap does.
+ */
 export declare const FlattenMap: {
   new (map: SectionedSourceMapInput, mapUrl?: string | null): TraceMap;
   (map: SectionedSourceMapInput, mapUrl?: string | null): TraceMap;
 };
 export declare const AnyMap: typeof FlattenMap;
 
-/** The original position of a generated one, from the closest token of the same line. */
+/**
+ * The original position of a generated one, from the closest token of the same line.
+ * If there is none, or it has no source, all fields are null.
+ */
 export declare function originalPositionFor(map: TraceMap, needle: Needle): OriginalMapping | InvalidOriginalMapping;
 
 /**
  * Answers many generated positions, each two numbers: a line from 1 and a column
- * from 0. For each there are four numbers: the id of the source or NONE, the
- * original line from 1, the original column, the id of the name or NONE.
+ * from 0. The answer to each is four numbers: the id of the source or NONE, the
+ * original line from 1, the original column, and the id of the name or NONE.
+ * Without a source, line and column are 0.
  */
 export declare function originalPositionsFor(map: TraceMap, positions: Uint32Array): Uint32Array;
 
-/** The generated position of an original one, from the closest token of the same source and line. */
+/**
+ * The generated position of an original one, from the closest token of the same
+ * source and line. If there is none, both fields are null.
+ */
 export declare function generatedPositionFor(
   map: TraceMap,
   needle: SourceNeedle,
 ): GeneratedMapping | InvalidGeneratedMapping;
 
-/** All generated positions of the closest original one; it is looked for with LEAST_UPPER_BOUND. */
+/**
+ * All generated positions of the original position that is closest to this one on
+ * its line. The default bias is LEAST_UPPER_BOUND.
+ */
 export declare function allGeneratedPositionsFor(map: TraceMap, needle: SourceNeedle): GeneratedMapping[];
 
-/** The segment of the closest token at a position or before it on the line. Here the line counts from 0. */
+/**
+ * The segment of the closest token at a position or before it on the line, null if
+ * there is none. Here the line counts from 0.
+ */
 export declare function traceSegment(map: TraceMap, line: number, column: number): Readonly<SourceMapSegment> | null;
 
-/** Calls back with each token, in generated order. */
+/** Calls back with each token, in the order of generated positions. Lines count from 1, columns from 0. */
 export declare function eachMapping(map: TraceMap, callback: (mapping: EachMapping) => void): void;
 
 export declare function sourceContentFor(map: TraceMap, source: string): string | null;
 export declare function isIgnored(map: TraceMap, source: string): boolean;
 
-/** The mappings as lines of segments. They are shared with the map: do not change them. */
+/**
+ * The mappings as lines of segments. They belong to the map: do not change them. Throws
+ * PAST_LIMIT if they are not given so and have more than 16,777,216 lines.
+ */
 export declare function decodedMappings(map: TraceMap): readonly SourceMapSegment[][];
-/** The mappings as text: the one that was given, else one that the library writes. */
+/**
+ * The mappings as text: the one that was given, else one that the library writes. Throws
+ * PAST_LIMIT if it is not given and has more than 16,777,216 lines.
+ */
 export declare function encodedMappings(map: TraceMap): string;
 /** The fields of the map with decoded mappings. */
 export declare function decodedMap(
@@ -189,5 +220,5 @@ export declare function decodedMap(
 ): Omit<DecodedSourceMap, 'mappings'> & { mappings: readonly SourceMapSegment[][] };
 /** The fields of the map with encoded mappings, for JSON.stringify. */
 export declare function encodedMap(map: TraceMap): EncodedSourceMap;
-/** A map of decoded mappings, which `decodedMappings` returns as they are. */
+/** Opens a map with decoded mappings that are in order. `decodedMappings` returns them as they are. */
 export declare function presortedDecodedMap(map: Input<DecodedSourceMap>, mapUrl?: string | null): TraceMap;

@@ -1,10 +1,10 @@
 #!/usr/bin/env python3
-"""Times lookups from Python: the least processor time of several rounds, in microseconds.
+"""Times from Python how a map is opened and looked up: the least processor time of several rounds.
 
     bindings/python/bench.py MAP [POSITIONS]
 
-MAP is a regular map. Positions are those of its tokens, by chance, and a little to the right of them. A map of 4.6 MB
-is written by `bench/make-map.py 800000`.
+MAP is a regular map, POSITIONS the number of lookups. They are drawn at random, at tokens or a little to the right.
+`bench/make-map.py 800000` writes a map of 4.6 MB.
 """
 import random
 import sys

@@ -1,9 +1,9 @@
 //! Finds the C library `sourcemap` and links it.
 //!
-//! The first of these that has it: the folder that `SOURCEMAP_LIBRARY_DIR`
-//! names, `../c/out`, pkg-config, the linker's own folders. In a folder that has
-//! both, the static library is taken, unless `SOURCEMAP_LIBRARY_KIND` is
-//! `shared`.
+//! If `SOURCEMAP_LIBRARY_DIR` is set, that folder must have it. Otherwise it is looked
+//! for in `../c/out`, then by pkg-config, and then left to the linker. If a folder has
+//! both the static and the shared library, the static one is linked, unless
+//! `SOURCEMAP_LIBRARY_KIND` is `shared`.
 
 use std::env;
 use std::path::{Path, PathBuf};

@@ -1,5 +1,5 @@
-// answers.mjs MAP POSITIONS: for each line LINE:COLUMN of POSITIONS, which a tab may end, the original position; none where
-// the closest token has no source or is on another line.
+// answers.mjs MAP POSITIONS: prints the original position for each line LINE:COLUMN of POSITIONS; what follows a tab
+// does not count. Prints `none` if the closest token has no source or is on another line.
 import { readFileSync } from 'node:fs';
 import { FlattenMap, originalPositionFor } from '../node/lib/index.mjs';
 

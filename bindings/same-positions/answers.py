@@ -1,4 +1,5 @@
-"""answers.py MAP POSITIONS: for each line LINE:COLUMN of POSITIONS, which a tab may end, the original position."""
+"""answers.py MAP POSITIONS: prints the original position for each line LINE:COLUMN of POSITIONS; what follows a tab
+does not count."""
 import sys
 from pathlib import Path
 

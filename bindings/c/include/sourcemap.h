@@ -70,7 +70,7 @@ extern "C" {
 typedef uint32_t sm_code;
 
 #define SM_OK 0u
-#define SM_IO 1u                    /* a junk header is invalid, or a line before a reference is not UTF-8 */
+#define SM_IO 1u                    /* a junk header is invalid, or a line of a generated text is not UTF-8 */
 #define SM_UTF8 2u                  /* bytes that should be text are not UTF-8 */
 #define SM_RANGE 3u                 /* a range passes the end of a bundle: start, size, length */
 #define SM_BAD_JSON 4u              /* number 0: not JSON; 1: a field has the wrong type */
@@ -87,8 +87,8 @@ typedef uint32_t sm_code;
 #define SM_INVALID_BUNDLE_INDEX 15u /* a bundle has no module of that number */
 #define SM_INVALID_BUNDLE_ENTRY 16u /* a bundle's entry of a module is invalid */
 #define SM_NOT_A_BUNDLE 17u         /* there is no bundle */
-#define SM_INVALID_RANGE_INDEX 18u  /* kept; no call returns it */
-#define SM_INVALID_BASE64 19u       /* `number` is the character that is no digit */
+#define SM_INVALID_RANGE_INDEX 18u  /* reserved; no call returns it */
+#define SM_INVALID_BASE64 19u       /* `number` is the byte that is no digit */
 #define SM_OUT_OF_MEMORY 20u        /* memory ran out */
 
 #define SM_ABSENT 32u               /* there is none: no token, text, id or module */
@@ -111,8 +111,9 @@ typedef uint32_t sm_code;
 ** TYPES
 */
 
-/* A handle. Its fields are the library's own. The other names say what a call
-** expects in it; the struct is one, and a handle may hold anything in turn. */
+/* A handle. Its fields are private to the library. The names below all mean this
+** struct, and say what a call expects in it. One handle may hold different things, one
+** after another. */
 typedef struct sm_handle {
     void *at;
     bool full;
@@ -161,8 +162,8 @@ typedef struct sm_position {
 /* A token: a generated position, the original position that it maps to, and
 ** what it names. `source` and `name` are ids, or SM_NONE. In a map that was
 ** opened, a token without a source has SM_NONE as its original line and column.
-** An id may name nothing, as names do after sm_remove_names(), and any id of a map
-** that was built: ask sm_source() and sm_name() before it is used as an index. */
+** An id may name nothing: name ids do after sm_remove_names(), and any id may in a map
+** that was built. So ask sm_source() or sm_name() before you use it as an index. */
 typedef struct sm_token {
     uint32_t line;
     uint32_t column;
@@ -175,10 +176,11 @@ typedef struct sm_token {
 
 /* The answer to a position: `found` says whether there is a closest token, at
 ** the position or before it. The token is as in its map, but the `original_column`
-** of a range token on the line looked up counts on to the position.
-** Of an index map, `line` and `column` count from where the section that answered
-** begins, and `source` and `name` are ids in its map. Where sm_lookup_many()
-** finds nothing, all else is 0. */
+** of a range token on the line looked up counts on to the position, up to 4294967295.
+** In an index map the token is that of the section that answers: `line` and `column`
+** count from where the section begins (`column` on its first line only), and `source`
+** and `name` are ids in the section's map. Where sm_lookup_many() finds nothing, all
+** else is 0. */
 typedef struct sm_found {
     sm_token token;
     bool found;
@@ -249,7 +251,7 @@ sm_code sm_is_source_map(const uint8_t *bytes, size_t length, bool *answer, sm_e
 ** hold: also in how sources are written, in the order of all lists, and in how long
 ** the list of contents is, although maps that differ in that alone are written alike.
 ** SM_WRONG_KIND if one of the handles holds no map; then `answer` is as it was.
-** Allocates nothing. The two handles are not the same; a map equals itself. */
+** Allocates nothing. Pass two different handles; a map equals itself. */
 sm_code sm_equal(sm_map *map, sm_map *other, bool *answer);
 
 /* Fills `regular` with a copy of the regular map in a Hermes map, without the
@@ -296,9 +298,8 @@ sm_code sm_source(sm_map *map, uint32_t id, sm_text *text);
 sm_code sm_name(sm_map *map, uint32_t id, sm_text *text);
 
 /* The contents of the source of this id. The text is borrowed from `map`. SM_ABSENT
-** if the map has no contents of that id, as every index map; a map may have contents
-** past its last source;
-** SM_WRONG_KIND if the handle holds no map. */
+** if the map has no contents of that id, as every index map; SM_WRONG_KIND if the
+** handle holds no map. A map may have contents past its last source. */
 sm_code sm_contents(sm_map *map, uint32_t id, sm_text *text);
 
 /* Writes the ids of the ignore list, in rising order, from number `first` on, as
@@ -417,15 +418,16 @@ sm_code sm_hermes_function_name(sm_map *map, uint32_t offset, sm_text *text);
 ** texts that it keeps.
 */
 
-/* Keeps only the sources, names and contents that tokens use, in the order of
-** their first use, resolved against `sourceRoot`, which is removed, as is the ignore
-** list. Removes the names if `with_names` is false, the contents if
-** `with_contents` is. From each source the first of the `count` texts in `prefixes`
-** that it begins with is cut, completed by `/`. The prefix `~` means the longest
-** folder that all sources which are absolute paths have in common, before
-** `sourceRoot`, and is tried last. Hermes maps keep their scopes; of sources with one
-** text those of the one used first. SM_UTF8 if a prefix is not UTF-8; SM_WRONG_KIND
-** of an index map, and if the handle holds no map. */
+/* Keeps only the sources and names that tokens use, in the order of their first use,
+** and the contents of these sources. The sources are resolved against `sourceRoot`;
+** the root is removed, and so is the ignore list. Removes the names if `with_names` is
+** false, the contents if `with_contents` is. Cuts from each source the first of the
+** `count` texts in `prefixes` that it begins with; a `/` is added to a prefix that does
+** not end with one. The prefix `~` means the longest folder that all sources which are
+** absolute paths have in common, before they are resolved, and is tried last. Hermes
+** maps keep their scopes; of sources with one text, those of the one used first.
+** SM_UTF8 if a prefix is not UTF-8; SM_WRONG_KIND of an index map, and if the handle
+** holds no map. */
 sm_code sm_rewrite(sm_map *map, bool with_names, bool with_contents, const sm_text *prefixes, size_t count,
                    sm_error *error);
 
@@ -436,10 +438,10 @@ sm_code sm_rewrite(sm_map *map, bool with_names, bool with_contents, const sm_te
 ** holds no index map. */
 sm_code sm_flatten(sm_map *map, sm_error *error);
 
-/* Adjusts a regular map by `adjustment`, the regular map of a later text made
-** of this one: positions of the later text then answer. `adjustment` does not
-** change. SM_INCOMPATIBLE if a token would pass column 4294967295; SM_WRONG_KIND if
-** either handle holds no regular map. */
+/* Adjusts a regular map by `adjustment`, the regular map of a later text that was made
+** of the generated text of `map`. Then `map` answers positions of the later text.
+** `adjustment` does not change. SM_INCOMPATIBLE if a token would pass column
+** 4294967295; SM_WRONG_KIND if either handle holds no regular map. */
 sm_code sm_compose(sm_map *map, sm_map *adjustment, sm_error *error);
 
 /* Moves each section of an index map so many lines further down.
@@ -485,8 +487,8 @@ sm_code sm_remove_names(sm_map *map, sm_error *error);
 /*
 ** WRITE
 **
-** A token on line L is written after L bytes of `;`, 4 GB at the most: look at the
-** last token before a map of a stranger is written.
+** A token on line L is written after L bytes of `;`, which is up to 4 GB. Look at the
+** line of the last token before you write a map from an untrusted origin.
 */
 
 /* Fills `text` with the map as JSON, of a map of any kind. Returns SM_OK, or
@@ -522,12 +524,13 @@ sm_code sm_section_url(sm_map *map, uint32_t id, sm_text *text);
 ** SM_WRONG_KIND if `map` holds no index map. */
 sm_code sm_section(sm_map *map, uint32_t id, sm_map *section, sm_error *error);
 
-/* Fills `sections` with an empty list of sections, of which an index map is made. */
+/* Fills `sections` with an empty list of sections, of which an index map is made.
+** No error but SM_OUT_OF_MEMORY. */
 sm_code sm_sections_new(sm_sections *sections, sm_error *error);
 
 /* Changes `sections`: adds a section that begins at this position, with a copy of
 ** `map`, with the URL of a map, both or neither. Sections keep the order in which
-** they are added; lookups ask for rising positions. Without `has_url` the URL is
+** they are added; lookups need rising positions. Without `has_url` the URL is
 ** not read, without `has_map` the handle may hold anything; the pointers are still
 ** not null. SM_UTF8 of a URL that is not UTF-8, SM_WRONG_KIND if `sections` holds
 ** no sections or `map` no map. */
@@ -547,9 +550,10 @@ sm_code sm_sections_finish(sm_sections *sections, sm_map *map, bool has_file, co
 /*
 ** BUILD
 **
-** The calls return SM_OK, and each but sm_builder_source() changes `builder`. The
-** library copies the texts. Ids count from 0. Each call but sm_builder_new() returns
-** SM_WRONG_KIND if the handle holds no builder.
+** Each call but sm_builder_source() changes `builder`. A call that succeeds returns
+** SM_OK, and each but sm_builder_new() returns SM_WRONG_KIND if the handle holds no
+** builder; sm_builder_add_tokens() returns a count instead. The library copies the
+** texts. Ids count from 0.
 */
 
 /* Fills `builder` with a builder that has no items yet. `has_file` says whether
@@ -588,9 +592,10 @@ sm_code sm_builder_source(sm_builder *builder, uint32_t id, sm_text *text);
 sm_code sm_builder_set_source(sm_builder *builder, uint32_t id, const uint8_t *source, size_t length, sm_error *error);
 
 /* Cuts from each source the first of the `count` texts in `prefixes` that it begins
-** with, completed by `/`. The prefix `~` has no special meaning. The sources that
-** were added still have their ids when they are added again. SM_UTF8 if a prefix is
-** not UTF-8; SM_WRONG_KIND if the handle holds no builder. */
+** with; a `/` is added to a prefix that does not end with one. The prefix `~` has no
+** special meaning. The sources that were added still have their ids when they are
+** added again. SM_UTF8 if a prefix is not UTF-8; SM_WRONG_KIND if the handle holds no
+** builder. */
 sm_code sm_builder_strip_prefixes(sm_builder *builder, const sm_text *prefixes, size_t count, sm_error *error);
 
 /* Sets or removes the contents of a source. SM_UTF8 if `present` is true and the
@@ -603,10 +608,10 @@ sm_code sm_builder_set_contents(sm_builder *builder, uint32_t id, bool present, 
 ** there is no source of that id; SM_WRONG_KIND if the handle holds no builder. */
 sm_code sm_builder_ignore_source(sm_builder *builder, uint32_t id, sm_error *error);
 
-/* Adds tokens, in any order. Ids that the builder does not have are kept, and
-** name nothing; a map with a source id that names nothing is written, and refused
-** when it is opened again: SM_BAD_SOURCE_REFERENCE. The original position of a
-** token without a source is not written. Returns how many were added, the first
+/* Adds tokens, in any order. Ids that the builder does not have are kept, and name
+** nothing. A map with a source id that names nothing, unless it is SM_NONE, can be
+** written, but sm_open() refuses it: SM_BAD_SOURCE_REFERENCE. The original position of
+** a token without a source is not written. Returns how many were added, the first
 ** ones: all, or fewer if memory ran out, or 0 if the handle holds no builder. If all
 ** were added `error` is as it was, else its code is SM_OUT_OF_MEMORY or
 ** SM_WRONG_KIND. The call may be made again with the rest. */
@@ -641,29 +646,30 @@ sm_code sm_view_count(sm_view *view, size_t *lines);
 ** such line, SM_WRONG_KIND if the handle holds no view. */
 sm_code sm_view_line(sm_view *view, uint32_t line, sm_text *text);
 
-/* A slice of a line: `span` UTF-16 units from column `column` on. A column inside of
-** a pair of units counts as the one after the pair. The text is borrowed from
-** `view`. SM_ABSENT if there is no such line, or the slice passes its end;
+/* A slice of a line: `span` UTF-16 units from column `column` on. If it would begin or
+** end inside a surrogate pair, it begins or ends after the pair. The text is borrowed
+** from `view`. SM_ABSENT if there is no such line, or the slice passes its end;
 ** SM_WRONG_KIND if the handle holds no view. */
 sm_code sm_view_slice(sm_view *view, uint32_t line, uint32_t column, uint32_t span, sm_text *text);
 
 /* Fills `url` with the first reference to a map in a generated text, without
 ** white space around it; writes to `is_legacy` whether its comment begins with
-** `//@`. Returns SM_OK; SM_ABSENT if there is none; SM_IO if a line up to there is
-** not UTF-8. On these two `url` and `is_legacy` are as they were. */
+** `//@`. Returns SM_OK; SM_ABSENT if there is none; SM_IO if a line is not UTF-8, and
+** no line before it has a reference. On these two `url` and `is_legacy` are as they
+** were. */
 sm_code sm_locate_reference(const uint8_t *text, size_t length, sm_bytes *url, bool *is_legacy, sm_error *error);
 
 /* Fills `result` with the URL that the reference `url` leads to from `base`, the URL
-** of its text. Returns SM_OK; SM_ABSENT if it leads nowhere, such as a `data:` URL,
-** a base that is no URL, or texts of 2^28 bytes and more; SM_UTF8 if either is not
-** UTF-8. */
+** of its text. Returns SM_OK; SM_ABSENT if it leads nowhere, as a `data:` URL and
+** a base that is no URL, and perhaps of texts of 2^28 bytes or more; SM_UTF8 if either
+** is not UTF-8. */
 sm_code sm_resolve(const uint8_t *url, size_t length, const uint8_t *base, size_t base_length, sm_bytes *result,
                    sm_error *error);
 
 /* Fills `result` with the path that the reference `url` leads to from `base`, the
-** path of its text. Returns SM_OK; SM_ABSENT if it leads nowhere, such as a `data:`
-** URL, a URL that is not of a file, a base that does not begin with `/`, or texts of
-** 2^28 bytes and more; SM_UTF8 if either is not UTF-8. */
+** path of its text. Returns SM_OK; SM_ABSENT if it leads nowhere, as a `data:` URL,
+** a URL that is not of a file and a base that does not begin with `/`, and perhaps of
+** texts of 2^28 bytes or more; SM_UTF8 if either is not UTF-8. */
 sm_code sm_resolve_path(const uint8_t *url, size_t length, const uint8_t *base, size_t base_length, sm_bytes *result,
                         sm_error *error);
 
@@ -735,13 +741,15 @@ sm_code sm_bundle_module(sm_bundle *bundle, size_t id, sm_text *bytes, sm_error 
 
 /* Fills `split` with the modules of a bundle, each with its name, its text and
 ** its map, by the index map of the bundle. The split keeps nothing of the two other
-** handles. Items count from 0, and are not numbered as modules are: a missing module,
-** and one with no line in the index map, has none. An invalid module is an item too:
-** sm_split_item() and sm_split_map() of it fail. Returns SM_OK; SM_NOT_A_BUNDLE if
-** the index map has no list of lines; SM_CANNOT_FLATTEN as sm_flatten();
-** SM_WRONG_KIND if `bundle` holds no bundle, or `index` no index map. Twelve bytes may
-** claim 4294967295 modules: look at sm_bundle_count() before a bundle of a stranger is
-** split. */
+** handles. Items count from 0, and are not numbered as modules are: a missing module
+** has no item, and neither has one whose line in the index map is SM_NONE. An invalid
+** module has an item, for which sm_split_item() and sm_split_map() fail. A module is
+** invalid if its entry is, if its text is not UTF-8, if the list of lines does not
+** reach its number, or if no token is at the start of its line or before it. Returns
+** SM_OK; SM_NOT_A_BUNDLE if the index map has no list of lines; SM_CANNOT_FLATTEN as
+** sm_flatten(); SM_WRONG_KIND if `bundle` holds no bundle, or `index` no index map.
+** Twelve bytes may claim 4294967295 modules: look at sm_bundle_count() before you split
+** a bundle from an untrusted origin. */
 sm_code sm_bundle_split(sm_bundle *bundle, sm_map *index, sm_split *split, sm_error *error);
 
 /* Writes how many items the split has, invalid ones too. SM_WRONG_KIND if the handle

@@ -6,7 +6,7 @@ static const uint32_t NO_OFFSETS[1] = { 0 };
 static sm_error error;
 static sm_text text;
 
-/* Of a text that was written before, the handle may be closed. */
+/* The text may point into a handle that is closed by now. */
 static void clear_text(void)
 {
     static const sm_text EMPTY = SM_TEXT_EMPTY;
@@ -136,8 +136,8 @@ static sm_code lookup_span(sm_handle *handle)
     return sm_lookup_span(handle, 0, 0, &found, &until);
 }
 
-/* The handle as the map, the other map, the adjustment, the bundle, the index map, the view and the section's map of a
-** call. */
+/* Makes a call with two handles, the second one filled with something of this kind. The functions below pass `handle`
+** as the one or the other. */
 static sm_code call_with(sm_handle *handle, uint32_t kind, sm_code (*call)(sm_handle *handle, sm_handle *other))
 {
     sm_handle other = SM_EMPTY;

@@ -19,7 +19,7 @@
     "\"mappings\":\"AAAA,ICCEA;E\",\"names\":[\"n\"],\"rangeMappings\":\"C;\",\"sourceRoot\":\"root\"," \
     "\"sources\":[\"a.js\",\"/b.js\"],\"sourcesContent\":[\"let a;\",null],\"version\":3}"
 
-/* Sections at 0:0 and at 10:4, each with one token at its begin. */
+/* Sections at 0:0 and at 10:4, each with one token at its start. */
 #define INDEX_MAP \
     "{\"file\":\"all.js\",\"sections\":[{\"map\":{\"mappings\":\"AAAA\",\"names\":[],\"sources\":[\"a.js\"]," \
     "\"version\":3},\"offset\":{\"column\":0,\"line\":0},\"url\":null},{\"map\":{\"mappings\":\"AAAA\",\"names\":[]," \

@@ -28,7 +28,7 @@ static const struct rewriting REWRITINGS[] = {
       "\"names\":[],\"rangeMappings\":\"C;\",\"sources\":[\"a.js\",\"/b.js\"],\"version\":3}" },
     { TWO_PATHS("/x/y/a.js", "/x/y/b.js"), true, true, { "~", "" }, 1, TWO_PATHS("a.js", "b.js") },
     { TWO_PATHS("/x/y/a.js", "/x/y/b.js"), true, true, { "~", "/x" }, 2, TWO_PATHS("y/a.js", "y/b.js") },
-    /* what no token uses goes, and ids count in the order of use */
+    /* what no token uses is removed, and ids count in the order of use */
     { "{\"mappings\":\"ACAAC,CDAA\",\"names\":[\"m\",\"n\"],\"sources\":[\"a\",\"b\",\"c\"]}", true, true, { "", "" }, 0,
       "{\"mappings\":\"AAAAA,CCAA\",\"names\":[\"n\"],\"sources\":[\"b\",\"a\"],\"version\":3}" },
     { HERMES_MAP, true, true, { "", "" }, 0, HERMES_MAP },

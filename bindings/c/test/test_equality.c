@@ -7,7 +7,7 @@
 
 #define NOTHING_HAS_IT "the handle holds nothing that has this call"
 
-/* In either order. */
+/* Compares two maps in either order. */
 static void check_equal(sm_map *map, sm_map *other, bool wanted)
 {
     bool answer = !wanted;
@@ -18,7 +18,7 @@ static void check_equal(sm_map *map, sm_map *other, bool wanted)
     CHECK_NUMBER(answer, wanted);
 }
 
-/* Of the maps that two texts hold. */
+/* The same for the maps that two texts hold. */
 static void check_texts(const char *json, const char *other_json, bool wanted)
 {
     sm_map map = SM_EMPTY, other = SM_EMPTY;
@@ -59,7 +59,7 @@ static void with_change(char *changed, size_t size, const char *json, const char
         snprintf(changed, size, "%.*s%s%s", (int)(at - json), json, to, at + strlen(from));
 }
 
-/* Each text, and one other part. */
+/* Texts, each with a part of it and what replaces that part in another map. */
 static const struct {
     const char *json, *from, *to;
 } PARTS[] = {
@@ -150,7 +150,7 @@ static void test_shared(void)
     sm_close(&other);
 }
 
-/* In either order, whatever the answer was before. */
+/* Compares in either order: the answer is as it was. */
 static void check_no_answer(sm_handle *handle, sm_handle *other)
 {
     bool answer = true;
@@ -178,7 +178,7 @@ static void test_no_maps(void)
     sm_close(&view);
 }
 
-/* It answers as the Hermes map does, and has no functions. */
+/* The regular map answers as the Hermes map does, and has no functions. */
 static void test_hermes_map(void)
 {
     sm_map map = SM_EMPTY, regular = SM_EMPTY, read = SM_EMPTY;
@@ -210,7 +210,7 @@ static void test_hermes_map(void)
     sm_close(&read);
 }
 
-/* A regular map with every part, which functions make a Hermes map. */
+/* A regular map with every part; functions that are added make it a Hermes map. */
 static void test_full_hermes_map(void)
 {
     sm_map map = SM_EMPTY, regular = SM_EMPTY, read = SM_EMPTY;

@@ -81,7 +81,7 @@ static void test_many(void)
     sm_close(&map);
 }
 
-/* The number of the closest token of a position is this one. */
+/* The closest token to a position has this index. */
 static void check_index(sm_map *map, uint32_t line, uint32_t column, uint32_t index)
 {
     uint32_t found = 99;
@@ -132,7 +132,7 @@ static void test_texts_of_position(void)
     CHECK_NUMBER(sm_lookup_name(&map, 0, 5, &text), SM_OK);
     CHECK_TEXT(text, "n");
     CHECK_NUMBER(sm_lookup_source(&map, 1, 2, &text), SM_ABSENT);
-    /* the ids of the section's map do, in an index map */
+    /* in an index map the ids are those of the section's map */
     OPEN(&map, INDEX_MAP);
     CHECK_NUMBER(sm_lookup_source(&map, 10, 4, &text), SM_OK);
     CHECK_TEXT(text, "b.js");

@@ -132,7 +132,7 @@ static void prepare_hermes(struct handles *h)
     OPEN(&h->subject, HERMES_MAP);
 }
 
-/* The same, with a second handle on the map: a change copies it first. */
+/* Shares the subject with a second handle, so that a change copies the map first. */
 static void share(struct handles *h)
 {
     sm_error error = { 0 };
@@ -553,7 +553,7 @@ static void build(sm_map *map, unsigned long *failures, uint64_t answers)
     }
     code = sm_builder_finish(&builder, map, &error);
     CHECK_NUMBER(sm_kind(&builder), SM_KIND_EMPTY);
-    /* a builder that is finished is gone, so the map is built anew */
+    /* finishing empties the builder also when it fails, so the map is built anew */
     if (is_to_repeat(code, &error, failures, answers) && *failures < 10)
         build(map, failures, answers);
 }
@@ -593,7 +593,7 @@ static void assemble(sm_map *a, sm_map *b, sm_map *map, unsigned long *failures,
         }
         CHECK_NUMBER(sm_kind(map), SM_KIND_EMPTY);
     } while (sm_kind(&sections) == SM_KIND_SECTIONS && *failures < 10);
-    /* the sections were lost with the memory for their map */
+    /* the call had taken the sections when memory ran out */
     CHECK_NUMBER(sm_kind(&sections), SM_KIND_EMPTY);
     if (*failures < 10)
         assemble(a, b, map, failures, answers);
@@ -671,7 +671,7 @@ static void test_many_parts_refused(unsigned long most, uint64_t answers)
     free(json);
 }
 
-/* What takes no memory succeeds where there is none. */
+/* Calls that allocate nothing return the same code when every allocation is refused. */
 static void test_without_memory(void)
 {
     static const char *const FREE[] = {
@@ -701,7 +701,7 @@ static void test_without_memory(void)
     }
 }
 
-/* The same of calls that take a second map, or no handle. */
+/* The same, for calls that take a second map or no handle. */
 static void test_pairs_without_memory(void)
 {
     static const char *const TEXTS[] = { FULL_MAP, INDEX_MAP, HERMES_MAP };

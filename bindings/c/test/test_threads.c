@@ -14,7 +14,7 @@ struct work {
     bool changed;
 };
 
-/* The sum of original lines and columns over the columns 0 to 29, ROUNDS times. Then a change of its own, and the end. */
+/* Sums original lines and columns over the columns 0 to 29, ROUNDS times. Then changes and closes its own map. */
 static void *run(void *at)
 {
     struct work *work = at;
@@ -50,7 +50,7 @@ void test_threads(bool keeps_map)
         sm_close(&map);
     for (at = 0; at < THREADS; at++) {
         CHECK(pthread_join(threads[at], NULL) == 0);
-        /* 3 times 0, 3 of 4, 2 of 8, 4 of 1, 3 of 5, 2 of 10, 13, 6 of 4, 6 of 10 */
+        /* for each token: how many columns it answers, times the sum of its original line and column */
         CHECK_NUMBER(works[at].sum, (3 * 0 + 3 * 4 + 2 * 8 + 4 * 1 + 3 * 5 + 2 * 10 + 1 * 13 + 6 * 4 + 6 * 10) * ROUNDS);
         CHECK(works[at].changed);
     }

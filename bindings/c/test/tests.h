@@ -17,8 +17,8 @@ void test_segments(void);
 void test_debug_id_texts(void);
 void test_bundles(void);
 void test_wrong_kinds(void);
-/* With `keeps_map` the first handle is closed after all threads, so none of them ever is the only one on the map: a
-** checker of races, which does not see the order that counts of references make, then has nothing to report. */
+/* With `keeps_map` the first handle is closed after all threads have ended, so no thread ever has the only handle on
+** the map. A race detector that does not see the order that reference counts make then has nothing to report. */
 void test_threads(bool keeps_map);
 /* Refuses the first `most` allocations in turn. */
 void test_refusals(unsigned long most);

@@ -4,11 +4,11 @@
 //
 //   node bench/lookup.js MAP..
 //
-// For each map, and for positions at random and in order, it prints the
-// milliseconds of processor time in which each way opens the map and answers a
+// For each map, and for positions at random and in order, it prints how many
+// milliseconds of processor time each way takes to open the map and to answer a
 // million positions: the median of some rounds, in which all ways take turns.
-// `each by addon` asks the library by a call into the addon for each position;
-// it is not offered; it is here to show why.
+// `each by addon` makes a call into the addon for each position. The package does
+// not do so, and these times are the reason.
 
 const { readFileSync } = require('node:fs');
 const sourcemap = require('..');
@@ -20,7 +20,7 @@ const { Random } = require('../support/random.js');
 const COUNT = 1e6;
 const ROUNDS = 7;
 
-/** Lines from 1 and columns from 0, on all lines by how many tokens they have. */
+/** Positions with lines from 1 and columns from 0. Each token makes its line as likely as any other. */
 function randomPositions(mappings) {
   const random = new Random(1);
   const lines = mappings.flatMap((line, number) => new Array(line.length).fill(number));
@@ -39,7 +39,7 @@ function askPositions(call, map, positions) {
   return sum;
 }
 
-/** Answers of four words, as the addon writes them. */
+/** The sum of all lines and columns of answers of four words, as the addon writes them. */
 function sumOf(answers) {
   let sum = 0;
   for (let i = 0; i < answers.length; i += 4) sum += answers[i + 1] + answers[i + 2];

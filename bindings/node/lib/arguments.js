@@ -3,7 +3,7 @@
 const { inspect, types } = require('node:util');
 const { SourceMapError } = require('./native.js');
 
-// The texts of @jridgewell/trace-mapping, which callers may compare.
+// The same texts as in @jridgewell/trace-mapping, since callers may compare them.
 const LINE_TOO_LOW = '`line` must be greater than 0 (lines start at line 1)';
 const COLUMN_TOO_LOW = '`column` must be greater than or equal to 0 (columns start at column 0)';
 
@@ -28,7 +28,7 @@ function checkPosition(line, column) {
   if (column < 0) throw new SourceMapError(COLUMN_TOO_LOW, 'BAD_POSITION');
 }
 
-/** Checks what a position is looked up by. */
+/** Checks a position that is looked up, and its bias. */
 function checkNeedle(needle) {
   if (!isObject(needle)) refuse('the position', 'an object with `line` and `column`', needle);
   const { line, column, bias } = needle;
@@ -36,7 +36,7 @@ function checkNeedle(needle) {
   if (bias !== undefined && bias !== null) checkNumber('`bias`', bias);
 }
 
-/** Checks a source. `sources` may have null, so null may be asked for. */
+/** Checks a source that is looked up. It may be null, as an item of `sources` may be. */
 function checkSource(source) {
   if (typeof source !== 'string' && source !== null) refuse('`source`', 'a string', source);
 }

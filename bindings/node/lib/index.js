@@ -9,7 +9,7 @@ const { NONE: NO_ID } = require('./tokens.js');
 const LEAST_UPPER_BOUND = -1;
 const GREATEST_LOWER_BOUND = 1;
 
-/** How many numbers `originalPositionsFor` answers for a position. */
+/** How many numbers the answer of `originalPositionsFor` to one position has. */
 const ANSWER_WORDS = 4;
 
 function sourceIndex(map, source) {
@@ -20,7 +20,7 @@ function sourceIndex(map, source) {
   return index === -1 ? resolvedSources.indexOf(source) : index;
 }
 
-/** What a token says of its original position, all null without a source. */
+/** The original position and the name of a token; all fields are null if it has no source. */
 function originalOf(map, { originals }, index) {
   const at = 4 * index;
   const source = originals[at];
@@ -36,7 +36,7 @@ function originalOf(map, { originals }, index) {
 
 const answer = new Uint32Array(ANSWER_WORDS);
 
-/** The original column of a generated one in a range, which the library knows. */
+/** The original column for a generated column within a range, from the library. */
 function columnInRange(handle, line, column) {
   native.lookup(handle, line, Math.min(Math.floor(column), NONE), answer);
   return answer[2];

@@ -3,13 +3,13 @@
 const { native, SourceMapError } = require('./native.js');
 const { Tokens } = require('./tokens.js');
 
-/** A token of the library is so many numbers of 32 bits. */
+/** How many numbers of 32 bits a token of the library has. */
 const TOKEN_WORDS = 7;
 
-/** In a token of the library the id of no source and no name. */
+/** In a token of the library, the id of a source or name that is missing. */
 const NONE = 0xffffffff;
 
-/** How many lines are written of a map that was not given as so many. */
+/** How many lines are made at most, as text or as arrays. */
 const MOST_LINES = 2 ** 24;
 
 function isSegment(segment) {
@@ -32,7 +32,7 @@ function packSegment(words, at, line, segment) {
   words[at + 5] = length > 4 ? segment[4] : NONE;
 }
 
-/** Opens decoded mappings: the library gets their tokens, and sorts them. */
+/** Opens decoded mappings: passes their tokens to the library, which sorts them. */
 function build(mappings, sourceCount, nameCount) {
   let count = 0;
   for (const line of mappings) count += line.length;
@@ -47,7 +47,10 @@ function build(mappings, sourceCount, nameCount) {
   return native.build(words, sourceCount, nameCount);
 }
 
-/** Opens a map of which the library reads all but the contents: their texts stay in JavaScript. */
+/**
+ * Opens a map. The library gets the mappings, and the sources and names or how many
+ * there are; all other fields stay in JavaScript.
+ */
 function open({ sources, names, mappings, rangeMappings }) {
   if (Array.isArray(mappings)) return build(mappings, sources?.length ?? 0, names?.length ?? 0);
   return native.open(JSON.stringify({ version: 3, sources, names, mappings, rangeMappings }));
@@ -57,7 +60,7 @@ function isSorted(mappings) {
   return mappings.every((line) => line.every((segment, i) => i === 0 || line[i - 1][0] <= segment[0]));
 }
 
-/** How many lines mappings have as they were given. */
+/** How many lines mappings have in the form in which they were given. */
 function linesOf(given) {
   if (Array.isArray(given)) return given.length;
   let count = 1;
@@ -66,8 +69,8 @@ function linesOf(given) {
 }
 
 /**
- * The mappings of a map: the library's handle, and the forms that were given or
- * are made of it when somebody first asks.
+ * The mappings of a map: the library's handle, and their decoded and encoded
+ * forms. Each form is the one that was given, or is made when it is first used.
  */
 class Mappings {
   #given;
@@ -77,7 +80,7 @@ class Mappings {
 
   /**
    * @param handle what the addon opened
-   * @param given the fields of the map; without `mappings` if the library made them
+   * @param given the fields of the map; they have no `mappings` if the library flattened it
    */
   constructor(handle, given) {
     const { mappings, rangeMappings } = given;
@@ -91,7 +94,7 @@ class Mappings {
     return this.#tokens;
   }
 
-  /** As many lines as were given, and at least those that have tokens. */
+  /** How many lines to make: as many as were given, at least up to the last token. */
   #lineCount() {
     const count = Math.max(linesOf(this.#given), this.tokens.lineCount);
     if (count > MOST_LINES) throw new SourceMapError(`${count} lines are too many to be written`, 'PAST_LIMIT');
@@ -111,12 +114,12 @@ class Mappings {
     return this.#decoded;
   }
 
-  /** Takes lines of segments as they are. */
+  /** Sets the lines of segments, unchanged and unchecked. */
   set decoded(lines) {
     this.#decoded = lines;
   }
 
-  /** `mappings` and, where a token is a range, `rangeMappings`, as texts. */
+  /** `mappings` as text, and `rangeMappings` if a token is a range. */
   get encoded() {
     if (this.#encoded === null) {
       const missing = Math.max(this.#lineCount() - Math.max(this.tokens.lineCount, 1), 0);

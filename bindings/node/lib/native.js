@@ -2,7 +2,7 @@
 
 const path = require('node:path');
 
-/** The addon, which only a build makes. */
+/** Loads the addon, or says how to build it. */
 function loadAddon() {
   try {
     return require('../out/sourcemap.node');
@@ -15,8 +15,8 @@ function loadAddon() {
 
 const native = loadAddon();
 
-// By the numbers of the library. Codes of bundles, views and builders do not
-// come up in this package, but keep their numbers' names.
+// The names of the library's codes. Those of calls that this package does not use
+// are never thrown.
 const CODES = {
   1: 'IO',
   2: 'UTF8',
@@ -48,7 +48,7 @@ class SourceMapError extends Error {
   /**
    * @param {string} message
    * @param {number | string} code a number of the library, or a name
-   * @param {number} number what the code counts, as the id of a source
+   * @param {number} number what the error is about, such as the id of a source
    * @param {ErrorOptions} [options]
    */
   constructor(message, code, number = 0, options = undefined) {

@@ -10,8 +10,8 @@ function partsOf(reference) {
 }
 
 /**
- * A path without `.`, `..` and empty segments, and without the slash before it.
- * A relative path keeps the `..` that lead out of it.
+ * The path without `.`, `..` and empty segments, and without a slash at its
+ * beginning. A relative path keeps each `..` that leads above its beginning.
  */
 function normalized(path, isAbsolute) {
   const kept = [];
@@ -25,7 +25,10 @@ function normalized(path, isAbsolute) {
   return kept.join('/') + (isFolder && kept.length > 0 && kept.at(-1) !== '..' ? '/' : '');
 }
 
-/** The text of a relative path; `first` is what the reference or its base began with. */
+/**
+ * The text of a relative path. If `first`, the folder or without one the reference,
+ * begins with `.`, `?` or `#`, so does the text: `./` may be put before it.
+ */
 function relative(path, rest, first) {
   const whole = normalized(path, false);
   if (whole === '') return rest || '.';
@@ -46,10 +49,10 @@ function resolve(reference, folder) {
 }
 
 /**
- * Returns the call that resolves the sources of a map: against its `sourceRoot`,
+ * Returns a function that resolves the sources of a map: against its `sourceRoot`,
  * which is itself resolved against the folder of the map's URL. A null source
- * counts as the empty text. The library joins sources to `sourceRoot` as texts,
- * and knows no URL of the map.
+ * counts as the empty text. It is written here because the library joins sources
+ * to `sourceRoot` as texts, and does not know the URL of the map.
  */
 function resolver(mapUrl, sourceRoot) {
   const folder = (mapUrl || '').replace(/[^/]*$/, '');

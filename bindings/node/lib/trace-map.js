@@ -8,10 +8,10 @@ const { resolver } = require('./resolve.js');
 
 const JUNK_HEADER = /^[)\]}'][^\n]*/;
 
-// As for a text, a byte order mark is no JSON.
+// A byte order mark is refused, as JSON.parse refuses it in a text.
 const decoder = new TextDecoder('utf-8', { fatal: true, ignoreBOM: true });
 
-/** The value of JSON, which is a text or its bytes. */
+/** The value of JSON, given as text or as bytes. */
 function readJson(json) {
   try {
     const text = typeof json === 'string' ? json : decoder.decode(json);
@@ -25,7 +25,7 @@ function isSourceList(value) {
   return Array.isArray(value) && value.every((source) => typeof source === 'string' || source == null);
 }
 
-/** The fields of a map: those of the object, or those that its JSON says. */
+/** The fields of a map: those of the object, or of its JSON. */
 function parse(map) {
   const fields = typeof map === 'string' || types.isUint8Array(map) ? readJson(map) : map;
   if (!isObject(fields) || !isSourceList(fields.sources ?? [])) {
@@ -43,10 +43,10 @@ function ignoreListOf(fields) {
   return fields.ignoreList ?? fields.x_google_ignoreList;
 }
 
-/** Refuses what is no TraceMap. */
+/** Throws a TypeError if `map` is no TraceMap. */
 let checkTraceMap;
 
-/** The mappings of a TraceMap, and their tokens. What is no TraceMap is refused. */
+/** The mappings of a TraceMap, and their tokens. They throw a TypeError for anything else. */
 let mappingsOf;
 let tokensOf;
 
@@ -72,7 +72,7 @@ class TraceMap {
     };
   }
 
-  /** With a `handle`, as FlattenMap has one, `map` has no mappings of its own. */
+  /** With a `handle`, which FlattenMap passes, `map` has no mappings. */
   constructor(map, mapUrl, handle = null) {
     if (map instanceof TraceMap) return map;
     checkMap(map, mapUrl);
@@ -90,7 +90,7 @@ class TraceMap {
   }
 }
 
-/** A map as the library flattens it: at every depth the sources resolved, the mappings as text. */
+/** The map for the library to flatten: in each section sources are resolved and mappings are text. */
 function flattenable(map, mapUrl) {
   const fields = parse(map);
   if (fields.sections) {

@@ -1,12 +1,12 @@
 /*
-** addon.c - the calls of sourcemap.h that lib/index.js needs, over Node-API.
+** addon.c - the calls of sourcemap.h that the files of lib need, over Node-API.
 **
 ** A handle is an external value that owns an sm_map. Its finalizer closes it,
-** at the latest when the environment ends. Nothing else is kept beyond a call
-** but the error class of each environment, so the addon may be loaded by any
-** number of workers.
+** at the latest when the environment ends. Between calls the addon keeps only
+** the handles, how many there are, and the error class of each environment, so
+** any number of workers may load it.
 **
-** Only lib/index.js calls this addon, and passes what each call expects. A
+** Only the files of lib call this addon, and pass what each call expects. A
 ** value of another type is still an exception, never undefined behaviour.
 */
 #define NAPI_VERSION 8
@@ -25,7 +25,7 @@
 _Static_assert(sizeof(sm_token) == TOKEN_WORDS * sizeof(uint32_t), "a token is seven words");
 _Static_assert(offsetof(sm_token, is_range) == 6 * sizeof(uint32_t), "the flag is in the last word");
 
-/* How many tokens, positions or ids one call of the library reads or writes. */
+/* How many tokens, positions or ids one call of the library reads or writes at most. */
 #define CHUNK 512
 
 typedef struct held_map {
@@ -33,10 +33,10 @@ typedef struct held_map {
     int64_t reported; /* the bytes reported to the garbage collector */
 } held_map;
 
-/* Maps that are open in this process, in all environments. */
+/* How many maps are open in this process, in all environments. */
 static atomic_uint open_maps;
 
-/* The first failure that is not yet an exception becomes one. */
+/* Makes a call of Node-API. If it fails, the caller returns NULL with an exception. */
 #define TRY(call)                        \
     do {                                 \
         if ((call) != napi_ok) {         \
@@ -115,8 +115,8 @@ static napi_value new_handle(napi_env env, held_map **held) {
     return external;
 }
 
-/* Reports what the map takes, so that handles without users are collected in
-** time: its tokens, and as many bytes again as its texts have. */
+/* Reports to the garbage collector about how many bytes the map takes, so that
+** unused handles are collected in time: those of its tokens, and `text_bytes`. */
 static napi_status report_memory(napi_env env, held_map *held, size_t text_bytes) {
     int64_t total;
     sm_counts counts = {0};
@@ -218,9 +218,9 @@ static sm_code build_map(sm_builder *builder, uint32_t sources, uint32_t names, 
     return code == SM_OK ? sm_builder_finish(builder, map, error) : code;
 }
 
-/* build(tokens, sources, names): a handle with a map of tokens that JavaScript
-** has. It keeps the texts of so many sources and names, among which equal ones
-** may be; the map has only their ids. */
+/* build(tokens, sources, names): a handle with a map of these tokens, and with so
+** many sources and names. Their texts, of which some may be equal, stay in
+** JavaScript; in the map they are the numbers of their ids. */
 static napi_value build(napi_env env, napi_callback_info info) {
     size_t count = 3, words = 0;
     napi_value arguments[3];
@@ -251,14 +251,14 @@ static napi_value build(napi_env env, napi_callback_info info) {
 ** READ A MAP
 */
 
-/* What a token says of its original position has four words: source, line,
-** column and name. They stand side by side, since an answer needs them all. */
+/* The original position of a token has four words: source, line, column and
+** name. They are side by side, since an answer needs all of them. */
 #define ORIGINAL_WORDS 4
 
 typedef struct token_arrays {
     uint32_t *lines, *columns, *originals;
     uint8_t *ranges;
-    uint32_t bits; /* those of all numbers but SM_NONE */
+    uint32_t bits; /* of all numbers ORed, without missing ids and positions */
 } token_arrays;
 
 static uint32_t bits_of(const sm_token *token) {
@@ -306,8 +306,8 @@ static napi_status add_array(napi_env env, napi_value object, const char *name, 
     return status == napi_ok ? napi_set_named_property(env, object, name, array) : status;
 }
 
-/* tokens(handle): all tokens in order, as an object of arrays, and whether some
-** number of them is past 31 bits. */
+/* tokens(handle): all tokens in order, as an object of arrays; its `isWide` says
+** whether one of their numbers has more than 31 bits. */
 static napi_value tokens(napi_env env, napi_callback_info info) {
     napi_value handle, object, is_wide;
     held_map *held = NULL;
@@ -463,7 +463,8 @@ static void lookup_chunk(held_map *held, const uint32_t *positions, size_t count
     }
 }
 
-/* lookupMany(handle, positions, answers): both are of Uint32Array. */
+/* lookupMany(handle, positions, answers): writes the answers to many positions,
+** each a line from 1 and a column from 0. Both are a Uint32Array. */
 static napi_value lookup_many(napi_env env, napi_callback_info info) {
     napi_value arguments[3];
     held_map *held = NULL;

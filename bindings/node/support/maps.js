@@ -12,19 +12,19 @@ function* filesBelow(folder) {
   }
 }
 
-/** A corpus, if there is one. Its made variants are left out: the peer reads an empty segment as a token. */
+/** Folders of a corpus, which may not exist. Its variants are left out: the peer reads an empty segment as a token. */
 const CORPUS = process.env.SOURCEMAP_CORPUS
   ? [process.env.SOURCEMAP_CORPUS]
   : ['real', 'gen', 'chain'].map((folder) => path.join('/tmp/corpus/maps', folder));
 
-/** Folders with real maps: those of the package's own files, and of the corpus. */
+/** The existing folders with real maps: those of the packages that the peer comes with, and those of the corpus. */
 const FOLDERS = [
   peerFolder && path.join(peerFolder, '@jridgewell'),
   peerFolder && path.join(peerFolder, '@ampproject'),
   ...CORPUS,
 ].filter((folder) => folder && existsSync(folder));
 
-/** Each real map, at most so many, as its file and its text without a junk header. */
+/** At most `limit` real maps, each with its file and its text without a junk header. */
 function* realMaps(limit = Infinity) {
   let count = 0;
   for (const folder of FOLDERS) {

@@ -1,6 +1,6 @@
 'use strict';
 
-/** Numbers that look random and are the same in each run. */
+/** Pseudorandom numbers, the same in each run. */
 class Random {
   #state;
 
@@ -8,7 +8,7 @@ class Random {
     this.#state = seed >>> 0;
   }
 
-  /** A number from 0 up to, without, `limit`. */
+  /** A number from 0 to `limit` - 1. */
   below(limit) {
     this.#state = (Math.imul(this.#state, 1664525) + 1013904223) >>> 0;
     return Math.floor((this.#state / 2 ** 32) * limit);
@@ -38,7 +38,7 @@ function randomLine(random, sources, names) {
   });
 }
 
-/** A small decoded map, on few positions so that many tokens share one. */
+/** A small decoded map with few positions, so that tokens share them. */
 function randomMap(random) {
   const sources = random.list(1 + random.below(3), () =>
     random.pick([null, 'x.js', 'x.js', 'y/../z.js', '/abs.js', 'http://q.example/a.js']));

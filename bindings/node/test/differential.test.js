@@ -11,7 +11,7 @@ const { realMaps } = require('../support/maps.js');
 const BIASES = [undefined, sourcemap.GREATEST_LOWER_BOUND, sourcemap.LEAST_UPPER_BOUND];
 const URLS = [undefined, null, 'https://m.example/d/out.js.map', 'd/out.js.map', '/p/out.js.map'];
 
-/** Calls deepEqual only where two answers look unlike: it is slow, and there are many. */
+/** Calls deepEqual only if the JSON of two answers differs: it is slow, and there are many answers. */
 function same(ours, theirs, what) {
   if (JSON.stringify(ours) !== JSON.stringify(theirs)) assert.deepEqual(ours, theirs, what());
 }
@@ -58,12 +58,12 @@ function collected(library, map) {
   return seen;
 }
 
-/** Without what is equal to the item before it: the library does not write such a token. */
+/** The items without those that equal the one before: the library does not write such tokens. */
 function withoutRepeats(items) {
   return items.filter((item, i) => i === 0 || JSON.stringify(item) !== JSON.stringify(items[i - 1]));
 }
 
-/** Without the ignore list, unless the peer knows it: Debian's version has no `isIgnored`. */
+/** The map without its ignore list, unless the peer has `isIgnored`: Debian's version has not. */
 function asPeerKnows(map) {
   const { ignoreList, ...rest } = map;
   return peer.isIgnored === undefined ? rest : map;
@@ -142,7 +142,7 @@ describe('beside @jridgewell/trace-mapping', { skip }, () => {
     for (let i = 0; i < base.length; i++) {
       const source = random.list(1 + random.below(4), () => random.pick(parts)).join(random.pick(['', '/']));
       const [sourceRoot, url] = [random.pick([undefined, random.pick(base)]), random.pick([null, random.pick(base)])];
-      // an authority with an empty port is read in two ways
+      // skipped: the two packages read an authority with an empty port differently, as in `//http:`
       if (/\/\/[^/]*:(?!80)/.test(`${source}|${sourceRoot}|${url}`)) continue;
       const map = { version: 3, names: [], sources: [source], sourceRoot, mappings: '' };
       const expected = new peer.TraceMap(map, url).resolvedSources[0];
@@ -173,8 +173,8 @@ describe('beside @jridgewell/trace-mapping', { skip }, () => {
 
 describe('index maps beside @jridgewell/trace-mapping', { skip }, () => {
   /**
-   * Sections that follow on one another without a common position. A nested
-   * index begins a line: the package adds its column to later lines too.
+   * Sections that do not overlap. A nested index begins at column 0: the peer
+   * would add its column on later lines too.
    */
   function randomSections(random, depth) {
     let line = 0;
@@ -201,7 +201,7 @@ describe('index maps beside @jridgewell/trace-mapping', { skip }, () => {
     }
   });
 
-  /** Ids differ: equal sources and names of two sections are one in the flat map. */
+  /** Compares texts, not ids: equal sources or names of two sections have one id here, and two in the peer. */
   function sameOriginalTexts(ours, theirs) {
     for (const bias of BIASES) {
       for (let line = 1; line <= 180; line++) {

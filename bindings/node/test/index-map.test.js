@@ -39,7 +39,7 @@ describe('an index map', () => {
         ignoreList: [1],
         resolvedSources: ['a.js', 'root/b.js'],
       });
-      // by hand: the second section adds ten lines, and on its first line four columns
+      // worked out by hand: the second section adds ten lines, and on its first line four columns
       assert.equal(sourcemap.encodedMappings(flat), 'AAAAA,IAAI;;;;;;;;;;ICAJA,IAAI');
     });
   }

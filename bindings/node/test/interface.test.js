@@ -9,7 +9,7 @@ const { originalPositionFor, generatedPositionFor, allGeneratedPositionsFor, tra
 
 const NOWHERE = { source: null, line: null, column: null, name: null };
 
-// as @jridgewell/trace-mapping 0.3.17 has them
+// the texts of @jridgewell/trace-mapping 0.3.17
 const LINE_TOO_LOW = '`line` must be greater than 0 (lines start at line 1)';
 const COLUMN_TOO_LOW = '`column` must be greater than or equal to 0 (columns start at column 0)';
 
@@ -30,7 +30,7 @@ const decoded = {
   ],
   ignoreList: [1],
 };
-// by hand: each number is twice its size, odd if negative, in digits of five bits
+// encoded by hand: each number is twice its magnitude, plus 1 if negative, in digits of five bits
 const encoded = { ...decoded, mappings: 'AAAA,IAASA,I,ECEP;;EDFO,AACTC,IADS' };
 
 const forms = {

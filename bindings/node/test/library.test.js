@@ -42,7 +42,7 @@ test('a search in the tokens is the lookup of the library: small maps, all posit
   for (let i = 0; i < 200; i++) {
     const map = randomMap(random);
     sameAnswers(new sourcemap.TraceMap(map), allPositions(8, 20));
-    // with ranges: any bits, also of segments that are not there
+    // with random range bits, some past the last segment
     const rangeMappings = random.list(6, () => random.pick(digits)).join(';');
     const { mappings } = sourcemap.encodedMap(new sourcemap.TraceMap(map));
     sameAnswers(new sourcemap.TraceMap({ ...map, mappings, rangeMappings }), allPositions(8, 20));

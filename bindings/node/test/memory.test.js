@@ -14,7 +14,7 @@ const collect = runInNewContext('gc');
 const small = { version: 3, sources: ['a.js'], names: ['n'], mappings: 'AAAAA' };
 const nested = { version: 3, sections: [{ offset: { line: 1, column: 0 }, map: small }] };
 
-/** Finalizers run after the collection, each in a turn of its own. */
+/** Finalizers run in turns of the event loop after the collection. */
 async function openAfterCollection(expected) {
   for (let i = 0; i < 50 && native.openCount() > expected; i++) {
     collect();
@@ -43,7 +43,7 @@ test('maps without users are closed', async () => {
 });
 
 test('the memory of a map is reported to the collector', async () => {
-  // a call that makes no garbage in JavaScript: all that grows is the library's
+  // this call makes almost no garbage in JavaScript: only the memory of the library grows
   const words = new Uint32Array(7 * 100000);
   let most = 0;
   for (let round = 0; round < 100; round++) {
@@ -54,7 +54,7 @@ test('the memory of a map is reported to the collector', async () => {
   assert.ok(most < 60, `${most} maps were open at a time`);
 });
 
-/** Runs a worker that opens maps and keeps them, and returns what it says at its end. */
+/** Runs a worker that opens maps and keeps them, and returns its last message. */
 function inWorker(source, data) {
   return new Promise((resolve, reject) => {
     const worker = new Worker(source, { eval: true, workerData: data });
@@ -79,7 +79,7 @@ const WORK = `
 test('workers load the addon side by side, and close their maps when they end', async () => {
   const before = native.openCount();
   const data = { package: require.resolve('..'), map: { ...small, mappings: 'AAAA,CAAC,CAAC' } };
-  // columns 0, 1, then 2 for 2 to 8: 15 of 9 in turn
+  // each nine calls answer the columns 0, 1, and seven times 2: in sum 15
   const expected = { sum: 22222 * 15 + 0 + 1, error: 'INCOMPATIBLE' };
   for (let round = 0; round < 3; round++) {
     const answers = await Promise.all([1, 2, 3].map(() => inWorker(WORK, data)));

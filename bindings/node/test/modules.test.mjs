@@ -10,7 +10,7 @@ import { fileURLToPath } from 'node:url';
 const require = createRequire(import.meta.url);
 const folder = path.dirname(path.dirname(fileURLToPath(import.meta.url)));
 
-/** Runs what a user would write, in a folder that has the package in node_modules. */
+/** Calls back with a folder that has the package in node_modules, as the project of a user. */
 function inUsersFolder(call) {
   const user = mkdtempSync(path.join(tmpdir(), 'sourcemap-user-'));
   try {
@@ -95,7 +95,7 @@ test('has types that a compiler accepts', (t) => {
   });
 });
 
-/** Calls with a copy of these files of the package. */
+/** Calls back with a folder that has a copy of these files of the package. */
 function withCopy(names, call) {
   const copy = mkdtempSync(path.join(tmpdir(), 'sourcemap-copy-'));
   try {

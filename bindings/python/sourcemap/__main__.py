@@ -11,7 +11,7 @@ from ._generated import reason_of
 
 
 def read_map(path: str) -> Map:
-    """The map in a file, or on standard input if the path is `-`."""
+    """Reads the map in a file, or on standard input if the path is `-`."""
     return Map(sys.stdin.buffer.read()) if path == '-' else Map.load(path)
 
 
@@ -31,7 +31,7 @@ def tokens(arguments: argparse.Namespace) -> int:
 
 
 def parser() -> argparse.ArgumentParser:
-    """The words of the program and their arguments."""
+    """The parser of the commands and their arguments."""
     program = argparse.ArgumentParser(prog='python -m sourcemap', description='Ask a JavaScript source map.')
     words = program.add_subparsers(title='words', required=True, metavar='WORD')
 
@@ -56,14 +56,14 @@ def parser() -> argparse.ArgumentParser:
 
 
 def main(words: Optional[List[str]] = None) -> int:
-    """Runs the program. An error is printed to standard error, and the status is 1."""
+    """Runs the program and returns its exit status. An error is printed to standard error, and the status is 1."""
     arguments = parser().parse_args(words)
     try:
         status = int(arguments.run(arguments))
         sys.stdout.flush()
         return status
     except BrokenPipeError:
-        # whoever reads has enough; what is left is flushed to nowhere
+        # the reader closed the pipe: what is still buffered goes to /dev/null at exit
         os.dup2(os.open(os.devnull, os.O_WRONLY), sys.stdout.fileno())
         return 1
     except (OSError, ValueError, MemoryError, SourceMapError) as error:

@@ -66,11 +66,12 @@ class Builder(HandleOwner):
         return id.value
 
     def source(self, source_id: int) -> Optional[str]:
-        """The text of a source, without the root; None if there is no such source."""
+        """The text of a source, before it is resolved against `source_root`; None if there is no such source."""
         return self._text(library.builder_source, uint32('source_id', source_id))
 
     def set_source(self, source_id: int, text: str) -> None:
-        """Sets the text of a source, without the root. `add_source` of the text that was added still returns this id.
+        """Sets the text of a source, before it is resolved against `source_root`. `Absent` if there is no such source.
+        `add_source` of the text that was first added still returns this id.
 
         >>> import sourcemap
         >>> builder = sourcemap.Builder()
@@ -84,7 +85,7 @@ class Builder(HandleOwner):
 
     def strip_prefixes(self, prefixes: Iterable[str]) -> None:
         """Cuts from each source the first of these prefixes that it begins with. A prefix without `/` at its end gets
-        one. `add_source` of the text that was added still returns its id.
+        one; `'~'` has no special meaning here. `add_source` of the text that was first added still returns its id.
 
         >>> import sourcemap
         >>> builder = sourcemap.Builder()
@@ -98,11 +99,11 @@ class Builder(HandleOwner):
         self._run(library.builder_strip_prefixes, array_of(texts), len(texts))
 
     def set_contents(self, source_id: int, text: Optional[str]) -> None:
-        """Sets the contents of a source; None removes them."""
+        """Sets the contents of a source; None removes them. `Absent` if there is no such source."""
         self._run(library.builder_set_contents, uint32('source_id', source_id), *optional(text))
 
     def ignore_source(self, source_id: int) -> None:
-        """Puts a source on the ignore list."""
+        """Puts a source on the ignore list. `Absent` if there is no such source."""
         self._run(library.builder_ignore_source, uint32('source_id', source_id))
 
     def add(self, generated_line: int, generated_column: int, *, source: Optional[str] = None,
@@ -115,7 +116,9 @@ class Builder(HandleOwner):
         self.add_tokens([token])
 
     def add_tokens(self, tokens: Iterable[NewToken]) -> None:
-        """Adds tokens, with their sources and names by id. An id that the builder does not have names nothing.
+        """Adds tokens, with their sources and names by id. An id that the builder does not have names nothing; a map
+        with such a source id can be written, but reading it raises `BadSourceReference`. If the call fails, some of the
+        tokens may have been added.
 
         >>> import sourcemap
         >>> builder = sourcemap.Builder()
@@ -138,7 +141,7 @@ class Builder(HandleOwner):
                 raise errors.of_error(error)
 
     def finish(self) -> Map:
-        """The map that was built. The builder is closed then."""
+        """The map that was built. This closes the builder."""
         made = Map._empty()
         self._run(library.builder_finish, made._at)
         return made._opened()

@@ -17,7 +17,7 @@ AnyBundle = TypeVar('AnyBundle', bound='Bundle')
 
 
 class Bundle(HandleOwner, Sequence[Optional[bytes]]):
-    """An indexed RAM bundle: a sequence of its modules, of which some may be missing.
+    """An indexed RAM bundle: a sequence of the bytes of its modules, None for each that is missing.
 
     >>> import sourcemap
     >>> data = bytes.fromhex('e5d10bfb 01000000 02000000 02000000 04000000 6162 78797a 00')
@@ -27,7 +27,7 @@ class Bundle(HandleOwner, Sequence[Optional[bytes]]):
     """
 
     def __init__(self, data: Data) -> None:
-        """Copies the bytes of a bundle."""
+        """Copies the bytes of a bundle. `Scroll` below 12 bytes, `InvalidRamBundleMagic` if they are no bundle."""
         self._begin()
         run(library.bundle_open, self._at, *pointer_to(data))
 
@@ -59,7 +59,7 @@ class Bundle(HandleOwner, Sequence[Optional[bytes]]):
         if isinstance(index, slice):
             return [self._module(each) for each in range(*index.indices(len(self)))]
         number = operator.index(index)
-        # a number past the last is the library's to refuse
+        # the library refuses a number past the last one
         return self._module(position_in(self, number) if number < 0 else min(number, sys.maxsize))
 
     def __iter__(self) -> Iterator[Optional[bytes]]:
@@ -78,7 +78,12 @@ class Bundle(HandleOwner, Sequence[Optional[bytes]]):
             return copied(text)
 
     def split(self, index: Map) -> Split:
-        """The modules of the bundle, each with its name, its text and its map, by the index map of the bundle."""
+        """The modules of the bundle, each with its name, its text and its map; `index` is the index map of the bundle.
+
+        A module that is missing, or has no line in the index map, gives no item. Raises `NotARamBundle` if the index
+        map has no `module_offsets`, and `CannotFlatten` as `Map.flatten` does. A bundle of 12 bytes may claim
+        4294967295 modules: check `len(bundle)` before you split an untrusted bundle.
+        """
         made = Split._empty()
         with index.share() as shared:
             self._run(library.bundle_split, shared._at, made._at)
@@ -97,8 +102,8 @@ class Module(NamedTuple):
 
 
 class Split(HandleOwner, Sequence[Module]):
-    """The modules of a bundle with their maps: a sequence, as `Bundle.split` makes it. An item that could not be made
-    raises its error."""
+    """The modules of a bundle with their maps, as a sequence, which `Bundle.split` makes. To read the item of an
+    invalid module raises `InvalidRamBundleEntry`."""
 
     def __len__(self) -> int:
         items = c_size_t()

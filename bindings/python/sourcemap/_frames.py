@@ -1,6 +1,6 @@
 """Frames of JavaScript stack traces.
 
-A trace is text that a program printed, not data of a fixed form, so each line is read on its own: it is a frame with a
+A trace is text that a program printed, not data of a fixed form. So each line is read by itself: it is a frame with a
 position, or it is kept unchanged.
 
 What the engines count from, in the text of a trace:
@@ -9,10 +9,10 @@ What the engines count from, in the text of a trace:
   line.
 - SpiderMonkey: lines and columns from 1 (MDN, "Error.prototype.stack"). Version 102 prints column 1 for an expression
   at the beginning of a line. Versions before 30 print no column.
-- JavaScriptCore: lines and columns from 1. No page of its own says so; WebKitGTK 2.50 prints column 15 for the call in
-  `function b(){a()}`, which begins at 14: it points to the end of what is called.
+- JavaScriptCore: lines and columns from 1. It is not documented, but WebKitGTK 2.50 prints column 15 for the call in
+  `function b(){a()}`, which begins at column 14: it points to the end of what is called.
 
-Others may count columns from 0; the caller says so.
+Other engines may count columns from 0: the option `--columns-from` says so.
 """
 
 from __future__ import annotations
@@ -40,9 +40,9 @@ class Span(NamedTuple):
 class Frame:
     """A line of a trace that names a position.
 
-    `line` and `column` are as they were printed; without a column it is None. `name` is the piece that an identifier
-    of the function takes up, None if the frame has no name or one that is no identifier. `location` is the piece that
-    file, line and column take up.
+    `line` and `column` are as they were printed; `column` is None if none was. `name` is the span of the function's
+    identifier, None if the frame has no name or one that is no identifier. `location` is the span of file, line and
+    column.
     """
 
     text: str
@@ -53,11 +53,11 @@ class Frame:
     name: Optional[Span]
 
     def function(self) -> Optional[str]:
-        """The identifier of the function, as the engine printed it."""
+        """The identifier of the function, as the engine printed it; None if there is none."""
         return None if self.name is None else self.text[self.name.start : self.name.end]
 
     def rewritten(self, location: str, function: Optional[str]) -> str:
-        """The line with another location, and another name of the function."""
+        """The line with another location, and another name of the function unless `function` is None."""
         edits = [(self.location, location)]
         if self.name is not None and function is not None:
             edits.append((self.name, function))
@@ -73,18 +73,18 @@ _EVAL = re.compile(r'eval at (?P<name>.+?) \((?P<inside>.*)\)(?:, (?P<own>.*))?'
 _NUMBERS = re.compile(r':(?P<line>[0-9]{1,10})(?::(?P<column>[0-9]{1,10}))?$')
 # `FILE line LINE > eval`, where LINE is that of the call of eval.
 _EVAL_LINE = re.compile(r'(?P<file>.+?) line (?P<line>[0-9]{1,10}) > .*', re.DOTALL)
-# Scripts of the engine itself, which no map is of.
+# Scripts of the engine itself, which have no maps.
 _BUILT_IN = re.compile(r'node:.*|internal/.*|self-hosted|<anonymous>', re.DOTALL)
 _BARE_PATH = re.compile(r'/|[A-Za-z]:[\\/]|[A-Za-z][A-Za-z0-9+.-]*://')
-# What may stand before the identifier: words of the engine, and what the function is a member of (`Object.`), lies in
-# (`outer/`) or was called by (`async*`, `setTimeout handler*`).
+# The identifier may follow words of the engine, the object of a method (`Object.`), an enclosing function (`outer/`),
+# or what scheduled the call (`async*`, `setTimeout handler*`).
 _FUNCTION = re.compile(
     r'(?:(?:async|new|get|set|static) )*(?:[^(]*[./*])?(?P<name>[^\W\d][\w$]*|\$[\w$]*)(?: \[as [^\]]*\])?'
 )
 
 
 def parse_frame(text: str) -> Optional[Frame]:
-    """The frame that a line is, without its end, or None."""
+    """The frame on a line, which is given without its end; None if the line is no frame."""
     if len(text) > LONGEST_FRAME:
         return None
     at = _AT.fullmatch(text)
@@ -147,7 +147,7 @@ def _parse_bare(text: str) -> Optional[Frame]:
 
 
 def _located(text: str, span: Span, name: Optional[Span]) -> Optional[Frame]:
-    """The frame whose location takes up `span`, if that is a file with numbers."""
+    """The frame with its location at `span`; None if that is no file with a line."""
     numbers = _NUMBERS.search(text[span.start : span.end])
     if numbers is None or numbers.start() == 0:
         return None
@@ -159,7 +159,7 @@ def _located(text: str, span: Span, name: Optional[Span]) -> Optional[Frame]:
 
 
 def _identifier(text: str, name: Optional[Span]) -> Optional[Span]:
-    """The piece of a function's name that an identifier of the program is."""
+    """The span of the identifier within a function's name; None if there is none."""
     if name is None:
         return None
     function = _FUNCTION.fullmatch(text, name.start, name.end)

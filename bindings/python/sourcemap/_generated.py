@@ -19,14 +19,14 @@ _WINDOWS_PATH = re.compile(r'[A-Za-z]:[\\/]|\\\\')
 
 
 class Generated(NamedTuple):
-    """A map, and the generated text that it is of, where that is there."""
+    """A map, and its generated text. `view` is None if the text has no file, or is not UTF-8."""
 
     map: Map
     view: Optional[View]
 
 
 def reason_of(error: Exception) -> str:
-    """Why something failed, in words: of an error of the system its file, and what the system says of it."""
+    """The text of an error. For an `OSError` it is the file and the message of the system."""
     if isinstance(error, OSError) and error.filename is not None and error.strerror is not None:
         return f'{error.filename}: {error.strerror}'
     return str(error)
@@ -39,7 +39,7 @@ def open_map(path: Path) -> Map:
 
 def find_map(path: Path, text: bytes, root: Optional[Path] = None) -> Optional[Map]:
     """The map of the generated text in a file: the one that the text refers to, or else the one beside it, in
-    `FILE.map`. With `root` only what is below that folder counts, and a reference may lead there by its path's end."""
+    `FILE.map`. With `root` only maps below that folder are used; a reference may name one by the end of its path."""
     reference = locate_reference(text)
     if reference is not None and reference.url.startswith('data:'):
         return _flat(Map.from_data_url(reference.url))
@@ -74,8 +74,8 @@ def _is_below(path: str, folder: Path) -> bool:
 
 
 def path_parts(file: str) -> Tuple[str, ...]:
-    """The folders and the name of a file, which is named by a path or a URL. None of a URL that has no path, as those
-    of the engine itself. Parts that lead upwards are left out, so that no name leads out of a folder."""
+    """The folders and the name of a file, which is named by a path or a URL. They are empty for a URL without a path,
+    such as `node:fs`. Parts `..` are left out, so that the result never leads out of a folder."""
     if _WINDOWS_PATH.match(file):
         parts = re.split(r'[\\/]', file)[1:]
     else:
@@ -92,27 +92,27 @@ def _path_of_url(url: str) -> str:
 
 
 def ends_below(folder: Path, file: str) -> Iterator[Path]:
-    """The paths in a folder that a file may have there: by the ends of its own path, the longest first."""
+    """The paths that a file may have below a folder: the folder with each end of the file's path, the longest first."""
     parts = path_parts(file)
     return (folder.joinpath(*parts[first:]) for first in range(len(parts)))
 
 
 def _path_named(file: str) -> Optional[str]:
-    """The path that a file of a frame is named by, which may be a `file:` URL; None of one that leads nowhere."""
+    """The path of a frame's file, which may be named by a `file:` URL; None if that URL leads to no path."""
     if not file.startswith('file:'):
         return file
     try:
         return resolve_path(file, '/')
-    except UnicodeEncodeError:  # bytes of the trace that are no text
+    except UnicodeEncodeError:  # bytes of the trace that are not UTF-8
         return None
 
 
 class Finder:
     """Finds the generated file that a frame of a stack trace names, and its map.
 
-    The file is the one below `root` whose path ends like the file of the frame: the longest end that is there counts.
-    Without `root` it is the file that the path names, or else one below the current folder. With `map` that is the
-    map of every file.
+    The file is the one below `root` whose path ends like the file of the frame; the longest end that exists counts.
+    Without `root` it is the file that the path names, or else one below the current folder. If `map` is given, it is
+    the map of every file.
     """
 
     def __init__(self, root: Optional[Path] = None, map: Optional[Map] = None) -> None:
@@ -121,7 +121,8 @@ class Finder:
         self._found: Dict[str, Optional[Generated]] = {}
 
     def find(self, file: str) -> Optional[Generated]:
-        """The map of a file, None where there is none. One that can't be read is reported on standard error."""
+        """The map and the text of a file; None if there is no map. One that can't be read is reported once, on standard
+        error."""
         if file not in self._found:
             path = next((path for path in self._candidates(file) if self._is_there(path)), None)
             self._found[file] = self._open(path)

@@ -1,4 +1,4 @@
-"""What all objects share: a handle of the library, a lock, and texts that are copied at once."""
+"""What all objects have: a handle of the library, a lock, and calls that copy the texts which they read."""
 from __future__ import annotations
 
 import operator
@@ -17,14 +17,14 @@ if TYPE_CHECKING:
 
 Self = TypeVar('Self', bound='HandleOwner')
 
-# Bytes, or a text, of which the UTF-8 bytes are taken. Any other buffer does too, but type checkers know these alone.
+# Bytes, or a text, which is passed as UTF-8. Any other buffer works too, but type checkers know only these.
 Data = Union[str, bytes, bytearray, memoryview, 'mmap', 'array[int]']
 
 _EMPTY = create_string_buffer(1)
 
 
 def uint32(what: str, value: int) -> int:
-    """The value, if it is a whole number that the library can take."""
+    """The value, if it is a whole number of 32 bits without sign; else `ValueError` or `TypeError`."""
     number = operator.index(value)
     if not 0 <= number <= library.NONE:
         raise ValueError(f'{what} must be from 0 to {library.NONE}, not {number}')
@@ -32,8 +32,8 @@ def uint32(what: str, value: int) -> int:
 
 
 def pointer_to(data: Data) -> Tuple[Any, int]:
-    """What ctypes passes as a pointer to these bytes, and how many there are. Bytes and writable buffers are not
-    copied."""
+    """What ctypes passes as a pointer to these bytes, and how many there are. Bytes, and writable buffers that are
+    contiguous, are not copied."""
     if isinstance(data, str):
         data = data.encode()
     if not isinstance(data, bytes):
@@ -58,26 +58,26 @@ def debug_id_of(id: Optional[uuid.UUID]) -> library.DebugId:
 
 
 def empty_text() -> library.Text:
-    """A text as the calls expect it: its pointer is not null."""
+    """An empty text, as calls that write one expect it: its pointer is not null."""
     return library.Text(addressof(_EMPTY), 0)
 
 
 def encoded(what: str, texts: Iterable[str]) -> List[bytes]:
-    """The UTF-8 bytes of each text. One text alone is refused, since it would stand for its characters."""
+    """The UTF-8 bytes of each text. A single `str` is refused, since it would be read as a list of its characters."""
     if isinstance(texts, str):
         raise TypeError(f'{what} is a list of texts, not a text')
     return [text.encode() for text in texts]
 
 
 def array_of(texts: List[bytes]) -> Any:
-    """What ctypes passes as a pointer to these texts, which the caller keeps."""
+    """What ctypes passes as a pointer to these texts. The caller keeps the texts alive."""
     return (library.Text * max(len(texts), 1))(*(library.Text(cast(c_char_p(text), c_void_p).value, len(text))
                                                  for text in texts))
 
 
 def pointer_to_words(words: memoryview) -> Any:
-    """What ctypes passes as a pointer to numbers. They are copied where they are read-only, scattered or stand at odd
-    addresses."""
+    """What ctypes passes as a pointer to numbers. They are copied if they are read-only, not contiguous, or not aligned
+    to 4 bytes."""
     pointer, _ = pointer_to(words)
     if not isinstance(pointer, bytes) and addressof(pointer) % 4:
         return words.tobytes()
@@ -89,7 +89,7 @@ def copied(text: library.Text) -> bytes:
 
 
 def read_text(call: library.Call, *arguments: Any) -> Optional[bytes]:
-    """A copy of the text that a call writes; None where there is none. Used under the handle's lock."""
+    """A copy of the text that a call writes; None if there is none. The caller holds the lock of the handle."""
     text = empty_text()
     code = call(*arguments, byref(text))
     if code == library.ABSENT:
@@ -100,24 +100,24 @@ def read_text(call: library.Call, *arguments: Any) -> Optional[bytes]:
 
 
 def run(call: library.Call, *arguments: Any) -> None:
-    """Makes a call that writes why it fails, and raises that."""
+    """Makes a call that takes an sm_error, and raises the error if it fails."""
     error = library.Error()
     if call(*arguments, byref(error)):
         raise errors.of_error(error)
 
 
 class HandleOwner:
-    """An object that owns a handle. A lock in each object sees to it that one call at a time uses the handle."""
+    """An object that owns a handle. The lock of the object lets one call at a time use the handle."""
 
-    # kept here, for objects that outlive the module's names
+    # kept here: at the end of the interpreter the names of the module may be gone before the objects are
     _close = staticmethod(library.close)
 
-    # of an object whose __init__ did not run: a handle that stays empty
+    # for an object whose __init__ did not run: a handle that stays empty
     _at: Any = byref(library.Handle())
     _lock = threading.Lock()
 
     def _begin(self) -> None:
-        """Gives the object an empty handle of its own."""
+        """Makes an empty handle and a lock for the object."""
         self._at = byref(library.Handle())
         self._lock = threading.Lock()
 
@@ -129,7 +129,8 @@ class HandleOwner:
         return self
 
     def close(self) -> None:
-        """Frees the memory at once. Later calls raise `ValueError`; a second `close` does nothing."""
+        """Frees the memory at once, but for what a `share` still uses. Later calls raise `ValueError`; a second `close`
+        does nothing."""
         with self._lock:
             self._close(self._at)
 
@@ -161,7 +162,7 @@ class HandleOwner:
             raise
 
     def _read(self, call: library.Call, *arguments: Any) -> bool:
-        """Makes a call that writes no text of its failure. Returns whether it found something."""
+        """Makes a call that takes no sm_error. Returns False if it found nothing (SM_ABSENT)."""
         with self._lock:
             code = call(self._at, *arguments)
             if code == library.WRONG_KIND:
@@ -190,7 +191,7 @@ class HandleOwner:
         self.close()
 
     def __del__(self) -> None:
-        # without the lock: nobody else has the object any more
+        # without the lock: nothing else refers to the object
         if '_at' in self.__dict__:
             self._close(self._at)
 

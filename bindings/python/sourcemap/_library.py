@@ -1,7 +1,7 @@
 """The shared library: where it is found, its structs and its calls.
 
-Calls that take less time than to release the interpreter's lock keep it, by `PyDLL`: another thread that computes
-would otherwise make each of them wait. All others release it, by `CDLL`.
+Quick calls keep the interpreter's lock (`PyDLL`). If they released it, each of them would have to wait for any other
+thread that computes. All other calls release it (`CDLL`).
 """
 from __future__ import annotations
 
@@ -79,7 +79,7 @@ _path = _library_path()
 _short = ctypes.PyDLL(_path)
 _long = ctypes.CDLL(_path)
 
-# a pointer to anything, which is never null
+# a pointer of any type; it is never null
 P = c_void_p
 Call = Callable[..., Any]
 CODE = c_uint32
@@ -118,7 +118,7 @@ token_text = _call(_short, 'sm_token_text', CODE, P, c_uint32, P, P)
 module_offsets = _call(_short, 'sm_module_offsets', CODE, P, c_uint32, P, c_size_t, P)
 module_path = _call(_short, 'sm_module_path', CODE, P, c_uint32, P)
 
-# for one position, of arguments that ctypes need not convert: that would take half of the call's time
+# for one position; without argtypes, since ctypes would take half of the call's time to convert the arguments
 lookup_one = _short['sm_lookup_many']
 lookup_one.restype = c_size_t
 lookup_many = _call(_long, 'sm_lookup_many', c_size_t, P, P, c_size_t, P, c_size_t)

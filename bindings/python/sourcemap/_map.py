@@ -23,7 +23,7 @@ _KINDS: Dict[int, Kind] = {library.KIND_REGULAR: 'regular', library.KIND_INDEX: 
 _INDEX_HAS_NONE = 'an index map has no {} of its own: see its sections, or flatten it'
 
 
-# what each lookup uses, by names that are found at once
+# what each lookup uses, as names of the module: these are found faster than attributes
 _ONE = c_size_t(1)
 _NONE = library.NONE
 _lookup_one = library.lookup_one
@@ -32,7 +32,7 @@ _unpack_found = FOUND.unpack
 
 
 class _Cached(Dict[int, Optional[str]]):
-    """Texts of a map by id, read on first use. Used under the map's lock."""
+    """Texts of a map by id, read on first use. The caller holds the lock of the map."""
 
     def __init__(self, call: library.Call, at: Any) -> None:
         super().__init__({library.NONE: None})
@@ -66,7 +66,8 @@ class Section:
 
     @property
     def map(self) -> Optional[Map]:
-        """A copy of the map of the section, made on first use; None if the section has no map."""
+        """A copy of the map of the section, made on first use; None if the section has no map. A change of the copy
+        does not change the index map."""
         if self.has_map and self._map is None:
             copied = Map._empty()
             self._index._run(library.section, self._id, copied._at)
@@ -87,9 +88,9 @@ class Map(HandleOwner):
 
     Lines and columns count from 0, columns in UTF-16 units.
 
-    Threads may share a map: a lock lets one call at a time use it. For lookups at the same time give each thread a
-    `share()` of its own. Do not use a map from a signal handler or a `__del__` that may interrupt a call of the same
-    map.
+    Several threads may use one map: a lock lets one call at a time use it. For lookups at the same time give each
+    thread its own `share()`. Do not use a map from a signal handler or a `__del__` that may interrupt a call of the
+    same map.
     """
 
     def __init__(self, data: Data) -> None:
@@ -101,7 +102,7 @@ class Map(HandleOwner):
 
     @classmethod
     def load(cls: Type[AnyMap], path: Union[str, 'os.PathLike[str]']) -> AnyMap:
-        """Reads a map of any kind from a file. Raises `OSError` of the file, or an error of `sourcemap.errors`."""
+        """Reads a map of any kind from a file. Raises `OSError` if the file can't be read, else as `loads`."""
         with open(path, 'rb') as file:
             return cls(file.read())
 
@@ -113,13 +114,14 @@ class Map(HandleOwner):
         >>> sourcemap.Map.loads('{"version":3,"sources":["a.js"],"names":[],"mappings":"AAAA"}')
         <sourcemap.Map: regular, 1 tokens, 1 sources>
 
-        Bytes and writable buffers are not copied. Do not change a buffer during the call.
+        Raises an error of `sourcemap.errors` if this is no map. Bytes, and writable buffers that are contiguous, are
+        not copied. Do not change a buffer during the call.
         """
         return cls(data)
 
     @classmethod
     def from_data_url(cls: Type[AnyMap], url: str) -> AnyMap:
-        """Reads the map in a `data:` URL.
+        """Reads the map in a `data:` URL. Raises `InvalidDataUrl` if it is no data URL of a map, else as `loads`.
 
         >>> import sourcemap
         >>> map = sourcemap.Map.from_data_url('data:application/json;base64,eyJtYXBwaW5ncyI6IkEifQ==')
@@ -133,22 +135,22 @@ class Map(HandleOwner):
 
     def _begin(self) -> None:
         super()._begin()
-        # what one lookup asks and finds
+        # the structs of one lookup: its position, and its answer
         self._position = bytearray(POSITION.size)
         self._position_at = byref((c_char * POSITION.size).from_buffer(self._position))
         self._found = bytearray(FOUND.size)
         self._found_at = byref((c_char * FOUND.size).from_buffer(self._found))
 
     def _opened(self: AnyMap) -> AnyMap:
-        """Begins to use a handle that was just filled, or holds another map now."""
+        """Reads the kind and drops the cached texts, after the handle was filled or its map changed."""
         self._kind = _KINDS[library.kind(self._at)]
         self._sources = _Cached(library.source, self._at)
         self._names = _Cached(library.name, self._at)
         return self
 
     def share(self: AnyMap) -> AnyMap:
-        """Another map that holds the same, without a copy: each thread may have its own. A change of one is not seen
-        by the other; the first change copies what they share. `copy.copy` and `copy.deepcopy` do the same."""
+        """Another `Map` with the same content, without a copy, such as for another thread. A change of one is not seen
+        by the other: the first change copies what they share. `copy.copy` and `copy.deepcopy` do the same."""
         other = self._empty()
         self._run(library.share, other._at)
         return other._opened()
@@ -184,7 +186,7 @@ class Map(HandleOwner):
         return counts
 
     def _counted(self, what: str) -> int:
-        """How many of these the map has, if a map of its kind can have any."""
+        """How many of these the map has; `WrongKind` of an index map."""
         counts = self._counts()
         if self._kind == 'index':
             raise errors.WrongKind(_INDEX_HAS_NONE.format(what))
@@ -199,7 +201,7 @@ class Map(HandleOwner):
 
     @property
     def file(self) -> Optional[str]:
-        """The name of the generated file. May be set; None removes it."""
+        """The name of the generated file; None if the map names none. May be set; None removes it."""
         return self._text(library.file)
 
     @file.setter
@@ -208,7 +210,7 @@ class Map(HandleOwner):
 
     @property
     def source_root(self) -> Optional[str]:
-        """What `sources` are resolved against. May be set; None removes it."""
+        """What `sources` are resolved against; None if the map has no `sourceRoot`. May be set; None removes it."""
         return self._text(library.source_root)
 
     @source_root.setter
@@ -217,7 +219,7 @@ class Map(HandleOwner):
 
     @property
     def debug_id(self) -> Optional[uuid.UUID]:
-        """The debug id. May be set; None removes it."""
+        """The debug id; None if there is none. May be set; None removes it."""
         id = library.DebugId()
         return uuid.UUID(bytes=bytes(id.bytes)) if self._read(library.get_debug_id, byref(id)) else None
 
@@ -227,21 +229,21 @@ class Map(HandleOwner):
 
     @property
     def sources(self) -> Sequence[str]:
-        """The sources by id, resolved against `source_root`. Each is read on first use.
+        """The sources by id, resolved against `source_root`. Each is read when it is used.
 
-        Like `names`, `contents`, `ignore_list` and the tokens, an index map has none of its own, and raises
-        `WrongKind`: look at its sections, or flatten it.
+        An index map has no sources, names, contents, ignore list and tokens of its own: to read them raises
+        `WrongKind`. Look at its sections, or flatten it.
         """
         return LazySequence(lambda: self._counted('sources'), self._source)
 
     @property
     def names(self) -> Sequence[str]:
-        """The names by id. Each is read on first use."""
+        """The names by id. Each is read when it is used."""
         return LazySequence(lambda: self._counted('names'), self._name)
 
     @property
     def contents(self) -> Sequence[Optional[str]]:
-        """The contents of each source, by its id; None if the map has none. Each is read on first use."""
+        """The contents of each source, by its id; None for a source without contents. Each is read when it is used."""
         return LazySequence(lambda: self._counted('sources'), lambda id: self._text(library.contents, id))
 
     def _source(self, id: int) -> str:
@@ -267,13 +269,13 @@ class Map(HandleOwner):
 
     @property
     def sections(self) -> Tuple[Section, ...]:
-        """The sections of an index map; none of other maps. They stay as they are when the map is changed."""
+        """The sections of an index map; empty for other maps. They stay as they are when the map is changed."""
         index = self.share()
         return tuple(Section(index, id) for id in range(index._counts().sections))
 
     @property
     def module_offsets(self) -> Optional[Tuple[Optional[int], ...]]:
-        """Of the index map of a RAM bundle the line at which each module begins, None for a number without a module.
+        """Of the index map of a RAM bundle: the line at which each module begins, None for a number without a module.
         None if the index map has no such list; `WrongKind` of other maps."""
         lines: List[Optional[int]] = []
         block = (c_uint32 * BLOCK)()
@@ -286,8 +288,8 @@ class Map(HandleOwner):
 
     @property
     def module_paths(self) -> Tuple[str, ...]:
-        """Of the index map of a RAM bundle the paths of its modules, none if it has no such list; `WrongKind` of other
-        maps."""
+        """Of the index map of a RAM bundle: the paths of its modules. Empty if it has no such list; `WrongKind` of
+        other maps."""
         paths: List[str] = []
         while (path := self._text(library.module_path, len(paths))) is not None:
             paths.append(path)
@@ -316,8 +318,8 @@ class Map(HandleOwner):
         return self.tokens()
 
     def tokens(self) -> Iterator[Token]:
-        """The tokens in order, read in blocks. They are those of the map at the time of the call: a change or `close`
-        meanwhile does not matter."""
+        """An iterator over the tokens in order. It has those of the map at the time of the call: a later change or
+        `close` does not matter."""
         self._counted('tokens')
         return self._read_tokens(self.share())
 
@@ -336,7 +338,7 @@ class Map(HandleOwner):
                 first += count
 
     def _tokens_of(self, rows: Iterable[Tuple[Any, ...]]) -> List[Any]:
-        """Tokens of the fields that stand in an sm_token or an sm_found."""
+        """Tokens, each made of the fields of an sm_token or an sm_found."""
         with self._lock:
             return list(starmap(self._token, rows))
 
@@ -369,8 +371,8 @@ class Map(HandleOwner):
 
     def lookup(self, line: int, column: int) -> Optional[Token]:
         """The closest token to a generated position: the first one at the position, or else the last one before it,
-        whichever line that is on. None if there is none. In an index map the section answers that begins last
-        at the position or before it.
+        whichever line that is on. None if there is none. The `column` of a range token on the line looked up counts on
+        to the position. In an index map the section answers that begins last at the position or before it.
 
         >>> import sourcemap
         >>> map = sourcemap.Map.load('bundle.js.map')
@@ -420,8 +422,9 @@ class Map(HandleOwner):
         >>> map.lookup_many(array('I', [0, 5, 0, 18])).lines.tolist()
         [0, 2]
 
-        Positions are pairs, or a buffer of uint32 with a line and a column of each, such as an `array('I')` or a
-        memoryview: it is passed on as it is. Do not change it during the call.
+        Positions are pairs, or a buffer of uint32 with the line and the column of each in turn, such as an `array('I')`
+        or a memoryview. A buffer is not copied if it is writable, contiguous and aligned. Do not change it during the
+        call.
         """
         words = words_of(positions)
         count = words.nbytes // POSITION.size
@@ -437,8 +440,8 @@ class Map(HandleOwner):
         return Answers(shared._opened(), copied, memoryview(found)[:count * FOUND.size])
 
     def trace(self, positions: str) -> str:
-        """The answers to a list of positions, LINE:COLUMN on each line: for each a line SOURCE:LINE:COLUMN, with
-        ` name=NAME` if there is a name, or `none`, or `bad position`.
+        """The answers to a list of positions, LINE:COLUMN on each line, both counted from 0: for each a line
+        SOURCE:LINE:COLUMN, with ` name=NAME` if there is a name, or `none`, or `bad position`.
 
         >>> import sourcemap
         >>> map = sourcemap.Map.load('bundle.js.map')
@@ -453,8 +456,8 @@ class Map(HandleOwner):
     def function_name(self, line: int, column: int, minified: str = '', view: Optional[View] = None) -> Optional[str]:
         """The name of the function that contains a generated position; None if it is not known.
 
-        A Hermes map has it itself, for line 0. Of other maps it is guessed from the generated text in `view` and the
-        minified name of the function.
+        A Hermes map has the names itself, for line 0. With other maps the name is guessed from the generated text in
+        `view` and the minified name of the function.
         """
         line, column = uint32('line', line), uint32('column', column)
         text = View('') if view is None else view
@@ -463,8 +466,8 @@ class Map(HandleOwner):
             return self._text(library.function_name, line, column, *pointer_to(minified), text._at)
 
     def hermes_function_name(self, offset: int) -> Optional[str]:
-        """The name of the function at an offset of the bytecode, of a Hermes map; None where it is not known.
-        `WrongKind` of any other map."""
+        """Of a Hermes map: the name of the function at an offset of the bytecode; None if it is not known. `WrongKind`
+        of any other map."""
         return self._text(library.hermes_function_name, uint32('offset', offset))
 
     # Changes
@@ -475,9 +478,12 @@ class Map(HandleOwner):
             self._opened()
 
     def rewrite(self, *, names: bool = True, contents: bool = True, strip_prefixes: Iterable[str] = ()) -> None:
-        """Keeps only the sources, names and contents that tokens use, in the order of their first use; the root and
-        the ignore list go. Names or contents go too on request. From each source it cuts the first of the prefixes that
-        the source begins with; `'~'` means the prefix that all sources have in common, and comes last.
+        """Keeps only the sources, names and contents that tokens use, in the order of their first use. Sources are
+        resolved against `source_root`, which is removed, as is the ignore list. With `names=False` the names are
+        removed, with `contents=False` the contents. Raises `WrongKind` of an index map.
+
+        From each source the first of `strip_prefixes` that it begins with is cut, completed by `/`. The prefix `'~'`
+        means the longest folder that all sources which are absolute paths have in common, and is tried last.
 
         >>> import sourcemap
         >>> map = sourcemap.Map.loads('{"version":3,"sources":["/x/a.js","/x/b.js"],"names":[],"mappings":"ACAA"}')
@@ -489,7 +495,9 @@ class Map(HandleOwner):
         self._change(library.rewrite, names, contents, array_of(prefixes), len(prefixes))
 
     def flatten(self) -> None:
-        """Makes an index map the regular map that answers alike. Share it before if you need both:
+        """Turns an index map into a regular map. If each section and all of its tokens come before the next section,
+        the regular map answers wherever the index map does, and the same. Raises `CannotFlatten` if that is impossible,
+        and `WrongKind` of other maps. Use `share` before if you need both:
 
         >>> import sourcemap
         >>> index = sourcemap.Map.loads('{"version":3,"sections":[{"offset":{"line":2,"column":0},'
@@ -502,30 +510,32 @@ class Map(HandleOwner):
         self._change(library.flatten)
 
     def compose(self, later: Map) -> None:
-        """Adjusts a regular map by the regular map of a later text that was made of this map's text: positions of the
-        later text then answer with sources of this map."""
+        """Adjusts this regular map by `later`, the regular map of a later text that was made of this map's generated
+        text. The map then maps positions of the later text to the sources of this map. `IncompatibleSourceMap` if a
+        token would pass column 4294967295; `WrongKind` if either map is not regular."""
         with later.share() as shared:
             self._change(library.compose, shared._at)
 
     def shift(self, lines: int) -> None:
-        """Moves each section of an index map so many lines further down. `PastLimit` if one would pass the last
-        line."""
+        """Moves each section of an index map so many lines further down. `PastLimit` if one would pass line 4294967295;
+        `WrongKind` of other maps."""
         self._change(library.shift, uint32('lines', lines))
 
     def set_source(self, id: int, text: str) -> None:
-        """Sets the source of this id; without its root, as it is written."""
+        """Sets the text of the source of this id, before it is resolved against `source_root`. `Absent` if there is no
+        such source."""
         self._change(library.set_source, uint32('id', id), *pointer_to(text))
 
     def set_contents(self, id: int, text: Optional[str]) -> None:
-        """Sets the contents of the source of this id; None removes them."""
+        """Sets the contents of the source of this id; None removes them. `Absent` if there is no such source."""
         self._change(library.set_contents, uint32('id', id), *optional(text))
 
     def ignore_source(self, id: int) -> None:
-        """Puts the source of this id on the ignore list."""
+        """Puts the source of this id on the ignore list. `Absent` if there is no such source."""
         self._change(library.ignore_source, uint32('id', id))
 
     def remove_names(self) -> None:
-        """Removes all names."""
+        """Removes all names. Tokens keep their name ids, which then name nothing."""
         self._change(library.remove_names)
 
     # Writing
@@ -538,8 +548,8 @@ class Map(HandleOwner):
     def dumps(self) -> bytes:
         """The map as JSON, in UTF-8.
 
-        A token on line L is written after L bytes of `;`, 4 GB at the most: look at the last token before you write a
-        map of a stranger.
+        A token on line L is written after L bytes of `;`, up to 4 GB: look at the last token before you write an
+        untrusted map.
         """
         return self._written(library.write)
 

@@ -1,4 +1,4 @@
-"""Texts of an object by number, read on first use."""
+"""Sequences of the texts of an object, which are read when they are used."""
 from __future__ import annotations
 
 import operator
@@ -8,7 +8,7 @@ Item = TypeVar('Item')
 
 
 class LazySequence(Sequence[Item]):
-    """A sequence whose items are read on first use. It compares equal to any sequence of equal items."""
+    """A sequence whose items are read each time that they are used. It is equal to any sequence of equal items."""
 
     def __init__(self, count: Callable[[], int], read: Callable[[int], Item]) -> None:
         self._count = count
@@ -43,7 +43,7 @@ class LazySequence(Sequence[Item]):
 
 
 def position_in(items: Sequence[object], index: int) -> int:
-    """The number of an item, counted from 0, also where it was counted from the end."""
+    """The number of an item, counted from 0; a negative `index` counts from the end. `IndexError` if there is none."""
     number = operator.index(index)
     count = len(items)
     if number < 0:

@@ -17,7 +17,7 @@ if TYPE_CHECKING:
 Position = Tuple[int, int]
 Positions = Union[Iterable[Position], memoryview, 'array[int]']
 
-# the structs sm_token and sm_found: six numbers, whether it is a range token, and whether it was found
+# the structs sm_token, sm_found and sm_position
 TOKEN = struct.Struct('=6I?3x')
 FOUND = struct.Struct('=6I?3x?3x')
 POSITION = struct.Struct('=2I')
@@ -28,12 +28,15 @@ class Token(NamedTuple):
     """What a generated position maps to. Lines and columns count from 0, columns in UTF-16 units.
 
     `source`, `line` and `column` are the original position; all are None of a token without a source. The source is
-    resolved against `source_root`. `name` is the name there in the source, or None. A token with
-    `is_range` maps what follows it too, column by column.
+    resolved against `source_root`. `name` is the name there in the source, or None. A token with `is_range` also maps
+    the columns up to the next token, one by one.
 
     `generated_line` and `generated_column` are the generated position of the token itself, which may be before the
-    position looked up. `source_id` and `name_id` are the numbers in `Map.sources` and `Map.names`, or None; of an
-    index map they are None, since it has no sources of its own.
+    position looked up. In an index map they count from the beginning of the section that answers.
+
+    `source_id` and `name_id` are indexes into `Map.sources` and `Map.names`, or None; of an index map they are None,
+    since it has no sources of its own. An id may name nothing: a `name_id` after `Map.remove_names`, or any id of a map
+    that was built.
 
     >>> import sourcemap
     >>> with sourcemap.Map.load('bundle.js.map') as map:
@@ -67,8 +70,8 @@ make_token = cast(Callable[[Tuple[Any, ...]], Token], partial(tuple.__new__, Tok
 
 
 def words_of(positions: Positions) -> memoryview:
-    """Positions as the library takes them: a line and a column, one position after another. A buffer of uint32 is
-    taken as it is."""
+    """The positions as uint32 numbers for the library: the line and the column of each in turn. A buffer of uint32 is
+    not copied here."""
     try:
         view = memoryview(positions)  # type: ignore[arg-type]
     except TypeError:
@@ -97,9 +100,9 @@ class Answers(Sequence[Optional[Token]]):
     """The answers to many positions, in their order: a sequence of `Optional[Token]`, whose items are made when they
     are read. They stay as they are when the map is changed or closed.
 
-    The columns of all answers are there without a copy, as memoryviews, for those who compute with them. Where
-    `found` is false, the other columns are 0; a source or name that is missing is `NONE`, 4294967295, and so are the
-    line and the column without a source.
+    Each property is a memoryview of one field of all answers, without a copy. Where `found` is false, the other fields
+    are 0. The id of a source or name that is missing is `NONE`, 4294967295, and so are the line and the column of a
+    token without a source.
 
     >>> import sourcemap
     >>> with sourcemap.Map.load('bundle.js.map') as map:
@@ -111,7 +114,7 @@ class Answers(Sequence[Optional[Token]]):
     """
 
     def __init__(self, map: Map, positions: Optional[bytes], found: memoryview) -> None:
-        """Made by `Map.lookup_many`. An index map needs the positions again, for the texts of their tokens."""
+        """Made by `Map.lookup_many`. Of an index map `positions` serve to read the texts of tokens; else it is None."""
         self._map = map
         self._positions = positions
         self._found = found.toreadonly()
@@ -124,22 +127,22 @@ class Answers(Sequence[Optional[Token]]):
 
     @property
     def found(self) -> memoryview:
-        """Of each position whether there is a token at it or before it; items are bool."""
+        """For each position whether there is a token at it or before it, as bool."""
         return self._flags(library.Found.found.offset)
 
     @property
     def is_range(self) -> memoryview:
-        """Of each position whether a range token answers; items are bool."""
+        """For each position whether its token is a range token, as bool."""
         return self._flags(library.Token.is_range.offset)
 
     @property
     def generated_lines(self) -> memoryview:
-        """The line of each token itself."""
+        """The generated line of each token; in an index map it counts from the section that answers."""
         return self._numbers(library.Token.line.offset)
 
     @property
     def generated_columns(self) -> memoryview:
-        """The column of each token itself."""
+        """The generated column of each token; in an index map it counts as `Token.generated_column` does."""
         return self._numbers(library.Token.column.offset)
 
     @property
@@ -154,12 +157,12 @@ class Answers(Sequence[Optional[Token]]):
 
     @property
     def source_ids(self) -> memoryview:
-        """The number of each source in `Map.sources`; of an index map, in the map of the section that answers."""
+        """The index of each source in `Map.sources`; of an index map, in the map of the section that answers."""
         return self._numbers(library.Token.source.offset)
 
     @property
     def name_ids(self) -> memoryview:
-        """The number of each name in `Map.names`; of an index map, in the map of the section that answers."""
+        """The index of each name in `Map.names`; of an index map, in the map of the section that answers."""
         return self._numbers(library.Token.name.offset)
 
     def __len__(self) -> int:

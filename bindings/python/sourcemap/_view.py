@@ -55,7 +55,8 @@ class View(HandleOwner, Sequence[str]):
         return self._text(library.view_line, uint32('line', number)) or ''
 
     def slice(self, line: int, column: int, span: int) -> Optional[str]:
-        """The part of a line from a column on, `span` UTF-16 units long; None where the line does not have it."""
+        """The part of a line from a column on, `span` UTF-16 units long; None if there is no such line or it ends
+        before. A column within a surrogate pair counts as the one after the pair."""
         return self._text(library.view_slice, uint32('line', line), uint32('column', column), uint32('span', span))
 
     def __repr__(self) -> str:
@@ -63,15 +64,16 @@ class View(HandleOwner, Sequence[str]):
 
 
 class Reference(NamedTuple):
-    """The reference to its map that a generated text carries: the URL as written there, and whether its comment
-    begins with `//@`."""
+    """The reference in a generated text to its map: the URL as written there, and whether its comment begins with
+    `//@`."""
 
     url: str
     is_legacy: bool
 
 
 def locate_reference(text: Data) -> Optional[Reference]:
-    """The reference to its map that a generated text carries; None where it carries none.
+    """The first reference in a generated text to its map; None if there is none. `Io` if a line up to there is not
+    UTF-8.
 
     >>> import sourcemap
     >>> sourcemap.locate_reference('run();\\n//# sourceMappingURL=run.js.map\\n')
@@ -87,7 +89,8 @@ def locate_reference(text: Data) -> Optional[Reference]:
 
 
 def resolve(url: str, base: str) -> Optional[str]:
-    """The URL that a reference leads to from the URL of its text; None where it leads nowhere.
+    """The URL that a reference leads to from the URL of its text. None if it leads nowhere, such as a `data:` URL, or
+    if `base` is no URL.
 
     >>> import sourcemap
     >>> sourcemap.resolve('../m/a.js.map', 'http://localhost/x/y/a.js')
@@ -97,7 +100,8 @@ def resolve(url: str, base: str) -> Optional[str]:
 
 
 def resolve_path(url: str, path: str) -> Optional[str]:
-    """The path that a reference leads to from the absolute path of its text; None where it leads nowhere.
+    """The path that a reference leads to from the path of its text. None if it leads to no path, such as a `data:` URL
+    or a URL that is not of a file, or if `path` does not begin with `/`.
 
     >>> import sourcemap
     >>> sourcemap.resolve_path('../m/a.js.map', '/x/y/a.js')

@@ -1,6 +1,6 @@
-"""What a call raises where it fails: a class for each error of the library.
+"""The exceptions that calls raise: a class for each error of the library.
 
-All but `MemoryError`, which is Python's own, are a `SourceMapError`:
+Each is a subclass of `SourceMapError`. If memory runs out, Python's own `MemoryError` is raised instead.
 
     >>> import sourcemap
     >>> try:
@@ -26,8 +26,8 @@ __all__ = [
 class SourceMapError(Exception):
     """Any error of the library.
 
-    `code` is its number in `sourcemap.h`, `str(error)` the text that the library prints. `number` is what the error
-    is about, where it is about a number: its class says which.
+    `code` is its number in `sourcemap.h`, and `str(error)` is its text. Some errors have a `number`, such as the id of
+    a source that does not exist: their classes say what it is. It is None for the others.
     """
 
     code: ClassVar[int] = 0
@@ -134,7 +134,7 @@ class InvalidRamBundleEntry(SourceMapError, ValueError):
 
 
 class NotARamBundle(SourceMapError, ValueError):
-    """There is no bundle, or the index map is not one of a bundle."""
+    """The index map is not one of a bundle: it has no `module_offsets`."""
 
     code = 17
 
@@ -158,7 +158,7 @@ class Absent(SourceMapError, LookupError):
 
 
 class WrongKind(SourceMapError, TypeError):
-    """The object has no such call, as an index map has no tokens of its own."""
+    """The call is not possible on a map of this kind: an index map, for example, has no tokens of its own."""
 
     code = 33
 
@@ -174,14 +174,14 @@ _WITH_NUMBER = (BadJson, BadSegmentSize, BadSourceReference, BadNameReference, I
 
 
 def of_code(code: int) -> Union[SourceMapError, MemoryError]:
-    """The exception for a code that came without a text, which is one of two."""
+    """The exception for a code without a text: memory ran out, or the object is of the wrong kind."""
     if code == library.OUT_OF_MEMORY:
         return MemoryError('out of memory')
     return _CLASSES[code]('the object is of a kind that has no such call')
 
 
 def of_error(error: library.Error) -> Union[SourceMapError, MemoryError]:
-    """The exception for what a call wrote of its failure. A text longer than the struct holds ends in `...`."""
+    """The exception for an sm_error. A text that is too long for the struct is cut, and ends in `...`."""
     kept = min(error.text_length, len(error.text) - 1)
     text = bytes(error.text[:kept]).decode(errors='ignore') + ('...' if kept < error.text_length else '')
     if error.code == library.OUT_OF_MEMORY:

@@ -1,7 +1,7 @@
 """`python -m sourcemap page`: an HTML file that shows a generated text and its sources side by side.
 
-The file needs no network. It holds the texts and the mappings as the library writes them; a script in it draws the
-lines that can be seen.
+The file works without a network. It holds the texts, and the mappings as the library writes them. A script in it draws
+the lines that can be seen.
 """
 
 from __future__ import annotations
@@ -18,14 +18,14 @@ from ._map import Map
 
 TEMPLATE = Path(__file__).with_name('page.html')
 
-# The mappings have a byte for each line up to that of the last token, which a map may put anywhere.
+# The text of the mappings has a byte for each line up to that of the last token, which may be any line.
 LAST_LINE = 10_000_000
 
 
 def page_text(name: str, generated: str, map: Map) -> str:
-    """The HTML of a page of a generated text, and of a map that is no index map. `name` is its title."""
+    """The HTML of the page of a generated text and its map, which is no index map. `name` is the title."""
     before, _, rest = TEMPLATE.read_text('utf-8').replace('{{TITLE}}', html.escape(name)).partition('{{DATA}}')
-    # In a script element `<` begins what may end it; in JSON it occurs only in strings.
+    # In a script element `<` may begin its end tag. In JSON it occurs only in strings.
     data = json.dumps(_page_data(generated, map), ensure_ascii=False, separators=(',', ':')).replace('<', '\\u003c')
     return f'{before}{data}{rest}'
 

@@ -1,7 +1,7 @@
 """`python -m sourcemap stack`: a JavaScript stack trace with original positions.
 
-The name of a frame's function is that of the function, where the library can tell it from the generated text. The
-name of the token at the position would be another one: that of the expression there, mostly of what is called.
+A frame is printed with the original name of its function, if the library finds that from the generated text. The name
+of the token at the position is not used: it names the expression there, mostly the function that is called.
 """
 
 from __future__ import annotations
@@ -19,7 +19,7 @@ from ._tokens import Token
 from ._view import View
 from .errors import SourceMapError
 
-# Of longer lines of a source only these many characters are printed, around the column.
+# Of a longer line of a source only this many characters are printed, around the column.
 LONGEST_LINE = 100
 
 
@@ -32,7 +32,7 @@ class Original(NamedTuple):
     column: Optional[int]
 
     def location(self) -> str:
-        """The position as an editor takes it: lines and columns count from 1."""
+        """The position as editors read it: the line and the column count from 1."""
         text = f'{printable(self.source)}:{self.line + 1}'
         return text if self.column is None else f'{text}:{self.column + 1}'
 
@@ -47,10 +47,10 @@ class Translator:
         self._context = context
         self._contents: Dict[Tuple[Map, int], Optional[View]] = {}
         self.frames = 0
-        """How many lines were frames so far, also those without a map."""
+        """How many of the lines so far were frames, those without a map included."""
 
     def translate(self, line: str) -> List[str]:
-        """What is printed for a line: the line itself where it is no frame, or one without a map."""
+        """The lines to print for a line: the line itself if it is no frame, or has no original position."""
         frame = parse_frame(line)
         if frame is None:
             return [line]
@@ -71,7 +71,7 @@ class Translator:
         return [text, *self._excerpt(frame, generated.map, original)]
 
     def _position(self, frame: Frame) -> Optional[Tuple[int, Optional[int]]]:
-        """The generated position of a frame, counted from 0; None if it is out of what a map can have."""
+        """The generated position of a frame, counted from 0; None if it is out of range for a map."""
         line = frame.line - FIRST_LINE
         column = None if frame.column is None else frame.column - self._columns_from
         return (line, column) if 0 <= line < NONE and (column is None or 0 <= column < NONE) else None
@@ -92,8 +92,8 @@ class Translator:
 
 
 def original_position(map: Map, line: int, column: Optional[int]) -> Optional[Original]:
-    """The original position of a generated one, counted from 0. A token of another line says nothing of this one,
-    unless it is a range token."""
+    """The original position of a generated one, both counted from 0. A token of an earlier line counts only if it is a
+    range token."""
     if column is None:
         return only_original_line(map, line)
     token = map.lookup(line, column)
@@ -108,7 +108,8 @@ def original_of(token: Token) -> Optional[Original]:
 
 
 def only_original_line(map: Map, line: int) -> Optional[Original]:
-    """The original line of a generated line, if all of its tokens that have a source come from that one."""
+    """The original line of a generated line, if all of its tokens with a source come from that line. Of several tokens
+    at one position only one is looked at."""
     found = None
     token = map.lookup(line, NONE)
     while token is not None and token.generated_line == line:
@@ -123,7 +124,7 @@ def only_original_line(map: Map, line: int) -> Optional[Original]:
 
 
 def original_function(frame: Frame, generated: Generated, line: int, column: int) -> Optional[str]:
-    """The original name of a frame's function, None where the library can't tell it."""
+    """The original name of a frame's function; None if the library does not find it."""
     minified = frame.function()
     return None if minified is None else generated.map.function_name(line, column, minified, generated.view)
 
@@ -146,17 +147,17 @@ def excerpt(view: View, line: int, column: Optional[int], context: int) -> List[
 
 
 def shortened(line: str, start: int) -> str:
-    """A piece of a line of a source that fits into a line of a terminal."""
+    """The piece of a source line from `start` on that is printed, with spaces for tabs."""
     return printable(line[start : start + LONGEST_LINE].expandtabs(4))
 
 
 def printable(text: str) -> str:
-    """The text without what a terminal might take for a command."""
+    """The text with U+FFFD for each character that a terminal might take for a command."""
     return ''.join(unit if unit.isprintable() else '\N{REPLACEMENT CHARACTER}' for unit in text)
 
 
 def translate_lines(lines: Iterable[str], translator: Translator) -> Iterator[str]:
-    """Translates a trace line by line. Lines keep their ends; those that are added get that of their frame."""
+    """Translates a trace line by line. Lines keep their ends; a line that is added ends like the one of its frame."""
     for line in lines:
         text = line.rstrip('\r\n')
         end = line[len(text) :]

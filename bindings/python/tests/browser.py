@@ -1,4 +1,4 @@
-"""Headless Chromium, by its debugging protocol over two pipes."""
+"""Headless Chromium, driven by its debugging protocol over two pipes."""
 
 from __future__ import annotations
 
@@ -54,7 +54,7 @@ class Browser:
         ]
         if os.geteuid() == 0:
             words.insert(1, '--no-sandbox')
-        # the shell puts the pipes to the numbers that the browser expects
+        # the shell moves the pipes to the descriptors that the browser expects
         process = subprocess.Popen(
             ['sh', '-c', f'exec "$0" "$@" 3<&{commands} 4>&{answers}', *words],
             stdin=subprocess.DEVNULL, stdout=subprocess.DEVNULL, stderr=subprocess.DEVNULL,
@@ -65,7 +65,7 @@ class Browser:
         return process
 
     def call(self, method: str, **parameters: Any) -> Dict[str, Any]:
-        """The answer to a command of the protocol."""
+        """Sends a command of the protocol, and returns its answer."""
         self._last += 1
         message: Dict[str, Any] = {'id': self._last, 'method': method, 'params': parameters}
         if self._session is not None:
@@ -153,7 +153,7 @@ class Browser:
         self.call('Input.insertText', text=text)
 
     def screenshot(self, path: Path) -> None:
-        """Writes what is seen as PNG."""
+        """Writes a PNG of the visible part of the page."""
         path.write_bytes(base64.b64decode(self.call('Page.captureScreenshot', format='png')['data']))
 
     def close(self) -> None:

@@ -1,6 +1,6 @@
-/* A library between the package and the real one. It stops the
-** program where a call breaks what the header asks of its callers. calls.h,
-** which owed.py writes, has all functions of the header. */
+/* A library between the package and the real one. It aborts the program if a
+** call breaks what the header asks of its callers. owed.py writes calls.h, with
+** all functions of the header. */
 #include <dlfcn.h>
 #include <pthread.h>
 #include <stdio.h>

@@ -18,7 +18,7 @@ def build(folder):
 
 
 def function(name, result, parameters):
-    """A function that checks its arguments, and then makes the real call."""
+    """The C text of a function that checks its arguments, and then makes the real call."""
     pointers = [(kind.replace('const', '').strip(' *'), 'const' in kind, argument)
                 for kind, argument in parameters if '*' in kind]
     handles = [argument for base, _, argument in pointers if base in HANDLES]
@@ -36,7 +36,7 @@ def function(name, result, parameters):
 
 
 def checks(pointers, parameters):
-    """What is to hold of the arguments, and what is wrong otherwise."""
+    """Conditions on the arguments, each with the message if it does not hold."""
     sizes = {}
     for base, is_const, argument in pointers:
         yield f'{argument} != NULL', f'{argument} is null'
@@ -52,6 +52,6 @@ def checks(pointers, parameters):
 
 
 def count_of(argument, parameters):
-    """How many values an argument points to: as the size_t after it says, if there is one."""
+    """How many values an argument points to: as many as the size_t parameter after it says, else 1."""
     after = dict(zip((each for _, each in parameters), parameters[1:])).get(argument, ('', ''))
     return after[1] if after[0].strip() == 'size_t' else '1'

@@ -24,7 +24,7 @@ MODULES = [sourcemap] + [importlib.import_module(f'sourcemap.{each.name}')
 
 class Examples(unittest.TestCase):
     def test_docstrings(self):
-        """They read `bundle.js.map`, which is the example of the repository."""
+        """They read `bundle.js.map`, a copy of `examples/readme.map`."""
         folder = tempfile.TemporaryDirectory()
         self.addCleanup(folder.cleanup)
         shutil.copy(EXAMPLES / 'readme.map', Path(folder.name, 'bundle.js.map'))

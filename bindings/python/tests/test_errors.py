@@ -1,4 +1,4 @@
-"""Each error, raised by a call where a call of this package can."""
+"""Each error, raised by a call if any call of this package can raise it."""
 import subprocess
 import sys
 import unittest
@@ -48,7 +48,7 @@ RAISED = [
     (errors.PastLimit, 34, None, None, lambda: Map.loads(TWO_SECTIONS).shift(2**32 - 1)),
 ]
 
-# no call of this package meets these: an empty segment of mappings is skipped, and the other is kept for its code
+# no call of this package raises these: an empty segment of mappings is skipped, and the other is kept for its code
 NEVER_RAISED = [errors.VlqNoValues, errors.InvalidRangeMappingIndex]
 
 OUT_OF_MEMORY = '''

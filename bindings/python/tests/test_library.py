@@ -1,4 +1,4 @@
-"""How the shared library is found, and that this package declares it as its header does."""
+"""How the shared library is found, and that the package declares its functions as the header does."""
 import ctypes
 import os
 import re
@@ -39,7 +39,7 @@ def functions():
 class Declared(unittest.TestCase):
     def test_functions(self):
         header = declared()
-        # sm_lookup_many looks up one position
+        # the package does not use sm_lookup: one position is looked up by sm_lookup_many
         self.assertEqual(set(header) - {'sm_lookup'}, {name for name, _ in functions()})
         for name, types in functions():
             with self.subTest(name):
@@ -74,7 +74,7 @@ class Declared(unittest.TestCase):
 
 
 class Found(unittest.TestCase):
-    """From a copy of the package, which has no library beside it."""
+    """These tests use a copy of the package, which has no library beside it."""
 
     def setUp(self):
         folder = tempfile.TemporaryDirectory()
@@ -140,7 +140,7 @@ class Installed(unittest.TestCase):
     @unittest.skipUnless(find_spec('pip') and find_spec('setuptools') and find_spec('wheel'),
                          'pip, setuptools or wheel is not installed')
     def test_by_pip_without_network(self):
-        """From a copy, since pip builds in the package's folder."""
+        """Installs a copy, since pip builds in the folder of the package."""
         shutil.copytree(FOLDER, f'{self.folder}/from', ignore=shutil.ignore_patterns('tests', '__pycache__'))
         run = subprocess.run([sys.executable, '-m', 'pip', 'install', '--no-build-isolation', '--no-index', '--no-deps',
                               '--disable-pip-version-check', '--target', f'{self.folder}/to', f'{self.folder}/from'],

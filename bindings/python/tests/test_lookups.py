@@ -183,7 +183,7 @@ class Tokens(unittest.TestCase):
 
 
 class LargeMap(unittest.TestCase):
-    """A map of 100,000 tokens, whose answers are found by `bisect`."""
+    """A map of about 100,000 tokens; `bisect` finds the expected answers."""
 
     COUNT = 100_000
 

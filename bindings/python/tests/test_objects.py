@@ -136,7 +136,7 @@ class Threads(unittest.TestCase):
     COUNT = 4
 
     def in_threads(self, run):
-        """What each thread returned."""
+        """Calls `run` in each of some threads; returns what each call returned."""
         results = [None] * self.COUNT
 
         def each(number):
@@ -183,7 +183,7 @@ class Threads(unittest.TestCase):
         self.assertEqual([f'{number}.js' in each for number, each in enumerate(seen)], self.COUNT * [True])
 
     def test_calls_of_two_objects(self):
-        """Those that use each other's objects at once do not wait for each other for ever."""
+        """Threads that use the same two objects in opposite order do not deadlock."""
         maps = [Map.loads(regular('AAAA')) for _ in range(2)]
         view = View('a')
 

@@ -31,7 +31,7 @@ BROKEN = {
     'sm_flatten: error does not begin as zeros': 'error.code = 1; library.flatten(map._at, ctypes.byref(error))',
     'sm_compose: map and adjustment overlap': 'library.compose(map._at, map._at, ctypes.byref(error))',
     'sm_tokens: tokens is not aligned': 'library.tokens(map._at, 0, ctypes.byref(ctypes.create_string_buffer(64), 1), 1)',
-    # either of the two threads may find it
+    # either of the two threads may report it
     'sm_(kind|write): the handle is in use': 'meanwhile(lambda: library.kind(map._at))',
 }
 

@@ -52,7 +52,7 @@ def vlq(number: int) -> str:
 
 
 class InFolder(unittest.TestCase):
-    """Tests with a folder of their own."""
+    """Tests with a temporary folder."""
 
     def setUp(self) -> None:
         folder = tempfile.TemporaryDirectory()
@@ -120,7 +120,7 @@ class Written(InFolder):
         self.assertEqual(data['mappings'], json.loads(example.MAP)['mappings'] + ';GCRA')
 
     def test_text_of_scripts(self) -> None:
-        """No text ends the script that holds it, and all come back as they were."""
+        """No text ends the script element that holds it, and all texts are read back unchanged."""
         path = self.write_page(HOSTILE_GENERATED, HOSTILE_MAP, '<script>{{DATA}}')
         text = path.read_bytes().decode('utf-8')
         self.assertEqual(text.count('</script>'), 2)

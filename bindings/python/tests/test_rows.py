@@ -1,4 +1,4 @@
-"""Answers that were worked out by hand for the whole library, by the calls of this package."""
+"""Answers of the library that were worked out by hand, by the calls of this package."""
 import json
 import unittest
 

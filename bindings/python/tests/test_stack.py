@@ -28,7 +28,7 @@ FOLDER = Path(__file__).resolve().parents[1]
 
 Read = Tuple[Optional[str], str, int, Optional[int]]
 
-# A line, and what is read from it: the function, the file, the line and the column; None of a line without a frame.
+# A line, and what is read from it: the function, the file, the line and the column; None if the line is no frame.
 LINES: List[Tuple[str, Optional[Read]]] = [
     # V8
     ('    at fn (/srv/a.js:1:21)', ('fn', '/srv/a.js', 1, 21)),
@@ -192,7 +192,7 @@ class Lines(unittest.TestCase):
 
 
 class Traces(unittest.TestCase):
-    """Whole traces, with files in a folder of their own."""
+    """Whole traces, with files in a temporary folder."""
 
     def setUp(self) -> None:
         folder = tempfile.TemporaryDirectory()
@@ -299,7 +299,7 @@ class Traces(unittest.TestCase):
         self.assertEqual(translator.translate('a@dist/app.min.js:1:21')[0], 'readAll@../src/app.js:2:9')
 
     def test_without_a_root(self) -> None:
-        """A path is taken unchanged, and then by its ends below the current folder."""
+        """A path is tried unchanged first, and then by its ends below the current folder."""
         rows = [
             f'@{self.generated}:1:21',
             f'@{self.generated.as_uri()}:1:21',
@@ -335,7 +335,7 @@ class Traces(unittest.TestCase):
         self.assertEqual(self.translated('n@dist/app.min.js:1:62\n'), 'main@../src/app.js:6:3\n')
 
     def test_faulty_map(self) -> None:
-        """It is reported once, and the frames stand."""
+        """It is reported once, and the frames are printed unchanged."""
         self.map.write_text('{"version":3', 'utf-8')
         errors = io.StringIO()
         with contextlib.redirect_stderr(errors):
@@ -357,7 +357,7 @@ class Traces(unittest.TestCase):
         self.assertEqual(self.translated(V8_TRACE, context=1), V8_ORIGINAL)
 
     def test_excerpt_of_a_long_line(self) -> None:
-        """The column stays in view, tabs are spaces, and nothing of a source is a command to a terminal."""
+        """The column stays in view, tabs become spaces, and characters that may command a terminal are replaced."""
         contents = '\t\U0001f600 \x1b[31m' + 'x' * 500
         # 0:0 -> 0:4, the escape; 0:1 -> 0:409, the 401st x
         fields = {'sources': ['x.js'], 'sourcesContent': [contents], 'names': [], 'mappings': 'AAAI,CAAqZ'}
@@ -372,7 +372,7 @@ class Traces(unittest.TestCase):
         self.assertEqual(mark.index('^'), len('    > 1 | ') + 66)
 
     def test_program(self) -> None:
-        """The word of the program, with the numbers of its options."""
+        """The command, with its options."""
         command = [sys.executable, '-m', 'sourcemap', 'stack', '--root', str(self.root), '--context', '0']
         trace = b'\xff message\n' + JAVASCRIPTCORE_TRACE.encode()
         done = subprocess.run(command, input=trace, stdout=subprocess.PIPE, check=True, cwd=FOLDER)
@@ -390,7 +390,7 @@ class Traces(unittest.TestCase):
 
     @unittest.skipIf(shutil.which('node') is None, 'no Node')
     def test_node(self) -> None:
-        """A trace that V8 prints here."""
+        """A trace that the installed Node prints."""
         done = subprocess.run(['node', str(self.generated)], stderr=subprocess.PIPE, text=True, check=False)
         self.assertIn('app.min.js:1:21)', done.stderr)
         lines = self.translated(done.stderr).splitlines()

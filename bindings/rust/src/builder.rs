@@ -23,8 +23,8 @@ const BLOCK: usize = 1024;
 /// assert_eq!(map.lookup_token(0, 9).unwrap().to_string(), "a.js:2:4 name=f");
 /// ```
 pub struct SourceMapBuilder {
-    /// Has the texts of sources, gives sources and names their ids, and takes
-    /// the tokens.
+    /// Holds the texts of sources, the ids of sources and names, and the tokens that
+    /// are not pending.
     handle: BuilderHandle,
     file: Option<Arc<str>>,
     source_root: Option<Arc<str>>,
@@ -36,7 +36,7 @@ pub struct SourceMapBuilder {
 }
 
 struct Source {
-    /// The text that has the id.
+    /// The text that was added, by which the id is found.
     added: Arc<str>,
     contents: Option<Arc<str>>,
 }
@@ -82,7 +82,8 @@ impl SourceMapBuilder {
         builder
     }
 
-    /// Adds a source with this id, also if another one has its text.
+    /// Adds a source with this id, which is the next one, also if another source has
+    /// its text.
     fn add_distinct_source(&mut self, id: u32, source: &str) {
         let mut added = source.to_owned();
         while self.add_source(&added) != id {
@@ -130,7 +131,8 @@ impl SourceMapBuilder {
         id
     }
 
-    /// Sets the text of a source. The id stays that of the text that was added.
+    /// Sets the text of a source. [`SourceMapBuilder::add_source`] still finds the id
+    /// by the text that was added, not by this one.
     ///
     /// # Panics
     ///
@@ -145,7 +147,8 @@ impl SourceMapBuilder {
         self.handle.source(src_id)
     }
 
-    /// Puts a source on the ignore list.
+    /// Adds a source to the ignore list. An id that no source has when the map is made
+    /// is left out.
     pub fn add_to_ignore_list(&mut self, src_id: u32) {
         self.ignored.insert(src_id);
     }
@@ -169,9 +172,11 @@ impl SourceMapBuilder {
         self.get_source_contents(src_id).is_some()
     }
 
-    /// Reads contents that sources lack from local files, resolved against a
-    /// folder, itself resolved against the current folder. Files that can't be
-    /// read are left out. Returns how many were read.
+    /// Reads contents that sources lack from local files. A file is found by the text
+    /// of the source as it was added, resolved against `base_path`, which is resolved
+    /// against the current folder. Files that can't be read are left out. Returns how
+    /// many were read. Fails with [`Error::Io`](crate::Error::Io) if the current folder
+    /// is unknown.
     pub fn load_local_source_contents(&mut self, base_path: Option<&Path>) -> Result<usize> {
         let folder = local::folder(base_path)?;
         let mut loaded = 0;
@@ -248,7 +253,7 @@ impl SourceMapBuilder {
     }
 
     /// Removes from each source the first of these prefixes that it begins with.
-    /// A prefix ends with `/`, which is added where it lacks.
+    /// A `/` is added to a prefix that does not end with one.
     pub fn strip_prefixes<S: AsRef<str>>(&mut self, prefixes: &[S]) {
         must(self.handle.strip_prefixes(prefixes));
     }

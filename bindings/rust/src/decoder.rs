@@ -8,7 +8,7 @@ use crate::types::DecodedMap;
 use crate::utils::read_all;
 
 /// Reads a map of any kind from its JSON text, after a junk header if there is
-/// one. It reads to the end.
+/// one. The reader is read to its end.
 pub fn decode<R: Read>(rdr: R) -> Result<DecodedMap> {
     decode_slice(&read_all(rdr)?)
 }

@@ -26,13 +26,16 @@ impl SourceMapRef {
         }
     }
 
-    /// Returns the URL that the reference leads to from the URL of its text.
-    /// `data:` URLs lead nowhere.
+    /// Returns the URL that the reference leads to from the URL of its text. Returns
+    /// none for a `data:` URL, if `minified_url` is no URL, and perhaps for texts of
+    /// 2^28 bytes or more.
     pub fn resolve(&self, minified_url: &str) -> Option<String> {
         must(handle::resolve(self.get_url(), minified_url))
     }
 
-    /// Returns the path that the reference leads to from the path of its text.
+    /// Returns the path that the reference leads to from the path of its text. Returns
+    /// none for a URL that is not of a file, if the path is not UTF-8 or does not
+    /// begin with `/`, and perhaps for texts of 2^28 bytes or more.
     pub fn resolve_path(&self, minified_path: &Path) -> Option<PathBuf> {
         resolve_path(self.get_url(), minified_path)
     }
@@ -48,17 +51,20 @@ impl SourceMapRef {
     }
 }
 
-/// The path that a reference leads to from a path that is UTF-8.
+/// The path that a reference leads to from a path. None if that is not UTF-8.
 pub(crate) fn resolve_path(reference: &str, base: &Path) -> Option<PathBuf> {
     must(handle::resolve_path(reference, base.to_str()?)).map(PathBuf::from)
 }
 
-/// Returns the reference to its map that a generated text carries.
+/// Reads a generated text to its end, and returns its reference, as
+/// [`locate_sourcemap_reference_slice`] does.
 pub fn locate_sourcemap_reference<R: Read>(rdr: R) -> Result<Option<SourceMapRef>> {
     locate_sourcemap_reference_slice(&read_all(rdr)?)
 }
 
-/// Returns the reference to its map that a generated text carries.
+/// Returns the first reference to a map in a generated text. Fails with
+/// [`Error::Io`](crate::Error::Io) if a line is not UTF-8, and no line before it has a
+/// reference.
 ///
 /// ```
 /// use sourcemap::{locate_sourcemap_reference_slice, SourceMapRef};

@@ -14,7 +14,8 @@ pub type Result<T> = std::result::Result<T, Error>;
 /// Why a call failed.
 #[derive(Debug)]
 pub enum Error {
-    /// A reader, a writer or a file failed, or a junk header is malformed.
+    /// A reader, a writer or a file failed, a junk header is malformed, or a line of
+    /// a generated text is not UTF-8.
     Io(io::Error),
     /// A range passes the end of a RAM bundle.
     Scroll(RangeError),
@@ -42,17 +43,20 @@ pub enum Error {
     CannotFlatten(String),
     /// A RAM bundle does not begin with its magic number.
     InvalidRamBundleMagic,
-    /// A RAM bundle has no module of that number.
+    /// A RAM bundle has no module of that number, or a file in its folder of modules
+    /// is not named `NUMBER.js`.
     InvalidRamBundleIndex,
-    /// A RAM bundle's entry of a module is malformed.
+    /// A RAM bundle's entry of a module is malformed, or a bundle of files is too
+    /// large to be split.
     InvalidRamBundleEntry,
     /// There is no RAM bundle.
     NotARamBundle,
     /// No call returns it.
     InvalidRangeMappingIndex(Base64Error),
-    /// A character of a segment is no digit.
+    /// A byte of the mappings is no digit. The character is the one with its number.
     InvalidBase64(char),
-    /// Memory ran out. Nothing has changed, and the call may be made again.
+    /// Memory ran out. A map that the call borrows is unchanged, and the call may be
+    /// made again. A map that it takes by value is dropped.
     OutOfMemory,
 }
 
@@ -90,7 +94,7 @@ impl Error {
     /// The error of a library call that returned this code.
     pub(crate) fn of_call(code: ffi::Code, error: &ffi::Error) -> Error {
         match code {
-            // No call of this package hands over bytes that would be SM_UTF8.
+            // This package passes texts that are UTF-8, so SM_UTF8 does not occur.
             ffi::SM_IO | ffi::SM_UTF8 => Error::Io(invalid_data(error)),
             ffi::SM_RANGE => Error::Scroll(RangeError {
                 start: error.start,
@@ -118,8 +122,8 @@ impl Error {
     }
 }
 
-/// The printed text of an error. Where the library cut it within a character,
-/// that is left out.
+/// The printed text of an error. If the library cut it within a character, that
+/// character is omitted.
 fn printed(error: &ffi::Error) -> String {
     let length = error.text_length.min(ffi::SM_ERROR_TEXT - 1);
     let mut chunks = error.text[..length].utf8_chunks();

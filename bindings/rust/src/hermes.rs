@@ -11,6 +11,9 @@ use crate::types::{DecodedMap, RewriteOptions, SourceMap, Token};
 use crate::utils::{must, write_all};
 
 /// A map of React Native's Hermes engine, with the scopes of its sources.
+///
+/// The [`SourceMap`] that it dereferences to has no scopes. To clone, compare or write
+/// that alone copies it first.
 pub struct SourceMapHermes {
     sm: SourceMap,
 }
@@ -46,13 +49,14 @@ impl SourceMapHermes {
         self.handle().written(|text| write_all(w, text))?
     }
 
-    /// Returns the name of the function at an offset of the bytecode.
+    /// Returns the name of the function at an offset of the bytecode. If the scopes of
+    /// its source are unsorted, the name is unspecified.
     pub fn get_original_function_name(&self, bytecode_offset: u32) -> Option<&str> {
         self.handle().hermes_function_name(bytecode_offset)
     }
 
-    /// Returns the name of the function of a token of line 0, where Hermes maps
-    /// have their tokens.
+    /// Returns the name of the function of a token on generated line 0, where Hermes
+    /// maps have their tokens. A token on another line has none.
     pub fn get_scope_for_token(&self, token: Token<'_>) -> Option<&str> {
         match token.looked_up() {
             (0, offset) => self.get_original_function_name(offset),

@@ -17,7 +17,14 @@
 //!
 //! Maps, builders, views and bundles may move to another thread (`Send`). None of
 //! them may be used by two threads at once (not `Sync`): each thread takes a
-//! clone of its own. A clone of a map copies nothing.
+//! clone of its own. A clone of a [`SourceMap`] or a [`SourceMapHermes`] shares
+//! the map, and copies nothing. A clone of a [`SourceView`] or a RAM bundle copies
+//! its text.
+//!
+//! # Panics
+//!
+//! If the library runs out of memory, calls that do not return a [`Result`] panic.
+//! [`is_sourcemap`] and [`is_sourcemap_slice`] return false.
 
 #![deny(unsafe_code)]
 #![warn(missing_docs)]

@@ -19,17 +19,17 @@ pub(crate) fn folder(base_path: Option<&Path>) -> io::Result<PathBuf> {
     })
 }
 
-/// The contents of a source that leads to a file.
+/// The contents of a source, if it leads to a file that can be read as text.
 pub(crate) fn read_source(folder: &Path, source: &str) -> Option<String> {
     // A reference is resolved against the folder of its base.
     let path = resolve_path(source, &folder.join("base"))?;
     fs::read_to_string(path).ok()
 }
 
-/// Gives the sources of a map the contents that its rewritten map is to have.
+/// Sets the contents of the sources of a map to those that the rewritten map is to
+/// have, so that rewriting the map once with all contents does the rest.
 ///
-/// Files are read for sources that the rewritten map lacks contents of. The map
-/// gets these contents itself, so that one rewriting does the rest.
+/// Files are read for those sources that have no contents in the rewritten map.
 pub(crate) fn load_for_rewrite(sm: &mut SourceMap, options: &RewriteOptions<'_>) -> Result<()> {
     let folder = folder(options.base_path)?;
     let rewritten = sm.clone().rewrite(&RewriteOptions {

@@ -114,7 +114,8 @@ impl<'a> RamBundle<'a> {
         }
     }
 
-    /// Returns a module, or none where the number has no module.
+    /// Returns a module, or none if the number has no module. In an indexed bundle a
+    /// number past the last one is [`Error::InvalidRamBundleIndex`].
     pub fn get_module(&self, id: usize) -> Result<Option<RamBundleModule<'_>>> {
         let data = match &self.repr {
             Repr::Indexed(indexed) => indexed.handle.module(id)?,
@@ -123,7 +124,7 @@ impl<'a> RamBundle<'a> {
         Ok(data.map(|data| RamBundleModule { id, data }))
     }
 
-    /// Returns how many modules there are, counting numbers without one.
+    /// Returns how many numbers modules have, those without a module too.
     pub fn module_count(&self) -> usize {
         match &self.repr {
             Repr::Indexed(indexed) => indexed.handle.module_count(),
@@ -208,8 +209,8 @@ impl Unbundle {
             .map_or(1, |(&last, _)| last + 1)
     }
 
-    /// The same modules as an indexed bundle, which is what the library splits. It
-    /// has 8 bytes for each number up to the largest.
+    /// The same modules as an indexed bundle, the only form that the library splits.
+    /// Its table has 8 bytes for each number up to the largest.
     fn image(&self) -> Result<Vec<u8>> {
         let count = number_bytes(self.module_count())?;
         let mut table = zeros(self.table_size()?)?;
@@ -235,9 +236,9 @@ impl Unbundle {
     }
 }
 
-/// Zero bytes, which take no memory before they are written.
+/// Zero bytes. Systems commonly give them memory only when they are written.
 fn zeros(size: usize) -> Result<Vec<u8>> {
-    // `vec!` aborts where it gets no memory.
+    // `vec!` would abort if memory ran out, so this is tried first.
     Vec::<u8>::new()
         .try_reserve_exact(size)
         .map_err(|_| Error::OutOfMemory)?;
@@ -250,8 +251,8 @@ fn number_bytes(number: usize) -> Result<[u8; 4]> {
     Ok(number.to_le_bytes())
 }
 
-/// The names of the plain files of a folder, in order. Of two files of one
-/// module number the later one counts.
+/// The names of the plain files of a folder, sorted. So if two files have one module
+/// number, the later name counts.
 fn file_names(folder: &Path) -> Result<Vec<String>> {
     let mut names = Vec::new();
     for entry in folder.read_dir()? {
@@ -287,7 +288,8 @@ impl<'a> RamBundleModule<'a> {
         self.data
     }
 
-    /// Returns the text of the module. Fails with [`Error::Utf8`] if it is none.
+    /// Returns the text of the module. Fails with [`Error::Utf8`] if the bytes are not
+    /// UTF-8.
     pub fn source_view(&self) -> Result<SourceView> {
         Ok(SourceView::of_text(std::str::from_utf8(self.data)?))
     }
@@ -325,8 +327,14 @@ fn split_item(split: &SplitHandle, item: usize) -> Result<(String, SourceView, S
 }
 
 /// Splits a bundle into its modules, each with its file name, its text and its
-/// map, by the index map of the bundle. A module that has no map is an error of
-/// its own.
+/// map, by the index map of the bundle.
+///
+/// The iterator skips modules that are missing, and those for which the list
+/// [`SourceMapIndex::x_facebook_offsets`] has no line. It returns
+/// [`Error::InvalidRamBundleEntry`] for each invalid module: its entry is malformed, its
+/// text is not UTF-8, the list does not reach its number, or no token is at the start of
+/// its line or before it. The split itself fails with [`Error::NotARamBundle`] if the
+/// index map has no such list, and where [`SourceMapIndex::flatten`] fails.
 pub fn split_ram_bundle<'a>(
     ram_bundle: &'a RamBundle<'_>,
     smi: &SourceMapIndex,

@@ -48,8 +48,8 @@ impl SourceView {
         self.handle.line(idx)
     }
 
-    /// Returns the part of a line that begins at a column and has so many UTF-16
-    /// units. A character that begins in the part belongs to it.
+    /// Returns the part of a line that begins at a column and has `span` UTF-16 units.
+    /// A character belongs to the part if its first unit does.
     pub fn get_line_slice(&self, line: u32, col: u32, span: u32) -> Option<&str> {
         self.handle.slice(line, col, span)
     }
@@ -67,8 +67,9 @@ impl SourceView {
         self.handle.source()
     }
 
-    /// Returns the original name of the function that contains a token, by its
-    /// minified name. This view is the generated text of the token's map.
+    /// Guesses the original name of the function that contains a token, by its minified
+    /// name, as [its map](crate::SourceMap::get_original_function_name) does. This view
+    /// is the generated text of that map.
     pub fn get_original_function_name<'map>(
         &self,
         token: Token<'map>,
@@ -83,7 +84,7 @@ impl SourceView {
         self.handle.line_count()
     }
 
-    /// Returns the reference to its map that the text carries.
+    /// Returns the first reference to a map in the text.
     pub fn sourcemap_reference(&self) -> Result<Option<SourceMapRef>> {
         locate_sourcemap_reference_slice(self.source().as_bytes())
     }

@@ -5,8 +5,8 @@ use std::io::{Read, Write};
 use crate::errors::Result;
 use crate::handle;
 
-/// Returns the path from a file to another file, as from a generated text to its
-/// map.
+/// Returns the path that leads from the folder of a file to another file, as from a
+/// generated text to its map.
 ///
 /// ```
 /// use sourcemap::make_relative_path;
@@ -27,8 +27,8 @@ pub(crate) fn write_all<W: Write>(mut w: W, text: &str) -> Result<()> {
     Ok(w.write_all(text.as_bytes())?)
 }
 
-/// The value of a call that fails only where memory runs out, and whose
-/// signature has no error.
+/// The value of a result, in calls whose signature has no error. Panics with the
+/// error, which is mostly that memory ran out.
 #[track_caller]
 pub(crate) fn must<T>(result: Result<T>) -> T {
     match result {

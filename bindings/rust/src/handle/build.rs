@@ -87,7 +87,7 @@ impl BuilderHandle {
         })
     }
 
-    /// Adds tokens, and keeps in the list those that memory did not suffice for.
+    /// Adds tokens. If memory runs out, those that were not added stay in the list.
     pub fn add_tokens(&mut self, tokens: &mut Vec<RawToken>) -> Result<()> {
         let mut error = ffi::Error::NONE;
         // SAFETY: the list is where it says.

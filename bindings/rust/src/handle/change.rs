@@ -51,8 +51,8 @@ impl MapHandle {
         self.change(|map, error| unsafe { ffi::sm_compose(map, adjustment.0.at(), error) })
     }
 
-    /// Moves the sections of an index map further down, and returns whether the
-    /// lines allow it.
+    /// Moves the sections of an index map further down. Returns false, with nothing
+    /// changed, if one would pass the last line.
     pub fn shift(&mut self, lines: u32) -> Result<bool> {
         let mut error = ffi::Error::NONE;
         // SAFETY: it is a handle.

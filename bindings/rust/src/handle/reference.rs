@@ -33,7 +33,7 @@ type MakeText = unsafe extern "C" fn(
 ) -> ffi::Code;
 
 fn made_of(call: MakeText, first: &str, second: &str) -> Result<Option<String>> {
-    // Both may be one text, and arguments do not overlap.
+    // Both may be the same text, but arguments must not overlap.
     let second = second.to_owned();
     let (at, length) = (second.as_ptr(), second.len());
     // SAFETY: the texts are where they say.
@@ -52,7 +52,7 @@ pub(crate) fn resolve_path(url: &str, base: &str) -> Result<Option<String>> {
     made_of(ffi::sm_resolve_path, url, base)
 }
 
-/// The path from a file to another file.
+/// The path from the folder of a file to another file.
 pub(crate) fn relative_path(base: &str, target: &str) -> Result<String> {
     Ok(made_of(ffi::sm_relative_path, base, target)?.unwrap_or_default())
 }

@@ -12,7 +12,8 @@ use crate::sourceview::SourceView;
 use crate::types::{DecodedMap, RewriteOptions, SourceMap, Token};
 use crate::utils::{must, write_all};
 
-/// A section of an index map: where it begins, and its map, a URL of it or both.
+/// A section of an index map: where it begins, and its map, the URL of a map, both
+/// or neither.
 #[derive(Debug, Clone, PartialEq)]
 pub struct SourceMapSection {
     offset: (u32, u32),
@@ -26,10 +27,11 @@ pub struct SourceMapSectionIter<'a> {
     next: u32,
 }
 
-/// An index map: a list of sections with a map each.
+/// An index map: a list of sections, each with a map, the URL of a map, both or
+/// neither.
 pub struct SourceMapIndex {
-    // Either the handle is there, and the lists are read from it on first use; or
-    // all that follows is there, and the handle is made of it on first use.
+    // Either the handle exists, and the lists are read from it on first use; or all
+    // fields below are set, and the handle is made of them on first use.
     handle: OnceCell<MapHandle>,
     file: Option<String>,
     debug_id: Option<DebugId>,
@@ -50,8 +52,8 @@ impl SourceMapIndex {
         }
     }
 
-    /// Makes an index map of its parts. Lookups ask for sections in the order of
-    /// their offsets.
+    /// Makes an index map of its parts. Lookups need sections in the order of their
+    /// offsets.
     ///
     /// ```
     /// use sourcemap::{SourceMapIndex, SourceMapSection};
@@ -63,7 +65,8 @@ impl SourceMapIndex {
         SourceMapIndex::new_ram_bundle_compatible(file, sections, None, None)
     }
 
-    /// Makes an index map of its parts, and of the lists of a RAM bundle.
+    /// Makes an index map of its parts, and of the lists of a RAM bundle: the line at
+    /// which each module begins, and the path of each module.
     pub fn new_ram_bundle_compatible(
         file: Option<String>,
         sections: Vec<SourceMapSection>,
@@ -89,7 +92,7 @@ impl SourceMapIndex {
         self.handle.get_mut().expect("the handle was made")
     }
 
-    /// A handle of the parts, where they are all here.
+    /// A handle made of the parts, which must all be set.
     fn made(&self) -> Result<MapHandle> {
         let mut sections = SectionsHandle::new()?;
         for section in self.section_list() {
@@ -105,7 +108,7 @@ impl SourceMapIndex {
         Ok(map)
     }
 
-    /// Takes all parts out of the handle, which is made anew on its next use.
+    /// Reads all parts from the handle and drops it. It is made anew on its next use.
     fn let_go(&mut self) {
         self.section_list();
         self.x_facebook_offsets();
@@ -194,9 +197,10 @@ impl SourceMapIndex {
             .function_name((line, col), minified_name, sv.handle())
     }
 
-    /// Returns the closest token to a generated position, of the section that
-    /// begins last at the position or before it. The token is that of the
-    /// section's map, with its generated position in the section.
+    /// Returns the closest token to a generated position. The section that begins
+    /// last at the position or before it answers: of several at the position itself
+    /// the first, of several before it the last. The token is that of the section's
+    /// map, and its generated position counts from where the section begins.
     pub fn lookup_token(&self, line: u32, col: u32) -> Option<Token<'_>> {
         let section = self.closest_section((line, col))?;
         let (first_line, first_col) = section.offset;
@@ -210,9 +214,9 @@ impl SourceMapIndex {
             .lookup_token(line - first_line, col)
     }
 
-    /// The section that answers a position: the first that begins at it, else
-    /// the last before it. Its map has to be that of this value, so that a token
-    /// can borrow it.
+    /// The section that answers a position: the first that begins at it, else the
+    /// last before it. It is looked for here and not by the library, because the
+    /// token borrows the section's map from this value.
     fn closest_section(&self, position: (u32, u32)) -> Option<&SourceMapSection> {
         let sections = self.section_list();
         let before = sections.partition_point(|section| section.offset < position);
@@ -222,14 +226,18 @@ impl SourceMapIndex {
         }
     }
 
-    /// Returns the regular map that answers alike. Each section needs its map.
+    /// Returns this map as one regular map. If each section and all of its tokens come
+    /// before the next section, the regular map answers wherever this one does, and
+    /// the same. Fails with [`Error::CannotFlatten`] if a section has no map, there
+    /// are too many sources or names, or a position would pass 4294967295.
     pub fn flatten(&self) -> Result<SourceMap> {
         let mut flat = self.handle().share()?;
         flat.flatten()?;
         Ok(SourceMap::of_handle(flat))
     }
 
-    /// Returns the regular map that answers alike, rewritten.
+    /// Flattens this map, as [`SourceMapIndex::flatten`] does, and rewrites the
+    /// regular map.
     pub fn flatten_and_rewrite(self, options: &RewriteOptions<'_>) -> Result<SourceMap> {
         self.flatten()?.rewrite(options)
     }
@@ -239,7 +247,8 @@ impl SourceMapIndex {
         self.x_facebook_offsets().is_some() && self.x_metro_module_paths().is_some()
     }
 
-    /// Returns the line of each module of a RAM bundle.
+    /// Returns the line at which each module of a RAM bundle begins, and none for a
+    /// number without a module.
     pub fn x_facebook_offsets(&self) -> Option<&[Option<u32>]> {
         let offsets = self
             .module_offsets
@@ -273,7 +282,7 @@ impl SourceMapIndex {
     }
 }
 
-/// The paths of the modules of a RAM bundle. The library does not distinguish an
+/// The paths of the modules of a RAM bundle. The C interface does not distinguish an
 /// empty list from none.
 fn read_module_paths(handle: &MapHandle) -> Option<Vec<String>> {
     let paths = (0..).map_while(|id| handle.module_path(id));

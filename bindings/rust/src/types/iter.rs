@@ -42,7 +42,7 @@ impl<'a> TokenIter<'a> {
         self.block.resize(BLOCK, RawToken::ZERO);
         let read = self.sm.read_tokens(self.after_block, &mut self.block);
         self.block.truncate(read);
-        // A map has at most `u32::MAX` tokens that have an index.
+        // The library takes the index of a token in 32 bits.
         self.after_block = self.after_block.saturating_add(read as u32);
         self.at = 0;
     }
@@ -70,7 +70,7 @@ pub struct SourceIter<'a> {
     next: u32,
 }
 
-/// The contents of the sources of a map, where they are there.
+/// The contents of each source of a map, or none for a source without contents.
 pub struct SourceContentsIter<'a> {
     sm: &'a SourceMap,
     next: u32,

@@ -8,15 +8,18 @@ use std::path::Path;
 pub struct RewriteOptions<'a> {
     /// Whether names are kept.
     pub with_names: bool,
-    /// Whether contents are kept.
+    /// Whether the contents that the map has are kept.
     pub with_source_contents: bool,
-    /// Whether contents that the map lacks are read from local files.
+    /// Whether contents that the map lacks, or does not keep, are read from local
+    /// files.
     pub load_local_source_contents: bool,
     /// The folder against which local files are resolved, itself resolved
     /// against the current folder.
     pub base_path: Option<&'a Path>,
-    /// Prefixes of which the first that matches is removed from each source. The
-    /// prefix `~` is the longest common one of all sources, and comes last.
+    /// From each source the first of these that it begins with is removed. A `/` is
+    /// added to a prefix that does not end with one. The prefix `~` means the longest
+    /// folder that all sources which are absolute paths have in common, before they
+    /// are resolved against the source root, and is tried last.
     pub strip_prefixes: &'a [&'a str],
 }
 

@@ -14,16 +14,18 @@ pub struct RawToken {
     pub dst_line: u32,
     /// The column of the generated text, from 0.
     pub dst_col: u32,
-    /// The line of the source, from 0, or `!0` without a source.
+    /// The line of the source, from 0. In a map that was read it is `!0` without a
+    /// source.
     pub src_line: u32,
-    /// The column of the source, from 0, or `!0` without a source.
+    /// The column of the source, from 0. In a map that was read it is `!0` without a
+    /// source.
     pub src_col: u32,
-    /// The id of the source, or `!0`.
+    /// The id of the source, or `!0` without one.
     pub src_id: u32,
-    /// The id of the name, or `!0`.
+    /// The id of the name, or `!0` without one.
     pub name_id: u32,
-    /// Whether the token maps a range: positions after it map to positions as
-    /// far after its original position.
+    /// Whether the token maps a range: the columns after it on its line, up to the
+    /// next token, map to columns as far after its original column.
     pub is_range: bool,
 }
 
@@ -65,8 +67,8 @@ impl<'a> Token<'a> {
         Token::answered(sm, raw, raw.dst())
     }
 
-    /// The answer to a position. What the token says in its map is found where it
-    /// is asked for, so that a lookup does not pay for it.
+    /// The answer to a position. The original column that a range token has in its
+    /// map is computed only when it is asked for, so that lookups stay fast.
     #[inline]
     pub(crate) fn answered(sm: &'a SourceMap, answer: RawToken, position: (u32, u32)) -> Token<'a> {
         let column = match position {
@@ -76,7 +78,8 @@ impl<'a> Token<'a> {
         Token { sm, answer, column }
     }
 
-    /// The position that the token answers.
+    /// For a range token the position that was looked up, if it is on the token's
+    /// line; else the token's own generated position.
     pub(crate) fn looked_up(&self) -> (u32, u32) {
         if self.answer.is_range {
             (self.answer.dst_line, self.column)
@@ -90,7 +93,7 @@ impl<'a> Token<'a> {
         let position = self.looked_up();
         match (position.1 - self.answer.dst_col, self.answer.src_col) {
             (0, column) => column,
-            // The sum may be cut off here, so only the token itself says.
+            // The sum may have stopped at the last column, so the map is asked.
             (_, u32::MAX) => self
                 .sm
                 .closest(position)
@@ -119,14 +122,15 @@ impl<'a> Token<'a> {
         self.answer.dst()
     }
 
-    /// Returns the line of the source, or `!0` without a source.
+    /// Returns the line of the source. In a map that was read it is `!0` without a
+    /// source.
     pub fn get_src_line(&self) -> u32 {
         self.answer.src_line
     }
 
-    /// Returns the column of the source, or `!0` without a source. For a range
-    /// token that answers a position, it is as far after the token's as the
-    /// position is.
+    /// Returns the column of the source. In a map that was read it is `!0` without a
+    /// source. If a lookup returned a range token, and the position is on its line, as
+    /// many columns are added as lie between the token and the position.
     pub fn get_src_col(&self) -> u32 {
         self.answer.src_col
     }
@@ -136,7 +140,7 @@ impl<'a> Token<'a> {
         (self.get_src_line(), self.get_src_col())
     }
 
-    /// Returns the id of the source, or `!0`.
+    /// Returns the id of the source, or `!0` without one.
     pub fn get_src_id(&self) -> u32 {
         self.answer.src_id
     }
@@ -165,7 +169,7 @@ impl<'a> Token<'a> {
         self.get_name().is_some()
     }
 
-    /// Returns the id of the name, or `!0`.
+    /// Returns the id of the name, or `!0` without one.
     pub fn get_name_id(&self) -> u32 {
         self.answer.name_id
     }
@@ -188,7 +192,7 @@ impl<'a> Token<'a> {
         }
     }
 
-    /// Returns the contents of the source.
+    /// Returns the contents of the source with their lines.
     pub fn get_source_view(&self) -> Option<&SourceView> {
         self.sm.get_source_view(self.answer.src_id)
     }

@@ -26,7 +26,7 @@ fn index_of(mappings: &str, offsets: &str) -> SourceMapIndex {
     ))
 }
 
-/// An indexed bundle of modules, which are there or not.
+/// An indexed bundle of these modules, some of which may be missing.
 fn bundle_of(modules: &[Option<&[u8]>]) -> Vec<u8> {
     let mut table = Vec::new();
     let mut code = b"ab".to_vec();

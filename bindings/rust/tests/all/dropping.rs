@@ -20,7 +20,8 @@ fn resident() -> usize {
     pages * 4096
 }
 
-/// Makes values of some megabytes, and looks whether their memory comes back.
+/// Makes and drops values of some megabytes, and checks that their memory is used
+/// again.
 fn is_dropped<T>(make: impl Fn() -> T) {
     drop(make());
     let before = resident();
@@ -64,7 +65,7 @@ fn what_is_dropped_gives_its_memory_back() {
     ]
     .concat();
     is_dropped(|| RamBundle::parse_indexed_from_vec(bundle.clone()).expect("a bundle"));
-    // What fails and what panics drops too.
+    // Calls that fail, and code that panics, drop their values too.
     is_dropped(|| decode_slice(&json[..json.len() - 1]).expect_err("a text that is cut"));
     is_dropped(|| {
         std::panic::catch_unwind(|| with_contents().lookup_token(0, 0).map(|_| panic!()))

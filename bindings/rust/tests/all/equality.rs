@@ -38,7 +38,7 @@ fn a_map_that_is_read_twice_is_equal() {
     }
 }
 
-/// A text, and one part of it that another map has otherwise.
+/// A text, and one part of it that is different in another map.
 const PARTS: &[(&str, &str, &str)] = &[
     (FULL, "2a\"", "2b\""),
     (
@@ -63,7 +63,7 @@ const PARTS: &[(&str, &str, &str)] = &[
     (FULL, ",null]", ",\"\"]"),
     // A shorter list of contents, although the getters answer alike.
     (FULL, ",null]", "]"),
-    // A source that is written otherwise.
+    // A source that is written in another way.
     (
         FULL,
         r#""sourceRoot":"root","sources":["a.js""#,

@@ -96,7 +96,7 @@ fn the_map_in_a_hermes_map_is_regular() {
         hermes.try_adjust_mappings(&copy),
         Err(Error::IncompatibleSourceMap)
     ));
-    // Its text is that of the map as it is now.
+    // What is written is the map as it is now, not as it was copied before.
     hermes.set_source(0, "b.js");
     assert_eq!(written(&hermes), expected.replace("a.js", "b.js"));
     assert_eq!(hermes.get_original_function_name(7), Some("foo"));

@@ -410,7 +410,7 @@ fn sections_are_changed_in_their_index() {
             text.replace("b.js", "c.js")
                 .replacen(r#"10},"url":null"#, r#"10},"url":"b.map""#, 1)
         );
-        // A copy does not change along.
+        // A change of one does not change its copy.
         assert_eq!(written_index(&copy), text);
         assert_ne!(index, copy);
 

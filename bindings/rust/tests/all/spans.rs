@@ -28,7 +28,7 @@ fn map() -> SourceMap {
 
 type Position = (u32, u32);
 
-/// Those of the first lines, the last ones of a line and of all lines.
+/// All columns 0 to 11 of the lines 0 to 2, and positions far after them.
 fn positions() -> Vec<Position> {
     let near = (0..LINES).flat_map(|line| (0..COLUMNS).map(move |column| (line, column)));
     let far = [(0, u32::MAX), (1, u32::MAX), (u32::MAX, 0)];

@@ -26,7 +26,7 @@ type Writer = Vec<u8>;
 type Position = (u32, u32);
 type Text = Option<Arc<str>>;
 
-/// Says the types of functions, by names that they have in a type or a module.
+/// States the types of functions, by their names in a type or a module.
 macro_rules! signatures {
     ($($function:path: $signature:ty;)*) => {
         $(const _: $signature = $function;)*
@@ -196,7 +196,7 @@ signatures! {
 
 const _: u32 = ram_bundle::RAM_BUNDLE_MAGIC;
 
-/// Calls whose types a constant can't say.
+/// Calls whose types cannot be stated by a constant.
 #[allow(dead_code)]
 fn calls(sm: &SourceMap, builder: &mut SourceMapBuilder, bundle: &RamBundle, smi: &SourceMapIndex) {
     let _: Vec<&u32> = sm.ignore_list().collect();

@@ -10,8 +10,8 @@ use crate::{regular, COOLSTUFF};
 
 fn is_send<T: Send>() {}
 
-/// Which function of this name is meant is clear only for a type that is not
-/// `Sync`.
+/// A call of `is_not_sync` compiles only for a type that is not `Sync`: for others
+/// two implementations have it.
 trait NotSync<Kind> {
     fn is_not_sync() {}
 }

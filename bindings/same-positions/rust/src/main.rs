@@ -1,4 +1,5 @@
-//! answers MAP POSITIONS: for each line LINE:COLUMN of POSITIONS, which a tab may end, the original position.
+//! answers MAP POSITIONS: prints the original position for each line LINE:COLUMN of POSITIONS; what follows a tab does
+//! not count.
 use std::error::Error;
 use std::{env, fs};
 
