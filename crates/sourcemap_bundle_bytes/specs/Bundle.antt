@@ -23,9 +23,9 @@ range_of bytes start size =
     if nat_le (start + size) (length bytes) then Ok (take size (drop start bytes))
     else Err (Scroll (record { start = start; size = size; len = length bytes }))
 
--- the number of 32 bits, lowest byte first, that follows the first `count` bytes
-abbrev pub number_after : ℕ → List ℕ → ℕ
-number_after count bytes = little_number 4 (drop count bytes)
+-- the number of 32 bits at this offset, lowest byte first
+abbrev pub u32_at : ℕ → List ℕ → ℕ
+u32_at offset bytes = little_number 4 (drop offset bytes)
 
 -- the number that an indexed bundle begins with
 abbrev pub bundle_magic : ℕ
@@ -34,14 +34,14 @@ bundle_magic = 0xFB0BD1E5
 -- the first 12 bytes, as three numbers
 abbrev pub header_of : List ℕ → Result RamBundleHeader Error
 header_of bytes = then_make (λ header. Ok (record {
-  magic = number_after 0 header;
-  module_count = number_after 4 header;
-  startup_code_size = number_after 8 header;
+  magic = u32_at 0 header;
+  module_count = u32_at 4 header;
+  startup_code_size = u32_at 8 header;
 })) (range_of bytes 0 12)
 
 -- the entry of a module, as two numbers: 8 bytes after the header and the entries of the modules before it
 abbrev pub entry_of : List ℕ → ℕ → Result ModuleEntry Error
 entry_of bytes id = then_make (λ entry. Ok (record {
-  offset = number_after 0 entry;
-  length = number_after 4 entry;
+  offset = u32_at 0 entry;
+  length = u32_at 4 entry;
 })) (range_of bytes (12 + 8 * id) 8)

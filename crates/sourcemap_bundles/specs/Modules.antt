@@ -7,7 +7,7 @@ use Rattle.sourcemap_errors.specs.Answer.{UnlessMemory}
 use Rattle.sourcemap_errors.specs.Errors.{FromIo}
 use Rattle.sourcemap_errors.specs.declared.errors.Error.{Error}
 use Rattle.sourcemap_errors.specs.declared.errors.Error.TheVariants.{Io, InvalidRamBundleEntry, InvalidRamBundleIndex, InvalidRamBundleMagic, OutOfMemory, Utf8}
-use Rattle.sourcemap_bundle_bytes.specs.Bundle.{bundle_magic, entry_of, header_of, number_after, range_of, then_make}
+use Rattle.sourcemap_bundle_bytes.specs.Bundle.{bundle_magic, entry_of, header_of, u32_at, range_of, then_make}
 use Rattle.sourcemap_bundle_bytes.specs.declared.bundle.ModuleEntry.{ModuleEntry}
 use Rattle.sourcemap_bundle_bytes.specs.declared.bundle.RamBundleHeader.{RamBundleHeader}
 
@@ -29,7 +29,7 @@ pub data BundleValue : Type 0 where
 
 -- bytes that begin with the header of a bundle
 abbrev pub HasBundleHeader : List ℕ → Type 0
-HasBundleHeader bytes = (12 ≤ length bytes) × (number_after 0 bytes ≡ bundle_magic)
+HasBundleHeader bytes = (12 ≤ length bytes) × (u32_at 0 bytes ≡ bundle_magic)
 
 -- the indexed bundle that these bytes are, or the error
 abbrev pub indexed_bundle : List ℕ → Result BundleValue Error

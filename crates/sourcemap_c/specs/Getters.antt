@@ -10,20 +10,20 @@ leaf_in (leaf l) = Some (held l)
 leaf_in (index _ _) = None
 
 -- a count for C, where 4294967295 also means more
-abbrev pub counted : ℕ → ℕ
-counted n = min n 4294967295
+abbrev pub as_u32 : ℕ → ℕ
+as_u32 n = min n 4294967295
 
 abbrev pub counts_of_map : MapValue → Counts
 counts_of_map m = record {
-  tokens = counted (length m.tokens);
+  tokens = as_u32 (length m.tokens);
   sources = length m.sources;
   names = length m.names;
-  ignored = counted (length m.ignored);
+  ignored = as_u32 (length m.ignored);
   sections = 0;
 }
 
 abbrev pub counts_of_sections : ℕ → Counts
-counts_of_sections n = record { tokens = 0; sources = 0; names = 0; ignored = 0; sections = counted n }
+counts_of_sections n = record { tokens = 0; sources = 0; names = 0; ignored = 0; sections = as_u32 n }
 
 abbrev pub counts_of : MapTree → Counts
 counts_of (leaf l) = counts_of_map (held l)

@@ -11,7 +11,7 @@ use Rattle.sourcemap_c_handles.specs.Layout.{found_in}
 use Rattle.sourcemap_c_handles.specs.declared.layout.Found.{Found}
 use Rattle.sourcemap_c_handles.specs.declared.layout.Position.{Position}
 use Rattle.sourcemap_c.specs.Codes.{IsAbsentUnlessOk, ReturnsValue}
-use Rattle.sourcemap_c.specs.Getters.{counted}
+use Rattle.sourcemap_c.specs.Getters.{as_u32}
 
 -- The code and the value of a lookup. They are specified for maps in order.
 abbrev pub ReturnsLookup : {X : Type 0} → (MapTree → Option X) → Option MapTree → (code : ℕ) → (old new : X) → Type 0
@@ -24,7 +24,7 @@ found_at t p = option_map (λ token. found_in (Some token)) (lookup t p)
 
 -- the index of the closest token of a regular map
 abbrev pub index_at : MapValue → ℕ × ℕ → Option ℕ
-index_at m p = option_map (λ token. counted token.index) (lookup_regular m p)
+index_at m p = option_map (λ token. as_u32 token.index) (lookup_regular m p)
 
 -- the generated position of the token after the one at this index; line and column 4294967295 if that is the last
 abbrev pub start_after : List RawToken → ℕ → Position

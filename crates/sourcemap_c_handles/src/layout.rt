@@ -96,8 +96,8 @@ impl MapToken {
         }
     }
 
-    /// The struct of a token that a lookup found, with the original position of the position that
-    /// was looked up.
+    /// The struct of a token that a lookup returned. Its original position is that of the position
+    /// looked up, which within a range differs from the token's own.
     pub fn of_found(token: &Token<'_>) -> MapToken
         ensures { result ≡ found_token (token_value token.now) }
     {

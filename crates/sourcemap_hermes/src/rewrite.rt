@@ -15,8 +15,9 @@ use std::rt::Files;
 impl SourceMapHermes {
     /// Rewrites the regular map as its `rewrite` does: the result has each source and each name
     /// that a token uses, once. A source that had several ids gets the scopes of the id that tokens
-    /// use first, or none if that id had none. Scopes are moved. If the map is well-formed, and no
-    /// two sources resolve against `sourceRoot` to the same text, each token keeps its scope.
+    /// use first, or none if that id had none. Scopes are moved, not copied. If the map is
+    /// well-formed, and no two sources resolve against `sourceRoot` to the same text, each token
+    /// keeps its scope.
     ///
     /// With `load_local_source_contents`, sources without contents are read from files, as by
     /// `rewrite` of the regular map. Returns `Io` of kind `InvalidInput` if the folder is not

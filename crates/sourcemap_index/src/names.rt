@@ -16,7 +16,8 @@ impl SourceMapIndex {
     /// The original name of the function at a generated position, as by
     /// `SourceMap::get_original_function_name`. The walk begins at the token that `lookup_token`
     /// returns, and goes back over the tokens of one map alone, that of the token's section. The
-    /// view is read at the positions that tokens have in this map. Allocates nothing.
+    /// view is read at the generated positions of these tokens, which are relative to the section.
+    /// Allocates nothing.
     pub fn get_original_function_name(
         &self,
         line: u32,

@@ -28,7 +28,7 @@ abbrev pub part : Bool → Entry → List ℕ
 part later (key, None) = []
 part later (key, Some d) = key_text later key ++ compact_text d
 
--- whether a member precedes what is written after these entries
+-- whether a member has been written once these entries are; `later` says whether one was before them
 abbrev pub later_after : Bool → List Entry → Bool
 later_after later [] = later
 later_after later (e ∷ es) = later_after (later || is_some e.1) es

@@ -43,7 +43,8 @@ pub record HasPartError (line : List ℕ) (e : Error) : Type 0 where
   pub some : part ≢ []
   pub error : HasError part e
 
--- an error in the digits of a line, as the error of its first part: a `,` means that this part ends within a number
+-- An error in the digits of a line is an error in the first part of the line. There a `,` is not an invalid
+-- digit, but the end of the part within a number.
 abbrev pub error_in_part : Error → Error
 error_in_part (InvalidBase64 c) = if c == comma then VlqLeftover else InvalidBase64 c
 error_in_part e = e

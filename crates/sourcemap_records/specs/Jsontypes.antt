@@ -277,7 +277,8 @@ abbrev mutual
 abbrev pub IsSectionInRange : Section → Type 0
 IsSectionInRange s = IsSectionHeadInRange s.head × IfSome s.map IsInRange
 
--- no `file`, of the record or of a section's map, is a JSON null, which reads as missing
+-- no `file` is a JSON null, neither that of the record nor that of a section's map; a null is read as a missing
+-- `file`
 abbrev mutual
   pub HasNoNullFile : Tree → Type 0
   HasNoNullFile (plain fields) = fields.file ≢ Some null
