@@ -2,7 +2,7 @@
 //!
 //! The header lists what a caller owes, and the module `handle` keeps to it.
 
-// The header is declared whole, so that a test can compare both.
+// The whole header is declared, so that a test can compare both.
 #![allow(dead_code)]
 
 use std::os::raw::c_void;
@@ -112,7 +112,7 @@ impl Error {
 
 /// `sm_position`.
 #[repr(C)]
-#[derive(Default)]
+#[derive(Clone, Copy, Default)]
 pub struct Position {
     pub line: u32,
     pub column: u32,
@@ -120,6 +120,7 @@ pub struct Position {
 
 /// `sm_found`. Its `sm_token` is the crate's [`RawToken`].
 #[repr(C)]
+#[derive(Clone, Copy)]
 pub struct Found {
     pub token: RawToken,
     pub found: bool,

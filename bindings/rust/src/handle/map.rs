@@ -1,5 +1,6 @@
 //! Maps: open, share, read, look up, write.
 
+use std::cell::Cell;
 use std::ptr;
 
 use super::{check, Handle, ViewHandle};
@@ -26,6 +27,61 @@ pub(crate) struct Section<'a> {
     pub map: Option<MapHandle>,
 }
 
+/// The answer to a lookup, and the positions that have the same answer: from the
+/// one that was looked up, up to `until`, which is not one of them.
+pub(crate) struct Span {
+    from: Cell<u64>,
+    until: Cell<ffi::Position>,
+    found: Cell<ffi::Found>,
+}
+
+impl Span {
+    /// No position has this answer.
+    pub fn empty() -> Span {
+        Span {
+            from: Cell::default(),
+            until: Cell::default(),
+            found: Cell::new(ffi::Found::NONE),
+        }
+    }
+
+    /// A position as a number, which is greater for a later one.
+    #[inline]
+    fn number((line, column): (u32, u32)) -> u64 {
+        u64::from(line) << 32 | u64::from(column)
+    }
+
+    #[inline]
+    fn until(&self) -> u64 {
+        let until = self.until.get();
+        Span::number((until.line, until.column))
+    }
+
+    #[inline]
+    pub fn token(&self) -> RawToken {
+        self.found.get().token
+    }
+
+    /// Whether the answer is that to this position.
+    #[inline]
+    pub fn has(&self, position: (u32, u32)) -> bool {
+        // One comparison, since which of two positions is the later one can't be
+        // predicted where they come in no order.
+        let from = self.from.get();
+        Span::number(position).wrapping_sub(from) < self.until().wrapping_sub(from)
+    }
+
+    /// The span of an answer that was written for this position.
+    #[inline]
+    fn begin_at(&self, position: (u32, u32)) {
+        // The column of a range token is that of one position alone.
+        self.from.set(match self.token().is_range {
+            true => self.until(),
+            false => Span::number(position),
+        });
+    }
+}
+
 impl MapHandle {
     pub fn open(bytes: &[u8]) -> Result<MapHandle> {
         // SAFETY: the slice is where it says.
@@ -43,7 +99,7 @@ impl MapHandle {
         .map(MapHandle)
     }
 
-    /// A handle of its own on the same map, without a copy.
+    /// Another handle that shares the same map, without a copy.
     pub fn share(&self) -> Result<MapHandle> {
         // SAFETY: both are handles, and not the same.
         Handle::filled(|other, error| unsafe { ffi::sm_share(self.0.at(), other, error) })
@@ -127,7 +183,8 @@ impl MapHandle {
         })
     }
 
-    /// The lines of the modules of a RAM bundle, if an index map has them.
+    /// The line at which each module of a RAM bundle begins, if an index map has the
+    /// list.
     pub fn module_offsets(&self) -> Option<Vec<Option<u32>>> {
         let mut offsets = Vec::new();
         let mut block = [0; 256];
@@ -169,17 +226,19 @@ impl MapHandle {
         (code == ffi::SM_OK).then_some(found.token)
     }
 
-    /// The closest token, as [`MapHandle::lookup`] returns it, in a map that is no
-    /// index map, and the position of the token after it. Up to that position, from
-    /// the one that was looked up on, the same token is the closest.
+    /// Writes the closest token, as [`MapHandle::lookup`] returns it, to `span`, in a
+    /// map that is no index map. Returns whether there is one.
     #[inline]
-    pub fn lookup_span(&self, line: u32, column: u32) -> Option<(RawToken, (u32, u32))> {
-        let mut found = ffi::Found::NONE;
-        let mut until = ffi::Position::default();
-        // SAFETY: it is a handle, and both answers begin as zeros.
-        let code =
-            unsafe { ffi::sm_lookup_span(self.0.at(), line, column, &mut found, &mut until) };
-        (code == ffi::SM_OK).then_some((found.token, (until.line, until.column)))
+    pub fn lookup_span(&self, position: (u32, u32), span: &Span) -> bool {
+        let (line, column) = position;
+        let (found, until) = (span.found.as_ptr(), span.until.as_ptr());
+        // SAFETY: it is a handle, and both cells have a value.
+        let code = unsafe { ffi::sm_lookup_span(self.0.at(), line, column, found, until) };
+        let is_found = code == ffi::SM_OK;
+        if is_found {
+            span.begin_at(position);
+        }
+        is_found
     }
 
     /// The text of the closest token, with the original column of the position
@@ -205,7 +264,7 @@ impl MapHandle {
         minified: &str,
         view: &ViewHandle,
     ) -> Option<&str> {
-        // A name that was cut from the view would overlap with it.
+        // The name may be a slice of the view's text, but arguments must not overlap.
         let minified = minified.to_owned();
         let (at, length) = (minified.as_ptr(), minified.len());
         let view = view.0.at();
@@ -224,7 +283,7 @@ impl MapHandle {
         }
     }
 
-    /// Hands the JSON text of the map to a function.
+    /// Calls a function with the JSON text of the map.
     pub fn written<T>(&self, read: impl FnOnce(&str) -> T) -> Result<T> {
         // SAFETY: both are handles, and not the same.
         let text =

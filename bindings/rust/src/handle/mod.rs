@@ -1,9 +1,9 @@
 //! Handles of the library, and its calls as safe functions.
 //!
-//! What `sourcemap.h` asks of a caller is kept here: a handle is used by one
-//! call at a time, since it is not `Sync` and no call comes back to Rust; a text
-//! that points into it is borrowed from it, and what changes it takes it
-//! mutably; a pointer is never null, also of an empty slice.
+//! This module keeps to what `sourcemap.h` asks of a caller. A handle is used by one
+//! call at a time, since it is not `Sync` and the library does not call Rust code. A
+//! text that points into a handle is borrowed from it, and what changes a handle
+//! takes it mutably. A pointer is never null, not even that of an empty slice.
 
 mod build;
 mod bundle;
@@ -23,7 +23,7 @@ use std::sync::Once;
 pub(crate) use self::build::BuilderHandle;
 pub(crate) use self::bundle::{BundleHandle, SplitHandle};
 pub(crate) use self::debug_id::{debug_id_text, parse_debug_id};
-pub(crate) use self::map::{is_source_map, Kind, MapHandle};
+pub(crate) use self::map::{is_source_map, Kind, MapHandle, Span};
 pub(crate) use self::reference::{
     locate_reference, relative_path, resolve, resolve_path, Reference,
 };
@@ -37,8 +37,8 @@ use crate::ffi;
 /// What the library keeps in memory. It is closed when it is dropped.
 struct Handle(UnsafeCell<ffi::Handle>);
 
-// SAFETY: the header allows a handle to be handed to another thread. Handles on
-// one map share nothing that can be seen.
+// SAFETY: the header allows a handle to move to another thread, and each of several
+// handles that share a map to be used by another thread.
 unsafe impl Send for Handle {}
 
 impl Handle {
@@ -86,8 +86,7 @@ impl Handle {
     ///
     /// # Safety
     ///
-    /// The call writes a text of this handle, and takes no other handle whose
-    /// text it could be.
+    /// The call writes only texts that point into this handle.
     unsafe fn bytes(
         &self,
         ask: impl FnOnce(*mut ffi::Handle, *mut ffi::Text) -> ffi::Code,

@@ -1,6 +1,6 @@
 //! Regular maps.
 
-use std::cell::{Cell, OnceCell};
+use std::cell::OnceCell;
 use std::fmt;
 use std::io::{Read, Write};
 use std::sync::Arc;
@@ -9,7 +9,7 @@ use crate::builder::SourceMapBuilder;
 use crate::debug_id::DebugId;
 use crate::decoder::{decode, decode_slice};
 use crate::errors::{Error, Result};
-use crate::handle::{Kind, MapHandle};
+use crate::handle::{Kind, MapHandle, Span};
 use crate::local;
 use crate::sourceview::SourceView;
 use crate::types::{
@@ -20,46 +20,17 @@ use crate::utils::{must, write_all};
 
 /// A regular map: no index.
 ///
-/// It may move to another thread. Two threads that use one map have each its
-/// own [`clone`](Clone::clone), which copies nothing.
+/// It may move to another thread. Two threads that use one map need a
+/// [`clone`](Clone::clone) each, which shares the map and copies nothing.
 pub struct SourceMap {
     handle: MapHandle,
     ignored: OnceCell<Box<[u32]>>,
     views: OnceCell<Box<[OnceCell<SourceView>]>>,
-    kept: Cell<Kept>,
-    /// Of the map in a Hermes map: the same without scopes, where a call needs it.
+    /// The last answer of `lookup_token`.
+    kept: Span,
+    /// If this is the map in a Hermes map: a copy without scopes, made when a call
+    /// needs it.
     without_scopes: OnceCell<MapHandle>,
-}
-
-/// The last answer to a lookup, and the positions that have the same answer: from
-/// the one that was looked up, up to another, which is not one of them.
-#[derive(Clone, Copy)]
-struct Kept {
-    from: u64,
-    until: u64,
-    token: RawToken,
-}
-
-impl Kept {
-    /// No position has this answer.
-    const NONE: Kept = Kept {
-        from: 0,
-        until: 0,
-        token: RawToken::ZERO,
-    };
-
-    /// A position as a number, which is greater for a later one.
-    #[inline]
-    fn number((line, column): (u32, u32)) -> u64 {
-        u64::from(line) << 32 | u64::from(column)
-    }
-
-    #[inline]
-    fn is_of(&self, position: (u32, u32)) -> bool {
-        // One comparison, since which of two positions is the later one can't be
-        // predicted where they come in no order.
-        Kept::number(position).wrapping_sub(self.from) < self.until.wrapping_sub(self.from)
-    }
 }
 
 impl SourceMap {
@@ -68,21 +39,21 @@ impl SourceMap {
             handle,
             ignored: OnceCell::new(),
             views: OnceCell::new(),
-            kept: Cell::new(Kept::NONE),
+            kept: Span::empty(),
             without_scopes: OnceCell::new(),
         }
     }
 
-    /// The handle to change. What was read from it may then be out of date.
+    /// The handle, to be changed. Drops what was read from it.
     fn handle_mut(&mut self) -> &mut MapHandle {
         self.ignored.take();
         self.views.take();
-        self.kept.set(Kept::NONE);
+        self.kept = Span::empty();
         self.without_scopes.take();
         &mut self.handle
     }
 
-    /// The handle of a regular map, whose answers do not know of scopes.
+    /// The handle of this map as a regular map: without the scopes of a Hermes map.
     pub(crate) fn regular_handle(&self) -> &MapHandle {
         match self.handle.kind() {
             Kind::Regular => &self.handle,
@@ -132,7 +103,9 @@ impl SourceMap {
     }
 
     /// Makes a map of its parts. Tokens come in any order. Sources that
-    /// `sources_content` does not reach have no contents.
+    /// `sources_content` does not reach have no contents, and contents past the last
+    /// source are dropped. Equal names are kept once, with one id; equal sources are
+    /// kept apart.
     pub fn new(
         file: Option<Arc<str>>,
         tokens: Vec<RawToken>,
@@ -176,7 +149,8 @@ impl SourceMap {
         must(self.handle_mut().set_source_root(value.as_deref()));
     }
 
-    /// Puts a source on the ignore list.
+    /// Adds a source to the ignore list. If there is no source of this id, nothing
+    /// changes.
     pub fn add_to_ignore_list(&mut self, src_id: u32) {
         must(self.handle_mut().ignore_source(src_id));
     }
@@ -218,30 +192,16 @@ impl SourceMap {
     #[inline]
     pub fn lookup_token(&self, line: u32, col: u32) -> Option<Token<'_>> {
         let position = (line, col);
-        let kept = self.kept.get();
-        if kept.is_of(position) {
-            return Some(Token::answered(self, kept.token, position));
+        if !self.kept.has(position) && !self.handle.lookup_span(position, &self.kept) {
+            return None;
         }
-        self.look_up(position)
-    }
-
-    /// Asks the library for the closest token, and keeps the answer.
-    fn look_up(&self, position: (u32, u32)) -> Option<Token<'_>> {
-        let (token, until) = self.handle.lookup_span(position.0, position.1)?;
-        // The column of a range token is that of one position alone.
-        if !token.is_range {
-            self.kept.set(Kept {
-                from: Kept::number(position),
-                until: Kept::number(until),
-                token,
-            });
-        }
-        Some(Token::answered(self, token, position))
+        Some(Token::answered(self, self.kept.token(), position))
     }
 
     /// Returns the original name of the function at a generated position, by its
-    /// minified name and the generated text. It is a guess, which needs a plain
-    /// name of a function that is declared by `function`.
+    /// minified name and the generated text. It is a guess: going back from the
+    /// position, it looks for a token at the minified name that follows a token at the
+    /// word `function`.
     pub fn get_original_function_name(
         &self,
         line: u32,
@@ -263,7 +223,7 @@ impl SourceMap {
         self.handle.source(idx)
     }
 
-    /// Sets the text of a source.
+    /// Sets the text of a source, before it is resolved against the source root.
     ///
     /// # Panics
     ///
@@ -335,8 +295,11 @@ impl SourceMap {
         must(self.handle_mut().remove_names());
     }
 
-    /// Keeps only the sources, names and contents that tokens use, in the order
-    /// of their first use, and what else the options ask.
+    /// Keeps only the sources and names that tokens use, in the order of their first
+    /// use, and the contents of these sources. The sources are resolved against the
+    /// source root; the root is removed, and so is the ignore list. The options say
+    /// what else is removed, cut or loaded. Fails with [`Error::Io`] if contents are
+    /// to be loaded and the current folder is unknown.
     ///
     /// ```
     /// use sourcemap::{RewriteOptions, SourceMap};
@@ -359,8 +322,8 @@ impl SourceMap {
         Ok(SourceMap::of_handle(self.handle))
     }
 
-    /// Adjusts the map by that of a later text made of this one, so that
-    /// positions of the later text answer.
+    /// Adjusts the map by the map of a later text that was made of the generated text
+    /// of this one. Then this map answers positions of the later text.
     ///
     /// # Panics
     ///
