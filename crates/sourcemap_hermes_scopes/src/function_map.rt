@@ -1,4 +1,5 @@
-//! The functions of a source by their start, and the one that contains an original position.
+//! The functions of a source, by where they start. Finds the function that contains an original
+//! position.
 ghost use Rattle.std.specs.Prelude.{◌≡◌, Ok, IfOk, IfErr, option_map};
 ghost use Rattle.std.specs.Bool.{Decides};
 ghost use Rattle.std.specs.Cmp.{partial_equiv_from_equiv};
@@ -31,7 +32,7 @@ impl Model for HermesFunctionMap {
     ghost view = { λ map. map.offsets.items };
 }
 
-// The position as the search compares it.
+// The line, counted from 1, and the column of `offset`, as the search compares them.
 fn offset_position(offset: &HermesScopeOffset) -> (u64, u32)
     ensures { result ≡ offset_position offset.now }
 {
@@ -39,7 +40,7 @@ fn offset_position(offset: &HermesScopeOffset) -> (u64, u32)
 }
 
 impl HermesFunctionMap {
-    /// The function map that scope mappings encode. `None` if a segment of them is invalid. The
+    /// The function map that scope mappings encode. `None` if one of their segments is invalid. The
     /// only error is `OutOfMemory`.
     pub fn read(alloc: Global, mappings: &str) -> Result<Option<HermesFunctionMap>>
         ensures map { IfOk result (StandsFor mappings.now) }
@@ -54,10 +55,10 @@ impl HermesFunctionMap {
         }
     }
 
-    /// The index of the name of the function that contains an original position, whose line and
-    /// column count from 0. That is the first function that starts at the position, else the last
-    /// one that starts before it. `None` if no function starts so early. Requires functions sorted
-    /// by where they start; otherwise the result is unspecified.
+    /// The index of the name of the function that contains an original position. Line and column
+    /// count from 0. The function is the first that starts at the position, else the last that
+    /// starts before it. `None` if no function starts at or before the position. Requires functions
+    /// sorted by where they start; otherwise the result is unspecified.
     pub fn name_index(&self, line: u32, col: u32) -> Option<u32>
         ensures { AreOffsetsInOrder self.now
             → result ≡ option_map offset_name (closest_offset self.now (line, col)) }

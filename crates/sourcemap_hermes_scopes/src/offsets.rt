@@ -44,7 +44,8 @@ fn next_offset(last: HermesScopeOffset, read: &Numbers) -> HermesScopeOffset
     }
 }
 
-// Appends the offset of a segment, if it is not empty. Returns the last offset.
+// Appends the offset of a segment and returns it. For an empty segment, appends nothing and returns
+// `last`.
 #[inline]
 fn add_part(
     offsets: &mut Vec<HermesScopeOffset>,
@@ -64,7 +65,8 @@ fn add_part(
     Ok(next)
 }
 
-// Appends the offsets of a line's segments. Returns the last offset.
+// Appends the offsets of a line's segments. Returns the last of them, or `last` at column 0 if
+// there are none.
 fn add_parts(
     offsets: &mut Vec<HermesScopeOffset>,
     text: &[u8],
@@ -103,7 +105,7 @@ pub(crate) fn read_offsets(alloc: Global, text: &str) -> Result<Vec<HermesScopeO
     Ok(offsets)
 }
 
-/// A law: scope mappings determine what they encode: one list of offsets, or none.
+/// A law: a text encodes at most one list of offsets, and none at all if a segment is invalid.
 pub fn scope_mappings_are_determined()
     ensures { (text : List ℕ) (a b : Option (List HermesScopeOffset)) → StandsFor text a
         → StandsFor text b → a ≡ b }

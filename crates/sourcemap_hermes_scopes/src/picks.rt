@@ -7,8 +7,8 @@ use sourcemap_errors::errors::Result;
 use sourcemap_tokens::items::take_item;
 use std::alloc::Global;
 
-// Moves out the items with these ids, in this order. `None` for an id that has no item, or that
-// was taken before.
+// Moves out the items with the ids in `ids`, in the order of `ids`. The result has `None` for an id
+// without an item, and for each repetition of an id.
 pub(crate) fn take_items<T: Drop>(
     alloc: Global,
     mut items: Vec<Option<T>>,

@@ -12,8 +12,8 @@ use sourcemap_errors::errors::Result;
 use sourcemap_records::jsontypes::FacebookScopeMapping;
 use std::alloc::Global;
 
-/// The scopes of sources as a record has them, by source id: a list, of which only the first entry
-/// is used, or none.
+/// The scopes of sources as a record has them, by source id. A source has `None` or a list; only
+/// the first item of the list is used.
 pub type ScopeLists = Vec<Option<Vec<FacebookScopeMapping>>>;
 
 fn function_map_of(

@@ -19,8 +19,9 @@ use sourcemap_errors::errors::Result;
 use std::alloc::Global;
 use std::marker::Model;
 
-/// The scopes of sources by source id: the entry as decoded, and the function map that it encodes.
-/// A source may have neither.
+/// The scopes of sources, by source id. `entries` has the list of each source as decoded, and
+/// `function_maps` the function map that the list encodes. A source may have neither, or only a
+/// list.
 #[derive(Debug, Drop)]
 pub struct SourceScopes {
     entries: ScopeLists,
@@ -40,9 +41,9 @@ impl Model for SourceScopes {
 }
 
 impl SourceScopes {
-    /// The scopes of a record, with their function maps. A source's function map is that of the
-    /// first scopes of its list. A source with no list, an empty list or invalid mappings has no
-    /// function map. The only error is `OutOfMemory`. Requires at most 4294967295 lists.
+    /// The scopes of a record, with their function maps. The first item of a source's list encodes
+    /// its function map. A source with no list, an empty list or invalid mappings has no function
+    /// map. The only error is `OutOfMemory`. Requires at most 4294967295 lists.
     pub fn new(alloc: Global, entries: ScopeLists) -> Result<SourceScopes>
         requires { AreFewScopes (entries_in entries) }
         ensures entries { IfOk result (λ scopes. scopes.entries ≡ entries_in entries) }
@@ -56,7 +57,7 @@ impl SourceScopes {
         })
     }
 
-    /// The number of entries: a source whose id is not below it has no scopes.
+    /// The number of entries. A source has no scopes if its id is this number or greater.
     pub fn count(&self) -> u32
         ensures count { result ≡ length self.now.entries }
         ensures few { AreFewScopes self.now.entries }
@@ -89,9 +90,9 @@ impl SourceScopes {
 
     /// The name of the function that contains a position of the source with this id. Line and
     /// column count from 0. The function is the first that starts at the position, else the last
-    /// that starts before it. `None` where no function starts so early, the source has no
-    /// function map, or the function has no name. Requires functions sorted by where they start;
-    /// otherwise the result is unspecified.
+    /// that starts before it. `None` if no function starts at or before the position, if the source
+    /// has no function map, or if the function has no name. Requires functions sorted by where they
+    /// start; otherwise the result is unspecified.
     pub fn scope(&self, source: u32, line: u32, col: u32) -> Option<&str>
         ensures { IsInOrderAt self.now source
             → option_copied result ≡ scope_at self.now source (line, col) }
@@ -180,8 +181,8 @@ pub fn entries_determine_function_maps()
         → a.function_maps ≡ b.function_maps }
 {}
 
-/// A law: selecting scopes by id keeps the functions of each source and their order, and the
-/// function maps are still those of the entries.
+/// A law: if scopes are selected by id, each selected source keeps its functions, in their order.
+/// The function maps are still those that the selected entries hold.
 pub fn picked_scopes_answer_alike()
     ensures of_entries { (scopes : SourceScopesValue) (ids : List ℕ)
         → AreOfEntries scopes → AreOfEntries (picked_scopes scopes ids) }

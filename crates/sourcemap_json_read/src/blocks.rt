@@ -4,7 +4,7 @@ ghost use Rattle.json.specs.Filled.{Placed};
 
 use std::simd::Simd;
 
-/// Zeros that a buffer is extended by, at most all of them at once.
+/// Zeros to extend a buffer by. One step appends at most all of them.
 pub static ZEROS: [u8; 4096] = [0; 4096];
 
 /// Stores the first N bytes of `text` by one load and one store, whether all of them are needed or

@@ -43,8 +43,8 @@ pub(crate) fn is_word_end(text: &[u8], at: usize) -> bool
     is_punctuation(byte) | is_white(byte)
 }
 
-/// Returns the index after the white space that starts at `from`. From there on the text has the
-/// same lexemes as from `from` on.
+/// Returns the index after the white space at `from`, or `from` if there is none. From either index
+/// on, the text has the same lexemes.
 #[inline(always)]
 pub(crate) fn skip_space(text: &[u8], from: usize) -> usize
     ensures same { lex between (drop result text.now) ≡ lex between (drop from text.now) }
@@ -62,7 +62,7 @@ pub(crate) fn skip_space(text: &[u8], from: usize) -> usize
 }
 
 // The index after the blanks that start at `from`. Most white space of an indented text is blanks,
-// and a test for one byte is fast.
+// and one comparison tests for a blank.
 #[inline(always)]
 fn skip_blanks(text: &[u8], from: usize) -> usize
     ensures same { lex between (drop result text.now) ≡ lex between (drop from text.now) }

@@ -119,7 +119,8 @@ impl<'a> Cursor<'a> {
     }
 }
 
-// The position after white space, and after the comma that may follow a value.
+// The position after white space. After a value, a comma and the white space after the comma are
+// skipped too.
 #[inline(always)]
 fn skip_comma(text: &[u8], position: Position) -> Position
     ensures same { tokens_from text.now result ≡ tokens_from text.now position }
@@ -132,7 +133,8 @@ fn skip_comma(text: &[u8], position: Position) -> Position
     }
 }
 
-// The position after a value's comma, if there is one.
+// `skip_comma` after a value. If a comma is at `at`, the position is after the comma and the white
+// space that follows the comma. If not, the position is `at`.
 #[inline(always)]
 fn skip_comma_at(text: &[u8], at: usize) -> Position
     ensures same { tokens_from text.now result
@@ -206,7 +208,8 @@ fn after_close(position: Position) -> Result<Position, Stop>
     Err(Stop::Unsupported)
 }
 
-// The end of the text, where it is allowed.
+// `Step::End`, if no byte is left at `position` and the text may end there. If not, the error is
+// `Unsupported`.
 #[inline(always)]
 fn read_end_step(text: &[u8], position: Position) -> Result<(Step, Position), Stop>
     ensures is_step { IfOk result (λ taken. IsStep text.now position taken.0 taken.1) }
@@ -249,7 +252,8 @@ fn read_string_step(
     Ok((Step::Text(found), after))
 }
 
-// The position after `word`, if it is here and a value is allowed.
+// The position after `word`. The error is `Unsupported` if `word` is not at `position`, or if no
+// value is allowed there.
 #[inline(always)]
 fn after_word(text: &[u8], position: Position, word: &[u8]) -> Result<Position, Stop>
     requires { position.at < length text.now }

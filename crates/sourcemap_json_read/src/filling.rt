@@ -53,9 +53,9 @@ pub(crate) fn fill(buffer: &mut [u8], start: usize, text: &[u8], from: usize) ->
     (to, at)
 }
 
-// Decodes the rest of a block, from `from` to `end`. `stops` is the mask of the bytes in it that
-// are not plain. Also returns whether all of it was decoded. An escape may reach one byte past the
-// block.
+// Decodes the rest of a block, from `from` to `end`. `stops` is the mask of the bytes in this rest
+// that are not plain. Returns the indices reached in the buffer and in the text, and whether the
+// whole rest was decoded. An escape may reach one byte past `end`.
 #[inline(always)]
 fn fill_block(
     buffer: &mut [u8],

@@ -39,7 +39,8 @@ fn bare_end_by_bytes(text: &[u8], from: usize) -> usize
     at
 }
 
-/// Appends the run of plain bytes that starts at `from` to `out`. Returns the index where it ends.
+/// Appends to `out` the run of plain bytes that starts at index `from` of `text`. Returns the index
+/// where the run ends.
 #[inline(always)]
 pub fn copy_run(out: &mut Vec<u8>, text: &[u8], from: usize) -> Result<usize, AllocError>
     requires { from ≤ length text.now }
@@ -99,7 +100,8 @@ fn bare_stops(bytes: u8x32) -> u64
     (quotes | backslashes | low | wide).to_bitmask()
 }
 
-/// The end of a run, byte by byte, for the end of the text.
+/// The end of the run of plain bytes that starts at `from`. Searches byte by byte, for the last
+/// bytes of a text.
 #[inline(never)]
 fn run_end_by_bytes(text: &[u8], from: usize) -> usize
     requires { from ≤ length text.now }

@@ -39,7 +39,8 @@ pub(crate) fn read_string(
     read_escaped(alloc, text, start, scratch)
 }
 
-/// Decodes a string with escapes or characters past ASCII, and tests that it is UTF-8.
+/// Decodes a string with escapes or characters past ASCII, and tests that the decoded bytes are
+/// UTF-8.
 #[inline(never)]
 fn read_escaped(
     alloc: Global,
@@ -90,8 +91,8 @@ fn unescape(buffer: &mut Vec<u8>, text: &[u8], start: usize) -> Result<(usize, u
     }
 }
 
-/// Extends the buffer by zeros if fewer than `SLACK` bytes follow `to`. It adds as many as the last
-/// `left` bytes of the text may need, at most as many as [`ZEROS`] has.
+/// Extends the buffer by zeros if fewer than `SLACK` of its bytes are after `to`. Appends as many
+/// zeros as the last `left` bytes of the text may need, but at most all of [`ZEROS`].
 #[inline(always)]
 fn extend_with_zeros(buffer: &mut Vec<u8>, to: usize, left: usize) -> Result<(), AllocError>
     requires { (to ≤ length buffer.old.items) × (left < 2 ^ 63) }

@@ -1,5 +1,6 @@
 //! JSON values from bytes. The fast path follows a cursor, and moves the cursor's strings into the
-//! value. At a form that it does not support, the kit's reader reads the text again from the start.
+//! value. If the text has a form that the fast path does not support, the kit's reader reads the
+//! whole text again.
 ghost use Rattle.std.specs.Prelude.{◌≡◌, ◌≤◌, length, Some, None, IfOk, IfErr, IsUtf8};
 ghost use Rattle.serde_json.specs.Data.{no_members, depth as nesting};
 ghost use Rattle.serde_json.specs.Errors.{IsMemory, IsOfText};
@@ -88,7 +89,7 @@ fn read_items(alloc: Global, cursor: &mut Cursor<'_>, depth: usize) -> Result<Ve
     'items: loop {
         let first = cursor.next(alloc)?;
         if let Step::EndArray = first {
-            // frees spare capacity for the strings that follow
+            // frees the spare capacity, so that the strings read next can use it
             found.shrink_to_fit();
             return Ok(found);
         }

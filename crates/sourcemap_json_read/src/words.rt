@@ -1,4 +1,4 @@
-//! Literals, and whole numbers without a sign of at most 16 digits.
+//! Literals, and whole numbers that have at most 16 digits and no sign.
 ghost use Rattle.std.specs.Prelude.{◌≡◌, ◌+◌, ◌<◌, ◌≤◌, IfOk, IfSome, decimal, drop, length};
 ghost use Rattle.std.specs.Bool.{OnTrue};
 ghost use Rattle.json.specs.Word.{head};
@@ -10,7 +10,8 @@ use crate::stop::Stop;
 // A number of at least this value may not have another digit.
 const MAX_BEFORE_DIGIT: u64 = 1_000_000_000_000_000;
 
-/// Returns the index after `word`, if it is at `from` and ends there.
+/// Returns the index after `word`. The error is `Unsupported` if `word` is not at `from`, or if the
+/// text has a longer word there.
 #[inline(always)]
 pub(crate) fn word_end(text: &[u8], from: usize, word: &[u8]) -> Result<usize, Stop>
     requires { from ≤ length text.now }

@@ -39,7 +39,7 @@ pub(crate) fn put_byte(out: &mut Vec<u8>, byte: u8) -> Result<(), AllocError>
     Ok(())
 }
 
-// Appends an escaped string and its closing quote.
+// Escapes a string, and appends it and the closing quote.
 #[inline(never)]
 fn put_escaped(out: &mut Vec<u8>, text: &[u8]) -> Result<(), AllocError>
     ensures { OnOk result (out.new.items ≡ out.old.items ++ (escape text.now ++ quote ∷ [])) }
@@ -48,7 +48,8 @@ fn put_escaped(out: &mut Vec<u8>, text: &[u8]) -> Result<(), AllocError>
     let mut try_blocks = true;
     loop {
         let from = put_blocks(out, text, at, try_blocks)?;
-        // once `\u` escapes are close to each other, no block is tried again
+        // Once `put_blocks` stops after at most `LONG` bytes of the string, no later call tries
+        // blocks: the `\u` escapes are probably close to each other.
         try_blocks = from - at > LONG;
         let rest = &text[from..];
         if is_plain(rest) {

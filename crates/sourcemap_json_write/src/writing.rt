@@ -1,4 +1,4 @@
-//! JSON values as compact JSON texts. The kit's writer writes a value that holds a fraction.
+//! JSON values as compact JSON texts. A value that holds a fraction is left to the kit's writer.
 ghost use Rattle.std.specs.Prelude.{◌≡◌, ◌≤◌, ◌++◌, ◌∷◌, [], Some, false, IfOk, OnOk, int_lt, pos, string_bytes, FitsSigned, IsUtf8};
 ghost use Rattle.std.specs.Int.{w64};
 ghost use Rattle.json.specs.Ascii.{open_brace, open_bracket};
@@ -45,7 +45,7 @@ pub fn value_to_string(alloc: Global, value: &Value) -> Result<String, AllocErro
 /// Why a value was not written.
 #[derive(Drop)]
 enum Refusal {
-    /// It holds a fraction, which the kit writes.
+    /// The value holds a fraction. The kit's writer then writes the whole value.
     Fraction,
     OutOfMemory,
 }
@@ -124,7 +124,7 @@ fn put_comma(out: &mut Vec<u8>, later: bool) -> Result<(), AllocError>
     Ok(())
 }
 
-/// Appends the digits of a whole number to `out`.
+/// Appends a whole number to `out`, in decimal. For any other number the error is `Fraction`.
 fn put_number(out: &mut Vec<u8>, number: &Number) -> Result<(), Refusal>
     ensures text { OnOk result
         (out.new.items ≡ out.old.items ++ number_text (number_view number.now)) }

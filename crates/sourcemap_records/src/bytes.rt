@@ -1,5 +1,5 @@
-//! Records from bytes: reads a reader to its end, skips a junk header, reads the JSON and its
-//! record.
+//! Records from bytes: reads all bytes of a reader, drops their junk header, and makes a record of
+//! the JSON in the rest.
 ghost use Rattle.std.specs.Prelude.{◌≡◌, IfSome, MatchResult};
 ghost use Rattle.serde_json.specs.View.{view};
 ghost use Rattle.sourcemap_errors.specs.Answer.{UnlessMemory};

@@ -14,23 +14,26 @@ use std::alloc::Global;
 
 // A type that a field of a record may have.
 pub(crate) trait Field: Drop {
-    // The model of a field in clauses, and how it is read and written.
+    // The type that stands for a field in clauses.
     ghost Seen: { Type 0 };
 
+    // What a field is in clauses.
     ghost see: { Self → Seen };
 
+    // What a JSON value is read as, or `None` if it is not valid for this type.
     ghost reading: { Data → Option Seen };
 
+    // What a field is written as.
     ghost writing: { Seen → Data };
 
     // A bound that each value of the type meets.
     ghost in_range: { Seen → Type 0 };
 
-    // Moves the strings out of the value.
+    // Consumes `value`. Strings are moved, not copied.
     fn from_json_value(alloc: Global, value: Value) -> Result<Self>
         ensures { GivesReading see result (reading (view value)) };
 
-    // Moves the strings into the value.
+    // Consumes the field. Strings are moved, not copied.
     fn to_json_value(self, alloc: Global) -> Result<Value>
         ensures value { Makes view result (writing (see self)) }
         ensures in_range { OnOk result (in_range (see self)) };
@@ -249,7 +252,8 @@ fn value_list(value: Value) -> Result<Option<Vec<Value>>>
     }
 }
 
-// Removes an array of values that may be missing or null. Its `Vec` is moved, not its items.
+// Removes and returns an array, which may be missing or null. Moves the `Vec` as a whole, not item
+// by item.
 pub(crate) fn read_values(members: &mut Map<String, Value>, key: &str) -> Result<Option<Vec<Value>>>
     ensures value { GivesReading (option_map (λ v. map view v.items)) result
         (at key.now (list any) (members_view members.old.entries)) }
@@ -279,7 +283,7 @@ pub(crate) fn read_required<F: Field>(
     }
 }
 
-// Inserts a field, if there is one, at its key.
+// Inserts `field` at `key`, or nothing if it is `None`.
 pub(crate) fn put_field<F: Field>(
     alloc: Global,
     members: &mut Map<String, Value>,
@@ -298,7 +302,8 @@ pub(crate) fn put_field<F: Field>(
     Ok(())
 }
 
-// Inserts an array of values, if there is one, at its key. Its `Vec` is moved, not its items.
+// Inserts `values` at `key` as an array, or nothing for `None`. Moves the `Vec` as a whole, not
+// item by item.
 pub(crate) fn put_values(
     alloc: Global,
     members: &mut Map<String, Value>,
@@ -316,7 +321,7 @@ pub(crate) fn put_values(
     Ok(())
 }
 
-// The number of a key that may be missing or null.
+// Returns the number at `key`, or `None` if the key is missing or null.
 pub(crate) fn number_at(value: &Value, key: &str) -> Result<Option<u32>>
     ensures { result ≡ due (found small_number (get key.now (view value.now))) }
 {

@@ -1,4 +1,4 @@
-// Types of this crate and of `sourcemap_headers` as fields.
+// Implements `Field` for types of this crate and of `sourcemap_headers`.
 ghost use Rattle.std.specs.Prelude.{◌≡◌, ℕ, List, string_bytes};
 ghost use Rattle.serde_json.specs.Data.{string};
 ghost use Rattle.serde_json.specs.View.{members_view};

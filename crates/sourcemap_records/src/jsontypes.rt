@@ -49,18 +49,19 @@ pub struct RawSection {
 pub struct RawSourceMap {
     /// The version of the format. Any number is accepted here.
     pub version: Option<u32>,
-    /// The name of the generated file, if this is a JSON string. Any other value is kept and
-    /// written unchanged. A null that a caller puts here is read back as `None`.
+    /// A JSON string here is the name of the generated file. Any other value is kept and written
+    /// unchanged. A JSON null that a caller puts here is read back as `None`.
     pub file: Option<Value>,
-    /// The sources, without `source_root`, or `None` for a null.
+    /// The sources, not yet resolved against `source_root`. A null in the list is a `None` item.
     pub sources: Option<Vec<Option<String>>>,
     /// The prefix of each source.
     pub source_root: Option<String>,
-    /// The contents of the sources, in order, or `None` for a source without contents.
+    /// The contents of each source, in the order of the sources. The item of a source without
+    /// contents is `None`.
     pub sources_content: Option<Vec<Option<String>>>,
     /// The sections of an index map.
     pub sections: Option<Vec<RawSection>>,
-    /// The names. A value that is not a string is not a name.
+    /// The names, as JSON values. Values that are not strings are kept too.
     pub names: Option<Vec<Value>>,
     /// Which tokens are range tokens, in base64 digits, line by line.
     pub range_mappings: Option<String>,
@@ -69,8 +70,8 @@ pub struct RawSourceMap {
     pub mappings: Option<String>,
     /// The indices of the sources that a debugger ignores.
     pub ignore_list: Option<Vec<u32>>,
-    /// The line, from 0, at which each module of a bundle starts, or `None` for an index without a
-    /// module.
+    /// For each module of a bundle, by its number, the line at which it starts, counted from 0.
+    /// `None` for a number without a module.
     pub x_facebook_offsets: Option<Vec<Option<u32>>>,
     /// The path of each module of a bundle.
     pub x_metro_module_paths: Option<Vec<String>>,
@@ -80,7 +81,7 @@ pub struct RawSourceMap {
     pub debug_id: Option<DebugId>,
 }
 
-/// The keys of a JSON value by which a source map is detected. Each flag is whether the key has a
+/// The keys of a JSON value by which a source map is detected. Each flag says whether its key has a
 /// value other than null.
 #[derive(Clone, Copy, Debug, PartialEq)]
 pub struct MinimalRawSourceMap {
@@ -108,8 +109,8 @@ impl MinimalRawSourceMap {
     ghost use Rattle.sourcemap_records.specs.Field.{due};
     ghost use Rattle.sourcemap_records.specs.Jsontypes.{minimal_of};
 
-    /// Returns the keys of a value, or `BadJson(Shape)` if it is not an object or its version is
-    /// neither null nor a `u32`. Does not allocate.
+    /// Returns the keys of `value`. Returns `BadJson(Shape)` if `value` is not an object, or has a
+    /// version that is neither null nor a `u32`. Does not allocate.
     pub fn from_value(value: &Value) -> Result<MinimalRawSourceMap>
         ensures { result ≡ due (minimal_of (view value.now)) }
     {
@@ -153,9 +154,8 @@ impl RawSourceMap {
     /// Returns the record of a JSON value. A null key counts as missing, unknown keys are ignored,
     /// and `debugId` wins over `debug_id`. Returns `BadJson(Shape)` if the value is not an object,
     /// or if a key has a value of another type than its field, a number outside `u32` or an invalid
-    /// debug id. Some keys are required, and missing ones are the same error: `offset` of a
-    /// section, `line` and `column` of an offset, `names` and `mappings` of scopes. Any other error
-    /// is `OutOfMemory`.
+    /// debug id. A section without `offset`, an offset without `line` or `column`, and scopes
+    /// without `names` or `mappings` are the same error. Any other error is `OutOfMemory`.
     pub fn from_value(alloc: Global, value: &Value) -> Result<RawSourceMap>
         ensures { Gives tree result (due (record_of (view value.now))) }
     {
@@ -169,10 +169,11 @@ impl RawSourceMap {
         read_map(alloc, value)
     }
 
-    /// Returns the record as a JSON value, with its keys in byte order. A missing version or
-    /// sources, and a section's missing URL or map, are null; any other missing key is left out.
-    /// The value reads back as this record, except that a `file` that is a JSON null, of the record
-    /// or of a section's map, reads back as `None`. The error is `OutOfMemory`.
+    /// Returns the record as a JSON value, with its keys in byte order. Writes null for a missing
+    /// version, for missing sources, and for a section's missing URL or map. Leaves out any other
+    /// missing key. The value reads back as this record, with one exception: a `file` that is a
+    /// JSON null, in the record or in the map of a section, reads back as `None`. The error is
+    /// `OutOfMemory`.
     pub fn to_value(&self, alloc: Global) -> Result<Value>
         ensures value { Gives view result (Ok (written (tree self.now))) }
         ensures reads_back { IfOk result (λ v. HasNoNullFile (tree self.now)

@@ -75,7 +75,7 @@ fn reach_by_characters(line: &str, from: LineOffset, col: u64) -> Option<LineOff
     })
 }
 
-// An offset not after the column, and near it if the line reaches it.
+// An offset that is not after the column. If the line reaches the column, the offset is near it.
 fn skip_blocks(line: &str, col: u64) -> LineOffset
     ensures offset { IsOffset line.now result.offset result.units }
     ensures before { result.units ≤ col }
@@ -90,8 +90,8 @@ fn skip_blocks(line: &str, col: u64) -> LineOffset
     at
 }
 
-// The start of the next block, about 1024 bytes after `at`. `None` if the line ends before this
-// start, or the column is before it.
+// The start of the next block, about 1024 bytes after `at`. `None` if the end of the line or the
+// column is before that start.
 fn next_block(line: &str, at: LineOffset, col: u64) -> Option<LineOffset>
     requires { IsOffset line.now at.offset at.units }
     ensures offset { IfSome result (λ next. IsOffset line.now next.offset next.units) }
@@ -137,8 +137,9 @@ fn units_in(text: &str) -> u64
     total
 }
 
-/// Returns the part of a line from a column to the column `span` later, in UTF-16 units, with no
-/// surrogate pair split. Returns `None` if the line is too short for either column.
+/// Returns the part of a line from column `col` to the column `span` later. Both numbers count
+/// UTF-16 units. A column inside a surrogate pair is moved after the pair. Returns `None` if the
+/// line is too short for either column.
 pub fn slice_at(line: &str, col: u32, span: u32) -> Option<&str>
     ensures { option_map (λ part. part.now) result ≡ slice_of line.now col span }
 {
@@ -198,7 +199,8 @@ fn is_ascii_before(line: &str, offset: usize, count: u64) -> bool
     line.as_bytes()[offset - count as usize..offset].is_ascii()
 }
 
-// One character back, unless that is before the column.
+// The offset one character before `at`. `None` if that is before the column, or if `at` is the
+// start of the line.
 fn step_back(line: &str, at: LineOffset, col: u64) -> Option<LineOffset>
     requires offset { IsOffset line.now at.offset at.units }
     requires ahead { col ≤ at.units }

@@ -7,9 +7,9 @@ ghost use Rattle.sourcemap_source_views.specs.Identifiers.{first_passes, identif
 
 use unicode_ident::{is_xid_continue, is_xid_start};
 
-/// Returns whether the whole text is an identifier. The first character is a letter, `$` or `_`,
-/// where a non-ASCII letter has XID_Start. Later characters may also be digits, U+200C, U+200D, or
-/// non-ASCII with XID_Continue. The empty text counts as an identifier.
+/// Returns whether the whole text is an identifier. The first character is `$`, `_`, an ASCII
+/// letter, or non-ASCII with XID_Start. Later characters may also be ASCII digits, U+200C, U+200D,
+/// or non-ASCII with XID_Continue. The empty text counts as an identifier.
 pub fn is_valid_javascript_identifier(text: &str) -> bool
     ensures { result ≡ is_identifier (chars text.now) }
 {
@@ -84,7 +84,8 @@ fn starts_with_part(text: &str) -> bool
     }
 }
 
-/// The length of the characters at the start of a text that can continue an identifier, in bytes.
+/// The byte offset of the first character that cannot continue an identifier, or the length of the
+/// text if all of its characters can.
 pub(crate) fn parts_length(text: &str) -> usize
     ensures value { result ≡ length (encode_utf8_all (take_while is_part (chars text.now))) }
     ensures boundary { IsCharBoundary text.now result }

@@ -98,8 +98,8 @@ impl LineTable {
         Ok(start)
     }
 
-    // Adds the line that the terminator at `end` ends. The `\n` of a `\r\n` is before `start`: its
-    // line has been added at the `\r`.
+    // Adds the line that the terminator at `end` ends, and returns the start of the next line. If
+    // `end` is before `start`, the `\n` of a `\r\n` is at `end`, and the `\r` has ended the line.
     #[inline(always)]
     fn push_end(&mut self, bytes: &[u8], start: usize, end: usize) -> Result<usize>
         requires inside { end < length bytes.now }
@@ -157,17 +157,17 @@ impl LineTable {
     }
 }
 
-/// Returns the byte offset of a column, 0-based and in UTF-16 units, in a line: the first
-/// character boundary with at least `col` units before it. Returns `None` if the line is too
-/// short. Allocates nothing.
+/// Returns the byte offset of column `col` in a line. The column is 0-based and in UTF-16 units.
+/// Its offset is the first character boundary with at least `col` units before it. Returns `None`
+/// if the line is too short. Allocates nothing.
 pub fn utf16_offset(line: &str, col: u64) -> Option<usize>
     ensures { result ≡ column_offset line.now col }
 {
     Some(reach(line, col)?.offset)
 }
 
-// The offset where the search continues: `from`, or in a long line the next terminator, or the end
-// of the text if there is none.
+// The offset where the search continues: `from` if `is_long` is false. If `is_long` is true, it is
+// the offset of the next terminator, or the end of the text if no terminator follows.
 #[inline(always)]
 fn next_offset(bytes: &[u8], from: usize, is_long: bool) -> usize
     requires { from ≤ length bytes.now }

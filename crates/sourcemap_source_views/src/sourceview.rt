@@ -104,9 +104,9 @@ impl SourceView {
         self.lines.count()
     }
 
-    /// Returns the reference to a source map, if there is one: on the first line that starts with
-    /// `//# sourceMappingURL=` or `//@ sourceMappingURL=`. Here lines end only at `\n`. The only
-    /// error is `OutOfMemory`.
+    /// Returns the reference to a source map: the one on the first line that starts with
+    /// `//# sourceMappingURL=` or `//@ sourceMappingURL=`. Returns `None` if no line starts so.
+    /// Here lines end only at `\n`. The only error is `OutOfMemory`.
     pub fn sourcemap_reference(&self) -> Result<Option<SourceMapRef>>
         ensures value { Locates result (first_reference self.now) }
         ensures memory { IsOkUnless result OutOfMemory }

@@ -47,8 +47,8 @@ pub trait WalkedToken: Copy + Drop {
             (λ token. before self.now ≡ seen token ∷ before token) };
 }
 
-// A line of a view with its number, an offset in it, and the offset of the first word from there
-// on.
+// A line of a view with its number, an offset `at` in the line, and the offset of the first word at
+// or after `at`.
 #[derive(Clone, Copy)]
 struct Cursor<'view> {
     number: u32,
@@ -78,8 +78,9 @@ impl<'view> Cursor<'view> {
         }
     }
 
-    // A cursor at another column of the same line. A column that is not after this cursor is
-    // searched back from it. So tokens in descending order read a line once.
+    // A cursor at another column of the same line. If the column is not after this cursor, the
+    // search goes back from this cursor. So a walk over tokens in descending order reads a line
+    // once.
     fn moved_to(&self, col: u32) -> Cursor<'view>
         ensures number { result.number ≡ self.now.number }
         ensures line { result.line.now ≡ self.now.line.now }
@@ -96,7 +97,7 @@ impl<'view> Cursor<'view> {
         }
     }
 
-    // Whether the line reaches the column, and this identifier is there.
+    // Whether the line reaches column `col`, and the identifier there is `name`.
     fn is_named(&self, col: u32, name: &str) -> bool
         requires { is_identifier (chars name.now) ≡ true }
         ensures { result ≡ is_text name.now
@@ -106,8 +107,8 @@ impl<'view> Cursor<'view> {
     }
 }
 
-// The first word from a cursor on. `end` is the end of the run of characters at its start that can
-// continue an identifier.
+// The first word from a cursor on. From the start of the word to `end`, all characters can continue
+// an identifier. The character at `end`, if any, cannot.
 #[derive(Clone, Copy)]
 struct Word<'view> {
     cursor: Cursor<'view>,
@@ -124,8 +125,8 @@ impl<'view> Word<'view> {
         Word { cursor, end }
     }
 
-    // The word at another column of the same line. A word that is not after this one is read up to
-    // the start of this one.
+    // The word at another column of the same line. If that word does not start after this word, its
+    // `end` is found without a read past the start of this word.
     fn moved_to(&self, col: u32) -> Word<'view>
         ensures number { result.cursor.number ≡ self.now.cursor.number }
         ensures line { result.cursor.line.now ≡ self.now.cursor.line.now }
@@ -140,7 +141,8 @@ impl<'view> Word<'view> {
         Word { cursor, end }
     }
 
-    // The identifier at the column, if the line reaches it.
+    // The identifier at column `col`. `None` if the line does not reach the column, or if no
+    // identifier is there.
     fn identifier(&self, col: u32) -> Option<&'view str>
         ensures { option_copied result ≡ identifier_from self.now.cursor.line.now col
             self.now.cursor.at.offset self.now.cursor.at.units }
@@ -212,8 +214,8 @@ fn end_before(line: &str, word: usize, next: usize, end: usize) -> usize
     }
 }
 
-// A cursor at a column of a line, `None` if there is no such line. If the last token is on the same
-// line, the search starts from its cursor `last`.
+// A cursor at a column of a line, `None` if there is no such line. `last` is the cursor of the
+// token that the walk visited before. If `last` is on the same line, it is moved to the column.
 fn next_cursor<'view>(
     view: &'view SourceView,
     last: Option<Cursor<'view>>,
@@ -233,8 +235,8 @@ fn next_cursor<'view>(
     }
 }
 
-// The word at a column of a line, `None` if there is no such line. If the last token is on the same
-// line, the search starts from its word `last`.
+// The word at a column of a line, `None` if there is no such line. `last` is the word of the token
+// that the walk visited before. If `last` is on the same line, it is moved to the column.
 fn next_word<'view>(
     view: &'view SourceView,
     last: Option<Word<'view>>,
@@ -296,7 +298,7 @@ fn identifier_of<'view>(word: Option<Word<'view>>, col: u32) -> Option<&'view st
     word?.identifier(col)
 }
 
-// Whether there is a cursor, and this identifier is at its column `col`.
+// Whether there is a cursor, and the identifier at its column `col` is `name`.
 fn is_named(cursor: Option<Cursor<'_>>, col: u32, name: &str) -> bool
     requires { is_identifier (chars name.now) ≡ true }
     ensures { result ≡ is_text name.now (option_and_then
@@ -308,9 +310,9 @@ fn is_named(cursor: Option<Cursor<'_>>, col: u32, name: &str) -> bool
     }
 }
 
-// The first token with this identifier for which the next token of the walk has `function`. The
-// walk is over `token` and the tokens before it, 128 in all. It only compares identifiers, so it
-// does not search their ends.
+// The first token of the walk that has the identifier `name`, and after which the next token of the
+// walk has the identifier `function`. The walk is over `token` and the tokens before it, at most
+// 128 in all. Identifiers are only compared, so their ends are not searched.
 fn function_token<T: WalkedToken>(view: &SourceView, token: T, name: &str) -> Option<T>
     requires { is_identifier (chars name.now) ≡ true }
     ensures { option_map T.seen result ≡ function_token name.now
@@ -353,10 +355,10 @@ impl SourceView {
     }
 
     /// Guesses the original name of a function from its minified name. Walks back over this token
-    /// and the tokens before it, 128 in all. Stops at the first token that has the minified name at
-    /// its position and comes right after a token with `function`. Returns the name of that token.
-    /// Returns `None` if there is no such token, if it has no name, or if `minified_name` is no
-    /// identifier.
+    /// and the tokens before it, at most 128 in all. Stops at the first token that has the minified
+    /// name at its position and whose previous token in the map has `function`. Returns the name of
+    /// the token with the minified name. Returns `None` if there is no such token, if it has no
+    /// name, or if `minified_name` is no identifier.
     pub fn get_original_function_name<T: WalkedToken>(
         &self,
         token: T,

@@ -6,10 +6,11 @@ use Rattle.sourcemap.specs.HermesRewrite.{IsInOrderOf}
 use Rattle.sourcemap.specs.Reading.{BytesHaveResult}
 use Rattle.sourcemap.specs.Types.{lookup}
 
--- the name that a Hermes map returns for a bytecode offset, if the functions of the source at the offset are in order
+-- the name that a Hermes map returns for a bytecode offset, if the functions of the source that the offset
+-- maps to are in order; otherwise any name
 abbrev pub IsNameIn : HermesValue → ℕ → Option (List ℕ) → Type 0
 IsNameIn h offset name = IsInOrderOf h (lookup h.map (0, offset)) → name ≡ function_name h offset
 
--- the name that the Hermes map in these bytes returns for a bytecode offset, under the same premise
+-- the same for the Hermes map that these bytes decode to
 abbrev pub IsNameAt : (bytes : List ℕ) → ℕ → Option (List ℕ) → Type 0
 IsNameAt bytes offset name = (h : HermesValue) × BytesHaveResult RecordDecodesAsHermes bytes (Ok h) × IsNameIn h offset name

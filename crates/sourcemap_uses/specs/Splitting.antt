@@ -17,8 +17,8 @@ abbrev pub printed : Option Meaning → List ℕ
 printed None = []
 printed (Some says) = token_text says
 
--- `flat` is the flattened map of the index, and `found` is the first module that is not skipped; `first` is its first
--- line
+-- `flat` is the flattened map of the index. `found` is the first module whose offset is not null, and `first`
+-- is its first line.
 pub record IsFirstModule (i : IndexValue) (modules : List (Result ModuleValue Error)) (flat : MapValue) (found : ModuleValue) (first : ℕ) : Type 0 where
   pub flat_is : flat_of (index_tree i) ≡ Ok flat
   pub offsets : List (Option ℕ)

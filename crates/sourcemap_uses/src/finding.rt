@@ -1,4 +1,4 @@
-//! Finds the map of a generated text: embedded in it, or in a file that it names.
+//! Finds the map of a generated text: embedded in the text, or in a file that the text names.
 ghost use Rattle.sourcemap.specs.Answer.{IsAnswer};
 ghost use Rattle.sourcemap.specs.Reference.{first_reference};
 ghost use Rattle.sourcemap.specs.References.{url_of};
@@ -19,9 +19,10 @@ pub enum FoundMap {
     Nowhere,
 }
 
-/// Returns where the map of a generated text is, by its first line with a reference and the path of
-/// the text. Errors: `Io` of kind `InvalidData` if a line up to there is not UTF-8, the errors of
-/// `decode_data_url` if the reference starts with `data:`, and `OutOfMemory`.
+/// Returns where the map of a generated text is, by the first reference in `text`, resolved against
+/// `path`, the path of the text. Errors: `Io` of kind `InvalidData` if the line of the reference or
+/// a line before it is not UTF-8, or if no line has a reference and any line is not UTF-8; the
+/// errors of `decode_data_url` if the reference starts with `data:`; and `OutOfMemory`.
 pub fn find_map(alloc: Global, text: &[u8], path: &str) -> Result<FoundMap>
     ensures { IsAnswer found_value (MapByReference (first_reference text.now) path.now) result }
 {

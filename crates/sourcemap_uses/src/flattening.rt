@@ -49,10 +49,10 @@ fn keeps_meaning(before: Option<Token<'_>>, after: Option<Token<'_>>) -> bool
 }
 
 /// Whether flattening keeps what an index map returns for a position: the source, the original line
-/// and column, the name, and whether the token is a range token. True where the index has no token
-/// for the position. True at every position if, at every level, each section and each of its tokens
-/// stands before the start of the next section. Requires sorted sections, as in every decoded index
-/// map; otherwise the result is unspecified. Returns the errors of `SourceMapIndex::flatten`.
+/// and column, the name, and whether the token is a range token. True if the index has no token for
+/// the position. True for every position if, at every level, the start and all tokens of each
+/// section are before the start of the next section. Requires sorted sections, as in every decoded
+/// index map; otherwise the result is unspecified. Returns the errors of `SourceMapIndex::flatten`.
 pub fn is_kept_flat(index: &SourceMapIndex, line: u32, col: u32) -> Result<bool>
     ensures exact { IfOk result (λ is_kept. IsInOrder (index_tree (index_value index.now))
         → DecidesWhetherKept is_kept (index_tree (index_value index.now)) (line, col)) }

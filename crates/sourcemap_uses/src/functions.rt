@@ -1,4 +1,5 @@
-//! The function that contains a bytecode offset, and a rewriting that keeps it.
+//! Finds the function that contains a bytecode offset, and rewrites a map without changing which
+//! function that is.
 ghost use Rattle.std.specs.Prelude.{Err, IfErr, IfOk, IsOkUnless, Ok, option_map, string_bytes};
 ghost use Rattle.sourcemap.specs.Answer.{Gives, UnlessMemory};
 ghost use Rattle.sourcemap.specs.Hermes.{hermes_value};
@@ -15,8 +16,8 @@ use std::alloc::Global;
 use std::rt::Files;
 
 /// Returns the name of the function that contains a bytecode offset, by the Hermes map in these
-/// bytes. If the functions of the source at the offset are not in order, the name is unspecified.
-/// Returns the errors of `SourceMapHermes::from_slice`.
+/// bytes. The name is unspecified if the functions of the source that the offset maps to are not in
+/// order. Returns the errors of `SourceMapHermes::from_slice`.
 pub fn function_at(alloc: Global, bytes: &[u8], offset: u32) -> Result<Option<String>>
     ensures name { IfOk result
         (λ name. IsNameAt bytes.now offset (option_map string_bytes name)) }
@@ -42,9 +43,10 @@ fn name_at(alloc: Global, map: &SourceMapHermes, offset: u32) -> Result<Option<S
     }
 }
 
-/// Returns a copy that is rewritten with default options: without unused sources and names. Each
-/// token keeps its scope, and each bytecode offset its function name, if the regular map is
-/// well-formed and no two sources resolve to the same text. The only error is `OutOfMemory`.
+/// Returns a copy that is rewritten with default options: without unused sources and names. If the
+/// regular map in `map` is well-formed, and no two sources resolve to the same text, then each
+/// token keeps its scope, and each bytecode offset its function name. The only error is
+/// `OutOfMemory`.
 pub fn shrink_copy<F: Files>(rt: &F, map: &SourceMapHermes) -> Result<SourceMapHermes>
     ensures value { Gives hermes_value result (Ok (rewritten no_removal (hermes_value map.now))) }
     ensures scopes { IsWellFormed (hermes_value map.now).map

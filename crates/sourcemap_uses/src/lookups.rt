@@ -13,8 +13,8 @@ use sourcemap::{DecodedMap, Result, decode_slice};
 use std::alloc::Global;
 
 /// Returns the original position of a generated position, by the map in these bytes, as text:
-/// `source:line:column`, and ` name=NAME` if there is a name. `None` if the position has no closest
-/// token. Lines and columns count from 0, columns in UTF-16 units. Returns the errors of
+/// `source:line:column`, and ` name=NAME` if there is a name. `None` if the map has no token for
+/// the position. Lines and columns count from 0, columns in UTF-16 units. Returns the errors of
 /// `decode_slice`.
 pub fn lookup_text(alloc: Global, bytes: &[u8], line: u32, col: u32) -> Result<Option<String>>
     ensures position { IfOk result

@@ -44,8 +44,9 @@ pub fn add_sources(builder: &mut SourceMapBuilder, map: &SourceMap) -> Result<()
     Ok(())
 }
 
-/// Adds a source to a builder, replaces its displayed text, and returns its id. Returns the errors of
-/// `add_source`. After an error the builder is unchanged, or the source was added with its own text.
+/// Adds `source` to a builder, displays it as `display`, and returns the id of the source. Returns
+/// the errors of `add_source`. After an error the builder is unchanged, or has `source` displayed
+/// as itself.
 pub fn add_source_displayed_as(
     builder: &mut SourceMapBuilder,
     source: &str,

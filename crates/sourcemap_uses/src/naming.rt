@@ -13,9 +13,10 @@ use sourcemap::laws::lines_make_their_text;
 use sourcemap::{Result, SourceMap, SourceView};
 use std::alloc::Global;
 
-/// Guesses the original name of the function `minified` whose code is at a generated position, by
-/// the map in these bytes and the generated text. Returns `None` if there is no guess. Lines and
-/// columns count from 0, columns in UTF-16 units. Returns the errors of `SourceMap::from_slice`.
+/// Guesses the original name of the function whose code is at a generated position. `minified` is
+/// its minified name, `map` holds the bytes of the map, and `text` is the generated text. Returns
+/// `None` if there is no guess. Lines and columns count from 0, columns in UTF-16 units. Returns
+/// the errors of `SourceMap::from_slice`.
 pub fn original_name(
     alloc: Global,
     map: &[u8],
@@ -56,8 +57,9 @@ fn name_in(
     }
 }
 
-/// Returns the original source line of a generated position, if the map has the contents of that
-/// source. Allocates nothing.
+/// Returns the text of the source line that a generated position maps to. `None` if no token is at
+/// or before the position, if the map lacks the contents of the token's source, or if the contents
+/// have no such line. Allocates nothing.
 pub fn source_line(map: &SourceMap, line: u32, col: u32) -> Option<&str>
     ensures { option_copied result ≡ option_and_then source_line_of (lookup map.now (line, col)) }
 {
