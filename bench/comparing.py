@@ -225,7 +225,8 @@ def report(note):
 def compare_all(folder, compare):
     """Calls `compare` with the name and the bytes of each map below a folder, prints the notes that it
     answers and their counts, and ends the run."""
-    paths = sorted(pathlib.Path(folder).rglob('*.map'))
+    # packages have links that lead nowhere
+    paths = sorted(path for path in pathlib.Path(folder).rglob('*.map') if path.is_file())
     counts = collections.Counter()
     with concurrent.futures.ThreadPoolExecutor(MAPS_AT_ONCE) as pool:
         for notes in pool.map(lambda path: compare(str(path.relative_to(folder)), path.read_bytes()), paths):
